@@ -10,9 +10,9 @@ use Rattle.step_threads.specs.declared.programs.act.Act.TheVariants.{Swap}
 use Rattle.step_threads.specs.declared.programs.act.Act.TheVariants.{Exchange, Load, Compare, Drop, OnShelf}
 use Rattle.step_table.specs.declared.memory.form.Form.{Form}
 use Rattle.step_threads.specs.declared.programs.call.CellName.{CellName}
-use Rattle.step_table.specs.declared.slots.registers.Pointer.{Pointer}
-use Rattle.step_table.specs.declared.memory.past.AtomicStep.{AtomicStep}
-use Rattle.step_table.specs.declared.memory.past.AtomicStep.TheVariants as atomic_step
+use Rattle.control_word.specs.declared.handle.Handle.{Handle}
+use Rattle.step_table.specs.declared.memory.ghost_history.AtomicStep.{AtomicStep}
+use Rattle.step_table.specs.declared.memory.ghost_history.AtomicStep.TheVariants as atomic_step
 use Rattle.step_table.specs.Contents.{compare_of, load_of, swap_of}
 use Rattle.step_table.specs.AtomicSteps.{Telling, alias, aliased, downgrade, give, is_enabled, leave, lock}
 use Rattle.step_table.specs.AtomicSteps.{read_atomic_step, share}
@@ -33,7 +33,7 @@ abbrev pub make_step : Form → ℕ → AtomicStep
 make_step form b = atomic_step.Claim (record { 0 = b }) form.enabled form.null form.fields
 
 -- the pointer whose object gives pointers to itself
-abbrev pub giving : State → Option Pointer → Option Pointer
+abbrev pub giving : State → Option Handle → Option Handle
 giving s None = None
 giving s (Some x) = cond (is_enabled s x) (Some x) None
 

@@ -1,3 +1,4 @@
+pub mod Lists
 pub mod Worlds
 pub mod Entries
 pub mod following

@@ -6,7 +6,7 @@ use Rattle.std.proofs.Common.{get_or, replicate, refl, sym, ap, subst, ◌∙◌
 use Rattle.std.specs.Prelude.{All, Some, None, slice_get}
 use Rattle.std.proofs.lemmas.List.{length-replicate}
 use Rattle.std.proofs.lemmas.List.Elements.{All-append, All-cons, All-head, All-nil, All-tail}
-use Rattle.control_word.specs.declared.model.handle.Handle.{Handle}
+use Rattle.control_word.specs.declared.model.handle.NumberedHandle.{NumberedHandle}
 use Rattle.control_word.specs.declared.model.view.Pending.TheVariants.{Idle}
 use Rattle.control_word.specs.declared.model.view.View.{View}
 use Rattle.control_word.specs.declared.shape.Shape.{Shape}
@@ -35,7 +35,7 @@ slot_none zero i = refl
 slot_none (suc n) zero = refl
 slot_none (suc n) (suc i) = slot_none n i
 
-none_owned : (v : GhostState) (h : Handle) (n : ℕ) → owns v (replicate n plain) h ≡ 0
+none_owned : (v : GhostState) (h : NumberedHandle) (n : ℕ) → owns v (replicate n plain) h ≡ 0
 none_owned v h zero = refl
 none_owned v h (suc n) = none_owned v h n
 

@@ -1,5 +1,5 @@
 -- A step of one thread keeps all of them fitting the table.
-use Rattle.std.proofs.Common.{◌≡◌, ◌≢◌, ◌==◌, false, All, ◌≤◌, ℕ, zero, suc, ◌<◌, List, [], ◌∷◌, length, set, get_or, refl}
+use Rattle.std.proofs.Common.{◌≡◌, ◌≢◌, ◌==◌, false, All, ◌≤◌, ℕ, ◌<◌, List, [], ◌∷◌, length, set, get_or, refl}
 use Rattle.std.proofs.Common.{sym, ap, subst, ◌∙◌, ⊎_elim, arith}
 use Rattle.std.specs.Prelude.{Option, None, Some, is_some, slice_get, map}
 use Rattle.std.proofs.Math.ListN.{drop_of_length-le}
@@ -26,7 +26,7 @@ use Rattle.step_threads.specs.declared.programs.act.Act.{Act}
 use Rattle.step_table.specs.CellAtomicSteps.{kind_in_state, owing_funds}
 use Rattle.step_table.specs.Contents.{owing_for}
 use Rattle.step_table.specs.Registers.{HoldsBag, Slots}
-use Rattle.step_table.specs.declared.memory.past.AtomicStep.{AtomicStep}
+use Rattle.step_table.specs.declared.memory.ghost_history.AtomicStep.{AtomicStep}
 use Rattle.step_threads.specs.declared.said.Stepped.{Stepped}
 use Rattle.step_threads.specs.declared.pending_call.PendingCall.{PendingCall}
 use Rattle.step_threads.specs.declared.pending_call.PendingCall.TheVariants.{Rest, Making, Locking, Giving, Brought, Saw, Matched, Refill, Returning, Clearing}
@@ -36,7 +36,7 @@ use Rattle.step_threads.specs.Frames.{FrameStill, HasCell, FrameView, new_of, ta
 use Rattle.step_threads.specs.AbstractStates.{nowhere, frame_of}
 use Rattle.step_threads.specs.NextSteps.{answered, pending_call_by, step_at, ghost_after, ghost_by, frame_by}
 use Rattle.step_threads.specs.Steps.{Step}
-use Rattle.step_table.specs.GhostStates.{Kept, Nothing, GhostState, ghost_after_step, pending, model_state}
+use Rattle.step_table.specs.GhostStates.{TableInvariant, Nothing, GhostState, ghost_after_step, pending, model_state}
 use Rattle.step_threads.specs.Endings.{EndsAll}
 use Rattle.step_threads.specs.Threads.{FitsThread, HasStepped, IsNext}
 use Rattle.step_core.specs.Turning.{HasBegun, IsAlone, IsInShape, NextActLocks, IsMatched, FundsAreHeld, IsProperPendingCall, IsSeen, IsStill, IsSwap, IsTried}
@@ -47,21 +47,10 @@ use Rattle.step_threads.proofs.Frames.{todo_at}
 use Rattle.step_threads.proofs.holding.PendingCalls.{pending_call_others}
 use Rattle.step_threads.proofs.holding.Others.{ends_others, stocks_others}
 use Rattle.step_table.proofs.holding.Keeping.{holds_others}
+use Rattle.step_core.proofs.Lists.{get_other, get_same}
 
-module _ {X : Type 0} where
-  get_other : (xs : List X) (i j : ℕ) (y : X) → j ≢ i → slice_get (set xs i y) j ≡ slice_get xs j
-  get_other [] i j y h = refl
-  get_other (x ∷ xs) zero zero y h = absurd (h refl)
-  get_other (x ∷ xs) zero (suc j) y h = refl
-  get_other (x ∷ xs) (suc i) zero y h = refl
-  get_other (x ∷ xs) (suc i) (suc j) y h = get_other xs i j y (λ e. h (ap suc e))
-
-  get_same : (xs : List X) (i : ℕ) (y : X) → i < length xs → slice_get (set xs i y) i ≡ Some y
-  get_same [] i y lt = absurd (omega arith)
-  get_same (x ∷ xs) zero y lt = refl
-  get_same (x ∷ xs) (suc i) y lt = get_same xs i y (omega arith)
-
-fits_others : (d : ℕ) (u : Thread) (v : GhostState) (n : ℕ) (x : AtomicStep) → n ≢ d → Kept v → Kept (ghost_after_step v n x) → FitsThread d u v
+fits_others : (d : ℕ) (u : Thread) (v : GhostState) (n : ℕ) (x : AtomicStep) → n ≢ d → TableInvariant v → TableInvariant (ghost_after_step v n x)
+    → FitsThread d u v
     → FitsThread d u (ghost_after_step v n x)
 fits_others d u v n x ne kept kept' fits =
     record {
@@ -81,12 +70,13 @@ fits_others d u v n x ne kept kept' fits =
       cells = fits.cells;
     }
 
-fits_atomic_step : (d : ℕ) (u : Thread) (v v' : GhostState) (n : ℕ) (x : AtomicStep) → n ≢ d → Kept v → Kept v' → v' ≡ ghost_after_step v n x → FitsThread d u v
+fits_atomic_step : (d : ℕ) (u : Thread) (v v' : GhostState) (n : ℕ) (x : AtomicStep) → n ≢ d → TableInvariant v → TableInvariant v' → v'
+    ≡ ghost_after_step v n x → FitsThread d u v
     → FitsThread d u v'
 fits_atomic_step d u v v' n x ne kept kept' is fits =
-    subst (λ (w : GhostState). FitsThread d u w) (sym is) (fits_others d u v n x ne kept (subst (λ (w : GhostState). Kept w) is kept') fits)
+    subst (λ (w : GhostState). FitsThread d u w) (sym is) (fits_others d u v n x ne kept (subst (λ (w : GhostState). TableInvariant w) is kept') fits)
 
-fits_by : (d : ℕ) (u : Thread) (v v' : GhostState) (n : ℕ) (x : Option Step) → n ≢ d → Kept v → Kept v' → v' ≡ ghost_by v n x
+fits_by : (d : ℕ) (u : Thread) (v v' : GhostState) (n : ℕ) (x : Option Step) → n ≢ d → TableInvariant v → TableInvariant v' → v' ≡ ghost_by v n x
     → FitsThread d u v → FitsThread d u v'
 fits_by d u v v' n None ne kept kept' is fits = subst (λ (w : GhostState). FitsThread d u w) (sym is) fits
 fits_by d u v v' n (Some x) ne kept kept' is fits = done x.atomic_step is
@@ -95,7 +85,8 @@ fits_by d u v v' n (Some x) ne kept kept' is fits = done x.atomic_step is
     done None e = subst (λ (w : GhostState). FitsThread d u w) (sym e) fits
     done (Some z) e = fits_atomic_step d u v v' n z ne kept kept' e fits
 
-pub all_fit : (v v' : GhostState) (threads : List Thread) (n : ℕ) (t t' : Thread) (r : Stepped) → Kept v → Kept v' → AllFit v threads → n < length threads
+pub all_fit : (v v' : GhostState) (threads : List Thread) (n : ℕ) (t t' : Thread) (r : Stepped) → TableInvariant v → TableInvariant v' → AllFit v threads
+    → n < length threads
     → HasStepped n t v r t' v' → FitsThread n t' v' → AllFit v' (set threads n t')
 all_fit v v' threads n t t' r kept kept' all lt moved fits =
     record {
@@ -132,7 +123,8 @@ steps v v' threads n t t' r lt read moved =
     let s = step_at v n t.pending_call (frame_view t.frame) in
     let h : pending_call_of u n ≡ t.pending_call = get_or-map thread_pending threads n t Rest lt ∙ ap thread_pending (sym read) in
     let w : frame_of (abstraction u) n ≡ frame_view t.frame = get_or-map thread_frame threads n t nowhere lt ∙ ap thread_frame (sym read) in
-    let e : step_of n u ≡ s = ap (λ (k : PendingCall). step_at v n k (frame_of (abstraction u) n)) h ∙ ap (λ (k : FrameView). step_at v n t.pending_call k) w in (
+    let e : step_of n u ≡ s = ap (λ (k : PendingCall). step_at v n k (frame_of (abstraction u) n)) h
+    ∙ ap (λ (k : FrameView). step_at v n t.pending_call k) w in (
       moved.answer ∙ ap (λ (k : PendingCall). answered v n k (frame_view t.frame)) (sym h) ∙ ap (λ (k : FrameView). answered v n (pending_call_of u n) k)
           (sym w),
       seen (moved.ghost_state ∙ ap (ghost_by v n) (sym e))
@@ -252,7 +244,7 @@ pending_call_owes d (Returning kind b funds k) slots a v i fits none = none_payi
 pending_call_owes d Clearing slots a v i fits none = none_idle v d i fits
 
 -- another thread's pending call is a load, or none is under way; beyond the threads nobody has a call half done
-others_owe : (v : GhostState) (threads : List Thread) (n : ℕ) → AllFit v threads → length (map thread_frame threads) ≡ v.extent.actors → Kept v
+others_owe : (v : GhostState) (threads : List Thread) (n : ℕ) → AllFit v threads → length (map thread_frame threads) ≡ v.extent.actors → TableInvariant v
     → OthersOwe n (world_state v threads)
 others_owe v threads n all many kept e ne quiet i =
     ⊎_elim
@@ -267,7 +259,8 @@ others_owe v threads n all many kept e ne quiet i =
     (get_or_past v.views e used_up (let s = kept.seats.size in let m = length-map threads thread_frame in omega (arith, s, le, many, m)))))
     (slice_get_cases threads e).1
 
-pub has_begun : (v : GhostState) (threads : List Thread) (n : ℕ) (t : Thread) → n < length threads → t ≡ get_or threads n t → FitsThread n t v → Kept v
+pub has_begun : (v : GhostState) (threads : List Thread) (n : ℕ) (t : Thread) → n < length threads → t ≡ get_or threads n t → FitsThread n t v
+    → TableInvariant v
     → AllFit v threads → length (map thread_frame threads) ≡ v.extent.actors
     → IsTidy (frame_of (abstraction (world_state v threads)) n) → HasBegun n (world_state v threads)
 has_begun v threads n t lt read fits kept all many tidy =

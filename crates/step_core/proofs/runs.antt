@@ -12,6 +12,7 @@ pub mod Locks
 pub mod Lessening
 pub mod Looking
 pub mod Measures
+pub mod Owing
 pub mod Says
 pub mod Taking
 pub mod Tasks

@@ -4,7 +4,7 @@ use Rattle.std.specs.Prelude.{Bool, true, false, List, [], ◌∷◌, length, sl
 use Rattle.std.specs.Prelude.{MatchOption}
 use Rattle.control_word.specs.declared.model.event.Event.{Event}
 use Rattle.control_word.specs.declared.model.event.Event.TheVariants.{Leave, Lock}
-use Rattle.control_word.specs.declared.model.handle.Handle.{Handle}
+use Rattle.control_word.specs.declared.model.handle.NumberedHandle.{NumberedHandle}
 use Rattle.control_word.specs.Handles.{object_of}
 use Rattle.control_word.specs.Histories.{entry, given}
 use Rattle.control_word.specs.Layout.{spot}
@@ -45,7 +45,7 @@ Was e u x u' = u'.ghost_state.history ≡ entry (x.actor - 1) e ∷ u.ghost_stat
 -- a lock gave an owner exactly where one remained at its step ([util.smartptr.weak.obs])
 abbrev pub LocksWhereOwned : WorldState → TraceStep → WorldState → Type 0
 LocksWhereOwned u x u' =
-    (w : Handle) (gave : Bool) → Was (Lock w gave) u x u'
+    (w : NumberedHandle) (gave : Bool) → Was (Lock w gave) u x u'
     → (gave ≡ true) ↔ (0 < count (model_state u.ghost_state) (object_of w))
 
 -- each object's value came out at most once, and exactly when the object is no longer live
@@ -58,7 +58,7 @@ ValuesOnce u =
 
 -- the step was the leave of the last owner of o
 pub record LastLeft (o : ℕ) (u : WorldState) (x : TraceStep) (u' : WorldState) : Type 0 where
-  pub owner : Handle
+  pub owner : NumberedHandle
   pub left : Was (Leave owner true) u x u'
   pub object : object_of owner ≡ o
   pub last : count (model_state u.ghost_state) o ≡ 1
@@ -115,12 +115,12 @@ LocksNone must slots (t ∷ ts) =
 -- it did not. Nothing else answers so, but a lock of a name without a weak pointer to an object, which gives no owner
 -- ([util.smartptr.weak.obs], [util.smartptr.shared.const])
 pub record TellsLocks (u : WorldState) (x : TraceStep) (u' : WorldState) : Type 0 where
-  pub answers : (w : Handle) (gave : Bool) → Was (Lock w gave) u x u'
+  pub answers : (w : NumberedHandle) (gave : Bool) → Was (Lock w gave) u x u'
       → (k : ℕ) × (must : Bool) × LocksNext k must (frame_of (abstraction u) (x.actor - 1)).todo
       × (statement_by x.stepped ≡ Some k) × (answer_by x.stepped ≡ Some (lock_answer must gave))
   pub events : (must gave : Bool) → answer_by x.stepped ≡ Some (lock_answer must gave)
       → let w = frame_of (abstraction u) (x.actor - 1) in
-      ((h : Handle) × Was (Lock h gave) u x u') ⊎ ((gave ≡ false) × LocksNone must w.slots w.todo)
+      ((h : NumberedHandle) × Was (Lock h gave) u x u') ⊎ ((gave ≡ false) × LocksNone must w.slots w.todo)
 
 -- no block is in the midst of anything
 abbrev pub AllAtRest : WorldState → Type 0

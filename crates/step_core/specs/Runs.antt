@@ -9,11 +9,8 @@ use Rattle.control_word.specs.declared.model.view.Pending.TheVariants.{Paying}
 use Rattle.step_table.specs.GhostStates.{Nothing, pending}
 use Rattle.step_threads.specs.declared.programs.act.Task.{Task}
 use Rattle.step_threads.specs.declared.pending_call.PendingCall.{PendingCall}
-use Rattle.step_threads.specs.declared.pending_call.PendingCall.TheVariants.{Rest, Brought, Matched, Refill, Returning}
+use Rattle.step_threads.specs.declared.pending_call.PendingCall.TheVariants.{Rest, Refill, Returning}
 use Rattle.step_threads.specs.declared.said.Stepped.TheVariants.{Waited, Done}
-use Rattle.step_table.specs.declared.cell_steps.refill.Stage.{Stage}
-use Rattle.step_table.specs.declared.cell_steps.refill.Stage.TheVariants.{Turning, Checking, Lacking, Refilling}
-use Rattle.step_table.specs.declared.cell_steps.refill.Stage.TheVariants.{Failing}
 use Rattle.step_core.specs.declared.trace.RunRefusal.{RunRefusal}
 use Rattle.step_core.specs.declared.trace.RunRefusal.TheVariants.{Memory, BadTurn}
 use Rattle.step_core.specs.declared.trace.TraceStep.{TraceStep}
@@ -37,23 +34,6 @@ pub record RunsToEnd (d : ℕ) (u : WorldState) (xs : List TraceStep) (u' : Worl
   pub run : IsRun u xs u'
   pub alone : All (IsStepOf d) xs
   pub over : IsOver d u'
-
--- a load's fund is taken and not turned yet, or as many funds are brought as were taken, to be put in their place or
--- given back
-abbrev pub is_out : Stage → Bool
-is_out Turning = true
-is_out Checking = false
-is_out Lacking = false
-is_out Refilling = true
-is_out Failing = true
-
--- a load is under way, or funds are brought or are to be given back
-abbrev pub is_owing : PendingCall → Bool
-is_owing Brought = true
-is_owing (Matched x) = true
-is_owing (Refill stage c x k) = is_out stage
-is_owing (Returning kind b funds k) = true
-is_owing _ = false
 
 -- the statement of a thread's next task; 0 at its end
 abbrev pub next_statement : List Task → ℕ
@@ -89,10 +69,18 @@ pub record FinishesCall (d : ℕ) (u : WorldState) (xs : List TraceStep) (u' : W
   pub calls : CallsOn (call_under_way d u) d u xs u'
   pub done : is_calling (call_under_way d u) u' d ≡ false
 
+-- a desk's half-done call owes what it took or brought: a load is under way, or funds are out
+abbrev pub is_paying : Pending Nothing → Bool
+is_paying (Paying k o p word funds loads) = true
+is_paying _ = false
+
+abbrev pub is_owing : WorldState → ℕ → Bool
+is_owing u d = is_paying (pending u.ghost_state d)
+
 -- thread d finished the call that owed funds, if it had one
 pub record Settles (d : ℕ) (u : WorldState) (xs : List TraceStep) (u' : WorldState) : Type 0 where
-  pub owing : is_owing (pending_call_of u d) ≡ true → FinishesCall d u xs u'
-  pub none : is_owing (pending_call_of u d) ≡ false → (xs ≡ []) × (u' ≡ u)
+  pub owing : is_owing u d ≡ true → FinishesCall d u xs u'
+  pub none : is_owing u d ≡ false → (xs ≡ []) × (u' ≡ u)
 
 -- the first n threads ran, in number order, each in this way
 abbrev pub InOrder : (ℕ → WorldState → List TraceStep → WorldState → Type 0) → ℕ → WorldState
@@ -110,14 +98,9 @@ SettleInOrder n u xs u' = InOrder Settles n u xs u'
 abbrev pub RunInOrder : ℕ → WorldState → List TraceStep → WorldState → Type 0
 RunInOrder n u xs u' = InOrder RunsToEnd n u xs u'
 
--- a desk's half-done call owes what it took or brought: a load is under way, or funds are out
-abbrev pub is_paying : Pending Nothing → Bool
-is_paying (Paying k o p word funds loads) = true
-is_paying _ = false
-
 -- no desk's call owes anything
 abbrev pub NonePays : WorldState → Type 0
-NonePays u = (d : ℕ) → is_paying (pending u.ghost_state d) ≡ false
+NonePays u = (d : ℕ) → is_owing u d ≡ false
 
 -- one step for each number; then each thread that had a load under way, or funds that it brought or was to give back,
 -- finished that call, in number order, so that no call owes anything; and then each ran alone to its end, in number

@@ -20,13 +20,16 @@ use Rattle.control_word.specs.Views.{owes}
 use Rattle.step_threads.specs.Frames.{HasCell, FrameView, form_of, going, hand, idle, locked_pointer}
 use Rattle.control_word.specs.declared.place.Place.{Place}
 use Rattle.step_table.specs.CellAtomicSteps.{owing_funds}
+use Rattle.step_table.specs.declared.cell_steps.refill.Stage.{Stage}
+use Rattle.step_table.specs.declared.cell_steps.refill.Stage.TheVariants.{Turning, Checking, Lacking, Refilling}
+use Rattle.step_table.specs.declared.cell_steps.refill.Stage.TheVariants.{Failing}
 use Rattle.step_table.specs.Refills.{RefillFits}
 use Rattle.step_table.specs.AtomicSteps.{is_enabled}
 use Rattle.step_threads.specs.Endings.{EndsAll, first_of}
 use Rattle.step_table.specs.Registers.{HoldsBag, Slots, inside, is_full, slot_pointer}
 use Rattle.step_threads.specs.Entries.{least}
 use Rattle.step_threads.specs.AbstractStates.{rested, state_in, frame_of}
-use Rattle.step_table.specs.GhostStates.{Kept, GhostState, pending, model_state}
+use Rattle.step_table.specs.GhostStates.{TableInvariant, GhostState, pending, model_state}
 use Rattle.step_threads.specs.Threads.{IsClearingMember, IsMatchedBy, IsSeenBy}
 use Rattle.step_core.specs.Told.{IsTidy}
 use Rattle.step_core.specs.Turns.{TurnIs}
@@ -116,6 +119,22 @@ FundsAreHeld d v (Returning kind b funds k) = (p : Option Place)
     × (pending v d ≡ owing_funds (model_state v) kind (Some b) p funds 0)
 FundsAreHeld d v _ = Unit {0}
 
+-- a fund that was taken isn't turned yet, or as many funds are brought as were taken
+abbrev pub is_out : Stage → Bool
+is_out Turning = true
+is_out Checking = false
+is_out Lacking = false
+is_out Refilling = true
+is_out Failing = true
+
+-- a load is under way, or funds are brought or are to be given back
+abbrev pub has_funds_out : PendingCall → Bool
+has_funds_out Brought = true
+has_funds_out (Matched x) = true
+has_funds_out (Refill stage c x k) = is_out stage
+has_funds_out (Returning kind b funds k) = true
+has_funds_out _ = false
+
 -- what another thread has half done is a load only where its pending call says so
 abbrev pub OthersOwe : ℕ → WorldState → Type 0
 OthersOwe d u = (e : ℕ) → e ≢ d → is_loading (pending_call_of u e) ≡ false → (i : ℕ)
@@ -131,7 +150,7 @@ pub record HasBegun (d : ℕ) (u : WorldState) : Type 0 where
   pub ends : EndsAll d (frame_of (abstraction u) d).endings u.ghost_state
   pub some : 1 < length (frame_of (abstraction u) d).slots
   pub seat : d < u.ghost_state.extent.actors
-  pub kept : Kept u.ghost_state
+  pub kept : TableInvariant u.ghost_state
   pub cell : IsInShape u.ghost_state.extent.shape (frame_of (abstraction u) d).todo
   pub holds : HoldsBag d (frame_of (abstraction u) d).slots u.ghost_state
   pub still : IsStill (frame_of (abstraction u) d) (frame_of (abstraction u) d).todo

@@ -1,9 +1,10 @@
--- What a thread's next act is, whole: an event or none, by a reply that is right and chosen, what it says, and where all
+-- What a thread's next act is, whole: an event or none, by a reply that is right and chosen, what it says, and where
+-- all
 -- threads are then. All of it is own but the events, which name their sections in the model.
 use Rattle.std.specs.Prelude.{◌≡◌, ℕ, Option, Some, None}
 use Rattle.control_word.specs.declared.model.event.Event.{Event}
 use Rattle.control_word.specs.declared.model.event.Event.TheVariants as event
-use Rattle.control_word.specs.declared.model.handle.Handle.{Handle}
+use Rattle.control_word.specs.declared.model.handle.NumberedHandle.{NumberedHandle}
 use Rattle.control_word.specs.Handles.{equivalent, object_of}
 use Rattle.control_word.specs.Histories.{IsLegal}
 use Rattle.control_word.specs.State.{State, count}
@@ -22,7 +23,7 @@ use Rattle.step_core.specs.Following.{no_worth}
 
 -- The machine's own choices among the right replies: a make takes the least block of its desk's store, a count leaves
 -- no owner out where it is to be exact, and a compare fails only where the cell differs
-abbrev pub IsChosen : (Handle → Type 0) → State → ℕ → Option (Event Nothing) → Type 0
+abbrev pub IsChosen : (NumberedHandle → Type 0) → State → ℕ → Option (Event Nothing) → Type 0
 IsChosen Exact s d None = Unit {0}
 IsChosen Exact s d (Some (event.Make b enabled null fields value)) = least d s.stores ≡ Some b.0
 IsChosen Exact s d (Some (event.Shelve b)) = least d s.stores ≡ Some b.0
@@ -31,7 +32,7 @@ IsChosen Exact s d (Some (event.Compare c expected new found swapped weak)) = sw
 IsChosen Exact s d (Some _) = Unit {0}
 
 -- each count is to be exact
-abbrev pub Always : Handle → Type 0
+abbrev pub Always : NumberedHandle → Type 0
 Always h = Unit {0}
 
 -- where thread d is after an act with this event that leads it here: ends of objects go on by themselves
@@ -39,7 +40,8 @@ abbrev pub abstraction_after : ℕ → AbstractState → History → FrameView �
 abstraction_after d c h w = put_frame c d w (rested_frame (opening c.extent) d h w)
 
 -- thread d makes this act, by some reply that is right and chosen, and says this
-pub record ActsNow (Exact : Handle → Type 0) (d : ℕ) (c : AbstractState) (t : Task) (said : Said) (c' : AbstractState)
+pub record ActsNow (Exact : NumberedHandle → Type 0) (d : ℕ) (c : AbstractState) (t : Task) (said : Said)
+    (c' : AbstractState)
     : Type 0 where
   pub reply : Reply
   pub event : Option (Event Nothing)
@@ -53,7 +55,7 @@ pub record ActsNow (Exact : Handle → Type 0) (d : ℕ) (c : AbstractState) (t 
       (frame_after_act w t.statement (rest_of w.endings w.todo) (row t.act w.slots w.taken reply))
 
 -- a turn of thread d is its next act; at its end it does nothing
-abbrev pub TurnIs : (Handle → Type 0) → ℕ → AbstractState → Turned → AbstractState → Type 0
+abbrev pub TurnIs : (NumberedHandle → Type 0) → ℕ → AbstractState → Turned → AbstractState → Type 0
 TurnIs Exact d c (Acted x) c' = (t : Task) × (next (frame_of c d) ≡ Some t) × ActsNow Exact d c t x c'
 TurnIs Exact d c Waited c' = ⊥
 TurnIs Exact d c Done c' = (next (frame_of c d) ≡ None) × (c' ≡ c)

@@ -2,7 +2,7 @@
 pub use Rattle.step_core.specs.WorldStates.{IsAsLarge, WorldState, pending_call_of, abstraction}
 use Rattle.std.specs.Prelude.{◌≡◌, ◌≢◌, ◌⊎◌, ℕ, Bool, true, false, List, [], ◌∷◌, slice_get, slice_set}
 use Rattle.std.specs.Prelude.{Option, Some}
-use Rattle.control_word.specs.declared.model.handle.Handle.{Handle}
+use Rattle.control_word.specs.declared.model.handle.NumberedHandle.{NumberedHandle}
 use Rattle.control_word.specs.Handles.{object_of}
 use Rattle.control_word.specs.Layout.{spot}
 use Rattle.control_word.specs.State.{State}
@@ -17,7 +17,7 @@ use Rattle.step_threads.specs.Frames.{FrameView, frame_view}
 use Rattle.step_threads.specs.AbstractStates.{rested, state_in, frame_of}
 use Rattle.step_threads.specs.NextSteps.{answered, pending_call_by, step_at, ghost_by, frame_by}
 use Rattle.step_threads.specs.Steps.{Step}
-use Rattle.step_table.specs.GhostStates.{Kept, GhostState, pending}
+use Rattle.step_table.specs.GhostStates.{TableInvariant, GhostState, pending}
 use Rattle.step_threads.specs.Threads.{FitsThread}
 use Rattle.step_core.specs.Following.{Performs}
 use Rattle.step_core.specs.Turns.{TurnIs}
@@ -59,7 +59,7 @@ pub record Advances (d : ℕ) (u : WorldState) (r : Stepped) (u' : WorldState) :
   pub steps : Steps d u r u'
   pub takes : TakesStep d u r u'
   pub performs : Performs d u r u'
-  pub kept : Kept u'.ghost_state
+  pub kept : TableInvariant u'.ghost_state
 
 -- thread d made these steps, one after another
 abbrev pub StepsBy : ℕ → WorldState → List Stepped → WorldState → Type 0
@@ -85,7 +85,7 @@ NoneLoadsIt d u s o =
     (b : ℕ) → s.latest b ≡ o → (e : ℕ) → e ≢ d → owes (pending u.ghost_state e) (spot b 0) ≡ 0
 
 -- a count that thread d tells of this handle leaves no owner out
-abbrev pub CountsAll : ℕ → WorldState → State → Handle → Type 0
+abbrev pub CountsAll : ℕ → WorldState → State → NumberedHandle → Type 0
 CountsAll d u s h = NoneLoads d u ⊎ NoneLoadsIt d u s (object_of h)
 
 -- a whole turn of thread d: its endings go on by themselves, then its next act comes, if it has one, where a count may

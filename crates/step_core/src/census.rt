@@ -3,7 +3,7 @@ ghost use Rattle.std.specs.Prelude.{◌≡◌, ◌↔◌, ◌<◌, ◌≤◌, []
 ghost use Rattle.control_word.specs.Packing.{number_of};
 ghost use Rattle.control_word.specs.State.{IsVacant};
 ghost use Rattle.step_table.specs.Cells.{IsCellInUse, target_of};
-ghost use Rattle.step_table.specs.GhostStates.{Kept, model_state};
+ghost use Rattle.step_table.specs.GhostStates.{TableInvariant, model_state};
 ghost use Rattle.step_core.specs.Totals.{IsAtEnd, census_of, counts_in, ended_in, fields_of, made_in};
 
 use crate::world::World;
@@ -54,7 +54,7 @@ impl World {
     /// that each handle is in a cell.
     pub fn known_at_end(&self)
         requires { IsAtEnd self.now }
-        ensures kept { Kept self.now.ghost_state }
+        ensures kept { TableInvariant self.now.ghost_state }
         ensures hands { (model_state self.now.ghost_state).hands ≡ [] }
     {
         self.table.known();

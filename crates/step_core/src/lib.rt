@@ -4,17 +4,18 @@
 mod census;
 mod limits;
 mod opening;
+mod owing;
 mod running;
 mod showing;
 mod told;
 mod trace;
 mod world;
 
+pub use control_word::Handle;
 pub use step_table::cell_steps::cell_step::Cell;
 pub use step_table::cell_steps::refill::Stage;
 pub use step_table::memory::ended::Ended;
 pub use step_table::memory::field::Field;
-pub use step_table::slots::registers::Pointer;
 pub use step_threads::pending_call::PendingCall;
 pub use step_threads::programs::act::Act;
 pub use step_threads::programs::call::{Actor, Call, CellName, Kind, Name, Program};

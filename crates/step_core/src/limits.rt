@@ -9,10 +9,9 @@ ghost use Rattle.step_threads.specs.Programs.{through, weak_asked};
 ghost use Rattle.step_core.specs.Starts.{AllHaveFields, CanBegin, HasFields};
 
 use control_word::Shape;
+use step_table::limits::MOST_ACTORS;
 use step_threads::programs::call::{Actor, Call, CellName, Kind, Name};
 
-/// Most actors of a program.
-const MOST_ACTORS: usize = 64;
 /// Most names of an actor.
 const MOST_NAMES: usize = 32;
 /// Most calls of a program, over all its actors.
@@ -217,7 +216,7 @@ fn is_program(actors: &[Actor]) -> bool
     ensures program { IsTrue result ↔ IsProgram (map part_of actors.now) }
     ensures fields { IsTrue result → AllHaveFields (map part_of actors.now) }
 {
-    (1..=MOST_ACTORS).contains(&actors.len()) && has_few_calls(actors) && are_parts(actors)
+    (1..=MOST_ACTORS as usize).contains(&actors.len()) && has_few_calls(actors) && are_parts(actors)
 }
 
 /// Whether a shape has a cell.

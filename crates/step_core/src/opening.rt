@@ -4,8 +4,9 @@ ghost use Rattle.step_threads.specs.Actors.{Stocks};
 ghost use Rattle.step_threads.specs.Frames.{frame_view};
 ghost use Rattle.step_table.specs.Openings.{IsExtent};
 ghost use Rattle.step_threads.specs.Programs.{AllHaveCells, IsPart, IsProgram, part_of, parts_of};
-ghost use Rattle.step_core.specs.Starts.{AllHaveFields, CanBegin, HasFields, first_world_state, first_ghost, first_frame};
-ghost use Rattle.step_table.specs.GhostStates.{Kept};
+ghost use Rattle.step_core.specs.Starts.{AllHaveFields, CanBegin, HasFields, first_frame, first_ghost};
+ghost use Rattle.step_core.specs.Starts.{first_world_state};
+ghost use Rattle.step_table.specs.GhostStates.{TableInvariant};
 ghost use Rattle.step_threads.specs.Threads.{FitsThread};
 ghost use Rattle.step_core.specs.Worlds.{AllFit};
 
@@ -80,7 +81,8 @@ fn threads_of(alloc: Global, extent: &Extent, actors: &[Actor]) -> Result<Vec<Th
     requires program { IsProgram (map part_of actors.now) }
     requires fields { AllHaveFields (map part_of actors.now) }
     requires cells { All (AllHaveCells extent.now.shape) (map part_of actors.now) }
-    ensures frame_views { IfOk result (λ v. map (λ t. frame_view t.frame) v.items ≡ map first_frame (map part_of actors.now)) }
+    ensures frame_views { IfOk result (λ v. map (λ t. frame_view t.frame) v.items
+        ≡ map first_frame (map part_of actors.now)) }
     ensures pending_calls { IfOk result
         (λ v. map (λ t. t.pending_call) v.items ≡ map (λ part. PendingCall.Rest) (map part_of actors.now)) }
     ensures fit { IfOk result (λ v. AllFit (first_ghost extent.now) v.items) }
@@ -124,7 +126,7 @@ impl World {
     /// was really refused. The program comes back as it was (own).
     pub fn new(alloc: Global, shape: Shape, program: Program) -> Result<World, Refused<Program>>
         ensures start { IfOk result (λ w. w ≡ first_world_state shape (parts_of program)) }
-        ensures kept { IfOk result (λ w. Kept w.ghost_state) }
+        ensures kept { IfOk result (λ w. TableInvariant w.ghost_state) }
         ensures begin { IfOk result (λ w. CanBegin shape (parts_of program)) }
         ensures refused { IfErr result (λ r. (r.why ≡ Refusal.Memory) ⊎ (r.why ≡ Refusal.Shape)) }
         ensures shape { IfErr result (λ r. r.why ≡ Refusal.Shape ↔ (CanBegin shape (parts_of program) → ⊥)) }

@@ -1,26 +1,25 @@
 //! Runs: one step for each number of a list; then each actor finishes a call that owes funds, and then runs alone to
 //! its end.
-ghost use Rattle.std.specs.Prelude.{◌≡◌, ◌≢◌, ◌+◌, ◌-◌, ◌*◌, ◌<◌, ◌≤◌, ◌∷◌};
-ghost use Rattle.std.specs.Prelude.{◌++◌, ℕ, [], All, IfErr, IfOk, MatchOption, length, map, slice_get, sum_by};
+ghost use Rattle.std.specs.Prelude.{◌≡◌, ◌≢◌, ◌+◌, ◌-◌, ◌*◌, ◌<◌, ◌≤◌, ◌∷◌, ◌++◌, ℕ, []};
+ghost use Rattle.std.specs.Prelude.{All, IfErr, IfOk, MatchOption, length, map, slice_get, sum_by};
 ghost use Rattle.std.specs.Prelude.{vec_capacity, vec_len};
 ghost use Rattle.step_core.specs.Bounds.{most_steps, steps_of, task_steps, weight};
 ghost use Rattle.step_core.specs.Chains.{Through};
 ghost use Rattle.step_core.specs.Following.{Follows};
 ghost use Rattle.step_core.specs.Headline.{AfterEach, AllAtRest, OfEach};
 ghost use Rattle.step_core.specs.Runs.{AddsRun, FinishesCall, IsFirstBad, IsRefusedFor, IsRun, IsScheduled, MovesOn};
-ghost use Rattle.step_core.specs.Runs.{NamesActor};
-ghost use Rattle.step_core.specs.Runs.{RunInOrder, RunsToEnd, SettleInOrder, Settles, call_under_way, is_calling};
-ghost use Rattle.step_core.specs.Runs.{is_out, is_owing, next_statement};
-ghost use Rattle.step_table.specs.GhostStates.{Kept};
+ghost use Rattle.step_core.specs.Runs.{NamesActor, RunInOrder, RunsToEnd, SettleInOrder, Settles};
+ghost use Rattle.step_core.specs.Runs.{call_under_way, is_calling, is_owing, next_statement};
+ghost use Rattle.step_table.specs.GhostStates.{TableInvariant};
 ghost use Rattle.step_core.specs.Totals.{IsAtEnd};
-ghost use Rattle.step_core.specs.WorldStates.{IsAsLarge, pending_call_of};
+ghost use Rattle.step_core.specs.WorldStates.{IsAsLarge};
 ghost use Rattle.step_core.specs.Worlds.{Advances};
 ghost use Rattle.step_threads.specs.Frames.{todo};
 
+use crate::owing::has_funds_out;
 use crate::trace::{RunRefusal, Trace, TraceStep};
 use crate::world::World;
 use std::alloc::Global;
-use step_table::cell_steps::refill::Stage;
 use step_threads::pending_call::PendingCall;
 use step_threads::programs::act::{Act, Task};
 use step_threads::said::Stepped;
@@ -29,9 +28,8 @@ use step_threads::thread::Thread;
 impl World {
     /// Runs the world to its end: one step for each number; then each actor that has a load under way, or funds that it
     /// brought or is to give back, finishes that call, in number order, so that no call owes anything; and then each
-    /// runs alone to its end, in number order. The trace has all
-    /// these steps in order; a number for an actor at its end is a step, `Done`, and no other step of the trace is.
-    /// None waits. All memory is asked for before the first step.
+    /// runs alone to its end, in number order. The trace has all these steps in order; a number for an actor at its end
+    /// is a step, `Done`, and no other step of the trace is. None waits. All memory is asked for before the first step.
     ///
     /// Refused `BadTurn` just where some number names no actor, with the position of the first one, from 1. Refused
     /// `Memory` where a growth was really refused. The world is then as it was (own).
@@ -47,7 +45,7 @@ impl World {
         ensures follows { IfOk result (λ t. Follows self.old t.steps.items self.new) }
         ensures end { IfOk result (λ t. IsAtEnd self.new) }
         ensures rest { IfOk result (λ t. AllAtRest self.new) }
-        ensures kept { Kept self.new.ghost_state }
+        ensures kept { TableInvariant self.new.ghost_state }
         ensures actors { length self.new.frame_views ≡ length self.old.frame_views }
         ensures extent { IsAsLarge self.old self.new }
     {
@@ -80,11 +78,13 @@ impl World {
         requires named { All (NamesActor (length self.old.frame_views)) turns.now }
         requires empty { steps.old.items ≡ [] }
         requires none { vec_len steps.old ≡ 0 }
-        requires room { length turns.now + most_steps self.old + 6 * length self.old.frame_views ≤ vec_capacity steps.old }
+        requires room { length turns.now + most_steps self.old + 6 * length self.old.frame_views
+            ≤ vec_capacity steps.old }
         ensures run { IsRun self.old steps.new.items self.new }
         ensures numbers { map (λ x. x.actor) steps.new.items ≡ turns.now }
         ensures moves { All MovesOn steps.new.items }
-        ensures room { vec_len steps.new + most_steps self.new + 6 * length self.new.frame_views ≤ vec_capacity steps.new }
+        ensures room { vec_len steps.new + most_steps self.new + 6 * length self.new.frame_views
+            ≤ vec_capacity steps.new }
         ensures actors { length self.new.frame_views ≡ length self.old.frame_views }
     {
         for turn in turns {
@@ -96,10 +96,12 @@ impl World {
     /// Each actor that has a load under way, or funds that it brought or is to give back, finishes that call, in number
     /// order.
     fn settle(&mut self, steps: &mut Vec<TraceStep>)
-        requires room { vec_len steps.old + most_steps self.old + 6 * length self.old.frame_views ≤ vec_capacity steps.old }
+        requires room { vec_len steps.old + most_steps self.old + 6 * length self.old.frame_views
+            ≤ vec_capacity steps.old }
         ensures adds { AddsRun (SettleInOrder (length self.old.frame_views)) self.old steps.old.items self.new
             steps.new.items }
-        ensures room { vec_len steps.new + most_steps self.new + 3 * length self.new.frame_views ≤ vec_capacity steps.new }
+        ensures room { vec_len steps.new + most_steps self.new + 3 * length self.new.frame_views
+            ≤ vec_capacity steps.new }
         ensures actors { length self.new.frame_views ≡ length self.old.frame_views }
     {
         let actors = self.threads.len();
@@ -155,14 +157,10 @@ impl World {
     /// Whether an actor has a load under way, or funds that it brought or is to give back.
     fn is_owing(&self, number: usize) -> bool
         requires { number < length self.now.frame_views }
-        ensures { result ≡ is_owing (pending_call_of self.now number) }
+        ensures { result ≡ is_owing self.now number }
     {
-        match self.threads[number].pending_call {
-            PendingCall::Brought | PendingCall::Matched { .. } | PendingCall::Returning { .. } =>
-                true,
-            PendingCall::Refill { stage, .. } => is_out(stage),
-            _ => false,
-        }
+        let thread = &self.threads[number];
+        has_funds_out(thread.pending_call)
     }
 
     /// Whether an actor's call isn't done, which owed funds: it has begun something, an object ends in its hands, or
@@ -183,8 +181,10 @@ impl World {
 
     /// Each actor runs alone to its end, in number order.
     fn finish(&mut self, steps: &mut Vec<TraceStep>)
-        requires room { vec_len steps.old + most_steps self.old + 3 * length self.old.frame_views ≤ vec_capacity steps.old }
-        ensures adds { AddsRun (RunInOrder (length self.old.frame_views)) self.old steps.old.items self.new steps.new.items }
+        requires room { vec_len steps.old + most_steps self.old + 3 * length self.old.frame_views
+            ≤ vec_capacity steps.old }
+        ensures adds { AddsRun (RunInOrder (length self.old.frame_views)) self.old steps.old.items self.new
+            steps.new.items }
         ensures actors { length self.new.frame_views ≡ length self.old.frame_views }
     {
         for number in 0..self.threads.len() {
@@ -208,16 +208,6 @@ impl World {
                 stepped => add(steps, number as u8 + 1, stepped),
             }
         }
-    }
-}
-
-/// Whether a refill has a fund that isn't turned yet, or funds that were brought.
-fn is_out(stage: Stage) -> bool
-    ensures { result ≡ is_out stage }
-{
-    match stage {
-        Stage::Turning | Stage::Refilling | Stage::Failing => true,
-        Stage::Checking | Stage::Lacking => false,
     }
 }
 
@@ -266,10 +256,8 @@ fn weight(act: Act) -> usize
 {
     match act {
         Act::Make { .. } => 28,
-        Act::Swap { .. } => 3,
-        Act::Exchange { .. } => 3,
-        Act::Load { .. } => 7,
-        Act::Compare { .. } => 7,
+        Act::Swap { .. } | Act::Exchange { .. } => 3,
+        Act::Load { .. } | Act::Compare { .. } => 7,
         _ => 2,
     }
 }

@@ -16,9 +16,8 @@ ghost use Rattle.step_core.specs.Totals.{census_of};
 use crate::world::World;
 use control_word::packed::counts::unpack_count;
 use control_word::packed::layout::{OWNERS, WEAKS};
-use control_word::{Block, Counts};
+use control_word::{Block, Counts, Handle};
 use step_table::cell_steps::refill::Stage;
-use step_table::slots::registers::Pointer;
 use step_threads::frame::Frame;
 use step_threads::pending_call::PendingCall;
 use step_threads::programs::act::Act;
@@ -132,7 +131,7 @@ impl World {
 
     /// What a name of an actor holds, where it is on an object (own). Condition: the actor is one of the world's, from
     /// 1.
-    pub fn held(&self, actor: u8, name: Name) -> Option<Pointer>
+    pub fn held(&self, actor: u8, name: Name) -> Option<Handle>
         requires some { 0 < actor }
         requires within { actor ≤ length self.now.frame_views }
         ensures { result ≡ slot_pointer (frame_of (abstraction self.now) (actor - 1)).slots name.0 }
@@ -142,7 +141,7 @@ impl World {
 
     /// What an actor has in hand between two acts, where it is on an object (own). Condition: the actor is one of the
     /// world's, from 1.
-    pub fn in_hand(&self, actor: u8) -> Option<Pointer>
+    pub fn in_hand(&self, actor: u8) -> Option<Handle>
         requires some { 0 < actor }
         requires within { actor ≤ length self.now.frame_views }
         ensures { result ≡ slot_pointer (frame_of (abstraction self.now) (actor - 1)).slots
@@ -182,7 +181,7 @@ fn act_of(frame: &Frame) -> Option<Act>
 }
 
 /// What a name holds.
-fn held_at(frame: &Frame, name: Name) -> Option<Pointer>
+fn held_at(frame: &Frame, name: Name) -> Option<Handle>
     requires { 0 < length frame.now.registers.slots.items }
     ensures { result ≡ slot_pointer frame.now.registers.slots.items name.0 }
 {

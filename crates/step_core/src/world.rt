@@ -2,7 +2,7 @@
 ghost use Rattle.std.specs.Prelude.{◌≡◌, ◌≢◌, ◌<◌, ◌≤◌, ◌-◌, length, true, false};
 ghost use Rattle.step_core.specs.WorldStates.{AllHold, IsAsLarge, TakesStep, pending_call_of, is_event};
 ghost use Rattle.step_core.specs.Following.{Performs};
-ghost use Rattle.step_table.specs.GhostStates.{Kept};
+ghost use Rattle.step_table.specs.GhostStates.{TableInvariant};
 ghost use Rattle.step_core.specs.Turning.{HasBegun, Plays, HasRested, has_rest, is_acting, is_clearing, is_ending};
 ghost use Rattle.step_core.specs.Turning.{is_refilling, is_returning, turned_by};
 ghost use Rattle.step_core.specs.Worlds.{Advances, GoesTo, Steps, TakesWholeTurn};
@@ -58,7 +58,7 @@ impl World {
         ensures takes { TakesStep (actor - 1) self.old result self.new }
         ensures performs { Performs (actor - 1) self.old result self.new }
         ensures never { result ≢ Stepped.Waited }
-        ensures kept { Kept self.new.ghost_state }
+        ensures kept { TableInvariant self.new.ghost_state }
         ensures actors { length self.new.frame_views ≡ length self.old.frame_views }
         ensures extent { IsAsLarge self.old self.new }
     {
@@ -75,7 +75,7 @@ impl World {
         requires within { actor ≤ length self.old.frame_views }
         ensures turns { TakesWholeTurn (actor - 1) self.old result self.new }
         ensures steps { GoesTo (actor - 1) self.old self.new }
-        ensures kept { Kept self.new.ghost_state }
+        ensures kept { TableInvariant self.new.ghost_state }
         ensures hands { AllHold self.new }
         ensures actors { length self.new.frame_views ≡ length self.old.frame_views }
         ensures extent { IsAsLarge self.old self.new }
@@ -211,7 +211,7 @@ impl World {
         ensures advances { Advances number self.old result self.new }
         ensures steps { Steps number self.old result self.new }
         ensures never { result ≢ Stepped.Waited }
-        ensures kept { Kept self.new.ghost_state }
+        ensures kept { TableInvariant self.new.ghost_state }
         ensures actors { length self.new.frame_views ≡ length self.old.frame_views }
     {
         let thread = &mut self.threads[number];

@@ -1,4 +1,4 @@
--- A step that the frames of `src/past.rt` share. Assumes `Logic`.
+-- A step that the frames of `src/ghost_history.rt` share. Assumes `Logic`.
 use Rattle.std.proofs.Common.{List, [], ◌∷◌, refl}
 use seplogic.Ra.Ura.{Ura}
 use mir.Val.{Val, vstruct, vnil}

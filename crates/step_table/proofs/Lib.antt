@@ -1,4 +1,5 @@
 pub mod tables
+pub mod Filled
 pub mod FrameViews
 pub mod contained
 pub mod holding

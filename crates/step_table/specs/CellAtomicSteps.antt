@@ -6,7 +6,7 @@ use Rattle.control_word.specs.declared.model.event.Cell.{Cell as Named}
 use Rattle.control_word.specs.declared.model.event.Cell.TheVariants as named
 use Rattle.control_word.specs.declared.model.event.Event.{Event}
 use Rattle.control_word.specs.declared.model.event.Event.TheVariants as event
-use Rattle.control_word.specs.declared.model.handle.Handle.{Handle}
+use Rattle.control_word.specs.declared.model.handle.NumberedHandle.{NumberedHandle}
 use Rattle.control_word.specs.declared.model.handle.Kind.{Kind}
 use Rattle.control_word.specs.declared.place.Block.{Block}
 use Rattle.control_word.specs.declared.place.Place.{Place}
@@ -46,10 +46,10 @@ object_at s None = None
 object_at s (Some b) = Some (s.latest b.0)
 
 -- the handle of this kind that a word tells
-abbrev pub handle_as : State → Kind → CellWord → Handle
+abbrev pub handle_as : State → Kind → CellWord → NumberedHandle
 handle_as s k x = handle k (object_at s x.owned) x.place
 
-abbrev pub handle_told : State → Cell → CellWord → Handle
+abbrev pub handle_told : State → Cell → CellWord → NumberedHandle
 handle_told s c x = handle_as s (kind_in_state s c) x
 
 module _ {V : Type 0} where

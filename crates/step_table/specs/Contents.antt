@@ -4,7 +4,7 @@ use Rattle.std.specs.Prelude.{false, slice_set, is_some, Option, Some, None}
 use Rattle.control_word.specs.declared.packed.cell.CellWord.{CellWord}
 use Rattle.control_word.specs.declared.model.event.Event.{Event}
 use Rattle.control_word.specs.declared.model.event.Event.TheVariants as event
-use Rattle.control_word.specs.declared.model.handle.Handle.{Handle}
+use Rattle.control_word.specs.declared.model.handle.NumberedHandle.{NumberedHandle}
 use Rattle.control_word.specs.declared.model.handle.Kind.{Kind}
 use Rattle.control_word.specs.declared.model.handle.Kind.TheVariants.{Owner, Weak}
 use Rattle.control_word.specs.declared.place.Block.{Block}
@@ -27,21 +27,21 @@ use Rattle.step_table.specs.Registers.{Slots, place_of, plain, slot_pointer, slo
 use Rattle.step_table.specs.GhostStates.{Nothing, GhostState, model_state}
 
 -- the handle in a cell
-abbrev pub held_in : State → Cell → Handle
+abbrev pub held_in : State → Cell → NumberedHandle
 held_in s c = cell_of s (cell_in s c)
 
 -- a slot's value as histories name it; one without an object is of the kind of the cell that it is compared with or
 -- goes into
-abbrev pub named_handle : State → Kind → Slot → Handle
+abbrev pub named_handle : State → Kind → Slot → NumberedHandle
 named_handle s k (Empty p) = handle k None p
 named_handle s k (Full x) = handle x.kind (Some (owned s x)) x.place
 
 -- a handle as a slot has it
-abbrev pub slot_as : State → Handle → Option ℕ → Slot
+abbrev pub slot_as : State → NumberedHandle → Option ℕ → Slot
 slot_as s h None = Empty h.place
 slot_as s h (Some o) = Full (record { kind = h.kind; block = record { 0 = (s.object o).block }; place = h.place })
 
-abbrev pub slot_of : State → Handle → Slot
+abbrev pub slot_of : State → NumberedHandle → Slot
 slot_of s h = slot_as s h h.object
 
 -- a value that a cell's word tells, as a slot has it

@@ -4,7 +4,7 @@ use Rattle.std.specs.Prelude.{◌∷◌, length, get_or, slice_index, slice_set,
 use Rattle.control_word.specs.declared.model.event.Entry.{Entry}
 use Rattle.control_word.specs.declared.model.event.Event.{Event}
 use Rattle.control_word.specs.declared.model.event.Event.TheVariants as event
-use Rattle.control_word.specs.declared.model.handle.Handle.{Handle}
+use Rattle.control_word.specs.declared.model.handle.NumberedHandle.{NumberedHandle}
 use Rattle.control_word.specs.declared.model.handle.Kind.{Kind}
 use Rattle.control_word.specs.declared.place.Block.{Block}
 use Rattle.control_word.specs.declared.place.Place.{Place}
@@ -18,12 +18,14 @@ use Rattle.control_word.specs.State.{State, kind_of_member}
 use Rattle.control_word.specs.Steps.{known_of}
 use Rattle.control_word.specs.Views.{Stands, sees_as, used_up}
 use Rattle.step_table.specs.declared.memory.extent.Extent.{Extent}
-use Rattle.step_table.specs.declared.memory.past.AtomicStep.{AtomicStep}
-use Rattle.step_table.specs.declared.memory.past.AtomicStep.TheVariants.{Prepare, Write, Claim, Share, WeakShare, Leave}
-use Rattle.step_table.specs.declared.memory.past.AtomicStep.TheVariants.{WeakLeave}
-use Rattle.step_table.specs.declared.memory.past.AtomicStep.TheVariants.{Lock, Count, Expired, Read, Clear, Finish}
-use Rattle.step_table.specs.declared.memory.past.AtomicStep.TheVariants.{OnShelf}
-use Rattle.step_table.specs.declared.memory.past.AtomicStep.TheVariants.{OnCell}
+use Rattle.step_table.specs.declared.memory.ghost_history.AtomicStep.{AtomicStep}
+use Rattle.step_table.specs.declared.memory.ghost_history.AtomicStep.TheVariants.{Prepare, Write, Claim, Share}
+use Rattle.step_table.specs.declared.memory.ghost_history.AtomicStep.TheVariants.{WeakShare, Leave}
+use Rattle.step_table.specs.declared.memory.ghost_history.AtomicStep.TheVariants.{WeakLeave}
+use Rattle.step_table.specs.declared.memory.ghost_history.AtomicStep.TheVariants.{Lock, Count, Expired, Read, Clear}
+use Rattle.step_table.specs.declared.memory.ghost_history.AtomicStep.TheVariants.{Finish}
+use Rattle.step_table.specs.declared.memory.ghost_history.AtomicStep.TheVariants.{OnShelf}
+use Rattle.step_table.specs.declared.memory.ghost_history.AtomicStep.TheVariants.{OnCell}
 use Rattle.step_table.specs.CellAtomicSteps.{cell_event, cell_pending, cell_words}
 use Rattle.step_table.specs.ShelfAtomicSteps.{shelf_event, shelf_words}
 use Rattle.step_table.specs.Openings.{IsExtent, opening, share_of}
@@ -52,14 +54,14 @@ pending v d = (view_in v.views d).pending
 abbrev pub object_of_block : GhostState → Block → ℕ
 object_of_block v b = (model_state v).latest b.0
 
-abbrev pub owner_in : GhostState → Block → Option Place → Handle
+abbrev pub owner_in : GhostState → Block → Option Place → NumberedHandle
 owner_in v b p = owner (object_of_block v b) p
 
-abbrev pub weak_in : GhostState → Block → Option Place → Handle
+abbrev pub weak_in : GhostState → Block → Option Place → NumberedHandle
 weak_in v b p = weak_of (object_of_block v b) p
 
 -- the handle of either kind
-abbrev pub handle_in_block : GhostState → Kind → Block → Option Place → Handle
+abbrev pub handle_in_block : GhostState → Kind → Block → Option Place → NumberedHandle
 handle_in_block v k b p = handle k (Some (object_of_block v b)) p
 
 -- the event of an atomic step in a state; a write of a vacant block is none
@@ -149,7 +151,7 @@ abbrev pub AllWhole : State → Type 0
 AllWhole s = (o : ℕ) → 0 < o → o ≤ s.made → length (s.object o).fields ≡ 4
 
 -- the words stand for the history; nobody's allowance has changed, and no door is shut
-pub record Kept (v : GhostState) : Type 0 where
+pub record TableInvariant (v : GhostState) : Type 0 where
   pub stands : Stands (opening v.extent) v.words v.views v.history
   pub seats : Seats v.views v.extent.actors
   pub doors : (d : ℕ) → ShutsNoDoor (pending v d)

@@ -2,6 +2,7 @@ pub mod CellAtomicSteps
 pub mod ShelfAtomicSteps
 pub mod Cells
 pub mod Contents
+pub mod Filled
 pub mod AtomicSteps
 pub mod Registers
 pub mod Openings

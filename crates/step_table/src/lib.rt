@@ -2,5 +2,6 @@
 #![tactic(auto)]
 
 pub mod cell_steps;
+pub mod limits;
 pub mod memory;
 pub mod slots;

@@ -4,7 +4,7 @@ pub mod ended;
 pub mod extent;
 pub mod field;
 pub mod form;
-pub mod past;
+pub mod ghost_history;
 pub mod shelf;
 pub mod table;
 pub mod weak;

@@ -1,22 +1,21 @@
 -- How a thread makes the act that it is at, with no object that ends in its hands.
 use Rattle.std.proofs.Common.{◌≡◌, ℕ, ◌<◌, ◌==◌, Bool, true, false, cond, not, ◌&&◌, [], length}
-use Rattle.std.proofs.Common.{set, refl, sym, ap, subst, ◌∙◌, arith}
-use Rattle.std.proofs.lemmas.Bool.{cond-true, cond-false, eqb-false}
+use Rattle.std.proofs.Common.{set, refl, sym, ap, subst, ◌∙◌}
+use Rattle.std.proofs.lemmas.Bool.{cond-true, cond-false}
 use Rattle.std.specs.Prelude.{Option, Some, None, is_some, option_map, All}
 use Rattle.control_word.specs.declared.packed.cell.CellWord.{CellWord}
-use Rattle.control_word.specs.declared.place.Block.{Block}
 use Rattle.control_word.specs.declared.model.view.Pending.TheVariants.{Idle}
 use Rattle.control_word.specs.Packing.{IsCellWord}
 use Rattle.step_table.specs.declared.cell_steps.cell_step.Cell.{Cell}
 use Rattle.step_table.specs.declared.cell_steps.cell_step.CellStep.TheVariants.{Look}
 use Rattle.step_table.specs.declared.cell_steps.cell_step.Compared.{Compared}
-use Rattle.step_table.specs.declared.memory.past.AtomicStep.{AtomicStep}
-use Rattle.step_table.specs.declared.memory.past.AtomicStep.TheVariants.{OnCell}
+use Rattle.step_table.specs.declared.memory.ghost_history.AtomicStep.{AtomicStep}
+use Rattle.step_table.specs.declared.memory.ghost_history.AtomicStep.TheVariants.{OnCell}
 use Rattle.step_table.specs.Contents.{as_word, compared_in, is_spent, same_value, seen}
 use Rattle.step_table.specs.Registers.{is_full, slot_value}
 use Rattle.step_table.specs.AtomicSteps.{by_word}
-use Rattle.step_table.specs.GhostStates.{Kept, GhostState, event_of, ghost_after_step, pending, model_state}
-use Rattle.step_table.specs.declared.slots.registers.Pointer.{Pointer}
+use Rattle.step_table.specs.GhostStates.{TableInvariant, GhostState, event_of, ghost_after_step, pending, model_state}
+use Rattle.control_word.specs.declared.handle.Handle.{Handle}
 use Rattle.step_threads.specs.declared.programs.act.Act.{Act}
 use Rattle.step_threads.specs.declared.programs.act.Act.TheVariants.{Compare, Load}
 use Rattle.step_threads.specs.declared.programs.call.CellName.{CellName}
@@ -36,11 +35,12 @@ use Rattle.step_threads.specs.Rows.{Hands, said_by_row}
 use Rattle.step_threads.specs.AbstractStates.{came, row_in, went}
 use Rattle.step_threads.specs.Steps.{Step, silent, step_of_act, step_of_compare, step_of_look, within}
 use Rattle.step_threads.specs.Entries.{is_expected}
-use Rattle.step_threads.specs.Threads.{BeginsAct, FitsThread, HasStepped, IsLoaded, IsSeenBy}
+use Rattle.step_threads.specs.Threads.{BeginsAct, FitsThread, HasStepped, IsSeenBy}
 use Rattle.step_threads.proofs.CompareFits.{cell_of_compare}
 use Rattle.step_threads.proofs.CompareSteps.{answers, compared_frame, expected_told}
 use Rattle.step_threads.proofs.Compares.{may_compare}
 use Rattle.step_threads.proofs.LookFits.{fits_pending_call, stocks_as}
+use Rattle.step_threads.proofs.Looks.{same_looked}
 use Rattle.step_threads.proofs.Named.{refusal_none, told_as, walked_by}
 use Rattle.step_threads.proofs.Steps.{at_act, on_slot, says_on, stepped_as, waits_act}
 use Rattle.step_threads.proofs.Threads.{cell_here, cells_on, own_pending}
@@ -49,12 +49,6 @@ use Rattle.step_threads.proofs.holding.Ends.{ends_gone}
 -- the thread as it is after its act
 abbrev pub Rested : Thread → Frame → Thread
 Rested t c = record { frame = c; stock = t.stock; pending_call = t.pending_call }
-
--- a look moves no block
-same_looked : (v : GhostState) (d : ℕ) (c : Cell) (x : CellWord) (y : Option Compared)
-    → (model_state (ghost_after_step v d (OnCell (Look c x y)))).stores ≡ (model_state v).stores
-same_looked v d c x None = refl
-same_looked v d c x (Some y) = refl
 
 module _ (d : ℕ) (t : Thread) (v : GhostState) (begins : BeginsAct d t v) where
   abbrev fits : FitsThread d t v
@@ -126,7 +120,8 @@ module _ (d : ℕ) (t : Thread) (v : GhostState) (begins : BeginsAct d t v) wher
       (fits_pending_call d t v Rest (Saw x) fits rests (λ b. refl) (λ b. refl) (is_idle, valid) (lt, seen, none)))
 
   -- it fits after a look that was the whole of its act
-  pub looked_on : (c : Cell) (y : Option Compared) (x : CellWord) (c' : Frame) (w : GhostState) → Kept v → w ≡ ghost_after_step v d (OnCell (Look c x y))
+  pub looked_on : (c : Cell) (y : Option Compared) (x : CellWord) (c' : Frame) (w : GhostState) → TableInvariant v → w
+      ≡ ghost_after_step v d (OnCell (Look c x y))
       → HasGoneOn d t.frame c' w → FitsThread d (Rested t c') w
   looked_on c y x c' w kept is on =
       let u = ghost_after_step v d (OnCell (Look c x y)) in
@@ -202,19 +197,19 @@ module _ (d : ℕ) (t : Thread) (v : GhostState) (begins : BeginsAct d t v) wher
       pub differ_waits : waits_on v (frame_view t.frame) (Compare k c weak) ≡ is_spent x
       differ_waits = compare_waits false differs
 
-      not_expected : Kept v → is_expected (model_state v) t.frame.registers.slots.items k c ≡ false
+      not_expected : TableInvariant v → is_expected (model_state v) t.frame.registers.slots.items k c ≡ false
       not_expected kept =
           let slots = t.frame.registers.slots.items in
           let may = may_compare t.frame k c weak lt fits.ready act fits.still in
           sym (expected_told d slots v k c kept fits.seat fits.holds (cell_of_compare d t v k c weak x fits act lt) may.0 may.2)
           ∙ ap (λ (y : CellWord). same_value y (as_word (slot_value slots k))) (sym shows) ∙ differs
 
-      pub differ_says : Kept v → answers number false
+      pub differ_says : TableInvariant v → answers number false
           ≡ said_by_row number
           (row_in (by_word v) (model_state v) d t.frame.registers.slots.items t.frame.taken (Compare k c weak))
       differ_says kept = ap (answers number) (sym (not_expected kept))
 
-      pub differ_went : Kept v → compared_frame t v c false ≡ went (model_state v) d (frame_view t.frame) number (rest t.frame) (Compare k c weak)
+      pub differ_went : TableInvariant v → compared_frame t v c false ≡ went (model_state v) d (frame_view t.frame) number (rest t.frame) (Compare k c weak)
       differ_went kept = ap (compared_frame t v c) (sym (not_expected kept))
 
   module _ (a : Act) (act : (task_at t.frame).act ≡ a) where
@@ -238,9 +233,9 @@ module _ (d : ℕ) (t : Thread) (v : GhostState) (begins : BeginsAct d t v) wher
     acts_as x h r t' v' = steps_as (step_of_act v d (frame_view t.frame) number (rest t.frame) a x h) r t' v'
 
     -- the whole of an act on what a slot holds, by an atomic step that is an event
-    pub acts_on : (f : Pointer → AtomicStep) (o : Option Pointer) (b : Bool) (y : Said) (r : Stepped) (t' : Thread) (v' : GhostState)
+    pub acts_on : (f : Handle → AtomicStep) (o : Option Handle) (b : Bool) (y : Said) (r : Stepped) (t' : Thread) (v' : GhostState)
         → first v d (frame_view t.frame) number (rest t.frame) a ≡ step_of_act v d (frame_view t.frame) number (rest t.frame) a (option_map f o) Rest
-        → waits_on v (frame_view t.frame) a ≡ false → ((p : Pointer) → is_some (event_of (model_state v) (f p)) ≡ true)
+        → waits_on v (frame_view t.frame) a ≡ false → ((p : Handle) → is_some (event_of (model_state v) (f p)) ≡ true)
         → r ≡ cond b (Event y) (Quiet y) → b ≡ is_full o → y ≡ said → v' ≡ done_on f v d o
         → frame_view t'.frame ≡ went (model_state v) d (frame_view t.frame) number (rest t.frame) a → t'.pending_call ≡ Rest → HasStepped d t v r t' v'
     acts_on f o b y r t' v' is goes event answer full says ghost_state =
@@ -301,10 +296,3 @@ module _ (d : ℕ) (t : Thread) (v : GhostState) (begins : BeginsAct d t v) wher
           (is ∙ cond-true (is_spent x) (within (frame_view t.frame) number None Rest)
           (cond (is_some x.owned) (within (frame_view t.frame) number None (Saw x)) looked) spent)
           (waiting ∙ spent)
-
--- what is seen can be loaded
-pub is_loaded : (x : CellWord) → IsCellWord x → is_some x.owned ≡ true → (x.taken == 256) ≡ false → IsLoaded x
-is_loaded x valid full few =
-    let n = eqb-false x.taken 256 few in
-    let l = valid.taken in
-    ((λ e. let q : is_some x.owned ≡ false = ap (λ (o : Option Block). is_some o) e in cc), omega (arith, n, l))

@@ -7,7 +7,7 @@ use Rattle.step_threads.specs.declared.ending.Ending.{Ending}
 use Rattle.step_threads.specs.declared.pending_call.PendingCall.TheVariants.{Rest}
 use Rattle.step_table.specs.declared.memory.ended.Ended.{Ended}
 use Rattle.step_table.specs.declared.slots.registers.Registers.{Registers}
-use Rattle.step_table.specs.declared.slots.registers.Pointer.{Pointer}
+use Rattle.control_word.specs.declared.handle.Handle.{Handle}
 use Rattle.step_threads.specs.declared.said.Said.{Said}
 use Rattle.step_threads.specs.declared.said.Stepped.{Stepped}
 use Rattle.step_threads.specs.declared.said.Stepped.TheVariants.{Event, Quiet}
@@ -26,7 +26,7 @@ use Rattle.step_threads.proofs.Hands.{settled_hand}
 use Rattle.step_threads.proofs.LeaveSteps.{ended_left, left_event}
 use Rattle.step_threads.proofs.Steps.{at_carried, stepped_as, waits_ending}
 
-module _ (d : ℕ) (t t' : Thread) (v w : GhostState) (h : Registers) (x : Pointer) (last : Bool) (e : Ending) (es : List Ending) (fits : FitsThread d t v)
+module _ (d : ℕ) (t t' : Thread) (v w : GhostState) (h : Registers) (x : Handle) (last : Bool) (e : Ending) (es : List Ending) (fits : FitsThread d t v)
     (is : t.frame.endings.list ≡ e ∷ es) (at : slot_pointer t.frame.registers.slots.items (hand t.frame.registers.slots.items) ≡ Some x)
     (said : last ≡ is_last (model_state v) x) (same : t'.frame ≡ record t.frame { registers = h; endings = t'.frame.endings })
     (slots : h.slots.items ≡ set t.frame.registers.slots.items (hand t.frame.registers.slots.items) plain)
@@ -37,7 +37,7 @@ module _ (d : ℕ) (t t' : Thread) (v w : GhostState) (h : Registers) (x : Point
       let i = hand c.registers.slots.items in
       let empty = set c.registers.slots.items i plain in
       let l = t'.frame.endings.list in
-      let leaves = λ (o : Option Pointer). with_end e.statement (ending_by (on (is_last (model_state v)) false o) o) c.endings.list in
+      let leaves = λ (o : Option Handle). with_end e.statement (ending_by (on (is_last (model_state v)) false o) o) c.endings.list in
       let begun : l ≡ leaves (slot_pointer c.registers.slots.items i) =
       list ∙ ap (λ (b : Bool). with_end e.statement (ending_by b (Some x)) c.endings.list) said ∙ ap leaves (sym at) in
       ap frame_view same
@@ -59,7 +59,7 @@ module _ (d : ℕ) (t t' : Thread) (v w : GhostState) (h : Registers) (x : Point
       left ∙ ended_left v w d (Some x) last ghost_state said ∙ ap (ended_by (model_state v)) (sym at) in
       stepped_as d t v (step_of_act v d (frame_view c) e.statement (todo c) (Leave i) (Some atomic_step) Rest) r t' w (waits_ending d t v e es is rests)
       (at_carried d t v e es is rests full
-      ∙ ap (λ (o : Option Pointer). Some (step_of_act v d (frame_view c) e.statement (todo c) (Leave i) (option_map (leave (model_state v)) o) Rest)) at)
+      ∙ ap (λ (o : Option Handle). Some (step_of_act v d (frame_view c) e.statement (todo c) (Leave i) (option_map (leave (model_state v)) o) Rest)) at)
       (says ∙ ap (λ (z : Option Ended). Event (record { statement = e.statement; answer = None; ended = z })) remains
       ∙ sym (cond-true (atomic_step_is_event v (Some atomic_step)) (Event y) (Quiet y) (left_event v x x.kind (is_last (model_state v) x)))) ghost_state
       went_carried

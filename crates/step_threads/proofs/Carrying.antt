@@ -19,12 +19,12 @@ use Rattle.step_threads.specs.declared.ending.Ending.{Ending}
 use Rattle.step_threads.specs.declared.pending_call.PendingCall.{PendingCall}
 use Rattle.step_threads.specs.declared.pending_call.PendingCall.TheVariants.{Rest}
 use Rattle.step_table.specs.declared.slots.registers.Registers.{Registers}
-use Rattle.step_table.specs.declared.slots.registers.Pointer.{Pointer}
+use Rattle.control_word.specs.declared.handle.Handle.{Handle}
 use Rattle.step_threads.specs.declared.thread.Thread.{Thread}
 use Rattle.step_table.specs.AtomicSteps.{is_last, leave, leave_as}
 use Rattle.step_table.specs.Registers.{HoldsBag, Slots, plain}
 use Rattle.step_table.specs.Openings.{opening}
-use Rattle.step_table.specs.GhostStates.{Kept, GhostState, ghost_after_step, object_of_block, model_state}
+use Rattle.step_table.specs.GhostStates.{TableInvariant, GhostState, ghost_after_step, object_of_block, model_state}
 use Rattle.step_threads.specs.Frames.{IsReady, hand, todo}
 use Rattle.step_threads.specs.Rows.{ending_as, with_end}
 use Rattle.step_threads.specs.Endings.{EndsAll, IsEndingAtStage, Stack, endings_in_block}
@@ -40,7 +40,7 @@ pub none_taken : (d : ℕ) (c : Frame) (v : GhostState) (e : Ending) (es : List 
 none_taken d c v e es fit is = ⊎_elim (λ (n : c.endings.list ≡ []). absurd cc) (λ (n : c.taken ≡ false). n) fit.empty
 
 -- a pointer's leave leaves the endings
-left_each : (d : ℕ) (v : GhostState) (x : Pointer) (k : Kind) (b : Bool) (y : Ending) → IsEndingAtStage d y v
+left_each : (d : ℕ) (v : GhostState) (x : Handle) (k : Kind) (b : Bool) (y : Ending) → IsEndingAtStage d y v
     → IsEndingAtStage d y (ghost_after_step v d (leave_as k x b))
 left_each d v x Weak b y is = record { ending = is.ending; within = is.within; cleared = is.cleared }
 left_each d v x Owner b y is =
@@ -74,7 +74,7 @@ live_apart d v b (y ∷ ys) alive all =
     omega (arith, i, o, z)
 
 -- what leaves has a live object, if it is an owner
-owner_live : (d : ℕ) (v : GhostState) (x : Pointer) (b : Bool) → Kept v → Kept (ghost_after_step v d (leave_as Owner x b))
+owner_live : (d : ℕ) (v : GhostState) (x : Handle) (b : Bool) → TableInvariant v → TableInvariant (ghost_after_step v d (leave_as Owner x b))
     → ((model_state v).object (object_of_block v x.block)).phase ≡ live
 owner_live d v x b kept kept' =
     let fine = sound (opening v.extent) v.history kept.stands.legal in
@@ -82,8 +82,8 @@ owner_live d v x b kept kept' =
     (owner_counted (model_state v) d (object_of_block v x.block) x.place kept'.stands.legal.1.asks.0.0)
 
 -- the endings after it: the last owner's object is in one more
-pub ends_leaving : (d : ℕ) (v : GhostState) (x : Pointer) (k : Kind) (b : Bool) (n : ℕ) (es : List Ending) → Kept v
-    → Kept (ghost_after_step v d (leave_as k x b)) → EndsAll d es v
+pub ends_leaving : (d : ℕ) (v : GhostState) (x : Handle) (k : Kind) (b : Bool) (n : ℕ) (es : List Ending) → TableInvariant v
+    → TableInvariant (ghost_after_step v d (leave_as k x b)) → EndsAll d es v
     → EndsAll d (with_end n (cond b (ending_as k x) None) es) (ghost_after_step v d (leave_as k x b))
 ends_leaving d v x Owner true n es kept kept' ends =
     let w = ghost_after_step v d (leave_as Owner x true) in
@@ -109,13 +109,13 @@ ends_leaving d v x Weak false n es kept kept' ends =
     record { each = each_end d v (ghost_after_step v d (leave_as Weak x false)) es (λ y is. left_each d v x Weak false y is) ends.each; once = ends.once }
 
 -- there is room for one more
-pub carried_room : (d : ℕ) (c : Frame) (v w : GhostState) (x : Pointer) (last : Bool) → Kept v → Kept w → EndsFit d c v
+pub carried_room : (d : ℕ) (c : Frame) (v w : GhostState) (x : Handle) (last : Bool) → TableInvariant v → TableInvariant w → EndsFit d c v
     → w ≡ ghost_after_step v d (leave (model_state v) x)
     → last ≡ is_last (model_state v) x → x.kind ≡ Owner → last ≡ true → length c.endings.list < c.endings.room
 carried_room d c v w x last kept kept' fit is said at ended =
-    go x.kind at (is_last (model_state v) x) (sym said ∙ ended) (subst Kept is kept')
+    go x.kind at (is_last (model_state v) x) (sym said ∙ ended) (subst TableInvariant is kept')
   where
-    go : (k : Kind) → k ≡ Owner → (b : Bool) → b ≡ true → Kept (ghost_after_step v d (leave_as k x b)) → length c.endings.list < c.endings.room
+    go : (k : Kind) → k ≡ Owner → (b : Bool) → b ≡ true → TableInvariant (ghost_after_step v d (leave_as k x b)) → length c.endings.list < c.endings.room
     go Weak e b q kept' = cc
     go Owner e false q kept' = cc
     go Owner e true q kept' =
@@ -124,9 +124,9 @@ carried_room d c v w x last kept kept' fit is said at ended =
         (ends_leaving d v x Owner true 0 c.endings.list kept kept' fit.all) in
         let r = fit.roomy in omega (arith, f, r)
 
-carried_on : (d : ℕ) (t : Thread) (v : GhostState) (h : Registers) (r : Stack) (s : StoreView) (n : ℕ) (x : Pointer) (k : Kind) (b : Bool)
+carried_on : (d : ℕ) (t : Thread) (v : GhostState) (h : Registers) (r : Stack) (s : StoreView) (n : ℕ) (x : Handle) (k : Kind) (b : Bool)
     (e : Ending) (es : List Ending)
-    → Kept v → FitsThread d t v → t.pending_call ≡ Rest → t.frame.endings.list ≡ e ∷ es → Kept (ghost_after_step v d (leave_as k x b))
+    → TableInvariant v → FitsThread d t v → t.pending_call ≡ Rest → t.frame.endings.list ≡ e ∷ es → TableInvariant (ghost_after_step v d (leave_as k x b))
     → HoldsBag d h.slots.items (ghost_after_step v d (leave_as k x b))
     → h.slots.items ≡ set t.frame.registers.slots.items (hand t.frame.registers.slots.items) plain
     → r.list ≡ with_end n (cond b (ending_as k x) None) t.frame.endings.list → t.frame.endings.room ≤ r.room
@@ -156,8 +156,8 @@ carried_on d t v h r s n x k b e es kept fits rests is kept' holds slots list ro
     }
 
 -- a thread after what it had in hand left
-pub fits_carried : (d : ℕ) (t t' : Thread) (v w : GhostState) (h : Registers) (n : ℕ) (x : Pointer) (last : Bool) (e : Ending) (es : List Ending)
-    → Kept v → Kept w → FitsThread d t v → t.pending_call ≡ Rest → t.frame.endings.list ≡ e ∷ es
+pub fits_carried : (d : ℕ) (t t' : Thread) (v w : GhostState) (h : Registers) (n : ℕ) (x : Handle) (last : Bool) (e : Ending) (es : List Ending)
+    → TableInvariant v → TableInvariant w → FitsThread d t v → t.pending_call ≡ Rest → t.frame.endings.list ≡ e ∷ es
     → w ≡ ghost_after_step v d (leave (model_state v) x)
     → last ≡ is_last (model_state v) x
     → HoldsBag d h.slots.items w → h.slots.items ≡ set t.frame.registers.slots.items (hand t.frame.registers.slots.items) plain
@@ -172,7 +172,7 @@ fits_carried d t t' v w h n x last e es kept kept' fits rests is ghost_state sai
     (sym (pending_call ∙ rests))
     (subst (λ (u : GhostState). FitsThread d (record { frame = record t.frame { registers = h; endings = r }; stock = t'.stock; pending_call = Rest }) u)
     (sym ghost_state)
-    (carried_on d t v h r t'.stock n x x.kind b e es kept fits rests is (subst Kept ghost_state kept')
+    (carried_on d t v h r t'.stock n x x.kind b e es kept fits rests is (subst TableInvariant ghost_state kept')
     (subst (λ (u : GhostState). HoldsBag d h.slots.items u) ghost_state holds) slots
     (list ∙ ap (λ (q : Bool). with_end n (cond q (ending_as x.kind x) None) t.frame.endings.list) said) room
     (subst (λ (q : Bool). IsStocked x.kind x.block.0 q t.stock t'.stock) said stock))))

@@ -7,7 +7,7 @@ use Rattle.control_word.specs.declared.model.handle.Kind.{Kind}
 use Rattle.control_word.specs.declared.model.handle.Kind.TheVariants.{Owner, Weak}
 use Rattle.control_word.specs.declared.place.Block.{Block}
 use Rattle.control_word.specs.State.{Has, held}
-use Rattle.step_table.specs.declared.slots.registers.Pointer.{Pointer}
+use Rattle.control_word.specs.declared.handle.Handle.{Handle}
 use Rattle.step_table.specs.declared.slots.slot.Slot.{Slot}
 use Rattle.step_table.specs.CellAtomicSteps.{kind_in_state}
 use Rattle.step_table.specs.Cells.{IsOpenTo}
@@ -33,17 +33,17 @@ cell_kind v slots (cell.Member k m) lt = refl
 
 -- a name that owns an object and points into it
 pub there_inside : (slots : Slots) (k : Name) (m : ℕ) → is_there slots (cell.Member k m) ≡ true
-    → (p : Pointer) × (inside (slot_pointer slots k.0) ≡ Some p) × (block_at slots k.0 ≡ p.block)
+    → (p : Handle) × (inside (slot_pointer slots k.0) ≡ Some p) × (block_at slots k.0 ≡ p.block)
 there_inside slots k m is = go (inside (slot_pointer slots k.0)) refl is
   where
-    go : (o : Option Pointer) → inside (slot_pointer slots k.0) ≡ o → is_full o ≡ true
-        → (p : Pointer) × (inside (slot_pointer slots k.0) ≡ Some p) × (block_at slots k.0 ≡ p.block)
+    go : (o : Option Handle) → inside (slot_pointer slots k.0) ≡ o → is_full o ≡ true
+        → (p : Handle) × (inside (slot_pointer slots k.0) ≡ Some p) × (block_at slots k.0 ≡ p.block)
     go None e t = cc
-    go (Some p) e t = (p, e, ap (λ (o : Option Pointer). on (λ (x : Pointer). x.block) (record { 0 = 0 }) o) e)
+    go (Some p) e t = (p, e, ap (λ (o : Option Handle). on (λ (x : Handle). x.block) (record { 0 = 0 }) o) e)
 
 module _ (v : GhostState) (d : ℕ) (slots : Slots) (k : Name) (m : ℕ) (holds : HoldsBag d slots v) (is : is_there slots (cell.Member k m) ≡ true) where
   -- has an owner of the object in that block
-  there_owned : (p : Pointer) × Has (held d (owner_in v (block_at slots k.0) p.place)) (model_state v).hands
+  there_owned : (p : Handle) × Has (held d (owner_in v (block_at slots k.0) p.place)) (model_state v).hands
   there_owned =
       let t = there_inside slots k m is in
       let p = t.0 in

@@ -12,17 +12,17 @@ use Rattle.step_table.specs.declared.cell_steps.cell_step.Compared.{Compared}
 use Rattle.step_threads.specs.declared.frame.Frame.{Frame}
 use Rattle.step_threads.specs.declared.pending_call.PendingCall.{PendingCall}
 use Rattle.step_threads.specs.declared.pending_call.PendingCall.TheVariants.{Rest, Saw, Matched, Refill}
-use Rattle.step_table.specs.declared.slots.registers.Pointer.{Pointer}
-use Rattle.step_table.specs.declared.memory.past.AtomicStep.TheVariants.{OnCell}
+use Rattle.control_word.specs.declared.handle.Handle.{Handle}
+use Rattle.step_table.specs.declared.memory.ghost_history.AtomicStep.TheVariants.{OnCell}
 use Rattle.step_table.specs.declared.cell_steps.refill.Stage.TheVariants.{Turning}
 use Rattle.step_table.specs.declared.slots.slot.Slot.{Slot}
 use Rattle.step_table.specs.declared.slots.slot.Slot.TheVariants.{Empty, Full}
 use Rattle.step_threads.specs.declared.thread.Thread.{Thread}
 use Rattle.step_table.specs.CellAtomicSteps.{kind_in_state, owing_funds}
 use Rattle.step_table.specs.Contents.{as_word, owing_for, same_value}
-use Rattle.step_table.specs.Registers.{pointer_of, slot_pointer, slot_value}
+use Rattle.step_table.specs.Registers.{is_full, pointer_of, slot_pointer, slot_value}
 use Rattle.step_table.specs.Refills.{more_taken}
-use Rattle.step_table.specs.GhostStates.{Kept, GhostState, ghost_after_step, pending, model_state}
+use Rattle.step_table.specs.GhostStates.{TableInvariant, GhostState, ghost_after_step, pending, model_state}
 use Rattle.step_threads.specs.Frames.{HasCell, cell_of_name, hand, new_of, task_at}
 use Rattle.step_threads.specs.Passing.{HasGoneOn}
 use Rattle.step_threads.specs.Programs.{IsIn}
@@ -65,7 +65,7 @@ module _ (d : ℕ) (t : Thread) (v : GhostState) (k : ℕ) (c : CellName) (weak 
   saw_other e differs =
       ⊎_elim (λ (q : same_value x (as_word (slot_value t.frame.registers.slots.items k)) ≡ true). absurd cc) (λ (q : IsLoaded x). q) (saw_compares e)
 
-  module _ (c' : Frame) (y : Compared) (kept : Kept v) where
+  module _ (c' : Frame) (y : Compared) (kept : TableInvariant v) where
     -- one with an object was, and a fund of it is taken
     pub compare_taken : (n : ℕ) → t.pending_call ≡ Saw x → IsLoaded x
         → HasGoneOn d t.frame c' (ghost_after_step v d (OnCell (Take (cell_of_name (model_state v) t.frame.registers.slots.items c) x (Some y))))
@@ -115,11 +115,12 @@ module _ (d : ℕ) (t : Thread) (v : GhostState) (k : ℕ) (c : CellName) (weak 
         same_stores (name.Member i m) = refl
 
   -- the funds are brought
-  pub compare_brought : (p : Pointer) → t.pending_call ≡ Saw x → same_value x (as_word (slot_value t.frame.registers.slots.items k)) ≡ true
+  pub compare_brought : (p : Handle) → t.pending_call ≡ Saw x → same_value x (as_word (slot_value t.frame.registers.slots.items k)) ≡ true
+      → slot_pointer t.frame.registers.slots.items (hand t.frame.registers.slots.items) ≡ Some p
       → let w = ghost_after_step v d (OnCell (Bring p.kind p.block p.place 256)) in
       pending w d ≡ owing_for (model_state w) (slot_value t.frame.registers.slots.items (hand t.frame.registers.slots.items)) 256
       → FitsThread d (At t (Matched x)) w
-  compare_brought p e same owes =
+  compare_brought p e same at owes =
       let z = OnCell (Bring p.kind p.block p.place 256) in
       let w = ghost_after_step v d z in
       let slots = t.frame.registers.slots.items in
@@ -127,7 +128,8 @@ module _ (d : ℕ) (t : Thread) (v : GhostState) (k : ℕ) (c : CellName) (weak 
       let valid = (pending_call_here d t v (Saw x) fits e).1 in
       let matched : IsMatchedBy slots x (task_at t.frame).act = subst (λ (a : Act). IsMatchedBy slots x a) (sym act) same in
       fits_quiet d t v (Saw x) (Matched x) fits e (λ b. refl) (λ b. refl) z refl
-      (owes ∙ ap (λ (a : Act). owing_for (model_state w) (new_of slots a) 256) (sym act), valid) (next.0, matched, next.2)
+      (owes ∙ ap (λ (a : Act). owing_for (model_state w) (new_of slots a) 256) (sym act), valid)
+      (next.0, matched, next.2, ap (λ (a : Act). is_full (pointer_of (new_of slots a))) act ∙ ap is_full at)
 
   -- the cell shows something else by then
   pub compare_missed : (n : ℕ) → ClaimsNone t.pending_call

@@ -13,9 +13,9 @@ use Rattle.step_table.specs.declared.cell_steps.cell_step.CellStep.TheVariants.{
 use Rattle.step_table.specs.declared.cell_steps.cell_step.Compared.{Compared}
 use Rattle.step_threads.specs.declared.pending_call.PendingCall.{PendingCall}
 use Rattle.step_threads.specs.declared.pending_call.PendingCall.TheVariants.{Saw, Matched, Refill}
-use Rattle.step_table.specs.declared.slots.registers.Pointer.{Pointer}
-use Rattle.step_table.specs.declared.memory.past.AtomicStep.{AtomicStep}
-use Rattle.step_table.specs.declared.memory.past.AtomicStep.TheVariants.{OnCell}
+use Rattle.control_word.specs.declared.handle.Handle.{Handle}
+use Rattle.step_table.specs.declared.memory.ghost_history.AtomicStep.{AtomicStep}
+use Rattle.step_table.specs.declared.memory.ghost_history.AtomicStep.TheVariants.{OnCell}
 use Rattle.step_table.specs.declared.cell_steps.refill.Stage.TheVariants.{Turning}
 use Rattle.step_threads.specs.declared.said.Answer.TheVariants.{Compared as Answered}
 use Rattle.step_threads.specs.declared.said.Said.{Said}
@@ -28,7 +28,7 @@ use Rattle.step_table.specs.Contents.{as_word, compared_in, is_of, same_value, s
 use Rattle.step_table.specs.AtomicSteps.{on}
 use Rattle.step_table.specs.Registers.{HoldsBag, Slots, slot_pointer, slot_value}
 use Rattle.step_table.specs.Refills.{more_taken}
-use Rattle.step_table.specs.GhostStates.{Kept, GhostState, ghost_after_step, event_of, model_state}
+use Rattle.step_table.specs.GhostStates.{TableInvariant, GhostState, ghost_after_step, event_of, model_state}
 use Rattle.step_threads.specs.Frames.{FrameView, cell_of_name, comparing, hand, is_there, rest, frame_settled, task_at, frame_view}
 use Rattle.step_threads.specs.Entries.{is_expected}
 use Rattle.step_threads.specs.Programs.{IsIn, kind_at}
@@ -55,7 +55,7 @@ compared_frame t v c b =
     frame_settled x.0 x.1 t.frame.endings.list (rest t.frame)
 
 -- words tell whether a cell holds what is expected
-pub expected_told : (d : ℕ) (slots : Slots) (v : GhostState) (k : ℕ) (c : CellName) → Kept v → d < v.extent.actors → HoldsBag d slots v
+pub expected_told : (d : ℕ) (slots : Slots) (v : GhostState) (k : ℕ) (c : CellName) → TableInvariant v → d < v.extent.actors → HoldsBag d slots v
     → IsIn v.extent.shape c
     → is_there slots c ≡ true → is_of (kind_at c) (slot_value slots k) ≡ true
     → same_value (seen v (cell_of_name (model_state v) slots c)) (as_word (slot_value slots k)) ≡ is_expected (model_state v) slots k c
@@ -65,7 +65,7 @@ expected_told d slots v k c kept lt holds inside there is =
     (goes_in v slots c (slot_value slots k) inside is)
 
 -- what a cell shows still is what it holds
-pub shown_still : (d : ℕ) (slots : Slots) (v : GhostState) (c : CellName) (x : CellWord) → Kept v → d < v.extent.actors → HoldsBag d slots v
+pub shown_still : (d : ℕ) (slots : Slots) (v : GhostState) (c : CellName) (x : CellWord) → TableInvariant v → d < v.extent.actors → HoldsBag d slots v
     → IsIn v.extent.shape c → is_there slots c ≡ true → IsCellWord x → word_of_cell v (cell_of_name (model_state v) slots c) ≡ cell_bits x
     → x ≡ seen v (cell_of_name (model_state v) slots c)
 shown_still d slots v c x kept lt holds inside there valid bits =
@@ -147,12 +147,12 @@ module _ (d : ℕ) (t : Thread) (v : GhostState) (k : ℕ) (c : CellName) (weak 
           (takes v d w number ts a place (Some wanted) x) same)
 
       -- the funds of what is to go in are brought
-      pub fetches_funds : (p : Pointer) → slot_pointer slots (hand slots) ≡ Some p
+      pub fetches_funds : (p : Handle) → slot_pointer slots (hand slots) ≡ Some p
           → step_at v d t.pending_call (frame_view t.frame) ≡ Some (fetches (frame_view t.frame) number x p)
       fetches_funds p at =
           let w = frame_view t.frame in
           alike_on
-          ∙ ap (λ (o : Option Pointer). Some (on (fetches w number x) (matches v d w number (rest t.frame) (Compare k c weak) place wanted x) o)) at
+          ∙ ap (λ (o : Option Handle). Some (on (fetches w number x) (matches v d w number (rest t.frame) (Compare k c weak) place wanted x) o)) at
 
       -- or there are none to bring
       pub fetches_none : slot_pointer slots (hand slots) ≡ None
@@ -160,7 +160,7 @@ module _ (d : ℕ) (t : Thread) (v : GhostState) (k : ℕ) (c : CellName) (weak 
       fetches_none at =
           let w = frame_view t.frame in
           alike_on
-          ∙ ap (λ (o : Option Pointer). Some (on (fetches w number x) (matches v d w number (rest t.frame) (Compare k c weak) place wanted x) o)) at
+          ∙ ap (λ (o : Option Handle). Some (on (fetches w number x) (matches v d w number (rest t.frame) (Compare k c weak) place wanted x) o)) at
 
   -- the next step of a compare that has brought funds
   pub matched_at : t.pending_call ≡ Matched x

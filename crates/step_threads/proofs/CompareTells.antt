@@ -16,7 +16,7 @@ use Rattle.step_threads.specs.declared.thread.Thread.{Thread}
 use Rattle.step_table.specs.Cells.{word_of_cell}
 use Rattle.step_table.specs.Contents.{as_word, compared_in, owing_for, same_value}
 use Rattle.step_table.specs.Registers.{pointer_of, slot_value}
-use Rattle.step_table.specs.GhostStates.{Kept, Nothing, GhostState, pending, model_state}
+use Rattle.step_table.specs.GhostStates.{TableInvariant, Nothing, GhostState, pending, model_state}
 use Rattle.step_threads.specs.Frames.{cell_of_name, comparing, hand, rest, task_at, frame_view}
 use Rattle.step_threads.specs.Entries.{is_expected}
 use Rattle.step_threads.specs.NextSteps.{step_at, waits}
@@ -31,7 +31,7 @@ use Rattle.step_threads.proofs.StoreFits.{pending_call_here}
 module _ (d : ℕ) (t : Thread) (v : GhostState) (k : ℕ) (c : CellName) (weak : Bool) (x : CellWord) (fits : FitsThread d t v)
     (act : (task_at t.frame).act ≡ Compare k c weak) where
   -- where a cell shows still what was seen, that tells whether it holds what is expected
-  pub tells_still : (b : Bool) → Kept v → t.frame.at < length t.frame.tasks.items → IsCellWord x
+  pub tells_still : (b : Bool) → TableInvariant v → t.frame.at < length t.frame.tasks.items → IsCellWord x
       → (word_of_cell v (cell_of_name (model_state v) t.frame.registers.slots.items c) == cell_bits x) ≡ true
       → same_value x (as_word (slot_value t.frame.registers.slots.items k)) ≡ b → is_expected (model_state v) t.frame.registers.slots.items k c ≡ b
   tells_still b kept lt valid same is =

@@ -3,7 +3,7 @@ use Rattle.std.proofs.Common.{◌≡◌, ℕ, ◌<◌, ◌≤◌, true, false, c
 use Rattle.std.proofs.lemmas.Option.{same_Some}
 use Rattle.std.specs.Prelude.{Option, Some, None, is_some}
 use Rattle.control_word.specs.declared.packed.cell.CellWord.{CellWord}
-use Rattle.control_word.specs.declared.model.handle.Handle.{Handle}
+use Rattle.control_word.specs.declared.model.handle.NumberedHandle.{NumberedHandle}
 use Rattle.control_word.specs.declared.place.Block.{Block}
 use Rattle.control_word.specs.declared.model.view.Pending.TheVariants.{Idle}
 use Rattle.control_word.specs.State.{State, kind_of_member}
@@ -15,15 +15,15 @@ use Rattle.step_threads.specs.declared.pending_call.PendingCall.TheVariants.{Cle
 use Rattle.step_table.specs.declared.cell_steps.cell_step.Cell.TheVariants.{Member}
 use Rattle.step_table.specs.declared.cell_steps.cell_step.CellStep.TheVariants.{TakeOut}
 use Rattle.step_table.specs.declared.slots.registers.Registers.{Registers}
-use Rattle.step_table.specs.declared.slots.registers.Pointer.{Pointer}
-use Rattle.step_table.specs.declared.memory.past.AtomicStep.TheVariants.{OnCell}
+use Rattle.control_word.specs.declared.handle.Handle.{Handle}
+use Rattle.step_table.specs.declared.memory.ghost_history.AtomicStep.TheVariants.{OnCell}
 use Rattle.step_table.specs.declared.slots.slot.Slot.{Slot}
 use Rattle.step_threads.specs.declared.said.Stepped.TheVariants.{Event}
 use Rattle.step_threads.specs.declared.thread.Thread.{Thread}
 use Rattle.step_table.specs.CellAtomicSteps.{handle_as}
 use Rattle.step_table.specs.Contents.{held_in, seen, slot_as, slot_of}
 use Rattle.step_table.specs.Registers.{HoldsBag, Slots, is_full, pointer_of, slot_pointer}
-use Rattle.step_table.specs.GhostStates.{Kept, GhostState, ghost_after_step, pending, model_state}
+use Rattle.step_table.specs.GhostStates.{TableInvariant, GhostState, ghost_after_step, pending, model_state}
 use Rattle.step_threads.specs.Actors.{PendingCallFits, Stocks}
 use Rattle.step_threads.specs.Frames.{FrameReady, FrameStill, IsCarried, IsReady, hand, idle, task_at, todo, frame_view}
 use Rattle.step_threads.specs.Endings.{EndsAll, IsEndingAtStage, Stack, first_of, staged, staged_first}
@@ -36,7 +36,7 @@ use Rattle.step_threads.proofs.Steps.{at_clearing, stepped_as, waits_clearing}
 use Rattle.step_threads.proofs.StoreFits.{claims_none, pending_call_back, next_back}
 use Rattle.step_table.proofs.contained.Refilling.{owes_after}
 
-pub none_full : (o : Option Pointer) → is_full o ≡ false → o ≡ None
+pub none_full : (o : Option Handle) → is_full o ≡ false → o ≡ None
 none_full None e = refl
 none_full (Some x) e = cc
 
@@ -55,7 +55,7 @@ idle_clearing d t v fits pending_call = subst (λ (h : PendingCall). PendingCall
     fits.pending_call
 
 -- what has an object fills a slot
-full_as : (s : State) (block : ℕ → ℕ) (h : Handle) (o : Option ℕ) → is_some (block_of block o) ≡ true
+full_as : (s : State) (block : ℕ → ℕ) (h : NumberedHandle) (o : Option ℕ) → is_some (block_of block o) ≡ true
     → is_full (pointer_of (slot_as s h o)) ≡ true
 full_as s block h None e = cc
 full_as s block h (Some o) e = refl
@@ -82,7 +82,7 @@ module _ (c : Frame) (h : Registers) (y : Slot) (e : Ending) (es l : List Ending
   emptied_still r (Some b) still none slots = still_hand c (record c { registers = h; endings = r }) y ready still none slots refl refl refl
 
 pub fits_emptied : (d : ℕ) (t : Thread) (v : GhostState) (e : Ending) (es : List Ending) (h : Registers) (r : Stack) (q : PendingCall) (n : ℕ) (x : CellWord) →
-    Kept v
+    TableInvariant v
     → FitsThread d t v → t.pending_call ≡ Clearing → t.frame.endings.list ≡ e ∷ es → IsEndingAtStage d e v → x ≡ seen v (Member e.block e.stage)
     → h.slots.items
     ≡ cond (is_some x.owned)

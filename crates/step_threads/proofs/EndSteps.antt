@@ -8,7 +8,7 @@ use Rattle.std.proofs.lemmas.List.Sorted.{sum_by_pushed}
 use Rattle.std.specs.List.Sorted.{IsPermutation}
 use Rattle.control_word.proofs.lists.Tallies.{put_cases}
 use Rattle.control_word.specs.declared.model.event.Event.TheVariants.{ClearMember}
-use Rattle.control_word.specs.declared.model.handle.Handle.{Handle}
+use Rattle.control_word.specs.declared.model.handle.NumberedHandle.{NumberedHandle}
 use Rattle.control_word.specs.declared.place.Block.{Block}
 use Rattle.control_word.specs.declared.model.view.Pending.TheVariants.{Idle}
 use Rattle.control_word.specs.declared.model.view.View.{View}
@@ -19,14 +19,14 @@ use Rattle.step_threads.specs.declared.frame.Frame.{Frame}
 use Rattle.step_threads.specs.declared.ending.Ending.{Ending}
 use Rattle.step_threads.specs.declared.pending_call.PendingCall.{PendingCall}
 use Rattle.step_threads.specs.declared.pending_call.PendingCall.TheVariants.{Rest}
-use Rattle.step_table.specs.declared.memory.past.AtomicStep.TheVariants.{Clear, Finish}
+use Rattle.step_table.specs.declared.memory.ghost_history.AtomicStep.TheVariants.{Clear, Finish}
 use Rattle.step_threads.specs.declared.thread.Thread.{Thread}
 use Rattle.step_threads.specs.Actors.{PendingCallFits}
 use Rattle.step_threads.specs.Frames.{FrameReady, IsCarried, IsReady, hand, task_at, todo}
 use Rattle.step_threads.specs.Endings.{EndsAll, IsEndingAtStage, Stack, staged, staged_first}
 use Rattle.step_threads.specs.Stocks.{StoreView}
 use Rattle.step_table.specs.Registers.{is_full, plain, slot_pointer, slot_value}
-use Rattle.step_table.specs.GhostStates.{Kept, Nothing, GhostState, ghost_after_step, object_of_block, pending, model_state}
+use Rattle.step_table.specs.GhostStates.{TableInvariant, Nothing, GhostState, ghost_after_step, object_of_block, pending, model_state}
 use Rattle.step_threads.specs.Threads.{EndsFit, FitsThread}
 use Rattle.step_threads.proofs.Endings.{finished_store}
 use Rattle.step_threads.proofs.Threads.{own_pending, resting}
@@ -37,7 +37,7 @@ pub idle_here : (d : ℕ) (t : Thread) (v : GhostState) → FitsThread d t v →
 idle_here d t v fits e = subst (λ (h : PendingCall). PendingCallFits d h t.frame.registers.slots.items (task_at t.frame).act v) e fits.pending_call
 
 -- the other endings, once one object is finished
-finished_others : (d : ℕ) (v : GhostState) (e : Ending) (es : List Ending) (vacant : Bool) → Kept v → EndsAll d (e ∷ es) v → IsEndingAtStage d e v
+finished_others : (d : ℕ) (v : GhostState) (e : Ending) (es : List Ending) (vacant : Bool) → TableInvariant v → EndsAll d (e ∷ es) v → IsEndingAtStage d e v
     → EndsAll d es (ghost_after_step v d (Finish e.block vacant))
 finished_others d v e es vacant kept ends is =
     let o = object_of_block v e.block in
@@ -57,7 +57,7 @@ finished_others d v e es vacant kept ends is =
       once = λ b. once_rest d v e es b ends;
     }
 
-finished_ends : (d : ℕ) (t : Thread) (v : GhostState) (e : Ending) (r : Stack) (vacant : Bool) → Kept v → FitsThread d t v
+finished_ends : (d : ℕ) (t : Thread) (v : GhostState) (e : Ending) (r : Stack) (vacant : Bool) → TableInvariant v → FitsThread d t v
     → t.frame.endings.list ≡ e ∷ r.list
     → r.room ≡ t.frame.endings.room → IsEndingAtStage d e v
     → EndsFit d (record t.frame { endings = r }) (ghost_after_step v d (Finish e.block vacant))
@@ -84,7 +84,7 @@ ready_bare c es ready bare =
     go [] k = k
     go (e ∷ l) k = false≢true (sym bare ∙ k)
 
-pub fits_finish : (d : ℕ) (t : Thread) (v : GhostState) (e : Ending) (r : Stack) (s : StoreView) → Kept v → FitsThread d t v → t.pending_call ≡ Rest
+pub fits_finish : (d : ℕ) (t : Thread) (v : GhostState) (e : Ending) (r : Stack) (s : StoreView) → TableInvariant v → FitsThread d t v → t.pending_call ≡ Rest
     → t.frame.endings.list ≡ e ∷ r.list → r.room ≡ t.frame.endings.room → IsEndingAtStage d e v
     → is_full (slot_pointer t.frame.registers.slots.items (hand t.frame.registers.slots.items)) ≡ false
     → IsPermutation (e.block.0 ∷ t.stock.blocks) s.blocks → t.stock.room ≤ s.room
@@ -119,7 +119,7 @@ fits_finish d t v e r s kept fits rests list same is bare p room =
       endings = finished_ends d t v e r true kept fits list same is;
     })
 
-pub fits_finish_not : (d : ℕ) (t : Thread) (v : GhostState) (e : Ending) (r : Stack) → Kept v → FitsThread d t v → t.pending_call ≡ Rest
+pub fits_finish_not : (d : ℕ) (t : Thread) (v : GhostState) (e : Ending) (r : Stack) → TableInvariant v → FitsThread d t v → t.pending_call ≡ Rest
     → t.frame.endings.list ≡ e ∷ r.list → r.room ≡ t.frame.endings.room → IsEndingAtStage d e v
     → is_full (slot_pointer t.frame.registers.slots.items (hand t.frame.registers.slots.items)) ≡ false
     → FitsThread d (record { frame = record t.frame { endings = r }; stock = t.stock; pending_call = t.pending_call })
@@ -147,16 +147,16 @@ fits_finish_not d t v e r kept fits rests list same is bare =
     })
 
 -- a member of an ending object is empty: the ghost state after that, whatever its words and views are
-abbrev pub cleared_ghost : GhostState → ℕ → Block → ℕ → Handle → List ℕ → List (View Nothing) → GhostState
+abbrev pub cleared_ghost : GhostState → ℕ → Block → ℕ → NumberedHandle → List ℕ → List (View Nothing) → GhostState
 cleared_ghost v d b i h words views =
     record { extent = v.extent; words = words; views = views; history = entry d (ClearMember (object_of_block v b) i h) ∷ v.history }
 
-module _ (d : ℕ) (v : GhostState) (b : Block) (i : ℕ) (h : Handle) (words : List ℕ) (views : List (View Nothing)) where
+module _ (d : ℕ) (v : GhostState) (b : Block) (i : ℕ) (h : NumberedHandle) (words : List ℕ) (views : List (View Nothing)) where
   is_cleared : (j m : ℕ) → (((model_state v).object j).member m ≡ empty (kind_of_member m)) ⊎ ((j ≡ object_of_block v b) × (m ≡ i))
       → ((model_state (cleared_ghost v d b i h words views)).object j).member m ≡ empty (kind_of_member m)
   is_cleared j m was =
       put_cases (λ k (z : Object). k ≡ j → z.member m ≡ empty (kind_of_member m)) (model_state v).object (object_of_block v b) _ j
-      (λ q r. put_cases (λ k (y : Handle). k ≡ m → y ≡ empty (kind_of_member m)) ((model_state v).object (object_of_block v b)).member i _ m
+      (λ q r. put_cases (λ k (y : NumberedHandle). k ≡ m → y ≡ empty (kind_of_member m)) ((model_state v).object (object_of_block v b)).member i _ m
       (λ a e. ap (λ (k : ℕ). empty (kind_of_member k)) (sym a))
       (λ a e. ⊎_elim (λ (f : ((model_state v).object j).member m ≡ empty (kind_of_member m)). ap
       (λ (k : ℕ). ((model_state v).object k).member m) (sym q) ∙ f)
@@ -177,7 +177,7 @@ module _ (d : ℕ) (v : GhostState) (b : Block) (i : ℕ) (h : Handle) (words : 
         cleared = λ m lt. is_cleared (object_of_block v y.block) m (inl (is.cleared m lt));
       }
 
-pub cleared_ends : (d : ℕ) (v : GhostState) (e : Ending) (es : List Ending) (h : Handle) (words : List ℕ) (views : List (View Nothing))
+pub cleared_ends : (d : ℕ) (v : GhostState) (e : Ending) (es : List Ending) (h : NumberedHandle) (words : List ℕ) (views : List (View Nothing))
     → EndsAll d (e ∷ es) v → IsEndingAtStage d e v → e.stage < 3
     → EndsAll d (staged e ∷ es) (cleared_ghost v d e.block e.stage h words views)
 cleared_ends d v e es h words views ends is lt =
@@ -196,7 +196,7 @@ cleared_ends d v e es h words views ends is lt =
     }
 
 -- a member was cleared
-pub fits_clear : (d : ℕ) (t : Thread) (v : GhostState) (e : Ending) (r : Stack) (es : List Ending) → Kept v → FitsThread d t v → t.pending_call ≡ Rest
+pub fits_clear : (d : ℕ) (t : Thread) (v : GhostState) (e : Ending) (r : Stack) (es : List Ending) → TableInvariant v → FitsThread d t v → t.pending_call ≡ Rest
     → t.frame.endings.list ≡ e ∷ es → r.list ≡ staged_first t.frame.endings.list → t.frame.endings.room ≤ r.room
     → IsEndingAtStage d e v → e.stage < 3
     → is_full (slot_pointer t.frame.registers.slots.items (hand t.frame.registers.slots.items)) ≡ false

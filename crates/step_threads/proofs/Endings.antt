@@ -13,12 +13,12 @@ use Rattle.step_threads.specs.declared.frame.Frame.{Frame}
 use Rattle.step_threads.specs.declared.ending.Ending.{Ending}
 use Rattle.step_threads.specs.declared.pending_call.PendingCall.{PendingCall}
 use Rattle.step_threads.specs.declared.pending_call.PendingCall.TheVariants.{Rest}
-use Rattle.step_table.specs.declared.slots.registers.Pointer.{Pointer}
+use Rattle.control_word.specs.declared.handle.Handle.{Handle}
 use Rattle.std.specs.Prelude.{Option, Some, None}
 use Rattle.control_word.specs.declared.model.handle.Kind.{Kind}
 use Rattle.control_word.specs.declared.model.handle.Kind.TheVariants.{Owner, Weak}
 use Rattle.control_word.specs.declared.place.Place.{Place}
-use Rattle.step_table.specs.declared.memory.past.AtomicStep.TheVariants.{Finish, Leave, WeakLeave}
+use Rattle.step_table.specs.declared.memory.ghost_history.AtomicStep.TheVariants.{Finish, Leave, WeakLeave}
 use Rattle.step_table.specs.AtomicSteps.{is_last, leave, leave_as, on}
 use Rattle.step_threads.specs.declared.thread.Thread.{Thread}
 use Rattle.step_threads.specs.Actors.{PendingCallFits, Stocks, in_store}
@@ -28,7 +28,7 @@ use Rattle.step_threads.specs.Rows.{ending_as, ending_by, with_end}
 use Rattle.step_threads.specs.Endings.{EndsAll, IsEndingAtStage, Stack}
 use Rattle.step_table.specs.Registers.{HoldsBag}
 use Rattle.step_threads.specs.Stocks.{StoreView}
-use Rattle.step_table.specs.GhostStates.{Kept, GhostState, ghost_after_step, object_of_block, pending, model_state}
+use Rattle.step_table.specs.GhostStates.{TableInvariant, GhostState, ghost_after_step, object_of_block, pending, model_state}
 use Rattle.step_threads.specs.Threads.{FitsThread, IsStocked, IsStockedBy}
 use Rattle.step_threads.proofs.Frames.{hand_plain}
 use Rattle.step_threads.proofs.holding.Few.{store_few}
@@ -47,7 +47,8 @@ finished_store d v b c at =
     omega (arith, a, o, e)
 
 -- a block that is vacant again has room in the store
-pub room_left : (d : ℕ) (t : Thread) (v : GhostState) (e : Ending) → Kept v → Kept (ghost_after_step v d (Finish e.block true)) → FitsThread d t v
+pub room_left : (d : ℕ) (t : Thread) (v : GhostState) (e : Ending) → TableInvariant v → TableInvariant (ghost_after_step v d (Finish e.block true))
+    → FitsThread d t v
     → t.pending_call ≡ Rest
     → IsEndingAtStage d e v → length t.stock.blocks < t.stock.room
 room_left d t v e kept kept' fits rests is =
@@ -60,7 +61,7 @@ room_left d t v e kept kept' fits rests is =
     let r = s.roomy in omega (arith, f, r)
 
 -- the object whose last owner leaves is ending in the desk's hands
-pub left_ending : (v : GhostState) (d : ℕ) (x : Pointer) (last : Bool) → last ≡ true
+pub left_ending : (v : GhostState) (d : ℕ) (x : Handle) (last : Bool) → last ≡ true
     → let w = ghost_after_step v d (Leave x.block x.place last) in ((model_state w).object (object_of_block w x.block)).phase ≡ ending d
 left_ending v d x last is =
     let o = object_of_block v x.block in
@@ -69,7 +70,7 @@ left_ending v d x last is =
     (λ e. ap (λ (z : Object). z.phase) (cond-true last (moved_to (ending d) y) y is)) (λ n. absurd (n refl))
 
 -- where a pointer leaves that was the last owner, its object is ending in the desk's hands
-pub ending_left : (v w : GhostState) (d : ℕ) (o : Option Pointer) (last : Bool) (x : Pointer) → w ≡ done_on (leave (model_state v)) v d o
+pub ending_left : (v w : GhostState) (d : ℕ) (o : Option Handle) (last : Bool) (x : Handle) → w ≡ done_on (leave (model_state v)) v d o
     → last ≡ on (is_last (model_state v)) false o → o ≡ Some x → x.kind ≡ Owner → last ≡ true
     → ((model_state w).object (object_of_block w x.block)).phase ≡ ending d
 ending_left v w d o last x is said at kind t =
@@ -91,24 +92,25 @@ left_store d v b p c at =
     let e : ◌≡◌ {A = ℕ} (cond (y == c) 1 0) (cond (b.0 == c) 1 0) = ap (λ (k : ℕ). cond (k == c) 1 0) at in
     omega (arith, a, o, e)
 
-left_place : (d : ℕ) (v : GhostState) (b : Block) (p : Option Place) (vacant : Bool) → Kept v → Kept (ghost_after_step v d (WeakLeave b p vacant))
+left_place : (d : ℕ) (v : GhostState) (b : Block) (p : Option Place) (vacant : Bool) → TableInvariant v
+    → TableInvariant (ghost_after_step v d (WeakLeave b p vacant))
     → ((model_state v).object (object_of_block v b)).block ≡ b.0
 left_place d v b p vacant kept kept' = (there v b kept (handle_busy v d Weak b p kept kept'.stands.legal.1.asks.0.0)).0
 
 -- it has room there
-pub room_weak : (v w : GhostState) (d : ℕ) (t : Thread) (o : Option Pointer) (last : Bool) (x : Pointer) → Kept v → Kept w → FitsThread d t v
+pub room_weak : (v w : GhostState) (d : ℕ) (t : Thread) (o : Option Handle) (last : Bool) (x : Handle) → TableInvariant v → TableInvariant w → FitsThread d t v
     → t.pending_call ≡ Rest
     → w ≡ done_on (leave (model_state v)) v d o → last ≡ on (is_last (model_state v)) false o → o ≡ Some x → x.kind ≡ Weak → last ≡ true
     → length t.stock.blocks < t.stock.room
 room_weak v w d t o last x kept kept' fits e is said at kind ended =
     go x.kind kind (is_last (model_state v) x) (sym (said ∙ ap (on (is_last (model_state v)) false) at) ∙ ended)
-    (subst (λ (u : GhostState). Kept u) (is ∙ ap (done_on (leave (model_state v)) v d) at) kept')
+    (subst (λ (u : GhostState). TableInvariant u) (is ∙ ap (done_on (leave (model_state v)) v d) at) kept')
   where
-    go : (k : Kind) → k ≡ Weak → (b : Bool) → b ≡ true → Kept (ghost_after_step v d (leave_as k x b)) → length t.stock.blocks < t.stock.room
+    go : (k : Kind) → k ≡ Weak → (b : Bool) → b ≡ true → TableInvariant (ghost_after_step v d (leave_as k x b)) → length t.stock.blocks < t.stock.room
     go Owner e b q kept' = cc
     go Weak k b q kept' =
-        let later : Kept (ghost_after_step v d (WeakLeave x.block x.place true)) =
-        subst (λ (z : Bool). Kept (ghost_after_step v d (WeakLeave x.block x.place z))) q kept' in
+        let later : TableInvariant (ghost_after_step v d (WeakLeave x.block x.place true)) =
+        subst (λ (z : Bool). TableInvariant (ghost_after_step v d (WeakLeave x.block x.place z))) q kept' in
         let s = resting d t v fits e in
         let f = store_few d (ghost_after_step v d (WeakLeave x.block x.place true)) (x.block.0 ∷ t.stock.blocks) later
         (λ c. let g = left_store d v x.block x.place c (left_place d v x.block x.place true kept later) in
@@ -117,7 +119,7 @@ room_weak v w d t o last x kept kept' fits e is said at kind ended =
         let r = s.roomy in omega (arith, f, r)
 
 -- there is room for its ending
-pub begins_room : (v w : GhostState) (d : ℕ) (t : Thread) (c : Frame) (o : Option Pointer) (last : Bool) (x : Pointer) → Kept w → FitsThread d t v
+pub begins_room : (v w : GhostState) (d : ℕ) (t : Thread) (c : Frame) (o : Option Handle) (last : Bool) (x : Handle) → TableInvariant w → FitsThread d t v
     → t.frame.endings.list ≡ [] → c.endings ≡ t.frame.endings → w ≡ done_on (leave (model_state v)) v d o
     → last ≡ on (is_last (model_state v)) false o → o ≡ Some x → x.kind ≡ Owner → last ≡ true → length c.endings.list < c.endings.room
 begins_room v w d t c o last x kept' fits none same is said at kind ended =
@@ -129,13 +131,14 @@ begins_room v w d t c o last x kept' fits none same is said at kind ended =
     let q : c.endings.room ≡ t.frame.endings.room = ap (λ (z : Stack). z.room) same in
     let low = place.0 in let high = place.1 in omega (arith, low, high, extent, r, e, q)
   where
-    same_extent : (v : GhostState) (d : ℕ) (o : Option Pointer) → (done_on (leave (model_state v)) v d o).extent.shape.blocks ≡ v.extent.shape.blocks
+    same_extent : (v : GhostState) (d : ℕ) (o : Option Handle) → (done_on (leave (model_state v)) v d o).extent.shape.blocks ≡ v.extent.shape.blocks
     same_extent v d None = refl
     same_extent v d (Some x) = refl
 
 -- the stock after a pointer left
-pub stocks_left : (d : ℕ) (t : Thread) (v : GhostState) (x : Pointer) (s : StoreView) (k : Kind) (b : Bool) → Kept v → FitsThread d t v → t.pending_call ≡ Rest
-    → Kept (ghost_after_step v d (leave_as k x b)) → IsStocked k x.block.0 b t.stock s
+pub stocks_left : (d : ℕ) (t : Thread) (v : GhostState) (x : Handle) (s : StoreView) (k : Kind) (b : Bool) → TableInvariant v → FitsThread d t v
+    → t.pending_call ≡ Rest
+    → TableInvariant (ghost_after_step v d (leave_as k x b)) → IsStocked k x.block.0 b t.stock s
     → Stocks d s.blocks s.room Rest (ghost_after_step v d (leave_as k x b))
 stocks_left d t v x s Owner b kept fits e kept' is =
     let y = resting d t v fits e in subst (λ (z : StoreView). Stocks d z.blocks z.room Rest (ghost_after_step v d (leave_as Owner x b))) (sym is)
@@ -153,13 +156,13 @@ stocks_left d t v x s Weak false kept fits e kept' is =
     let y = resting d t v fits e in subst (λ (z : StoreView). Stocks d z.blocks z.room Rest (ghost_after_step v d (leave_as Weak x false))) (sym is)
     (record { stocked = y.stocked; roomy = y.roomy })
 
-pub idle_left : (d : ℕ) (t : Thread) (v : GhostState) (x : Pointer) (k : Kind) (b : Bool) → Kept v → FitsThread d t v
+pub idle_left : (d : ℕ) (t : Thread) (v : GhostState) (x : Handle) (k : Kind) (b : Bool) → TableInvariant v → FitsThread d t v
     → pending (ghost_after_step v d (leave_as k x b)) d ≡ Idle
 idle_left d t v x Owner b kept fits = own_pending v d (Leave x.block x.place b) kept fits.seat
 idle_left d t v x Weak b kept fits = own_pending v d (WeakLeave x.block x.place b) kept fits.seat
 
 -- the endings after it: none before, and at most its own
-ends_left : (d : ℕ) (v : GhostState) (x : Pointer) (k : Kind) (b : Bool) (n : ℕ)
+ends_left : (d : ℕ) (v : GhostState) (x : Handle) (k : Kind) (b : Bool) (n : ℕ)
     → EndsAll d (with_end n (cond b (ending_as k x) None) []) (ghost_after_step v d (leave_as k x b))
 ends_left d v x Owner true n =
     ends_one d (ghost_after_step v d (Leave x.block x.place true)) (record { block = x.block; stage = 0; statement = n })
@@ -173,16 +176,16 @@ ready_ends : (c : Frame) (es : List Ending) → FrameReady c → c.endings.list 
 ready_ends c es ready none = record { some = ready.some; free = λ e. inl (hand_plain c ready none e); owes = ready.owes; ready = ready.ready }
 
 -- what a leave made of the frame: it went on, and an ending begins perhaps
-pub record HasLeft (d : ℕ) (c c' c'' : Frame) (w : GhostState) (n : ℕ) (o : Option Pointer) (last : Bool) : Type 0 where
+pub record HasLeft (d : ℕ) (c c' c'' : Frame) (w : GhostState) (n : ℕ) (o : Option Handle) (last : Bool) : Type 0 where
   pub gone : HasGoneOn d c c' w
   pub empty : c'.taken ≡ false
   pub same : c'' ≡ record c' { endings = c''.endings }
   pub list : c''.endings.list ≡ with_end n (ending_by last o) c'.endings.list
   pub roomy : c'.endings.room ≤ c''.endings.room
 
-fits_leaving : (d : ℕ) (t : Thread) (v : GhostState) (c : Frame) (r : Stack) (s : StoreView) (n : ℕ) (x : Pointer) (k : Kind) (b : Bool) → Kept v
+fits_leaving : (d : ℕ) (t : Thread) (v : GhostState) (c : Frame) (r : Stack) (s : StoreView) (n : ℕ) (x : Handle) (k : Kind) (b : Bool) → TableInvariant v
     → FitsThread d t v
-    → t.pending_call ≡ Rest → t.frame.endings.list ≡ [] → Kept (ghost_after_step v d (leave_as k x b))
+    → t.pending_call ≡ Rest → t.frame.endings.list ≡ [] → TableInvariant (ghost_after_step v d (leave_as k x b))
     → HasGoneOn d t.frame c (ghost_after_step v d (leave_as k x b))
     → c.taken ≡ false → r.list ≡ with_end n (cond b (ending_as k x) None) c.endings.list → c.endings.room ≤ r.room
     → IsStocked k x.block.0 b t.stock s
@@ -211,7 +214,7 @@ fits_leaving d t v c r s n x k b kept fits e none kept' on empty list room is =
     }
 
 -- a thread after it left what a slot held
-pub fits_left : (d : ℕ) (t t' : Thread) (v w : GhostState) (c : Frame) (n : ℕ) (o : Option Pointer) (last : Bool) → Kept v → Kept w
+pub fits_left : (d : ℕ) (t t' : Thread) (v w : GhostState) (c : Frame) (n : ℕ) (o : Option Handle) (last : Bool) → TableInvariant v → TableInvariant w
     → FitsThread d t v → t.pending_call ≡ Rest
     → t.frame.endings.list ≡ [] → w ≡ done_on (leave (model_state v)) v d o → last ≡ on (is_last (model_state v)) false o
     → HasLeft d t.frame c t'.frame w n o last → t'.pending_call ≡ t.pending_call → IsStockedBy o last t.stock t'.stock → FitsThread d t' w
@@ -246,6 +249,6 @@ fits_left d t t' v w c n (Some x) last kept kept' fits e none is said left pendi
     subst (λ (k : Frame). FitsThread d (record { frame = k; stock = t'.stock; pending_call = t'.pending_call }) w) (sym left.same)
     (subst (λ (h : PendingCall). FitsThread d (record { frame = record c { endings = r }; stock = t'.stock; pending_call = h }) w) (sym (pending_call ∙ e))
     (subst (λ (u : GhostState). FitsThread d (record { frame = record c { endings = r }; stock = t'.stock; pending_call = Rest }) u) (sym is)
-    (fits_leaving d t v c r t'.stock n x x.kind b kept fits e none (subst (λ (u : GhostState). Kept u) is kept')
+    (fits_leaving d t v c r t'.stock n x x.kind b kept fits e none (subst (λ (u : GhostState). TableInvariant u) is kept')
     (subst (λ (u : GhostState). HasGoneOn d t.frame c u) is left.gone) left.empty list left.roomy
     (subst (λ (q : Bool). IsStocked x.kind x.block.0 q t.stock t'.stock) said stock))))

@@ -11,11 +11,8 @@ use Rattle.step_threads.specs.declared.programs.act.Task.{Task}
 use Rattle.step_threads.specs.declared.frame.Frame.{Frame}
 use Rattle.step_threads.specs.declared.ending.Ending.{Ending}
 use Rattle.step_threads.specs.Frames.{MayComeNext, FrameReady, DropsInTime, MayFollow, IsCarried, IsReady, TasksMayCome, FrameView, dropping, hand, idle}
-use Rattle.step_threads.specs.Frames.{no_task}
-use Rattle.step_threads.specs.Frames.{other, placed, rest}
-use Rattle.step_threads.specs.Frames.{frame_settled, slots_idle, taken_after}
+use Rattle.step_threads.specs.Frames.{frame_settled, no_task, other, placed, rest, slots_idle, taken_after, taken_idle, task_at, todo}
 use Rattle.step_threads.specs.Passing.{IsPassed}
-use Rattle.step_threads.specs.Frames.{taken_idle, task_at, todo}
 use Rattle.step_threads.specs.Endings.{Stack}
 use Rattle.step_table.specs.declared.slots.slot.Slot.{Slot}
 use Rattle.step_table.specs.Registers.{Slots, is_full, plain, pointer_of, slot_value}

@@ -7,7 +7,7 @@ use Rattle.step_threads.specs.declared.programs.act.Act.TheVariants.{FromThis}
 use Rattle.step_threads.specs.declared.frame.Frame.{Frame}
 use Rattle.step_threads.specs.declared.pending_call.PendingCall.{PendingCall}
 use Rattle.step_threads.specs.declared.pending_call.PendingCall.TheVariants.{Rest, Giving}
-use Rattle.step_table.specs.declared.slots.registers.Pointer.{Pointer}
+use Rattle.control_word.specs.declared.handle.Handle.{Handle}
 use Rattle.step_threads.specs.declared.thread.Thread.{Thread}
 use Rattle.step_threads.specs.Actors.{PendingCallFits}
 use Rattle.step_threads.specs.Frames.{MayComeNext, FrameReady, IsReady, TasksMayCome, other, rest, taken_after, task_at}
@@ -35,7 +35,7 @@ refused_this c k q lt ready act =
     }
 
 -- the object was asked, and gives pointers to itself
-pub fits_asked : (d : ℕ) (t : Thread) (v : GhostState) (i : ℕ) (q : Kind) (x : Pointer) → FitsThread d t v → t.pending_call ≡ Rest → t.frame.endings.list ≡ []
+pub fits_asked : (d : ℕ) (t : Thread) (v : GhostState) (i : ℕ) (q : Kind) (x : Handle) → FitsThread d t v → t.pending_call ≡ Rest → t.frame.endings.list ≡ []
     → t.frame.at < length t.frame.tasks.items
     → (task_at t.frame).act ≡ FromThis i q → inside (slot_pointer t.frame.registers.slots.items i) ≡ Some x → is_enabled (model_state v) x ≡ true
     → FitsThread d (record { frame = t.frame; stock = t.stock; pending_call = Giving i q x }) v

@@ -16,7 +16,7 @@ use Rattle.step_threads.specs.declared.frame.Frame.{Frame}
 use Rattle.step_table.specs.declared.slots.slot.Slot.{Slot}
 use Rattle.step_table.specs.declared.slots.slot.Slot.TheVariants.{Empty, Full}
 use Rattle.control_word.specs.declared.place.Place.{Place}
-use Rattle.step_table.specs.declared.slots.registers.Pointer.{Pointer}
+use Rattle.control_word.specs.declared.handle.Handle.{Handle}
 use Rattle.step_table.specs.Registers.{Slots, filled, inside, owner_slot, place_in, place_of, plain, pointer_of, slot_pointer, slot_value, weak_slot}
 use Rattle.step_table.proofs.holding.Slots.{full_is}
 use Rattle.step_threads.specs.Frames.{FrameReady, DropsInTime, IsReady, MayComeNext, MayFollow, TasksMayCome, dropping, fitting}
@@ -37,7 +37,7 @@ module _ (slots : Slots) (k : ℕ) (x : Slot) (some : 1 < length slots) (below :
       ∙ get_or-set_other slots k (other slots) x plain (omega (arith, some, below))
 
 -- what was found in the slot of a name
-pub found_at : (slots : Slots) (k n : ℕ) (o o' : Option Pointer) → o ≡ slot_pointer slots n → n ≡ k → o ≡ o' → slot_pointer slots k ≡ o'
+pub found_at : (slots : Slots) (k n : ℕ) (o o' : Option Handle) → o ≡ slot_pointer slots n → n ≡ k → o ≡ o' → slot_pointer slots k ≡ o'
 found_at slots k n o o' found is same = ap (slot_pointer slots) (sym is) ∙ sym found ∙ same
 
 -- a name's number is one of a slot
@@ -49,7 +49,7 @@ empty_value (Empty p) e = refl
 empty_value (Full x) e = cc
 
 -- a copy of an empty pointer, or of one that has an object, is in hand
-pub empty_copy : (slots : Slots) (k n h : ℕ) (o : Option Pointer) (p : Option Place) (l : Slots)
+pub empty_copy : (slots : Slots) (k n h : ℕ) (o : Option Handle) (p : Option Place) (l : Slots)
     → l ≡ set slots h (Empty p) → o ≡ slot_pointer slots n
     → p ≡ place_in slots n → n ≡ k → h ≡ hand slots → o ≡ None → l ≡ set slots (hand slots) (slot_value slots k)
 empty_copy slots k n h o p l made found at is held none =
@@ -57,18 +57,18 @@ empty_copy slots k n h o p l made found at is held none =
     ∙ ap (set slots (hand slots)) (ap (λ (q : Option Place). Empty q) (at ∙ ap (place_in slots) is)
     ∙ empty_value (slot_value slots k) (found_at slots k n o None found is none))
 
-pub full_copy : (slots : Slots) (k n h : ℕ) (o : Option Pointer) (x : Pointer) (l : Slots) → l ≡ set slots h (Full x) → o ≡ slot_pointer slots n
+pub full_copy : (slots : Slots) (k n h : ℕ) (o : Option Handle) (x : Handle) (l : Slots) → l ≡ set slots h (Full x) → o ≡ slot_pointer slots n
     → n ≡ k → h ≡ hand slots → o ≡ Some x → l ≡ set slots (hand slots) (slot_value slots k)
 full_copy slots k n h o x l made found is held some =
     made ∙ ap (λ (i : ℕ). set slots i (Full x)) held
     ∙ ap (set slots (hand slots)) (sym (full_is (slot_value slots k) x (found_at slots k n o (Some x) found is some)))
 
-pub weak_copy : (slots : Slots) (k n h : ℕ) (o : Option Pointer) (x : Pointer) (l : Slots)
+pub weak_copy : (slots : Slots) (k n h : ℕ) (o : Option Handle) (x : Handle) (l : Slots)
     → l ≡ set slots h (Full (as_weak x)) → o ≡ slot_pointer slots n
     → n ≡ k → h ≡ hand slots → o ≡ Some x → l ≡ set slots (hand slots) (filled (option_map as_weak (slot_pointer slots k)))
 weak_copy slots k n h o x l made found is held some =
     made ∙ ap (λ (i : ℕ). set slots i (Full (as_weak x))) held
-    ∙ sym (ap (λ (q : Option Pointer). set slots (hand slots) (filled (option_map as_weak q))) (found_at slots k n o (Some x) found is some))
+    ∙ sym (ap (λ (q : Option Handle). set slots (hand slots) (filled (option_map as_weak q))) (found_at slots k n o (Some x) found is some))
 
 -- a value that may go into a cell is offered, and no other
 pub may_go_at : (slots : Slots) (c : CellName) (k n : ℕ) (b t : Bool) → b ≡ is_of (kind_at c) (slot_value slots n) → n ≡ k → b ≡ t
@@ -89,11 +89,11 @@ offered_fits slots k c there is =
 
 pub offered_not : (slots : Slots) (k : ℕ) (c : CellName) → is_of (kind_at c) (slot_value slots k) ≡ false → offered slots k c ≡ None
 offered_not slots k c is =
-    ap (λ (x : Slot). cond {A = Option Pointer} (is_there slots c) (pointer_of x) None) (fitting_not (kind_at c) (slot_value slots k) is)
-    ∙ cond_both {A = Option Pointer} (is_there slots c) None None (λ (o : Option Pointer). o ≡ None) (λ t. refl) (λ t. refl)
+    ap (λ (x : Slot). cond {A = Option Handle} (is_there slots c) (pointer_of x) None) (fitting_not (kind_at c) (slot_value slots k) is)
+    ∙ cond_both {A = Option Handle} (is_there slots c) None None (λ (o : Option Handle). o ≡ None) (λ t. refl) (λ t. refl)
 
 -- the owner of a name, and the place of an alias
-pub owner_at : (slots : Slots) (k n : ℕ) (o o' : Option Pointer) → o ≡ owner_slot (slot_pointer slots n) → n ≡ k → o ≡ o'
+pub owner_at : (slots : Slots) (k n : ℕ) (o o' : Option Handle) → o ≡ owner_slot (slot_pointer slots n) → n ≡ k → o ≡ o'
     → owner_slot (slot_pointer slots k) ≡ o'
 owner_at slots k n o o' found is same = ap (λ (i : ℕ). owner_slot (slot_pointer slots i)) (sym is) ∙ sym found ∙ same
 
@@ -106,12 +106,12 @@ or_right true b e = refl
 or_right false b e = e
 
 -- the weak pointer of a name
-pub found_weak : (slots : Slots) (k n : ℕ) (o o' : Option Pointer) → o ≡ weak_slot (slot_pointer slots n) → n ≡ k → o ≡ o'
+pub found_weak : (slots : Slots) (k n : ℕ) (o o' : Option Handle) → o ≡ weak_slot (slot_pointer slots n) → n ≡ k → o ≡ o'
     → weak_slot (slot_pointer slots k) ≡ o'
 found_weak slots k n o o' found is same = ap (λ (i : ℕ). weak_slot (slot_pointer slots i)) (sym is) ∙ sym found ∙ same
 
 -- the owner of a name that points into its object
-pub found_inside : (slots : Slots) (k n : ℕ) (o o' : Option Pointer) → o ≡ inside (slot_pointer slots n) → n ≡ k → o ≡ o'
+pub found_inside : (slots : Slots) (k n : ℕ) (o o' : Option Handle) → o ≡ inside (slot_pointer slots n) → n ≡ k → o ≡ o'
     → inside (slot_pointer slots k) ≡ o'
 found_inside slots k n o o' found is same = ap (λ (i : ℕ). inside (slot_pointer slots i)) (sym is) ∙ sym found ∙ same
 

@@ -11,7 +11,7 @@ use Rattle.step_threads.specs.declared.programs.act.Act.{Act}
 use Rattle.step_threads.specs.declared.frame.Frame.{Frame}
 use Rattle.step_threads.specs.declared.ending.Ending.{Ending}
 use Rattle.step_threads.specs.declared.pending_call.PendingCall.TheVariants.{Rest}
-use Rattle.step_table.specs.declared.slots.registers.Pointer.{Pointer}
+use Rattle.control_word.specs.declared.handle.Handle.{Handle}
 use Rattle.step_table.specs.declared.memory.ended.Ended.{Ended}
 use Rattle.step_threads.specs.declared.said.Answer.{Answer}
 use Rattle.step_threads.specs.declared.said.Said.{Said}
@@ -33,7 +33,7 @@ use Rattle.step_threads.proofs.Endings.{HasLeft}
 use Rattle.step_threads.proofs.Steps.{at_act, on_slot, says_on, stepped_as, waits_act}
 
 -- a leave changes nothing of what its object leaves
-same_remains : (v : GhostState) (d : ℕ) (x : Pointer) (k : Kind) (b : Bool)
+same_remains : (v : GhostState) (d : ℕ) (x : Handle) (k : Kind) (b : Bool)
     → (let u = ghost_after_step v d (leave_as k x b) in cond b (remains_as k ((model_state u).object (object_of_block u x.block))) None)
     ≡ cond b (remains_as k ((model_state v).object (owned (model_state v) x))) None
 same_remains v d x Owner true =
@@ -45,15 +45,15 @@ same_remains v d x Owner false = refl
 same_remains v d x Weak true = refl
 same_remains v d x Weak false = refl
 
-pub left_event : (v : GhostState) (x : Pointer) (k : Kind) (b : Bool) → is_some (event_of (model_state v) (leave_as k x b)) ≡ true
+pub left_event : (v : GhostState) (x : Handle) (k : Kind) (b : Bool) → is_some (event_of (model_state v) (leave_as k x b)) ≡ true
 left_event v x Owner b = refl
 left_event v x Weak b = refl
 
-some_full : (o : Option Pointer) → is_some o ≡ is_full o
+some_full : (o : Option Handle) → is_some o ≡ is_full o
 some_full None = refl
 some_full (Some x) = refl
 
-pub ended_left : (v w : GhostState) (d : ℕ) (o : Option Pointer) (last : Bool) → w ≡ done_on (leave (model_state v)) v d o
+pub ended_left : (v w : GhostState) (d : ℕ) (o : Option Handle) (last : Bool) → w ≡ done_on (leave (model_state v)) v d o
     → last ≡ on (is_last (model_state v)) false o
     → on (λ x. cond last (remains_as x.kind ((model_state w).object (object_of_block w x.block))) None) None o ≡ ended_by (model_state v) o
 ended_left v w d None last is said = refl
@@ -64,7 +64,7 @@ ended_left v w d (Some x) last is said =
     ∙ same_remains v d x x.kind (is_last (model_state v) x)
 
 -- where a thread is that left what a slot held
-pub went_left : (d : ℕ) (c c' c'' : Frame) (v w : GhostState) (a : Act) (o : Option Pointer) (last : Bool) (k : ℕ)
+pub went_left : (d : ℕ) (c c' c'' : Frame) (v w : GhostState) (a : Act) (o : Option Handle) (last : Bool) (k : ℕ)
     → HasLeft d c c' c'' w k o last
     → (row_in exact (model_state v) d c.registers.slots.items c.taken a).ending ≡ ending_by (on (is_last (model_state v)) false o) o
     → last ≡ on (is_last (model_state v)) false o
@@ -82,7 +82,7 @@ went_left d c c' c'' v w a o last k has ends said walked =
     (λ (r : List Ending). frame_settled x.slots x.taken r (rest c)) list
 
 -- a step that left what a slot held, and what is said of it
-pub stepped_left : (d : ℕ) (t t' : Thread) (v w : GhostState) (r : Stepped) (a : Act) (o : Option Pointer) (last : Bool) (ended : Option Ended) (k : ℕ)
+pub stepped_left : (d : ℕ) (t t' : Thread) (v w : GhostState) (r : Stepped) (a : Act) (o : Option Handle) (last : Bool) (ended : Option Ended) (k : ℕ)
     → k ≡ (task_at t.frame).statement → t.pending_call ≡ Rest → t.frame.endings.list ≡ [] → t.frame.at < length t.frame.tasks.items
     → (task_at t.frame).act ≡ a
     → waits_on v (frame_view t.frame) a ≡ false

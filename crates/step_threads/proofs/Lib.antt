@@ -22,6 +22,7 @@ pub mod CompareSteps
 pub mod CompareTells
 pub mod LookFits
 pub mod LookSteps
+pub mod Looks
 pub mod LoadFits
 pub mod Acting
 pub mod LockSteps

@@ -9,14 +9,14 @@ use Rattle.step_threads.specs.declared.programs.call.CellName.{CellName}
 use Rattle.step_table.specs.declared.cell_steps.cell_step.CellStep.TheVariants.{Take}
 use Rattle.step_threads.specs.declared.frame.Frame.{Frame}
 use Rattle.step_threads.specs.declared.pending_call.PendingCall.TheVariants.{Saw, Refill}
-use Rattle.step_table.specs.declared.memory.past.AtomicStep.TheVariants.{OnCell}
+use Rattle.step_table.specs.declared.memory.ghost_history.AtomicStep.TheVariants.{OnCell}
 use Rattle.step_table.specs.declared.cell_steps.refill.Stage.TheVariants.{Turning}
 use Rattle.step_threads.specs.declared.thread.Thread.{Thread}
 use Rattle.step_table.specs.Refills.{more_taken}
 use Rattle.step_threads.specs.Frames.{HasCell, cell_of_name, is_there, task_at}
 use Rattle.step_threads.specs.Passing.{HasGoneOn}
 use Rattle.step_threads.specs.Programs.{IsIn}
-use Rattle.step_table.specs.GhostStates.{Kept, GhostState, ghost_after_step, model_state}
+use Rattle.step_table.specs.GhostStates.{TableInvariant, GhostState, ghost_after_step, model_state}
 use Rattle.step_threads.specs.Threads.{FitsThread, IsLoaded, IsNext, IsSeenBy}
 use Rattle.step_threads.proofs.CellNames.{cell_open}
 use Rattle.step_threads.proofs.LookFits.{fits_gone}
@@ -48,7 +48,7 @@ saw_there d t v c x fits e act = (saw_load d t v c x fits e act).0
 
 module _ (d : ℕ) (t : Thread) (v : GhostState) (c : CellName) (x : CellWord) (fits : FitsThread d t v) where
   -- a fund is taken
-  pub fits_taken : (c' : Frame) (k : ℕ) → Kept v → t.pending_call ≡ Saw x → (task_at t.frame).act ≡ Load c
+  pub fits_taken : (c' : Frame) (k : ℕ) → TableInvariant v → t.pending_call ≡ Saw x → (task_at t.frame).act ≡ Load c
       → HasGoneOn d t.frame c' (ghost_after_step v d (OnCell (Take (cell_of_name (model_state v) t.frame.registers.slots.items c) x None)))
       → FitsThread d (record {
         frame = c';

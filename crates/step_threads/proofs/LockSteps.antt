@@ -2,7 +2,7 @@
 use Rattle.std.proofs.Common.{◌≡◌, ℕ, ◌<◌, ◌==◌, Bool, true, false, cond, List, length, sym, ap, ◌∙◌}
 use Rattle.std.proofs.lemmas.Bool.{cond-true, cond-false}
 use Rattle.std.specs.Prelude.{Option, Some, None, option_map}
-use Rattle.step_table.specs.declared.slots.registers.Pointer.{Pointer}
+use Rattle.control_word.specs.declared.handle.Handle.{Handle}
 use Rattle.step_table.specs.AtomicSteps.{as_owner, by_word, lock, on, owner_word}
 use Rattle.step_table.specs.Registers.{slot_pointer, weak_slot}
 use Rattle.step_table.specs.GhostStates.{GhostState, model_state}
@@ -26,11 +26,11 @@ lock_said n must got = record { statement = n; answer = Some (lock_answer must g
 
 module _ (v : GhostState) (d : ℕ) (w : FrameView) (n : ℕ) (ts : List Task) (k : ℕ) (must : Bool) where
   -- where a lock leaves the thread that found this
-  abbrev pub locked_frame : Option Pointer → Bool → FrameView
+  abbrev pub locked_frame : Option Handle → Bool → FrameView
   locked_frame o got =
       let y = taking w.slots must (cond got (option_map as_owner o) None) in frame_settled y.0 y.1 w.endings ts
 
-  module _ (o : Option Pointer) (got : Bool) (at : weak_slot (slot_pointer w.slots k) ≡ o) (finds : finds_owner (model_state v) o ≡ got) where
+  module _ (o : Option Handle) (got : Bool) (at : weak_slot (slot_pointer w.slots k) ≡ o) (finds : finds_owner (model_state v) o ≡ got) where
     found : finds_owner (model_state v) (weak_slot (slot_pointer w.slots k)) ≡ got
     found = ap (finds_owner (model_state v)) at ∙ finds
 
@@ -38,13 +38,13 @@ module _ (v : GhostState) (d : ℕ) (w : FrameView) (n : ℕ) (ts : List Task) (
     lock_says = ap (lock_said n must) (sym found)
 
     pub lock_went : locked_frame o got ≡ went (model_state v) d w n ts (Lock k must)
-    lock_went = ap (λ (q : Option Pointer). locked_frame q got) (sym at) ∙ ap (locked_frame (weak_slot (slot_pointer w.slots k))) (sym found)
+    lock_went = ap (λ (q : Option Handle). locked_frame q got) (sym at) ∙ ap (locked_frame (weak_slot (slot_pointer w.slots k))) (sym found)
 
   -- the first step of a lock: without a weak pointer it is done
   pub lock_none : weak_slot (slot_pointer w.slots k) ≡ None → first v d w n ts (Lock k must) ≡ step_of_act v d w n ts (Lock k must) None Rest
   lock_none at = ap (on (looks v d w n ts (Lock k must)) (step_of_act v d w n ts (Lock k must) None Rest)) at
 
-  module _ (p : Pointer) (at : weak_slot (slot_pointer w.slots k) ≡ Some p) where
+  module _ (p : Handle) (at : weak_slot (slot_pointer w.slots k) ≡ Some p) where
     lock_looks : first v d w n ts (Lock k must) ≡ looks v d w n ts (Lock k must) p
     lock_looks = ap (on (looks v d w n ts (Lock k must)) (step_of_act v d w n ts (Lock k must) None Rest)) at
 
@@ -62,7 +62,7 @@ module _ (v : GhostState) (d : ℕ) (w : FrameView) (n : ℕ) (ts : List Task) (
         (trying w n (owner_word v p)) some
 
 -- a lock that is under way
-module _ (v : GhostState) (d : ℕ) (t : Thread) (k : ℕ) (must : Bool) (word : ℕ) (p : Pointer) (pending_call : t.pending_call ≡ Locking word)
+module _ (v : GhostState) (d : ℕ) (t : Thread) (k : ℕ) (must : Bool) (word : ℕ) (p : Handle) (pending_call : t.pending_call ≡ Locking word)
     (lt : t.frame.at < length t.frame.tasks.items) (act : (task_at t.frame).act ≡ Lock k must)
     (at : weak_slot (slot_pointer t.frame.registers.slots.items k) ≡ Some p) where
   tries_on : step_at v d t.pending_call (frame_view t.frame)

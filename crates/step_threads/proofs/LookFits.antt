@@ -8,7 +8,7 @@ use Rattle.control_word.specs.Handles.{empty}
 use Rattle.control_word.specs.State.{State, ending, kind_of_member, same_stored, stored}
 use Rattle.step_threads.specs.declared.frame.Frame.{Frame}
 use Rattle.step_threads.specs.declared.pending_call.PendingCall.{PendingCall}
-use Rattle.step_table.specs.declared.memory.past.AtomicStep.{AtomicStep}
+use Rattle.step_table.specs.declared.memory.ghost_history.AtomicStep.{AtomicStep}
 use Rattle.step_threads.specs.declared.thread.Thread.{Thread}
 use Rattle.step_threads.specs.Actors.{PendingCallFits, Stocks, claimed}
 use Rattle.step_threads.specs.Frames.{task_at}

@@ -12,7 +12,7 @@ use Rattle.step_table.specs.declared.cell_steps.cell_step.CellStep.TheVariants.{
 use Rattle.step_table.specs.declared.cell_steps.cell_step.Compared.{Compared}
 use Rattle.step_threads.specs.declared.pending_call.PendingCall.{PendingCall}
 use Rattle.step_threads.specs.declared.pending_call.PendingCall.TheVariants.{Rest, Refill}
-use Rattle.step_table.specs.declared.memory.past.AtomicStep.TheVariants.{OnCell}
+use Rattle.step_table.specs.declared.memory.ghost_history.AtomicStep.TheVariants.{OnCell}
 use Rattle.step_table.specs.declared.cell_steps.refill.Stage.{Stage}
 use Rattle.step_table.specs.declared.cell_steps.refill.Stage.TheVariants.{Turning}
 use Rattle.step_threads.specs.declared.said.Stepped.{Stepped}

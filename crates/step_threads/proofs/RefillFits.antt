@@ -7,13 +7,13 @@ use Rattle.step_table.specs.declared.cell_steps.cell_step.Cell.{Cell}
 use Rattle.step_table.specs.declared.cell_steps.cell_step.CellStep.TheVariants.{Turn, Bring, GiveBack, Refill as Refills}
 use Rattle.step_threads.specs.declared.pending_call.PendingCall.{PendingCall}
 use Rattle.step_threads.specs.declared.pending_call.PendingCall.TheVariants.{Rest, Refill}
-use Rattle.step_table.specs.declared.memory.past.AtomicStep.TheVariants.{OnCell}
+use Rattle.step_table.specs.declared.memory.ghost_history.AtomicStep.TheVariants.{OnCell}
 use Rattle.step_table.specs.declared.cell_steps.refill.Stage.{Stage}
 use Rattle.step_table.specs.declared.cell_steps.refill.Stage.TheVariants.{Turning, Checking, Lacking, Refilling, Failing}
 use Rattle.step_threads.specs.declared.thread.Thread.{Thread}
 use Rattle.step_table.specs.CellAtomicSteps.{kind_in_state}
 use Rattle.step_table.specs.Refills.{RefillFits, is_low}
-use Rattle.step_table.specs.GhostStates.{Kept, GhostState, ghost_after_step, model_state}
+use Rattle.step_table.specs.GhostStates.{TableInvariant, GhostState, ghost_after_step, model_state}
 use Rattle.step_threads.specs.Threads.{FitsThread}
 use Rattle.step_threads.proofs.LookFits.{fits_pending_call, fits_quiet}
 use Rattle.step_threads.proofs.StoreFits.{pending_call_here}
@@ -35,7 +35,7 @@ fits_as d t h h' w w' e is fits = subst (λ (q : PendingCall). FitsThread d (At 
 
 module _ (d : ℕ) (t : Thread) (v : GhostState) (c : Cell) (x : CellWord) (k : ℕ) (fits : FitsThread d t v) where
   -- the fund is turned
-  pub fits_turned : (b : Block) → Kept v → t.pending_call ≡ Refill Turning c x k
+  pub fits_turned : (b : Block) → TableInvariant v → t.pending_call ≡ Refill Turning c x k
       → FitsThread d (At t (cond (is_low x) (Refill Checking c x k) Rest)) (ghost_after_step v d (OnCell (Turn (kind_in_state (model_state v) c) b)))
   fits_turned b kept e = go (is_low x)
     where
@@ -50,7 +50,7 @@ module _ (d : ℕ) (t : Thread) (v : GhostState) (c : Cell) (x : CellWord) (k : 
           (own_pending v d (OnCell (Turn (kind_in_state (model_state v) c) b)) kept fits.seat) tt
 
   -- funds are brought
-  pub fits_refunded : (b : Block) → Kept v → t.pending_call ≡ Refill Lacking c x k → x.owned ≡ Some b
+  pub fits_refunded : (b : Block) → TableInvariant v → t.pending_call ≡ Refill Lacking c x k → x.owned ≡ Some b
       → FitsThread d (At t (Refill Refilling c x k)) (ghost_after_step v d (OnCell (Bring (kind_in_state (model_state v) c) b x.place x.taken)))
   fits_refunded b kept e owned =
       fits_quiet d t v (Refill Lacking c x k) (Refill Refilling c x k) fits e (λ q. refl) (λ q. refl)
@@ -58,7 +58,7 @@ module _ (d : ℕ) (t : Thread) (v : GhostState) (c : Cell) (x : CellWord) (k : 
       (brings_funds d v kept fits.seat c x b (refill_here d t v Lacking c x k fits e) owned) tt
 
   -- they go into the cell
-  pub fits_refilled : Kept v → t.pending_call ≡ Refill Refilling c x k → FitsThread d (At t Rest) (ghost_after_step v d (OnCell (Refills c x.taken)))
+  pub fits_refilled : TableInvariant v → t.pending_call ≡ Refill Refilling c x k → FitsThread d (At t Rest) (ghost_after_step v d (OnCell (Refills c x.taken)))
   fits_refilled kept e =
       fits_quiet d t v (Refill Refilling c x k) Rest fits e (λ q. refl) (λ q. refl) (OnCell (Refills c x.taken)) refl
       (own_pending v d (OnCell (Refills c x.taken)) kept fits.seat) tt
@@ -69,7 +69,7 @@ module _ (d : ℕ) (t : Thread) (v : GhostState) (c : Cell) (x : CellWord) (k : 
       (misses_cell d v c x (refill_here d t v Refilling c x k fits e)) tt
 
   -- they are given back
-  pub fits_failed : (b : Block) → Kept v → t.pending_call ≡ Refill Failing c x k
+  pub fits_failed : (b : Block) → TableInvariant v → t.pending_call ≡ Refill Failing c x k
       → FitsThread d (At t (Refill Checking c x k)) (ghost_after_step v d (OnCell (GiveBack (kind_in_state (model_state v) c) b x.taken)))
   fits_failed b kept e =
       fits_quiet d t v (Refill Failing c x k) (Refill Checking c x k) fits e (λ q. refl) (λ q. refl)

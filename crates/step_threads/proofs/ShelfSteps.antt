@@ -8,8 +8,8 @@ use Rattle.std.specs.Prelude.{Option, Some, None, is_some}
 use Rattle.control_word.proofs.lists.Tallies.{num_cons, num_without, stored_self, stored_true}
 use Rattle.control_word.specs.State.{same_stored, stored}
 use Rattle.control_word.specs.declared.place.Block.{Block}
-use Rattle.step_table.specs.GhostStates.{Kept, GhostState, ghost_after_step, model_state}
-use Rattle.step_table.specs.declared.memory.past.AtomicStep.TheVariants as atomic_step
+use Rattle.step_table.specs.GhostStates.{TableInvariant, GhostState, ghost_after_step, model_state}
+use Rattle.step_table.specs.declared.memory.ghost_history.AtomicStep.TheVariants as atomic_step
 use Rattle.step_table.specs.declared.memory.shelf.ShelfStep.{ShelfStep}
 use Rattle.step_table.specs.declared.memory.shelf.ShelfStep.TheVariants as shelf
 use Rattle.step_threads.specs.Actors.{Stocks}
@@ -84,11 +84,12 @@ stocks_missed d l room v b stocks = record { stocked = stocks.stocked; roomy = s
 
 -- it has room there
 pub room_unshelve : (d : ℕ) (t : Thread) (v w : GhostState) (b : Block) → FitsThread d t v → t.pending_call ≡ Rest
-    → w ≡ ghost_after_step v d (atomic_step.OnShelf b shelf.Unshelve) → Kept w
+    → w ≡ ghost_after_step v d (atomic_step.OnShelf b shelf.Unshelve) → TableInvariant w
     → length t.stock.blocks < t.stock.room
 room_unshelve d t v w b fits e is kept =
     let s = resting d t v fits e in
-    let f = store_few d (ghost_after_step v d (atomic_step.OnShelf b shelf.Unshelve)) (b.0 ∷ t.stock.blocks) (subst (λ (u : GhostState). Kept u) is kept)
+    let f = store_few d (ghost_after_step v d (atomic_step.OnShelf b shelf.Unshelve)) (b.0 ∷ t.stock.blocks)
+    (subst (λ (u : GhostState). TableInvariant u) is kept)
     (λ c. let g = num_cons (same_stored (stored d c)) (stored d b.0) (model_state v).stores in
     let k = one_stored d b.0 c in
     let a = sum_by-cons (λ (y : ℕ). cond (y == c) 1 0) b.0 t.stock.blocks in
@@ -96,7 +97,7 @@ room_unshelve d t v w b fits e is kept =
     let r = s.roomy in omega (arith, f, r)
 
 -- a bit of the shelf was set or cleared, and the thread went on
-pub fits_moved : (d : ℕ) (t : Thread) (v : GhostState) (b : Block) (x : ShelfStep) (c : Frame) (s : StoreView) → Kept v → FitsThread d t v
+pub fits_moved : (d : ℕ) (t : Thread) (v : GhostState) (b : Block) (x : ShelfStep) (c : Frame) (s : StoreView) → TableInvariant v → FitsThread d t v
     → t.frame.endings.list ≡ []
     → HasGoneOn d t.frame c (ghost_after_step v d (atomic_step.OnShelf b x)) → Stocks d s.blocks s.room Rest (ghost_after_step v d (atomic_step.OnShelf b x))
     → FitsThread d (record { frame = c; stock = s; pending_call = Rest }) (ghost_after_step v d (atomic_step.OnShelf b x))

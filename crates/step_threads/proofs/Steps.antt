@@ -8,8 +8,8 @@ use Rattle.step_threads.specs.declared.programs.act.Task.{Task}
 use Rattle.step_threads.specs.declared.ending.Ending.{Ending}
 use Rattle.step_threads.specs.declared.pending_call.PendingCall.{PendingCall}
 use Rattle.step_threads.specs.declared.pending_call.PendingCall.TheVariants.{Rest, Clearing}
-use Rattle.step_table.specs.declared.slots.registers.Pointer.{Pointer}
-use Rattle.step_table.specs.declared.memory.past.AtomicStep.{AtomicStep}
+use Rattle.control_word.specs.declared.handle.Handle.{Handle}
+use Rattle.step_table.specs.declared.memory.ghost_history.AtomicStep.{AtomicStep}
 use Rattle.step_threads.specs.declared.said.Said.{Said}
 use Rattle.step_threads.specs.declared.said.Stepped.{Stepped}
 use Rattle.step_threads.specs.declared.said.Stepped.TheVariants.{Event, Quiet, Waited}
@@ -83,16 +83,16 @@ module _ (d : ℕ) (t : Thread) (v : GhostState) (e : Ending) (es : List Ending)
   waits_clearing r = ap (λ (h : PendingCall). waits v h (frame_view t.frame)) r
 
 -- an atomic step on what a slot holds is an event where the slot is full
-pub on_slot : (f : Pointer → AtomicStep) (v : GhostState) (d : ℕ) (o : Option Pointer) → done_on f v d o ≡ ghost_after v d (option_map f o)
+pub on_slot : (f : Handle → AtomicStep) (v : GhostState) (d : ℕ) (o : Option Handle) → done_on f v d o ≡ ghost_after v d (option_map f o)
 on_slot f v d None = refl
 on_slot f v d (Some x) = refl
 
-pub event_on : (f : Pointer → AtomicStep) (v : GhostState) (o : Option Pointer) → ((x : Pointer) → is_some (event_of (model_state v) (f x)) ≡ true)
+pub event_on : (f : Handle → AtomicStep) (v : GhostState) (o : Option Handle) → ((x : Handle) → is_some (event_of (model_state v) (f x)) ≡ true)
     → is_full o ≡ atomic_step_is_event v (option_map f o)
 event_on f v None event = refl
 event_on f v (Some x) event = sym (event x)
 
-pub says_on : (f : Pointer → AtomicStep) (v : GhostState) (o : Option Pointer) (r : Stepped) (x y : Said) (b : Bool)
-    → ((p : Pointer) → is_some (event_of (model_state v) (f p)) ≡ true) → r ≡ cond b (Event x) (Quiet x) → b ≡ is_full o → x ≡ y
+pub says_on : (f : Handle → AtomicStep) (v : GhostState) (o : Option Handle) (r : Stepped) (x y : Said) (b : Bool)
+    → ((p : Handle) → is_some (event_of (model_state v) (f p)) ≡ true) → r ≡ cond b (Event x) (Quiet x) → b ≡ is_full o → x ≡ y
     → r ≡ cond (atomic_step_is_event v (option_map f o)) (Event y) (Quiet y)
 says_on f v o r x y b event is e same = let k = event_on f v o event in cc

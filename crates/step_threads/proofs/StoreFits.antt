@@ -20,9 +20,9 @@ use Rattle.step_table.specs.declared.cell_steps.cell_step.CellStep.TheVariants a
 use Rattle.step_threads.specs.declared.frame.Frame.{Frame}
 use Rattle.step_threads.specs.declared.pending_call.PendingCall.{PendingCall}
 use Rattle.step_threads.specs.declared.pending_call.PendingCall.TheVariants.{Rest, Brought, Returning}
-use Rattle.step_table.specs.declared.slots.registers.Pointer.{Pointer}
-use Rattle.step_table.specs.declared.memory.past.AtomicStep.{AtomicStep}
-use Rattle.step_table.specs.declared.memory.past.AtomicStep.TheVariants.{OnCell}
+use Rattle.control_word.specs.declared.handle.Handle.{Handle}
+use Rattle.step_table.specs.declared.memory.ghost_history.AtomicStep.{AtomicStep}
+use Rattle.step_table.specs.declared.memory.ghost_history.AtomicStep.TheVariants.{OnCell}
 use Rattle.step_threads.specs.declared.thread.Thread.{Thread}
 use Rattle.step_threads.specs.Actors.{PendingCallFits, Stocks, claimed, in_store}
 use Rattle.step_table.specs.CellAtomicSteps.{owing_funds}
@@ -34,7 +34,7 @@ use Rattle.step_table.specs.AtomicSteps.{share_as, on}
 use Rattle.step_table.specs.Registers.{Slots, slot_value}
 use Rattle.step_threads.specs.Programs.{IsIn, kind_at}
 use Rattle.step_threads.specs.Steps.{gives_back}
-use Rattle.step_table.specs.GhostStates.{Kept, GhostState, ghost_after_step, pending, pending_after, model_state}
+use Rattle.step_table.specs.GhostStates.{TableInvariant, GhostState, ghost_after_step, pending, pending_after, model_state}
 use Rattle.step_threads.specs.Threads.{FitsThread, IsNext}
 use Rattle.step_threads.proofs.CellNames.{cell_kind}
 use Rattle.step_threads.proofs.Frames.{ready_head}
@@ -123,7 +123,8 @@ pending_call_back d slots a w k n x None e is = is ∙ ap (λ (b : Option Block)
 pending_call_back d slots a w k n x (Some b) e is = (x.place, is ∙ ap (λ (b : Option Block). owing_funds (model_state w) k b x.place (256 - x.taken) 0) e)
 
 -- the swap is made
-pub fits_swapped : (d : ℕ) (t : Thread) (v : GhostState) (c : CellName) (new x : CellWord) (n : ℕ) (h : PendingCall) (c' : Frame) → Kept v → FitsThread d t v
+pub fits_swapped : (d : ℕ) (t : Thread) (v : GhostState) (c : CellName) (new x : CellWord) (n : ℕ) (h : PendingCall) (c' : Frame) → TableInvariant v
+    → FitsThread d t v
     → (t.pending_call ≡ Rest) ⊎ (t.pending_call ≡ Brought) → t.frame.endings.list ≡ [] → IsIn v.extent.shape c
     → HasGoneOn d t.frame c' (ghost_after_step v d (OnCell (cell_step.Swap (cell_of_name (model_state v) t.frame.registers.slots.items c) new x)))
     → h ≡ gives_back (kind_at c) n x x.owned
@@ -161,7 +162,8 @@ fits_swapped d t v c new x n h c' kept fits was none lt on e =
     })
 
 -- the funds are given back
-pub fits_returned : (d : ℕ) (t : Thread) (v : GhostState) (k : Kind) (b : Block) (f n : ℕ) → Kept v → FitsThread d t v → t.pending_call ≡ Returning k b f n
+pub fits_returned : (d : ℕ) (t : Thread) (v : GhostState) (k : Kind) (b : Block) (f n : ℕ) → TableInvariant v → FitsThread d t v → t.pending_call
+    ≡ Returning k b f n
     → FitsThread d (record { frame = t.frame; stock = t.stock; pending_call = Rest }) (ghost_after_step v d (OnCell (cell_step.GiveBack k b f)))
 fits_returned d t v k b f n kept fits e =
     let x = OnCell (cell_step.GiveBack k b f) in
@@ -191,16 +193,16 @@ fits_returned d t v k b f n kept fits e =
     }
 
 -- an atomic step on what a slot holds was done, and the thread went on
-pub fits_done : (f : Pointer → AtomicStep) (d : ℕ) (t : Thread) (v w : GhostState) (o : Option Pointer) (c : Frame) → Kept v → FitsThread d t v
+pub fits_done : (f : Handle → AtomicStep) (d : ℕ) (t : Thread) (v w : GhostState) (o : Option Handle) (c : Frame) → TableInvariant v → FitsThread d t v
     → t.pending_call ≡ Rest
-    → t.frame.endings.list ≡ [] → ((x : Pointer) → pending_after v d (f x) ≡ Idle)
-    → ((x : Pointer) → (model_state (ghost_after_step v d (f x))).stores ≡ (model_state v).stores) → w ≡ done_on f v d o → HasGoneOn d t.frame c w
+    → t.frame.endings.list ≡ [] → ((x : Handle) → pending_after v d (f x) ≡ Idle)
+    → ((x : Handle) → (model_state (ghost_after_step v d (f x))).stores ≡ (model_state v).stores) → w ≡ done_on f v d o → HasGoneOn d t.frame c w
     → FitsThread d (record { frame = c; stock = t.stock; pending_call = Rest }) w
 fits_done f d t v w o c kept fits e none calm stores is on =
     subst (λ (u : GhostState). FitsThread d (record { frame = c; stock = t.stock; pending_call = Rest }) u) (sym is)
     (go o (subst (λ (u : GhostState). HasGoneOn d t.frame c u) is on))
   where
-    go : (o : Option Pointer) → HasGoneOn d t.frame c (done_on f v d o)
+    go : (o : Option Handle) → HasGoneOn d t.frame c (done_on f v d o)
         → FitsThread d (record { frame = c; stock = t.stock; pending_call = Rest }) (done_on f v d o)
     go None on =
         let s = resting d t v fits e in
@@ -236,10 +238,10 @@ fits_done f d t v w o c kept fits e none calm stores is on =
           cells = cells_on d t.frame c u on fits.cells;
         }
 
-pub share_calm : (v : GhostState) (d : ℕ) (x : Pointer) (k : Kind) → pending_after v d (share_as k x) ≡ Idle
+pub share_calm : (v : GhostState) (d : ℕ) (x : Handle) (k : Kind) → pending_after v d (share_as k x) ≡ Idle
 share_calm v d x Owner = refl
 share_calm v d x Weak = refl
 
-pub share_stores : (v : GhostState) (d : ℕ) (x : Pointer) (k : Kind) → (model_state (ghost_after_step v d (share_as k x))).stores ≡ (model_state v).stores
+pub share_stores : (v : GhostState) (d : ℕ) (x : Handle) (k : Kind) → (model_state (ghost_after_step v d (share_as k x))).stores ≡ (model_state v).stores
 share_stores v d x Owner = refl
 share_stores v d x Weak = refl

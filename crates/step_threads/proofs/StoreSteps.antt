@@ -15,11 +15,11 @@ use Rattle.control_word.specs.declared.packed.cell.CellWord.{CellWord}
 use Rattle.control_word.specs.declared.model.view.Pending.{Pending}
 use Rattle.control_word.specs.declared.model.view.Pending.TheVariants.{Idle}
 use Rattle.step_table.specs.declared.cell_steps.cell_step.CellStep.TheVariants.{Swap as Swaps}
-use Rattle.step_table.specs.declared.memory.past.AtomicStep.TheVariants.{OnCell}
+use Rattle.step_table.specs.declared.memory.ghost_history.AtomicStep.TheVariants.{OnCell}
 use Rattle.step_table.specs.declared.slots.slot.Slot.{Slot}
 use Rattle.step_table.specs.declared.slots.slot.Slot.TheVariants.{Empty, Full}
 use Rattle.step_table.specs.Contents.{as_word, owing_for, seen}
-use Rattle.step_table.specs.declared.slots.registers.Pointer.{Pointer}
+use Rattle.control_word.specs.declared.handle.Handle.{Handle}
 use Rattle.step_threads.specs.declared.thread.Thread.{Thread}
 use Rattle.step_threads.specs.Programs.{kind_at}
 use Rattle.step_threads.specs.Frames.{Going, cell_of_name, done_on, fitting, going, hand, is_there, offered, on_going, rest, frame_settled, task_at, frame_view}
@@ -51,14 +51,14 @@ module _ (d : ℕ) (t : Thread) (v : GhostState) (a : Act) (c : CellName) (i : �
       at_act d t v a e none lt act
       ∙ ap (λ (x : Step). Some x) (one ∙ ap (λ (g : Option Going). on_going (sends v d w n ts a) (step_of_act v d w n ts a None Rest) g) goes)
 
-  pub step_brings : (x : Pointer) → t.pending_call ≡ Rest → going t.frame.registers.slots.items a ≡ Some (c, i)
+  pub step_brings : (x : Handle) → t.pending_call ≡ Rest → going t.frame.registers.slots.items a ≡ Some (c, i)
       → slot_pointer t.frame.registers.slots.items i ≡ Some x
       → step_at v d t.pending_call (frame_view t.frame) ≡ Some (brings (frame_view t.frame) (task_at t.frame).statement x)
   step_brings x e goes at =
       let w = frame_view t.frame in
       let n = (task_at t.frame).statement in
       let ts = rest t.frame in
-      step_sends e goes ∙ ap (λ (o : Option Pointer). Some (on (brings w n) (step_of_swap v d w n ts a c i) o)) at
+      step_sends e goes ∙ ap (λ (o : Option Handle). Some (on (brings w n) (step_of_swap v d w n ts a c i) o)) at
 
   -- the swap comes: there is nothing to bring, or it is brought
   pub swaps_here : FitsThread d t v → (t.pending_call ≡ Rest) ⊎ (t.pending_call ≡ Brought) → going t.frame.registers.slots.items a ≡ Some (c, i)
@@ -70,7 +70,7 @@ module _ (d : ℕ) (t : Thread) (v : GhostState) (a : Act) (c : CellName) (i : �
       let n = (task_at t.frame).statement in
       let ts = rest t.frame in
       ⊎_elim (λ (q : t.pending_call ≡ Rest). step_sends q goes
-      ∙ ap (λ (o : Option Pointer). Some (on (brings w n) (step_of_swap v d w n ts a c i) o))
+      ∙ ap (λ (o : Option Handle). Some (on (brings w n) (step_of_swap v d w n ts a c i) o))
       (bare (slot_value w.slots i) (sym (pending_call_here d t v Rest fits q) ∙ owes)))
       (λ (q : t.pending_call ≡ Brought). ap (λ (h : PendingCall). step_at v d h w) q ∙ ap (sent v d w) (todo_at t.frame lt)
       ∙ ap (λ (y : Act). option_map (λ (x : Going). step_of_swap v d w n ts y x.0 x.1) (going w.slots y)) act
@@ -102,7 +102,7 @@ module _ (d : ℕ) (t : Thread) (v : GhostState) (a : Act) (c : CellName) (i : �
       (ghost_state ∙ ap (λ (x : CellWord). ghost_after_step v d (OnCell (Swaps at (as_word (slot_value w.slots i)) x))) shows) walked
       (back ∙ ap (λ (x : CellWord). gives_back (kind_at c) n x x.owned) shows)
 
-pub share_event : (v : GhostState) (x : Pointer) (k : Kind) → is_some (event_of (model_state v) (share_as k x)) ≡ true
+pub share_event : (v : GhostState) (x : Handle) (k : Kind) → is_some (event_of (model_state v) (share_as k x)) ≡ true
 share_event v x Owner = refl
 share_event v x Weak = refl
 

@@ -6,7 +6,7 @@ use Rattle.control_word.specs.declared.model.handle.Kind.{Kind}
 use Rattle.control_word.specs.declared.model.handle.Kind.TheVariants.{Owner, Weak}
 use Rattle.control_word.specs.declared.model.view.Pending.TheVariants.{Idle}
 use Rattle.control_word.specs.declared.refusal.Refusal.TheVariants as refused
-use Rattle.step_table.specs.declared.slots.registers.Pointer.{Pointer}
+use Rattle.control_word.specs.declared.handle.Handle.{Handle}
 use Rattle.step_table.specs.AtomicSteps.{by_word, give, is_enabled, on, this_as}
 use Rattle.step_table.specs.Registers.{inside, is_full, place_in, slot_pointer}
 use Rattle.step_table.specs.GhostStates.{GhostState, event_of, pending_after, ghost_after_step, model_state}
@@ -23,7 +23,7 @@ use Rattle.step_threads.specs.Steps.{Step, asks, silent, step_of_act}
 
 module _ (v : GhostState) (d : ℕ) (w : FrameView) (n : ℕ) (ts : List Task) (k : ℕ) (kind : Kind) where
   -- what is said, and where the thread is, by what the name has inside its object, and whether that gave a pointer
-  abbrev pub this_said : Option Pointer → Bool → Said
+  abbrev pub this_said : Option Handle → Bool → Said
   this_said o got =
       record {
         statement = n;
@@ -31,25 +31,25 @@ module _ (v : GhostState) (d : ℕ) (w : FrameView) (n : ℕ) (ts : List Task) (
         ended = None;
       }
 
-  abbrev pub this_frame : Option Pointer → Bool → FrameView
+  abbrev pub this_frame : Option Handle → Bool → FrameView
   this_frame o got =
       let y = taking w.slots true (option_map (this_as kind) (cond got o None)) in frame_settled y.0 y.1 w.endings ts
 
-  module _ (o : Option Pointer) (got : Bool) (at : inside (slot_pointer w.slots k) ≡ o) (gives : on (is_enabled (model_state v)) false o ≡ got) where
+  module _ (o : Option Handle) (got : Bool) (at : inside (slot_pointer w.slots k) ≡ o) (gives : on (is_enabled (model_state v)) false o ≡ got) where
     given : on (is_enabled (model_state v)) false (inside (slot_pointer w.slots k)) ≡ got
     given = ap (on (is_enabled (model_state v)) false) at ∙ gives
 
     pub this_says : this_said o got ≡ said_by_row n (row_in (by_word v) (model_state v) d w.slots w.taken (FromThis k kind))
-    this_says = ap (λ (q : Option Pointer). this_said q got) (sym at) ∙ ap (this_said (inside (slot_pointer w.slots k))) (sym given)
+    this_says = ap (λ (q : Option Handle). this_said q got) (sym at) ∙ ap (this_said (inside (slot_pointer w.slots k))) (sym given)
 
     pub this_went : this_frame o got ≡ went (model_state v) d w n ts (FromThis k kind)
-    this_went = ap (λ (q : Option Pointer). this_frame q got) (sym at) ∙ ap (this_frame (inside (slot_pointer w.slots k))) (sym given)
+    this_went = ap (λ (q : Option Handle). this_frame q got) (sym at) ∙ ap (this_frame (inside (slot_pointer w.slots k))) (sym given)
 
   -- the first step: the name has nothing to ask
   pub this_none : inside (slot_pointer w.slots k) ≡ None → first v d w n ts (FromThis k kind) ≡ step_of_act v d w n ts (FromThis k kind) None Rest
   this_none at = ap (on (asks v d w n ts k kind) (step_of_act v d w n ts (FromThis k kind) None Rest)) at
 
-  module _ (p : Pointer) (at : inside (slot_pointer w.slots k) ≡ Some p) where
+  module _ (p : Handle) (at : inside (slot_pointer w.slots k) ≡ Some p) where
     abbrev pub giving : Step
     giving = record { atomic_step = None; pending_call = Giving k kind p; frame_view = w; said = silent n }
 
@@ -65,7 +65,7 @@ module _ (v : GhostState) (d : ℕ) (w : FrameView) (n : ℕ) (ts : List Task) (
     this_gives enabled = asking ∙ cond-true (is_enabled (model_state v) p) giving (step_of_act v d w n ts (FromThis k kind) None Rest) enabled
 
 -- the pointer is an event, which moves no block and leaves nothing half done
-module _ (v : GhostState) (d : ℕ) (x : Pointer) where
+module _ (v : GhostState) (d : ℕ) (x : Handle) where
   pub give_event : (k : Kind) → is_some (event_of (model_state v) (give k x)) ≡ true
   give_event Owner = refl
   give_event Weak = refl

@@ -21,15 +21,15 @@ use Rattle.step_threads.specs.declared.programs.act.Task.{Task}
 use Rattle.step_threads.specs.declared.frame.Frame.{Frame}
 use Rattle.step_threads.specs.declared.pending_call.PendingCall.{PendingCall}
 use Rattle.step_threads.specs.declared.pending_call.PendingCall.TheVariants.{Rest, Making}
-use Rattle.step_table.specs.declared.memory.past.AtomicStep.{AtomicStep}
-use Rattle.step_table.specs.declared.memory.past.AtomicStep.TheVariants as atomic_step
+use Rattle.step_table.specs.declared.memory.ghost_history.AtomicStep.{AtomicStep}
+use Rattle.step_table.specs.declared.memory.ghost_history.AtomicStep.TheVariants as atomic_step
 use Rattle.step_threads.specs.declared.thread.Thread.{Thread}
 use Rattle.step_threads.specs.Actors.{PendingCallFits, IsPreparedSoFar, Stocks, in_list, wanted}
 use Rattle.step_threads.specs.Frames.{MayComeNext, FrameReady, HasCell, IsReady, TasksMayCome, form_of, no_task, other, rest, taken_after, task_at}
 use Rattle.step_threads.specs.Passing.{HasGoneOn}
 use Rattle.step_threads.specs.Entries.{least}
 use Rattle.step_threads.specs.Stocks.{StoreView}
-use Rattle.step_table.specs.GhostStates.{Kept, Nothing, GhostState, ghost_after_step, known_words, pending, pending_after, model_state}
+use Rattle.step_table.specs.GhostStates.{TableInvariant, Nothing, GhostState, ghost_after_step, known_words, pending, pending_after, model_state}
 use Rattle.step_threads.specs.Threads.{FitsThread, IsNext, form_at}
 use Rattle.step_threads.proofs.Frames.{owed_by, ready_any, ready_head}
 use Rattle.step_threads.proofs.holding.Ends.{ends_gone, ends_none}
@@ -38,7 +38,7 @@ use Rattle.step_threads.proofs.holding.Storing.{stocks_claim, stocks_take}
 use Rattle.step_table.proofs.tables.Places.{making_stored, named}
 
 -- the desk's own half-done call after its atomic step
-pub own_pending : (v : GhostState) (d : ℕ) (x : AtomicStep) → Kept v → d < v.extent.actors → pending (ghost_after_step v d x) d ≡ pending_after v d x
+pub own_pending : (v : GhostState) (d : ℕ) (x : AtomicStep) → TableInvariant v → d < v.extent.actors → pending (ghost_after_step v d x) d ≡ pending_after v d x
 own_pending v d x kept lt =
     ap (λ (w : View Nothing). w.pending) (get_or-set_same v.views d _ used_up (let s = kept.seats.size in omega (arith, s)))
 
@@ -133,7 +133,7 @@ least_nowhere d t v fits e none =
     let x = resting d t v fits e in
     none_stored d (model_state v).stores (λ c. let q = x.stocked c in let z : in_list c t.stock.blocks ≡ 0 = ap (in_list c) none in omega (arith, q, z))
 
-pub fits_prepare : (d : ℕ) (t : Thread) (v : GhostState) (b : Block) (s : StoreView) (form : Form) → Kept v → FitsThread d t v → t.pending_call ≡ Rest
+pub fits_prepare : (d : ℕ) (t : Thread) (v : GhostState) (b : Block) (s : StoreView) (form : Form) → TableInvariant v → FitsThread d t v → t.pending_call ≡ Rest
     → t.frame.endings.list ≡ [] → t.frame.at < length t.frame.tasks.items → (task_at t.frame).act ≡ Make form
     → IsPermutation t.stock.blocks (b.0 ∷ s.blocks) → All (λ c. b.0 ≤ c) t.stock.blocks → s.room ≡ t.stock.room
     → FitsThread d (record { frame = t.frame; stock = s; pending_call = Making b 0 false }) (ghost_after_step v d (atomic_step.Prepare b))
@@ -159,7 +159,7 @@ fits_prepare d t v b s form kept fits e none lt act p all room =
       cells = fits.cells;
     }
 
-pub fits_write : (d : ℕ) (t : Thread) (v : GhostState) (b : Block) (i : ℕ) → Kept v → FitsThread d t v → t.pending_call ≡ Making b i true → i < 5
+pub fits_write : (d : ℕ) (t : Thread) (v : GhostState) (b : Block) (i : ℕ) → TableInvariant v → FitsThread d t v → t.pending_call ≡ Making b i true → i < 5
     → FitsThread d (record { frame = t.frame; stock = t.stock; pending_call = Making b (i + 1) false })
     (ghost_after_step v d (atomic_step.Write b i (get_or (wanted
     (form_at t.frame)) i 0)))
@@ -195,7 +195,7 @@ fits_write d t v b i kept fits e lt =
       cells = fits.cells;
     }
 
-pub fits_claim : (d : ℕ) (t : Thread) (v : GhostState) (b : Block) (f : Bool) (form : Form) (c : Frame) → Kept v → FitsThread d t v
+pub fits_claim : (d : ℕ) (t : Thread) (v : GhostState) (b : Block) (f : Bool) (form : Form) (c : Frame) → TableInvariant v → FitsThread d t v
     → t.pending_call ≡ Making b 5 f
     → HasGoneOn d t.frame c (ghost_after_step v d (atomic_step.Claim b form.enabled form.null form.fields))
     → FitsThread d (record { frame = c; stock = t.stock; pending_call = Rest }) (ghost_after_step v d (atomic_step.Claim b form.enabled form.null form.fields))

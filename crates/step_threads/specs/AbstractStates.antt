@@ -7,7 +7,7 @@ use Rattle.control_word.specs.Histories.{leads}
 use Rattle.control_word.specs.State.{Object, Opening, State}
 use Rattle.step_table.specs.declared.memory.ended.Ended.{Ended}
 use Rattle.step_table.specs.declared.memory.extent.Extent.{Extent}
-use Rattle.step_table.specs.declared.slots.registers.Pointer.{Pointer}
+use Rattle.control_word.specs.declared.handle.Handle.{Handle}
 use Rattle.step_table.specs.declared.slots.slot.Slot.{Slot}
 use Rattle.step_table.specs.Contents.{held_in, slot_of}
 use Rattle.step_table.specs.AtomicSteps.{Telling, exact, field_of, is_enabled, is_expired, is_last, on, owned}
@@ -41,7 +41,7 @@ abbrev pub came : State → Slots → CellName → Slot
 came s slots c = slot_of s (held_in s (cell_of_name s slots c))
 
 -- a lock finds an owner, where there is a weak pointer and an owner is left ([util.smartptr.weak.obs], `lock`)
-abbrev pub finds_owner : State → Option Pointer → Bool
+abbrev pub finds_owner : State → Option Handle → Bool
 finds_owner s x = on (λ y. not (is_expired s y)) false x
 
 -- what comes before the other; other questions are answered by the slots
@@ -54,11 +54,11 @@ remains_as Owner x = Some (remains x)
 remains_as Weak x = None
 
 -- the object that ends where this pointer leaves
-abbrev pub ended_by : State → Option Pointer → Option Ended
+abbrev pub ended_by : State → Option Handle → Option Ended
 ended_by s x = on (λ y. cond (is_last s y) (remains_as y.kind (s.object (owned s y))) None) None x
 
 -- whether a pointer was the last that left, and what its object left
-abbrev pub reply_to_leave : State → Option Pointer → Reply
+abbrev pub reply_to_leave : State → Option Handle → Reply
 reply_to_leave s x = Left (on (is_last s) false x) (ended_by s x)
 
 -- which reply an act gets in a state, where counts are told so

@@ -13,7 +13,7 @@ use Rattle.step_threads.specs.declared.pending_call.PendingCall.{PendingCall}
 use Rattle.step_threads.specs.declared.pending_call.PendingCall.TheVariants.{Rest, Making, Locking, Giving, Brought}
 use Rattle.step_threads.specs.declared.pending_call.PendingCall.TheVariants.{Saw, Matched}
 use Rattle.step_threads.specs.declared.pending_call.PendingCall.TheVariants.{Refill, Returning, Clearing}
-use Rattle.step_table.specs.declared.slots.registers.Pointer.{Pointer}
+use Rattle.control_word.specs.declared.handle.Handle.{Handle}
 use Rattle.step_table.specs.CellAtomicSteps.{owing_funds}
 use Rattle.step_table.specs.Contents.{owing_for}
 use Rattle.step_threads.specs.Frames.{form_of, new_of}
@@ -61,7 +61,7 @@ pub record IsPreparedSoFar (d : ℕ) (b : Block) (at : ℕ) (form : Form) (v : G
   pub done : (j : ℕ) → j < at → get_or (known_words (pending v d)) j 0 ≡ get_or (wanted form) j 0
 
 -- the desk has a pointer whose object gives pointers to itself
-pub record IsGiving (d : ℕ) (x : Pointer) (v : GhostState) : Type 0 where
+pub record IsGiving (d : ℕ) (x : Handle) (v : GhostState) : Type 0 where
   pub idle : pending v d ≡ Idle
   pub has : Has (held d (handle_in_block v x.kind x.block x.place)) (model_state v).hands
   pub enabled : is_enabled (model_state v) x ≡ true

@@ -26,8 +26,8 @@ use Rattle.step_table.specs.AtomicSteps.{on}
 use Rattle.step_table.specs.Registers.{HoldsBag, Slots, inside, is_full, plain, pointer_of, slot_pointer, slot_value}
 use Rattle.step_table.specs.Registers.{weak_slot}
 use Rattle.control_word.specs.declared.model.view.Pending.TheVariants.{Idle}
-use Rattle.step_table.specs.declared.slots.registers.Pointer.{Pointer}
-use Rattle.step_table.specs.declared.memory.past.AtomicStep.{AtomicStep}
+use Rattle.control_word.specs.declared.handle.Handle.{Handle}
+use Rattle.step_table.specs.declared.memory.ghost_history.AtomicStep.{AtomicStep}
 use Rattle.step_table.specs.declared.slots.slot.Slot.{Slot}
 use Rattle.step_threads.specs.Programs.{IsIn, kind_at}
 use Rattle.step_table.specs.GhostStates.{GhostState, ghost_after_step, pending}
@@ -47,7 +47,7 @@ is_there slots _ = true
 
 -- the block of that object; 0, which no object is in, where there is none
 abbrev pub block_at : Slots → ℕ → Block
-block_at slots k = on (λ (x : Pointer). x.block) (record { 0 = 0 }) (inside (slot_pointer slots k))
+block_at slots k = on (λ (x : Handle). x.block) (record { 0 = 0 }) (inside (slot_pointer slots k))
 
 -- the cell in the table: the weak ones stand behind the shared ones
 abbrev pub cell_of_name : State → Slots → CellName → Cell
@@ -60,7 +60,7 @@ abbrev pub fitting : Kind → Slot → Slot
 fitting k x = cond (is_of k x) x plain
 
 -- the pointer that is taken of a name for a cell that is there
-abbrev pub offered : Slots → ℕ → CellName → Option Pointer
+abbrev pub offered : Slots → ℕ → CellName → Option Handle
 offered slots k c = cond (is_there slots c) (pointer_of (fitting (kind_at c) (slot_value slots k))) None
 
 -- a cell that is swapped, and the slot whose value goes in
@@ -101,7 +101,7 @@ form_of (Make form) = form
 form_of _ = no_form
 
 -- the weak handle that an act locks
-abbrev pub locked_pointer : Slots → Act → Option Pointer
+abbrev pub locked_pointer : Slots → Act → Option Handle
 locked_pointer slots (Lock k must) = weak_slot (slot_pointer slots k)
 locked_pointer slots _ = None
 
@@ -285,6 +285,6 @@ abbrev pub rest : Frame → List Task
 rest c = drop (c.at + 1) c.tasks.items
 
 -- the atomic step is done where the slot holds something
-abbrev pub done_on : (Pointer → AtomicStep) → GhostState → ℕ → Option Pointer → GhostState
+abbrev pub done_on : (Handle → AtomicStep) → GhostState → ℕ → Option Handle → GhostState
 done_on f v d None = v
 done_on f v d (Some x) = ghost_after_step v d (f x)

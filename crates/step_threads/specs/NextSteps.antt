@@ -17,8 +17,8 @@ use Rattle.step_threads.specs.declared.pending_call.PendingCall.{PendingCall}
 use Rattle.step_threads.specs.declared.pending_call.PendingCall.TheVariants.{Rest, Making, Locking, Giving, Brought}
 use Rattle.step_threads.specs.declared.pending_call.PendingCall.TheVariants.{Saw, Matched}
 use Rattle.step_threads.specs.declared.pending_call.PendingCall.TheVariants.{Refill, Returning, Clearing}
-use Rattle.step_table.specs.declared.slots.registers.Pointer.{Pointer}
-use Rattle.step_table.specs.declared.memory.past.AtomicStep.{AtomicStep}
+use Rattle.control_word.specs.declared.handle.Handle.{Handle}
+use Rattle.step_table.specs.declared.memory.ghost_history.AtomicStep.{AtomicStep}
 use Rattle.step_threads.specs.declared.said.Stepped.{Stepped}
 use Rattle.step_threads.specs.declared.said.Stepped.TheVariants.{Event, Quiet, Waited, Done}
 use Rattle.step_threads.specs.Actors.{wanted}
@@ -89,7 +89,7 @@ tried v d w word [] = None
 tried v d w word (t ∷ ts) = option_map (tries v d w t.statement ts t.act word) (locked_pointer w.slots t.act)
 
 -- the object gives pointers to itself: one is taken
-abbrev pub given_step : GhostState → ℕ → FrameView → ℕ → Kind → Pointer → List Task → Option Step
+abbrev pub given_step : GhostState → ℕ → FrameView → ℕ → Kind → Handle → List Task → Option Step
 given_step v d w i kind x [] = None
 given_step v d w i kind x (t ∷ ts) =
     Some (step_of_act v d w t.statement ts (FromThis i kind) (Some (give kind x)) Rest)

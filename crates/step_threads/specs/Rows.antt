@@ -10,7 +10,7 @@ use Rattle.control_word.specs.Events.{origin}
 use Rattle.control_word.specs.Handles.{same_place}
 use Rattle.step_table.specs.declared.memory.field.Field.{Field}
 use Rattle.step_table.specs.declared.memory.ended.Ended.{Ended}
-use Rattle.step_table.specs.declared.slots.registers.Pointer.{Pointer}
+use Rattle.control_word.specs.declared.handle.Handle.{Handle}
 use Rattle.step_table.specs.declared.slots.slot.Slot.{Slot}
 use Rattle.step_table.specs.declared.slots.slot.Slot.TheVariants.{Full, Empty}
 use Rattle.step_table.specs.Contents.{differed, is_of, slots_swapped}
@@ -60,12 +60,12 @@ holding slots null (Some b) = (
 )
 
 -- what was found is in hand; where nothing was and it must be, the rest of the statement is passed over
-abbrev pub taking : Slots → Bool → Option Pointer → Hands
+abbrev pub taking : Slots → Bool → Option Handle → Hands
 taking slots must None = (slots, not must)
 taking slots must (Some x) = (slice_set slots (hand slots) (Full x), true)
 
 -- an alias with this place: an owner, or an empty pointer, has it
-abbrev pub alias_of : Option Place → Option Pointer → Slot
+abbrev pub alias_of : Option Place → Option Handle → Slot
 alias_of p None = Empty p
 alias_of p (Some x) = Full (at_place p x)
 
@@ -112,15 +112,15 @@ abbrev pub having : Hands → Option Answer → Row
 having x a = record { slots = x.0; taken = x.1; ending = None; answer = a; ended = None }
 
 -- an object is to end where its last owner left
-abbrev pub ending_as : Kind → Pointer → Option Block
+abbrev pub ending_as : Kind → Handle → Option Block
 ending_as Owner x = Some x.block
 ending_as Weak x = None
 
-abbrev pub ending_by : Bool → Option Pointer → Option Block
+abbrev pub ending_by : Bool → Option Handle → Option Block
 ending_by last None = None
 ending_by last (Some x) = cond last (ending_as x.kind x) None
 
-abbrev pub leaving : Hands → Option Pointer → Bool → Option Ended → Row
+abbrev pub leaving : Hands → Option Handle → Bool → Option Ended → Row
 leaving h x last e = record { slots = h.0; taken = h.1; ending = ending_by last x; answer = None; ended = e }
 
 -- what the pointers of names tell; what comes before is replied

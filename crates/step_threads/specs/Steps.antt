@@ -16,9 +16,9 @@ use Rattle.step_threads.specs.declared.pending_call.PendingCall.{PendingCall}
 use Rattle.step_threads.specs.declared.pending_call.PendingCall.TheVariants.{Rest, Making, Locking, Giving, Brought}
 use Rattle.step_threads.specs.declared.pending_call.PendingCall.TheVariants.{Saw, Matched}
 use Rattle.step_threads.specs.declared.pending_call.PendingCall.TheVariants.{Refill, Returning, Clearing}
-use Rattle.step_table.specs.declared.slots.registers.Pointer.{Pointer}
-use Rattle.step_table.specs.declared.memory.past.AtomicStep.{AtomicStep}
-use Rattle.step_table.specs.declared.memory.past.AtomicStep.TheVariants as atomic_step
+use Rattle.control_word.specs.declared.handle.Handle.{Handle}
+use Rattle.step_table.specs.declared.memory.ghost_history.AtomicStep.{AtomicStep}
+use Rattle.step_table.specs.declared.memory.ghost_history.AtomicStep.TheVariants as atomic_step
 use Rattle.step_threads.specs.declared.said.Said.{Said}
 use Rattle.step_threads.specs.Programs.{kind_at}
 use Rattle.step_threads.specs.Frames.{FrameView, cell_of_name, hand, frame_settled}
@@ -90,25 +90,25 @@ trying w k word = record
     { atomic_step = None; pending_call = cond (word == 0) Rest (Locking word); frame_view = w; said = silent k }
 
 -- a lock looks first. Where it finds 0 no owner is left, and that is the whole of it
-abbrev pub looks : GhostState → ℕ → FrameView → ℕ → List Task → Act → Pointer → Step
+abbrev pub looks : GhostState → ℕ → FrameView → ℕ → List Task → Act → Handle → Step
 looks v d w k ts a x = cond (owner_word v x == 0) (step_of_act v d w k ts a (Some (lock (model_state v) x)) Rest)
     (trying w k (owner_word v x))
 
 -- then it is tried with the word that it found, and goes on with the word that it finds where that is another
-abbrev pub tries : GhostState → ℕ → FrameView → ℕ → List Task → Act → ℕ → Pointer → Step
+abbrev pub tries : GhostState → ℕ → FrameView → ℕ → List Task → Act → ℕ → Handle → Step
 tries v d w k ts a word x =
     cond (owner_word v x == word) (step_of_act v d w k ts a (Some (lock (model_state v) x)) Rest)
     (trying w k (owner_word v x))
 
 -- an owner's object is asked for a pointer: a look tells whether it gives any, and then the pointer is taken
-abbrev pub asks : GhostState → ℕ → FrameView → ℕ → List Task → ℕ → Kind → Pointer → Step
+abbrev pub asks : GhostState → ℕ → FrameView → ℕ → List Task → ℕ → Kind → Handle → Step
 asks v d w k ts i kind x =
     cond (is_enabled (model_state v) x)
     (record { atomic_step = None; pending_call = Giving i kind x; frame_view = w; said = silent k })
     (step_of_act v d w k ts (FromThis i kind) None Rest)
 
 -- a pointer's funds are brought for a cell, and the swap is next
-abbrev pub brings : FrameView → ℕ → Pointer → Step
+abbrev pub brings : FrameView → ℕ → Handle → Step
 brings w k x = record {
   atomic_step = Some (atomic_step.OnCell (cell_step.Bring x.kind x.block x.place 256));
   pending_call = Brought;
@@ -158,7 +158,7 @@ step_of_compare v d w k ts a c y x =
     cond (same_value x y.expected) (within w k None (Saw x)) (step_of_look v d w k ts a c (Some y) x)
 
 -- what was brought for a value is given back, where it has an object
-abbrev pub missed : ℕ → Option Pointer → PendingCall
+abbrev pub missed : ℕ → Option Handle → PendingCall
 missed k None = Rest
 missed k (Some x) = Returning x.kind x.block 256 k
 
@@ -172,7 +172,7 @@ matches v d w k ts a c y x =
     (within w k None (missed k (slot_pointer w.slots (hand w.slots))))
 
 -- the funds of what is to go in are brought, where it has an object, and then the cell is swapped
-abbrev pub fetches : FrameView → ℕ → CellWord → Pointer → Step
+abbrev pub fetches : FrameView → ℕ → CellWord → Handle → Step
 fetches w k x p = within w k (Some (atomic_step.OnCell (cell_step.Bring p.kind p.block p.place 256))) (Matched x)
 
 -- a compare goes on that has seen this

@@ -18,13 +18,13 @@ use Rattle.step_threads.specs.declared.said.Stepped.{Stepped}
 use Rattle.step_threads.specs.declared.thread.Thread.{Thread}
 use Rattle.step_threads.specs.Actors.{PendingCallFits, Stocks}
 use Rattle.step_threads.specs.Frames.{FrameReady, FrameStill, HasCell, form_of, going, hand, is_there}
-use Rattle.step_threads.specs.Frames.{locked_pointer}
+use Rattle.step_threads.specs.Frames.{locked_pointer, new_of}
 use Rattle.step_threads.specs.Frames.{task_at, frame_view}
-use Rattle.step_table.specs.declared.slots.registers.Pointer.{Pointer}
+use Rattle.control_word.specs.declared.handle.Handle.{Handle}
 use Rattle.step_threads.specs.declared.ending.Ending.{Ending}
 use Rattle.step_threads.specs.Endings.{EndsAll}
 use Rattle.step_table.specs.Contents.{as_word, same_value}
-use Rattle.step_table.specs.Registers.{HoldsBag, Slots, inside, is_full, slot_pointer, slot_value}
+use Rattle.step_table.specs.Registers.{HoldsBag, Slots, inside, is_full, pointer_of, slot_pointer, slot_value}
 use Rattle.step_threads.specs.Stocks.{StoreView}
 use Rattle.step_threads.specs.NextSteps.{answered, pending_call_by, step_at, ghost_by, frame_by}
 use Rattle.step_table.specs.GhostStates.{GhostState}
@@ -53,6 +53,10 @@ abbrev pub IsClearingMember : Slots → List Ending → Type 0
 IsClearingMember slots [] = ⊥
 IsClearingMember slots (e ∷ es) = (e.stage < 3) × (is_full (slot_pointer slots (hand slots)) ≡ false)
 
+-- what the next act puts into a cell has an object
+abbrev pub BringsFor : Frame → Type 0
+BringsFor c = is_full (pointer_of (new_of c.registers.slots.items (task_at c).act)) ≡ true
+
 -- a make, a lock, a pointer from this or an act on a cell that is under way is the next act, and no object ends
 abbrev pub IsNext : PendingCall → Frame → Type 0
 IsNext Rest c = Unit {0}
@@ -64,11 +68,11 @@ IsNext (Giving i kind x) c =
     (c.at < length c.tasks.items) × ((task_at c).act ≡ FromThis i kind)
     × (inside (slot_pointer c.registers.slots.items i) ≡ Some x) × (c.endings.list ≡ [])
 IsNext Brought c = (c.at < length c.tasks.items) × (is_some (going c.registers.slots.items (task_at c).act) ≡ true)
-    × (c.endings.list ≡ [])
+    × (c.endings.list ≡ []) × BringsFor c
 IsNext (Saw x) c = (c.at < length c.tasks.items) × IsSeenBy c.registers.slots.items x (task_at c).act
     × (c.endings.list ≡ [])
 IsNext (Matched x) c = (c.at < length c.tasks.items) × IsMatchedBy c.registers.slots.items x (task_at c).act
-    × (c.endings.list ≡ [])
+    × (c.endings.list ≡ []) × BringsFor c
 IsNext (Refill stage cell x k) c = Unit {0}
 IsNext (Returning kind b funds k) c = Unit {0}
 IsNext Clearing c = IsClearingMember c.registers.slots.items c.endings.list
@@ -112,6 +116,6 @@ abbrev pub IsStocked : Kind → ℕ → Bool → StoreView → StoreView → Typ
 IsStocked Weak b true s s' = IsPermutation (b ∷ s.blocks) s'.blocks × (s.room ≤ s'.room)
 IsStocked _ b last s s' = s' ≡ s
 
-abbrev pub IsStockedBy : Option Pointer → Bool → StoreView → StoreView → Type 0
+abbrev pub IsStockedBy : Option Handle → Bool → StoreView → StoreView → Type 0
 IsStockedBy None last s s' = s' ≡ s
 IsStockedBy (Some x) last s s' = IsStocked x.kind x.block.0 last s s'

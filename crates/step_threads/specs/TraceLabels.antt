@@ -6,7 +6,7 @@ use Rattle.std.specs.Prelude.{option_map}
 use Rattle.control_word.specs.declared.model.event.Entry.{Entry}
 use Rattle.control_word.specs.declared.model.event.Event.{Event}
 use Rattle.control_word.specs.declared.model.event.Event.TheVariants as event
-use Rattle.control_word.specs.declared.model.handle.Handle.{Handle}
+use Rattle.control_word.specs.declared.model.handle.NumberedHandle.{NumberedHandle}
 use Rattle.control_word.specs.declared.model.handle.Kind.{Kind}
 use Rattle.control_word.specs.declared.model.handle.Kind.TheVariants.{Owner, Weak}
 use Rattle.control_word.specs.declared.place.Place.{Place}
@@ -16,7 +16,7 @@ use Rattle.control_word.specs.Histories.{entry, leads}
 use Rattle.control_word.specs.State.{Opening, State, stock}
 use Rattle.step_table.specs.declared.memory.ended.Ended.{Ended}
 use Rattle.step_table.specs.declared.memory.form.Form.{Form}
-use Rattle.step_table.specs.declared.slots.registers.Pointer.{Pointer}
+use Rattle.control_word.specs.declared.handle.Handle.{Handle}
 use Rattle.step_table.specs.declared.slots.slot.Slot.{Slot}
 use Rattle.step_table.specs.CellAtomicSteps.{cell_in, kind_in_state}
 use Rattle.step_table.specs.Contents.{slot_of, named_handle}
@@ -42,7 +42,7 @@ use Rattle.step_threads.specs.AbstractStates.{answers_order, remains_as}
 use Rattle.step_threads.specs.Steps.{silent}
 
 -- what is so of a pointer, or else where there is none
-abbrev pub On : (Pointer → Type 0) → Type 0 → Option Pointer → Type 0
+abbrev pub On : (Handle → Type 0) → Type 0 → Option Handle → Type 0
 On p none None = none
 On p none (Some x) = p x
 
@@ -82,32 +82,33 @@ pub record TraceLabel (V : Type 0) : Type 0 where
 
 module _ {V : Type 0} where
   -- a pointer of this kind and place to a pointer's object is taken
-  abbrev pub copies : State → Kind → Option Place → Pointer → Event V
+  abbrev pub copies : State → Kind → Option Place → Handle → Event V
   copies s Owner p x = event.Share (owner (owned s x) x.place) p
   copies s Weak p x = event.WeakShare (owned s x) p
 
-  abbrev pub copy : State → Pointer → Event V
+  abbrev pub copy : State → Handle → Event V
   copy s x = copies s x.kind x.place x
 
-  abbrev pub leaves_as : State → Kind → Bool → Pointer → Event V
+  abbrev pub leaves_as : State → Kind → Bool → Handle → Event V
   leaves_as s Owner last x = event.Leave (owner (owned s x) x.place) last
   leaves_as s Weak vacant x = event.WeakLeave (weak_of (owned s x) x.place) vacant
 
   -- a pointer leaves; where it was the last owner it is told what its object leaves
-  abbrev pub IsLeaveEvent : State → Option Pointer → Bool → Option Ended → Option (Event V) → Type 0
+  abbrev pub IsLeaveEvent : State → Option Handle → Bool → Option Ended → Option (Event V) → Type 0
   IsLeaveEvent s None last left e = (last ≡ false) × (left ≡ None) × (e ≡ None)
   IsLeaveEvent s (Some x) last left e =
       (e ≡ Some (leaves_as s x.kind last x)) × (left ≡ cond last (remains_as x.kind (s.object (owned s x))) None)
 
   -- what a cell held comes into a slot: by a load, a swap for the value of slot i, or a compare of that of slot k
   abbrev pub IsLoadEvent : State → Slots → CellName → Slot → Option (Event V) → Type 0
-  IsLoadEvent s l c x e = (h : Handle) × (e ≡ Some (event.Load (cell_in s (cell_of_name s l c)) h))
+  IsLoadEvent s l c x e = (h : NumberedHandle) × (e ≡ Some (event.Load (cell_in s (cell_of_name s l c)) h))
       × (x ≡ slot_of s h)
 
   abbrev pub IsSwapEvent : State → Slots → CellName → ℕ → Slot → Option (Event V) → Type 0
   IsSwapEvent s l c i x e =
       let y = cell_of_name s l c in
-      (h : Handle) × (e ≡ Some (event.Swap (cell_in s y) (named_handle s (kind_in_state s y) (slot_value l i)) h))
+      (h : NumberedHandle)
+      × (e ≡ Some (event.Swap (cell_in s y) (named_handle s (kind_in_state s y) (slot_value l i)) h))
       × (x ≡ slot_of s h)
 
   abbrev pub IsCompareEvent : State → Slots → CellName → ℕ → Bool → Bool → Slot
@@ -115,7 +116,7 @@ module _ {V : Type 0} where
   IsCompareEvent s l c k weak swaps x e =
       let y = cell_of_name s l c in
       let q = kind_in_state s y in
-      (h : Handle)
+      (h : NumberedHandle)
       × (e ≡ Some (event.Compare (cell_in s y) (named_handle s q (slot_value l k))
       (named_handle s q (slot_value l (hand l))) h swaps weak))
       × (x ≡ slot_of s h)
@@ -135,7 +136,7 @@ module _ {V : Type 0} where
   IsMakeEvent worth s d l (Count k) (Told n) e =
       On (λ x. e ≡ Some (event.Count (handle_of s x) n)) ((n ≡ 0) × (e ≡ None)) (slot_pointer l k)
   IsMakeEvent worth s d l (Downgrade k) Plain e =
-      e ≡ option_map (λ (x : Pointer). copies s Weak x.place x) (slot_pointer l k)
+      e ≡ option_map (λ (x : Handle). copies s Weak x.place x) (slot_pointer l k)
   IsMakeEvent worth s d l (Lock k must) (Got got) e =
       On (λ x. e ≡ Some (event.Lock (weak_of (owned s x) x.place) got))
       ((got ≡ false) × (e ≡ None)) (weak_slot (slot_pointer l k))
@@ -173,7 +174,7 @@ module _ {V : Type 0} where
   -- the next member of an ending object is cleared; what it held comes into the hand, if it has an object
   pub record ClearsNext (s : State) (w : FrameView) (e : Ending) (es : List Ending) (x : TraceLabel V) (u : FrameView) :
       Type 0 where
-    pub held : Handle
+    pub held : NumberedHandle
     pub some : e.stage < 3
     pub makes : x.event ≡ Some (event.ClearMember (s.latest e.block.0) e.stage held)
     pub says : x.said ≡ silent e.statement

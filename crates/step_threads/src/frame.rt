@@ -6,9 +6,10 @@ ghost use Rattle.control_word.specs.Words.{flags_of};
 ghost use Rattle.step_table.specs.AtomicSteps.{as_weak, by_word, downgrade, is_expired, is_last, leave, share, tell};
 ghost use Rattle.step_table.specs.AtomicSteps.{tell_expired};
 ghost use Rattle.step_table.specs.Registers.{HoldsBag, filled, is_full, plain, slot_pointer, slot_value};
-ghost use Rattle.step_table.specs.GhostStates.{IsMaking, GhostState, ghost_after_step, known_words, object_of_block, pending};
+ghost use Rattle.step_table.specs.GhostStates.{GhostState, IsMaking, ghost_after_step, known_words, object_of_block};
+ghost use Rattle.step_table.specs.GhostStates.{pending};
 ghost use Rattle.step_table.specs.GhostStates.{model_state};
-ghost use Rattle.step_table.specs.declared.slots.registers.Pointer.{Pointer};
+ghost use Rattle.control_word.specs.declared.handle.Handle.{Handle};
 ghost use Rattle.step_table.specs.declared.slots.slot.Slot.TheVariants.{Full};
 ghost use Rattle.control_word.specs.Events.{origin};
 ghost use Rattle.control_word.specs.Layout.{spot};
@@ -18,7 +19,7 @@ use crate::ending::Endings;
 use crate::programs::act::{Act, Task};
 use control_word::place::Block;
 use step_table::memory::form::Form;
-use step_table::memory::past::AtomicStep;
+use step_table::memory::ghost_history::AtomicStep;
 use step_table::memory::table::Table;
 use step_table::slots::registers::Registers;
 
@@ -241,7 +242,8 @@ impl Frame {
             (slot_pointer self.old.registers.slots.items name) }
         ensures table { table.new ≡ done_on (leave (model_state table.old)) table.old desk
             (slot_pointer self.old.registers.slots.items name) }
-        ensures frame_view { frame_view self.new ≡ frame_settled (placed name (slice_set self.old.registers.slots.items name plain))
+        ensures frame_view { frame_view self.new
+            ≡ frame_settled (placed name (slice_set self.old.registers.slots.items name plain))
             false self.old.endings.list (rest self.old) }
         ensures on { HasGoneOn desk self.old self.new table.new }
     {

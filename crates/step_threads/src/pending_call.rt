@@ -1,11 +1,10 @@
 //! Where a thread is within an act.
 
-use control_word::CellWord;
 use control_word::model::handle::Kind;
 use control_word::place::Block;
+use control_word::{CellWord, Handle};
 use step_table::cell_steps::cell_step::Cell;
 use step_table::cell_steps::refill::Stage;
-use step_table::slots::registers::Pointer;
 
 /// What a thread has begun and not ended.
 #[derive(Clone, Copy)]
@@ -28,7 +27,7 @@ pub enum PendingCall {
     Giving {
         name: u8,
         kind: Kind,
-        pointer: Pointer,
+        pointer: Handle,
     },
     /// The funds of what goes into a cell are brought: the swap is next.
     Brought,

@@ -5,16 +5,16 @@ use Rattle.std.specs.Prelude.{Option, Some, None}
 use Rattle.std.proofs.lemmas.Bool.{cond-false, cond_both, eqb-true, eqb-false}
 use Rattle.control_word.specs.declared.model.event.Event.{Event}
 use Rattle.control_word.specs.declared.model.event.Event.TheVariants as event
-use Rattle.control_word.specs.declared.model.handle.Handle.{Handle}
+use Rattle.control_word.specs.declared.model.handle.NumberedHandle.{NumberedHandle}
 use Rattle.control_word.specs.Handles.{empty}
 use Rattle.control_word.specs.Histories.{entry}
 use Rattle.control_word.specs.State.{kind_of_member, weak}
 use Rattle.step_table.specs.declared.cell_steps.cell_step.Cell.TheVariants.{Member}
-use Rattle.step_table.specs.declared.memory.past.AtomicStep.TheVariants as atomic_step
+use Rattle.step_table.specs.declared.memory.ghost_history.AtomicStep.TheVariants as atomic_step
 use Rattle.step_table.specs.Cells.{word_of_cell}
 use Rattle.step_table.specs.Contents.{slot_of}
 use Rattle.step_table.specs.Registers.{is_full, slot_pointer}
-use Rattle.step_table.specs.GhostStates.{Kept, Nothing, GhostState, object_of_block, model_state}
+use Rattle.step_table.specs.GhostStates.{TableInvariant, Nothing, GhostState, object_of_block, model_state}
 use Rattle.step_threads.specs.declared.ending.Ending.{Ending}
 use Rattle.step_threads.specs.declared.pending_call.PendingCall.TheVariants.{Rest, Clearing}
 use Rattle.step_threads.specs.declared.said.Stepped.{Stepped}
@@ -66,7 +66,7 @@ module _ (d : ℕ) (u : WorldState) (x : Step) where
 
 -- an object that ends in the thread's hands, where nothing is in hand
 module _ (d : ℕ) (u : WorldState) (e : Ending) (es : List Ending) (lt : d < length u.frame_views) (is : (frame_of (abstraction u) d).endings ≡ e ∷ es)
-    (free : let w = frame_of (abstraction u) d in is_full (slot_pointer w.slots (hand w.slots)) ≡ false) (kept : Kept u.ghost_state)
+    (free : let w = frame_of (abstraction u) d in is_full (slot_pointer w.slots (hand w.slots)) ≡ false) (kept : TableInvariant u.ghost_state)
     (seat : d < u.ghost_state.extent.actors) (end : IsEndingAtStage d e u.ghost_state) where
   next_end : ahead (frame_of (abstraction u) d) ≡ AnEnd e es
   next_end =
@@ -81,7 +81,7 @@ module _ (d : ℕ) (u : WorldState) (e : Ending) (es : List Ending) (lt : d < le
       made d u x y lt history
       (subst (λ (a : Ahead). DoesAhead no_worth (model_state u.ghost_state) w (trace_label_of d x y) x.frame_view a) (sym next_end) does)
 
-  abbrev cleared_event : Handle → Event Nothing
+  abbrev cleared_event : NumberedHandle → Event Nothing
   cleared_event h = event.ClearMember (object_of_block u.ghost_state e.block) e.stage h
 
   -- what a member holds is taken out
@@ -93,7 +93,7 @@ module _ (d : ℕ) (u : WorldState) (e : Ending) (es : List Ending) (lt : d < le
       let s = model_state v in
       let h = (s.object (object_of_block v e.block)).member e.stage in
       ending_made (empties v w e es) (Some (cleared_event h))
-      (ap (λ (q : Handle). entry d (cleared_event q) ∷ v.history) (told_member v d e.block e.stage kept seat end.ending less))
+      (ap (λ (q : NumberedHandle). entry d (cleared_event q) ∷ v.history) (told_member v d e.block e.stage kept seat end.ending less))
       (inl (record {
         held = h;
         some = less;

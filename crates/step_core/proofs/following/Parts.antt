@@ -9,7 +9,7 @@ use Rattle.control_word.specs.declared.model.handle.Kind.TheVariants.{Owner, Wea
 use Rattle.control_word.specs.Events.{place_at}
 use Rattle.control_word.specs.Handles.{owner, weak_of}
 use Rattle.control_word.specs.State.{State, Stored}
-use Rattle.step_table.specs.declared.slots.registers.Pointer.{Pointer}
+use Rattle.control_word.specs.declared.handle.Handle.{Handle}
 use Rattle.step_table.specs.AtomicSteps.{field_of, give, handle_of, is_enabled, is_last, leave_as, on, owned, share_as}
 use Rattle.step_table.specs.GhostStates.{Nothing, event_of}
 use Rattle.step_threads.specs.TraceLabels.{IsLeaveEvent, On, copies, leaves_as}
@@ -35,27 +35,27 @@ none_stored d [] e = refl
 none_stored d (x ∷ xs) e = none_of (x.desk == d) x (least d xs) (filter (λ (y : Stored). y.desk == d) xs) (none_stored d xs) e
 
 module _ (s : State) where
-  pub shared : (q : Kind) (x : Pointer) → ◌≡◌ {A = Events} (event_of s (share_as q x)) (Some (copies s q x.place x))
+  pub shared : (q : Kind) (x : Handle) → ◌≡◌ {A = Events} (event_of s (share_as q x)) (Some (copies s q x.place x))
   shared Owner x = refl
   shared Weak x = refl
 
-  pub gives : (q : Kind) (x : Pointer) → ◌≡◌ {A = Events} (event_of s (give q x)) (Some (copies s q (place_at x.block.0) x))
+  pub gives : (q : Kind) (x : Handle) → ◌≡◌ {A = Events} (event_of s (give q x)) (Some (copies s q (place_at x.block.0) x))
   gives Owner x = refl
   gives Weak x = refl
 
-  pub left : (q : Kind) (last : Bool) (x : Pointer) → ◌≡◌ {A = Events} (event_of s (leave_as q x last)) (Some (leaves_as s q last x))
+  pub left : (q : Kind) (last : Bool) (x : Handle) → ◌≡◌ {A = Events} (event_of s (leave_as q x last)) (Some (leaves_as s q last x))
   left Owner last x = refl
   left Weak last x = refl
 
-  abbrev pub leaving_event : Pointer → Event Nothing
+  abbrev pub leaving_event : Handle → Event Nothing
   leaving_event x = leaves_as s x.kind (is_last s x) x
 
-  pub leave_makes : (o : Option Pointer) → IsLeaveEvent s o (on (is_last s) false o) (ended_by s o) (option_map leaving_event o)
+  pub leave_makes : (o : Option Handle) → IsLeaveEvent s o (on (is_last s) false o) (ended_by s o) (option_map leaving_event o)
   leave_makes None = (refl, refl, refl)
   leave_makes (Some x) = (refl, refl)
 
-  pub this_makes : (q : Kind) (o : Option Pointer)
-      → let g = λ (x : Pointer). copies {V = Nothing} s q (place_at x.block.0) x in
+  pub this_makes : (q : Kind) (o : Option Handle)
+      → let g = λ (x : Handle). copies {V = Nothing} s q (place_at x.block.0) x in
       let got = on (is_enabled s) false o in
       let e = option_map g (giving s o) in
       On (λ x. (got ≡ is_enabled s x) × (e ≡ cond got (Some (g x)) None)) ((got ≡ false) × (e ≡ None)) o
@@ -63,34 +63,34 @@ module _ (s : State) where
   this_makes q (Some x) = (refl, go (is_enabled s x))
     where
       go : (b : Bool)
-          → let g = λ (x : Pointer). copies {V = Nothing} s q (place_at x.block.0) x in
+          → let g = λ (x : Handle). copies {V = Nothing} s q (place_at x.block.0) x in
           option_map g (cond b (Some x) None) ≡ cond b (Some (g x)) None
       go true = refl
       go false = refl
 
   -- what is so of what a pointer tells
-  pub on_pointer : {A : Type 0} (f : Pointer → A) (none : A) (g : Pointer → A → Event Nothing) (o : Option Pointer)
+  pub on_pointer : {A : Type 0} (f : Handle → A) (none : A) (g : Handle → A → Event Nothing) (o : Option Handle)
       → let n = on f none o in
-      let e = option_map (λ (x : Pointer). g x (f x)) o in
+      let e = option_map (λ (x : Handle). g x (f x)) o in
       On (λ x. e ≡ Some (g x n)) ((n ≡ none) × (e ≡ None)) o
   on_pointer f none g None = (refl, refl)
   on_pointer f none g (Some x) = refl
 
   -- events of what is told of a pointer
-  abbrev pub locking : Pointer → Bool → Event Nothing
+  abbrev pub locking : Handle → Bool → Event Nothing
   locking x got = event.Lock (weak_of (owned s x) x.place) got
 
-  abbrev pub reading : ℕ → Pointer → Event Nothing
+  abbrev pub reading : ℕ → Handle → Event Nothing
   reading m x = event.Read (owner (owned s x) x.place) m
 
-  abbrev pub counting : Pointer → ℕ → Event Nothing
+  abbrev pub counting : Handle → ℕ → Event Nothing
   counting x m = event.Count (handle_of s x) m
 
-  abbrev pub expiring : Pointer → Bool → Event Nothing
+  abbrev pub expiring : Handle → Bool → Event Nothing
   expiring x b = event.Expired (handle_of s x) b
 
-  pub read_makes : (o : Option Pointer)
-      → let e = option_map (λ (x : Pointer). reading (field_of s x) x) o in
+  pub read_makes : (o : Option Handle)
+      → let e = option_map (λ (x : Handle). reading (field_of s x) x) o in
       On (λ x. e ≡ Some (reading (on (field_of s) 0 o) x)) (e ≡ None) o
   read_makes None = refl
   read_makes (Some x) = refl

@@ -9,8 +9,8 @@ use Rattle.control_word.specs.Events.{place_at}
 use Rattle.control_word.specs.Histories.{leads}
 use Rattle.control_word.specs.State.{Opening, State}
 use Rattle.step_table.specs.declared.memory.form.Form.{Form}
-use Rattle.step_table.specs.declared.slots.registers.Pointer.{Pointer}
-use Rattle.step_table.specs.declared.memory.past.AtomicStep.{AtomicStep}
+use Rattle.control_word.specs.declared.handle.Handle.{Handle}
+use Rattle.step_table.specs.declared.memory.ghost_history.AtomicStep.{AtomicStep}
 use Rattle.step_table.specs.Contents.{compare_of, held_in, load_of}
 use Rattle.step_table.specs.AtomicSteps.{Telling, alias, aliased, downgrade, field_of, give, is_expired, is_last, leave, lock, read_atomic_step, share}
 use Rattle.step_table.specs.AtomicSteps.{tell_count}
@@ -49,13 +49,13 @@ module _ (tell : Telling) (z : Opening) (d : ℕ) (h : History) (w : FrameView) 
   abbrev now : State
   now = leads z h
 
-  pub trace_label : (f : Pointer → AtomicStep) (g : Pointer → Event Nothing) → ((x : Pointer) → event_of now (f x) ≡ Some (g x)) → (o : Option Pointer)
+  pub trace_label : (f : Handle → AtomicStep) (g : Handle → Event Nothing) → ((x : Handle) → event_of now (f x) ≡ Some (g x)) → (o : Option Handle)
       → does z d h (option_map f o) ≡ put_on d (option_map g o) h
   trace_label f g same None = refl
   trace_label f g same (Some x) = ap (λ (e : Option (Event Nothing)). event_added d e h) (same x)
 
   -- a pointer leaves
-  pub left_at : (o : Option Pointer) → does z d h (option_map (leave now) o) ≡ put_on d (option_map (leaving_event now) o) h
+  pub left_at : (o : Option Handle) → does z d h (option_map (leave now) o) ≡ put_on d (option_map (leaving_event now) o) h
   left_at o = trace_label (leave now) (leaving_event now) (λ x. left now x.kind (is_last now x) x) o
 
   abbrev made_of : Form → ℕ → Event Nothing
@@ -136,13 +136,13 @@ module _ (tell : Telling) (z : Opening) (d : ℕ) (h : History) (w : FrameView) 
   replied (Count i) =
       let o = slot_pointer w.slots i in
       record {
-        event = option_map (λ (x : Pointer). counting now x (tell now x)) o;
+        event = option_map (λ (x : Handle). counting now x (tell now x)) o;
         makes = on_pointer now (tell now) 0 (counting now) o;
         history = trace_label (tell_count tell now) (λ x. counting now x (tell now x)) (λ x. refl) o;
       }
   replied (Downgrade i) =
       let o = slot_pointer w.slots i in
-      let g = λ (x : Pointer). copies {V = Nothing} now Weak x.place x in
+      let g = λ (x : Handle). copies {V = Nothing} now Weak x.place x in
       record {
         event = option_map g o;
         makes = refl;
@@ -150,22 +150,22 @@ module _ (tell : Telling) (z : Opening) (d : ℕ) (h : History) (w : FrameView) 
       }
   replied (Lock i must) =
       let o = weak_slot (slot_pointer w.slots i) in
-      let got = λ (x : Pointer). not (is_expired now x) in
+      let got = λ (x : Handle). not (is_expired now x) in
       record {
-        event = option_map (λ (x : Pointer). locking now x (got x)) o;
+        event = option_map (λ (x : Handle). locking now x (got x)) o;
         makes = on_pointer now got false (locking now) o;
         history = trace_label (lock now) (λ x. locking now x (got x)) (λ x. refl) o;
       }
   replied (Expired i) =
       let o = slot_pointer w.slots i in
       record {
-        event = option_map (λ (x : Pointer). expiring now x (is_expired now x)) o;
+        event = option_map (λ (x : Handle). expiring now x (is_expired now x)) o;
         makes = on_pointer now (is_expired now) true (expiring now) o;
         history = trace_label (tell_expired now) (λ x. expiring now x (is_expired now x)) (λ x. refl) o;
       }
   replied (Read i) =
       let o = inside (slot_pointer w.slots i) in
-      let g : Pointer → Event Nothing = λ x. reading now (field_of now x) x in
+      let g : Handle → Event Nothing = λ x. reading now (field_of now x) x in
       record {
         event = option_map g o;
         makes = read_makes now o;
@@ -173,7 +173,7 @@ module _ (tell : Telling) (z : Opening) (d : ℕ) (h : History) (w : FrameView) 
       }
   replied (FromThis i q) =
       let o = inside (slot_pointer w.slots i) in
-      let g = λ (x : Pointer). copies {V = Nothing} now q (place_at x.block.0) x in
+      let g = λ (x : Handle). copies {V = Nothing} now q (place_at x.block.0) x in
       record {
         event = option_map g (giving now o);
         makes = this_makes now q o;

@@ -9,8 +9,8 @@ use Rattle.control_word.specs.Packing.{cell_bits}
 use Rattle.step_table.specs.declared.cell_steps.cell_step.Cell.{Cell}
 use Rattle.step_table.specs.declared.cell_steps.cell_step.CellStep.TheVariants as cell_step
 use Rattle.step_table.specs.declared.cell_steps.cell_step.Compared.{Compared}
-use Rattle.step_table.specs.declared.slots.registers.Pointer.{Pointer}
-use Rattle.step_table.specs.declared.memory.past.AtomicStep.TheVariants as atomic_step
+use Rattle.control_word.specs.declared.handle.Handle.{Handle}
+use Rattle.step_table.specs.declared.memory.ghost_history.AtomicStep.TheVariants as atomic_step
 use Rattle.step_table.specs.declared.cell_steps.refill.Stage.{Stage}
 use Rattle.step_table.specs.declared.cell_steps.refill.Stage.TheVariants.{Turning, Checking, Lacking, Refilling, Failing}
 use Rattle.step_table.specs.Cells.{word_of_cell}
@@ -41,20 +41,20 @@ module _ (v : GhostState) (d : ℕ) (w : FrameView) (k : ℕ) (ts : List Task) w
   begins_said None = λ t. absurd (false≢true t)
   begins_said (Some b) = λ t. refl
 
-  looks_said : (a : Act) (o : Option Pointer) → IsSilent (on (looks v d w k ts a) (step_of_act v d w k ts a None Rest) o)
+  looks_said : (a : Act) (o : Option Handle) → IsSilent (on (looks v d w k ts a) (step_of_act v d w k ts a None Rest) o)
   looks_said a None = λ t. absurd (false≢true t)
   looks_said a (Some y) =
       cond_both (owner_word v y == 0) (step_of_act v d w k ts a (Some (lock (model_state v) y)) Rest) (trying w k (owner_word v y)) IsSilent
       (λ e t. absurd (false≢true t)) (λ e t. refl)
 
-  asks_said : (i : ℕ) (q : Kind) (o : Option Pointer)
+  asks_said : (i : ℕ) (q : Kind) (o : Option Handle)
       → IsSilent (on (asks v d w k ts i q) (step_of_act v d w k ts (FromThis i q) None Rest) o)
   asks_said i q None = λ t. absurd (false≢true t)
   asks_said i q (Some y) =
       cond_both (is_enabled (model_state v) y) (record { atomic_step = None; pending_call = Giving i q y; frame_view = w; said = silent k })
       (step_of_act v d w k ts (FromThis i q) None Rest) IsSilent (λ e t. refl) (λ e t. absurd (false≢true t))
 
-  sends_said : (a : Act) (c : CellName) (i : ℕ) (o : Option Pointer)
+  sends_said : (a : Act) (c : CellName) (i : ℕ) (o : Option Handle)
       → IsSilent (on (brings w k) (step_of_swap v d w k ts a c i) o)
   sends_said a c i None =
       λ t. let found = seen v (cell_of_name (model_state v) w.slots c) in

@@ -8,8 +8,8 @@ use Rattle.step_threads.specs.declared.programs.act.Act.{Act}
 use Rattle.step_threads.specs.declared.programs.act.Task.{Task}
 use Rattle.step_threads.specs.declared.pending_call.PendingCall.{PendingCall}
 use Rattle.step_threads.specs.declared.pending_call.PendingCall.TheVariants.{Rest, Locking, Saw, Matched}
-use Rattle.step_table.specs.declared.slots.registers.Pointer.{Pointer}
-use Rattle.step_table.specs.declared.memory.past.AtomicStep.{AtomicStep}
+use Rattle.control_word.specs.declared.handle.Handle.{Handle}
+use Rattle.step_table.specs.declared.memory.ghost_history.AtomicStep.{AtomicStep}
 use Rattle.step_threads.specs.declared.said.Stepped.{Stepped}
 use Rattle.step_threads.specs.declared.said.Stepped.TheVariants as stepped
 use Rattle.control_word.specs.declared.packed.cell.CellWord.{CellWord}
@@ -84,7 +84,7 @@ plain_less v d k h w t ts a x unmade stays none is own most =
     record { own = omega (arith, l, m, own); most = omega (arith, l, m, most) }
 
 -- the steps that an object's end gets are told
-left_ends : (v : GhostState) (d k : ℕ) (x : FrameView) (o : Option Pointer)
+left_ends : (v : GhostState) (d k : ℕ) (x : FrameView) (o : Option Handle)
     → step_ends (stepped_by v (Some (record {
       atomic_step = option_map (leave (model_state v)) o;
       pending_call = Rest;
@@ -105,7 +105,7 @@ left_ends v d k x (Some y) = go y.kind (is_last (model_state v) y)
     go Weak false = refl
 
 -- so it is where a pointer leaves
-pub left_less : (v : GhostState) (d k : ℕ) (w x : FrameView) (o : Option Pointer) → frame_steps x + 1 ≤ frame_steps w + 13 * ends_at (model_state v) o
+pub left_less : (v : GhostState) (d k : ℕ) (w x : FrameView) (o : Option Handle) → frame_steps x + 1 ≤ frame_steps w + 13 * ends_at (model_state v) o
     → IsLess v d Rest w (Some (record {
       atomic_step = option_map (leave (model_state v)) o;
       pending_call = Rest;

@@ -36,9 +36,9 @@ calls_run k d u u' (x ∷ xs) on = (
 
 -- what a thread did to finish its call is a run
 pub settled_run : (d : ℕ) (u u' : WorldState) (xs : List TraceStep) → Settles d u xs u' → IsRun u xs u'
-settled_run d u u' xs settles = go (is_owing (pending_call_of u d)) refl
+settled_run d u u' xs settles = go (is_owing u d) refl
   where
-    go : (b : Bool) → is_owing (pending_call_of u d) ≡ b → IsRun u xs u'
+    go : (b : Bool) → is_owing u d ≡ b → IsRun u xs u'
     go true is = calls_run (call_under_way d u) d u u' xs (settles.owing is).calls
     go false is = let n = settles.none is in subst (λ (l : List TraceStep). IsRun u l u') (sym n.0) n.1
 
@@ -104,7 +104,7 @@ rests k (Returning kind b funds j) w e = absurd (false≢true (sym e))
 rests k Clearing w e = absurd (false≢true (sym e))
 
 -- one thread more, which had a call to finish or none
-pub settled_one : (d : ℕ) (u u' : WorldState) (xs ys : List TraceStep) → is_owing (pending_call_of u d) ≡ true
+pub settled_one : (d : ℕ) (u u' : WorldState) (xs ys : List TraceStep) → is_owing u d ≡ true
     → AddsRun (FinishesCall d) u xs u' ys
     → AddsRun (Settles d) u xs u' ys
 settled_one d u u' xs ys is adds =
@@ -115,7 +115,7 @@ settled_one d u u' xs ys is adds =
       moves = adds.moves;
     }
 
-pub settled_none : (d : ℕ) (u : WorldState) (xs : List TraceStep) → is_owing (pending_call_of u d) ≡ false
+pub settled_none : (d : ℕ) (u : WorldState) (xs : List TraceStep) → is_owing u d ≡ false
     → AddsRun (Settles d) u xs u xs
 settled_none d u xs is =
     record {

@@ -1,6 +1,6 @@
 -- Steps leave the table as large as it was.
 use Rattle.std.proofs.Common.{◌≡◌, ℕ, ◌-◌, [], ◌∷◌, List, Option, Some, None, refl, ap, ◌∙◌}
-use Rattle.step_table.specs.declared.memory.past.AtomicStep.{AtomicStep}
+use Rattle.step_table.specs.declared.memory.ghost_history.AtomicStep.{AtomicStep}
 use Rattle.step_table.specs.GhostStates.{GhostState}
 use Rattle.step_threads.specs.declared.said.Stepped.{Stepped}
 use Rattle.step_threads.specs.NextSteps.{ghost_after, ghost_by}

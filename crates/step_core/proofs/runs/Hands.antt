@@ -12,7 +12,7 @@ use Rattle.step_table.specs.declared.slots.slot.Slot.{Slot}
 use Rattle.step_table.specs.declared.slots.slot.Slot.TheVariants.{Empty, Full}
 use Rattle.step_table.specs.Registers.{Slots, full, slot_has_object, plain, pointer_of, slot_pointer, slot_value}
 use Rattle.step_table.specs.Openings.{opening, share_of}
-use Rattle.step_table.specs.GhostStates.{Kept, GhostState, model_state}
+use Rattle.step_table.specs.GhostStates.{TableInvariant, GhostState, model_state}
 use Rattle.step_threads.specs.declared.programs.act.Task.{Task}
 use Rattle.step_threads.specs.declared.ending.Ending.{Ending}
 use Rattle.step_threads.specs.declared.thread.Thread.{Thread}
@@ -76,7 +76,7 @@ empty_bag v threads m e d fit told end lt =
     f.ready todo over names)
 
 -- a desk that isn't a thread's has no allowance
-no_bag : (v : GhostState) (d : ℕ) → Kept v → v.extent.actors ≤ d → bag_size (model_state v) d ≡ 0
+no_bag : (v : GhostState) (d : ℕ) → TableInvariant v → v.extent.actors ≤ d → bag_size (model_state v) d ≡ 0
 no_bag v d kept le =
     let r = (allowed (opening v.extent) v.history kept.stands.legal).rooms d in
     let a = ap (λ (f : ℕ → ℕ). f d) kept.allowed in
@@ -89,7 +89,7 @@ no_hands (x ∷ xs) f =
     let some = num_has (λ (y : Held). y.desk == x.desk) x (x ∷ xs) (inl refl) (eq-eqb x.desk x.desk refl) in
     let none = f x.desk in absurd (omega (arith, some, none))
 
-all_empty : (v : GhostState) (threads : List Thread) (m e : ℕ) → AllFit v threads → TotalsAreTold (world_state v threads) m e → Kept v
+all_empty : (v : GhostState) (threads : List Thread) (m e : ℕ) → AllFit v threads → TotalsAreTold (world_state v threads) m e → TableInvariant v
     → IsAtEnd (world_state v threads)
     → (model_state v).hands ≡ []
 all_empty v threads m e fit told kept end =
@@ -100,6 +100,6 @@ all_empty v threads m e fit told kept end =
     (λ (ge : length threads ≤ d). no_bag v d kept (omega (arith, l, n, ge))) (cases_lt d (length threads)))
 
 pub hands_now : (u : WorldState) (v : GhostState) (threads : List Thread) (m e : ℕ) → world_state v threads ≡ u → AllFit v threads
-    → TotalsAreTold (world_state v threads) m e → Kept v → IsAtEnd u → (model_state u.ghost_state).hands ≡ []
+    → TotalsAreTold (world_state v threads) m e → TableInvariant v → IsAtEnd u → (model_state u.ghost_state).hands ≡ []
 hands_now u v threads m e is fit told kept =
     subst (λ (x : WorldState). IsAtEnd x → (model_state x.ghost_state).hands ≡ []) is (all_empty v threads m e fit told kept)

@@ -6,7 +6,7 @@ use Rattle.std.proofs.lemmas.Bool.{eqb-true, eqb-false, false≢true}
 use Rattle.control_word.specs.declared.model.event.Entry.{Entry}
 use Rattle.control_word.specs.declared.model.event.Event.{Event}
 use Rattle.control_word.specs.declared.model.event.Event.TheVariants.{Leave, Lock}
-use Rattle.control_word.specs.declared.model.handle.Handle.{Handle}
+use Rattle.control_word.specs.declared.model.handle.NumberedHandle.{NumberedHandle}
 use Rattle.control_word.specs.Events.{Asks}
 use Rattle.control_word.specs.Handles.{object_of}
 use Rattle.control_word.specs.Histories.{IsLegal, ends_by, entry, given}
@@ -18,22 +18,22 @@ use Rattle.step_table.specs.declared.memory.extent.Extent.{Extent}
 use Rattle.step_core.specs.declared.trace.TraceStep.{TraceStep}
 use Rattle.step_core.specs.Headline.{ValueCameOut, CountsAtRest, LastLeft, LocksWhereOwned, ValuesAtLastLeave, ValuesOnce, Was}
 use Rattle.step_table.specs.Openings.{opening}
-use Rattle.step_table.specs.GhostStates.{Kept, Nothing, model_state}
+use Rattle.step_table.specs.GhostStates.{TableInvariant, Nothing, model_state}
 use Rattle.step_core.specs.Totals.{is_last_leave}
 use Rattle.step_core.specs.WorldStates.{WorldState, TakesStep, is_event}
 
 -- a step of the run, with what was before it and what is after it
 pub record IsStep (u : WorldState) (x : TraceStep) (u' : WorldState) : Type 0 where
   pub takes : TakesStep (x.actor - 1) u x.stepped u'
-  pub before : Kept u.ghost_state
-  pub after : Kept u'.ghost_state
+  pub before : TableInvariant u.ghost_state
+  pub after : TableInvariant u'.ghost_state
 
-pub counts : (u : WorldState) → Kept u.ghost_state → CountsAtRest u
+pub counts : (u : WorldState) → TableInvariant u.ghost_state → CountsAtRest u
 counts u kept = λ b inside rest.
     let r = rests_exactly (opening u.ghost_state.extent) u.ghost_state.words u.ghost_state.views u.ghost_state.history kept.stands b inside rest in
     record { owners = r.0; weaks = r.1 }
 
-pub values : (u : WorldState) → Kept u.ghost_state → ValuesOnce u
+pub values : (u : WorldState) → TableInvariant u.ghost_state → ValuesOnce u
 values u kept = gives_once (opening u.ghost_state.extent) u.ghost_state.history kept.stands.legal
 
 -- the event of a step could come there
@@ -90,7 +90,7 @@ other_event o u x u' e was none =
     let z = ends_none o e none in
     inr (λ l. false≢true (sym none ∙ ap newest_is_last (sym was ∙ l.left)), omega (arith, g, z))
 
-last_event : (o : ℕ) (u : WorldState) (x : TraceStep) (u' : WorldState) (h : Handle) → IsStep u x u' → Was (Leave h true) u x u' → AtLastLeave o u x u'
+last_event : (o : ℕ) (u : WorldState) (x : TraceStep) (u' : WorldState) (h : NumberedHandle) → IsStep u x u' → Was (Leave h true) u x u' → AtLastLeave o u x u'
 last_event o u x u' h step was = go (object_of h == o) refl
   where
     go : (b : Bool) → (object_of h == o) ≡ b → AtLastLeave o u x u'

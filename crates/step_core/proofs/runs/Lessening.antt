@@ -16,7 +16,7 @@ use Rattle.step_threads.specs.declared.programs.act.Task.{Task}
 use Rattle.step_threads.specs.declared.ending.Ending.{Ending}
 use Rattle.step_threads.specs.declared.pending_call.PendingCall.{PendingCall}
 use Rattle.step_threads.specs.declared.pending_call.PendingCall.TheVariants.{Rest, Making, Locking, Giving, Brought, Saw, Matched, Refill, Returning, Clearing}
-use Rattle.step_table.specs.declared.slots.registers.Pointer.{Pointer}
+use Rattle.control_word.specs.declared.handle.Handle.{Handle}
 use Rattle.step_threads.specs.Actors.{wanted}
 use Rattle.step_core.specs.Bounds.{alone, lock_word, spare, frame_steps, weight}
 use Rattle.step_table.specs.Contents.{seen}
@@ -33,7 +33,7 @@ use Rattle.step_threads.specs.NextSteps.{at_rest, begun, first, given_step, made
 use Rattle.step_threads.specs.Steps.{Step, step_of_act, asks, begins, brings, claims, ends_on, looks, prepares}
 use Rattle.step_threads.specs.NextSteps.{sent, step_at, stepped as stepped_by, ghost_after, tried, waits, waits_at, waits_on}
 use Rattle.step_threads.specs.Steps.{sends, silent, step_of_swap, tries, trying}
-use Rattle.step_table.specs.GhostStates.{Kept, GhostState, known_words, pending, model_state}
+use Rattle.step_table.specs.GhostStates.{TableInvariant, GhostState, known_words, pending, model_state}
 use Rattle.step_core.specs.Told.{is_prepared}
 use Rattle.step_core.specs.Turning.{IsAlone, IsInShape, NextActLocks, FundsAreHeld, IsStill, IsSwap, IsTried, IsUnderWay}
 use Rattle.step_core.proofs.runs.Clearing.{end_less, out_less}
@@ -62,11 +62,11 @@ trying_less v d k h w word is most none more =
     (λ e. let z = none e in record { own = omega (arith, z); most = omega (arith, most) })
     (λ e. let a = alone_same v w word is in record { own = omega (arith, more, a); most = omega (arith, most) })
 
-word_is : (v : GhostState) (w : FrameView) (t : Task) (ts : List Task) (x : Pointer) → w.todo ≡ t ∷ ts → locked_pointer w.slots t.act ≡ Some x
+word_is : (v : GhostState) (w : FrameView) (t : Task) (ts : List Task) (x : Handle) → w.todo ≡ t ∷ ts → locked_pointer w.slots t.act ≡ Some x
     → lock_word v w.slots w.todo ≡ owner_word v x
 word_is v w t ts x is e = ap (lock_word v w.slots) is ∙ ap (on (owner_word v) 0) e
 
-looked_less : (v : GhostState) (d k : ℕ) (w : FrameView) (t : Task) (ts : List Task) (i : ℕ) (must : Bool) (o : Option Pointer) → w.endings ≡ []
+looked_less : (v : GhostState) (d k : ℕ) (w : FrameView) (t : Task) (ts : List Task) (i : ℕ) (must : Bool) (o : Option Handle) → w.endings ≡ []
     → w.todo ≡ t ∷ ts → t.act ≡ Lock i must → locked_pointer w.slots (Lock i must) ≡ o
     → IsLess v d Rest w (Some (on (looks v d w k ts (Lock i must)) (step_of_act v d w k ts (Lock i must) None Rest) o))
 looked_less v d k w t ts i must None none is a e = plain_less v d k Rest w t ts (Lock i must) None refl refl none is (omega arith) (omega arith)
@@ -78,7 +78,7 @@ looked_less v d k w t ts i must (Some x) none is a e =
     (λ z. absurd (false≢true (sym ne ∙ z))) (omega arith))
 
 -- an object that is asked has one step more: it gives a pointer then
-asked_less : (v : GhostState) (d k : ℕ) (w : FrameView) (t : Task) (ts : List Task) (i : ℕ) (q : Kind) (o : Option Pointer)
+asked_less : (v : GhostState) (d k : ℕ) (w : FrameView) (t : Task) (ts : List Task) (i : ℕ) (q : Kind) (o : Option Handle)
     → w.endings ≡ [] → w.todo ≡ t ∷ ts
     → IsLess v d Rest w (Some (on (asks v d w k ts i q) (step_of_act v d w k ts (FromThis i q) None Rest) o))
 asked_less v d k w t ts i q None none is = plain_less v d k Rest w t ts (FromThis i q) None refl refl none is (omega arith) (omega arith)
@@ -88,7 +88,7 @@ asked_less v d k w t ts i q (Some x) none is =
     (λ b. record { own = omega arith; most = omega arith })
     (λ b. plain_less v d k Rest w t ts (FromThis i q) None refl refl none is (omega arith) (omega arith))
 
-give_less : (v : GhostState) (d i : ℕ) (q : Kind) (x : Pointer) (w : FrameView) (ts : List Task) → w.endings ≡ [] → w.todo ≡ ts
+give_less : (v : GhostState) (d i : ℕ) (q : Kind) (x : Handle) (w : FrameView) (ts : List Task) → w.endings ≡ [] → w.todo ≡ ts
     → IsUnderWay d v (Giving i q x) ts → IsLess v d (Giving i q x) w (given_step v d w i q x ts)
 give_less v d i q x w [] none is way = absurd way
 give_less v d i q x w (t ∷ ts) none is way =
@@ -110,7 +110,7 @@ swapped_less v d k h w t ts a x unmade none is same goes own most =
 
 -- its funds are brought first, where it has an object
 brought_less : (v : GhostState) (d k : ℕ) (w : FrameView) (t : Task) (ts : List Task) (a : Act) (x : Going) → w.endings ≡ [] → w.todo ≡ t ∷ ts
-    → t.act ≡ a → going w.slots a ≡ Some x → (o : Option Pointer)
+    → t.act ≡ a → going w.slots a ≡ Some x → (o : Option Handle)
     → IsLess v d Rest w (Some (on (brings w k) (step_of_swap v d w k ts a x.0 x.1) o))
 brought_less v d k w t ts a x none is same goes None = swapped_less v d k Rest w t ts a x refl none is same goes (omega arith) (omega arith)
 brought_less v d k w t ts a x none is same goes (Some y) = record { own = omega arith; most = omega arith }
@@ -131,7 +131,7 @@ sent_less v d w (t ∷ ts) none is held = go (going w.slots t.act) refl held
     go None goes some = absurd (false≢true some)
     go (Some x) goes some = swapped_less v d t.statement Brought w t ts t.act x refl none is refl goes (omega arith) (omega arith)
 
-first_less : (v : GhostState) (d k : ℕ) (w : FrameView) (t : Task) (ts : List Task) (a : Act) → Kept v → d < v.extent.actors → HoldsBag d w.slots v
+first_less : (v : GhostState) (d k : ℕ) (w : FrameView) (t : Task) (ts : List Task) (a : Act) → TableInvariant v → d < v.extent.actors → HoldsBag d w.slots v
     → w.endings ≡ [] → w.todo ≡ t ∷ ts → t.act ≡ a → HasCell v.extent.shape a → idle a w.slots w.taken ≡ false → waits_on v w a ≡ false
     → IsLess v d Rest w (Some (first v d w k ts a))
 first_less v d k w t ts (Make form) kept seat holds none is same has still calm = begun_less v d k w t ts (least d (model_state v).stores) none is
@@ -176,13 +176,14 @@ first_less v d k w t ts Drop kept seat holds none is same has still calm =
 first_less v d k w t ts (OnShelf x) kept seat holds none is same has still calm =
     plain_less v d k Rest w t ts (OnShelf x) (shelf_step x (shelf_block (model_state v) d x)) refl refl none is (omega arith) (omega arith)
 
-task_less : (v : GhostState) (d : ℕ) (w : FrameView) (ts : List Task) → Kept v → d < v.extent.actors → HoldsBag d w.slots v → w.endings ≡ [] → w.todo ≡ ts
+task_less : (v : GhostState) (d : ℕ) (w : FrameView) (ts : List Task) → TableInvariant v → d < v.extent.actors → HoldsBag d w.slots v → w.endings ≡ [] → w.todo
+    ≡ ts
     → IsInShape v.extent.shape ts → IsStill w ts → waits_at v w [] ts ≡ false → IsLess v d Rest w (begun v d w ts)
 task_less v d w [] kept seat holds none is has still calm = (is, none, refl)
 task_less v d w (t ∷ ts) kept seat holds none is has still calm =
     first_less v d t.statement w t ts t.act kept seat holds none is refl has still calm
 
-rest_less : (v : GhostState) (d : ℕ) (w : FrameView) (es : List Ending) → Kept v → d < v.extent.actors → HoldsBag d w.slots v → w.endings ≡ es
+rest_less : (v : GhostState) (d : ℕ) (w : FrameView) (es : List Ending) → TableInvariant v → d < v.extent.actors → HoldsBag d w.slots v → w.endings ≡ es
     → EndsAll d es v → IsInShape v.extent.shape w.todo → IsStill w w.todo → waits_at v w es w.todo ≡ false → IsLess v d Rest w (at_rest v d w es)
 rest_less v d w [] kept seat holds is ends has still calm = task_less v d w w.todo kept seat holds is refl has still calm
 rest_less v d w (e ∷ es) kept seat holds is ends has still calm =
@@ -226,7 +227,7 @@ make_less v d i w b f (t ∷ ts) none is way =
     (λ (x : Step). IsLess v d (Making b i f) w (Some x)) (λ e. claimed_less v d t.statement i w t ts b f (form_of t.act) way.2 none is)
     (λ e. prepared_less v d found want t.statement i w b f way.0 (eqb-false i 5 e))
 
-tried_less : (v : GhostState) (d word : ℕ) (w : FrameView) (t : Task) (ts : List Task) (a : Act) (o : Option Pointer) → w.endings ≡ [] → w.todo ≡ t ∷ ts
+tried_less : (v : GhostState) (d word : ℕ) (w : FrameView) (t : Task) (ts : List Task) (a : Act) (o : Option Handle) → w.endings ≡ [] → w.todo ≡ t ∷ ts
     → t.act ≡ a → locked_pointer w.slots a ≡ o → is_full o ≡ true → IsLess v d (Locking word) w (option_map (tries v d w t.statement ts a word) o)
 tried_less v d word w t ts a None none is same e full = absurd (false≢true full)
 tried_less v d word w t ts (Lock i must) (Some x) none is same e full =
@@ -265,7 +266,7 @@ lock_less v d word w [] none is full = absurd full
 lock_less v d word w (t ∷ ts) none is full = tried_less v d word w t ts t.act (locked_pointer w.slots t.act) none is refl refl full
 
 -- each step that isn't the last is one less, where the thread hasn't to wait
-module _ (v : GhostState) (d : ℕ) (w : FrameView) (kept : Kept v) (seat : d < v.extent.actors) (holds : HoldsBag d w.slots v) where
+module _ (v : GhostState) (d : ℕ) (w : FrameView) (kept : TableInvariant v) (seat : d < v.extent.actors) (holds : HoldsBag d w.slots v) where
   pub less : (h : PendingCall) → IsUnderWay d v h w.todo → IsTried h w → IsAlone h w.endings → EndsAll d w.endings v
       → IsInShape v.extent.shape w.todo → IsStill w w.todo → FundsAreHeld d v h → waits v h w ≡ false → IsLess v d h w (step_at v d h w)
   less Rest way held none ends has still out calm = rest_less v d w w.endings kept seat holds refl ends has still calm

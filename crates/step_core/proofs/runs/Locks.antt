@@ -4,13 +4,13 @@ use Rattle.std.specs.Prelude.{◌⊎◌, Option, Some, None}
 use Rattle.std.proofs.lemmas.Bool.{false≢true}
 use Rattle.std.proofs.lemmas.Option.{same_Some}
 use Rattle.control_word.specs.declared.model.event.Event.TheVariants as event
-use Rattle.control_word.specs.declared.model.handle.Handle.{Handle}
+use Rattle.control_word.specs.declared.model.handle.NumberedHandle.{NumberedHandle}
 use Rattle.control_word.specs.declared.model.handle.Kind.{Kind}
 use Rattle.control_word.specs.declared.model.handle.Kind.TheVariants.{Owner, Weak}
 use Rattle.control_word.specs.Handles.{weak_of}
 use Rattle.control_word.specs.State.{State}
 use Rattle.step_table.specs.declared.memory.ended.Ended.{Ended}
-use Rattle.step_table.specs.declared.slots.registers.Pointer.{Pointer}
+use Rattle.control_word.specs.declared.handle.Handle.{Handle}
 use Rattle.step_table.specs.AtomicSteps.{owned}
 use Rattle.step_table.specs.Registers.{slot_pointer, weak_slot}
 use Rattle.step_table.specs.GhostStates.{Nothing, model_state}
@@ -59,14 +59,14 @@ same_lock true true true false e = absurd cc
 same_lock true false true true e = absurd cc
 
 -- what is neither a lock nor a leave, and what leaves, is no lock
-other_no_lock : (e : Events) (a : Option Answer) (left : Option Ended) (w : Handle) (g : Bool) → IsOther e a left → e ≡ Some (event.Lock w g) → ⊥
+other_no_lock : (e : Events) (a : Option Answer) (left : Option Ended) (w : NumberedHandle) (g : Bool) → IsOther e a left → e ≡ Some (event.Lock w g) → ⊥
 other_no_lock e a left w g other was = absurd (let sort = sym other.sort ∙ ap sort_of was in cc)
 
 module _ (s : State) where
-  abbrev IsLock : Option Pointer → Bool → Events → Type 0
-  IsLock o got e = On (λ (x : Pointer). e ≡ Some (event.Lock (weak_of (owned s x) x.place) got)) ((got ≡ false) × (e ≡ None)) o
+  abbrev IsLock : Option Handle → Bool → Events → Type 0
+  IsLock o got e = On (λ (x : Handle). e ≡ Some (event.Lock (weak_of (owned s x) x.place) got)) ((got ≡ false) × (e ≡ None)) o
 
-  leave_no_lock : (o : Option Pointer) (last : Bool) (left : Option Ended) (e : Events) (w : Handle) (g : Bool) → IsLeaveEvent s o last left e
+  leave_no_lock : (o : Option Handle) (last : Bool) (left : Option Ended) (e : Events) (w : NumberedHandle) (g : Bool) → IsLeaveEvent s o last left e
       → e ≡ Some (event.Lock w g) → ⊥
   leave_no_lock None last left e w g is was = none_some (event.Lock w g) (sym is.2 ∙ was)
   leave_no_lock (Some x) last left e w g is was = go x.kind (ap gave_by (sym is.0 ∙ was))
@@ -75,13 +75,13 @@ module _ (s : State) where
       go Owner m = none_some g m
       go Weak m = none_some g m
 
-  gave : (o : Option Pointer) (got : Bool) (e : Events) (w : Handle) (g : Bool) → IsLock o got e → e ≡ Some (event.Lock w g) → got ≡ g
+  gave : (o : Option Handle) (got : Bool) (e : Events) (w : NumberedHandle) (g : Bool) → IsLock o got e → e ≡ Some (event.Lock w g) → got ≡ g
   gave None got e w g is was = absurd (none_some (event.Lock w g) (sym is.1 ∙ was))
   gave (Some x) got e w g is was = same_Some _ _ (ap gave_by (sym is ∙ was))
 
   -- a lock is an event, or its name has no weak pointer
-  locked : (o : Option Pointer) (got : Bool) (e : Events) → IsLock o got e
-      → ((h : Handle) × (e ≡ Some (event.Lock h got))) ⊎ ((got ≡ false) × (o ≡ None))
+  locked : (o : Option Handle) (got : Bool) (e : Events) → IsLock o got e
+      → ((h : NumberedHandle) × (e ≡ Some (event.Lock h got))) ⊎ ((got ≡ false) × (o ≡ None))
   locked None got e is = inr (is.0, refl)
   locked (Some x) got e is = inl (weak_of (owned s x) x.place, is)
 
@@ -106,7 +106,7 @@ module _ (u : WorldState) (x : TraceStep) (u' : WorldState) where
       (k : ℕ) × (must : Bool) × LocksNext k must w.todo × (statement_by x.stepped ≡ Some k) × (answer_by x.stepped ≡ Some (lock_answer must g))
 
   abbrev Happens : Bool → Bool → Type 0
-  Happens must g = ((h : Handle) × Was (event.Lock h g) u x u') ⊎ ((g ≡ false) × LocksNone must w.slots w.todo)
+  Happens must g = ((h : NumberedHandle) × Was (event.Lock h g) u x u') ⊎ ((g ≡ false) × LocksNone must w.slots w.todo)
 
   quietly_happens : (must g : Bool) → PassesQuietly d u x.stepped u' → answer_by x.stepped ≡ Some (lock_answer must g) → Happens must g
   quietly_happens must g p told = absurd (none_some (lock_answer must g) (sym (says_none d x.stepped p.silent).0 ∙ told))
@@ -136,7 +136,7 @@ module _ (u : WorldState) (x : TraceStep) (u' : WorldState) where
     act_states : (t : Task) (ts : List Task) (m : Made t ts) → statement_by x.stepped ≡ Some t.statement
     act_states t ts m = (is_said x.stepped y.said p.says).statement ∙ ap (λ (a : Said). Some a.statement) m.says
 
-    made_answers : (h : Handle) (g : Bool) (t : Task) (ts : List Task) (m : Made t ts) → y.event ≡ Some (event.Lock h g) → ahead w ≡ AnAct t ts
+    made_answers : (h : NumberedHandle) (g : Bool) (t : Task) (ts : List Task) (m : Made t ts) → y.event ≡ Some (event.Lock h g) → ahead w ≡ AnAct t ts
         → IsDone s w.slots w.taken t.act m.reply y.event → Answers g
     made_answers h g t ts m was is (Other other) = absurd (other_no_lock y.event _ _ h g other was)
     made_answers h g t ts m was is (Leaves o last left leave silent ended) = absurd (leave_no_lock s o last left y.event h g leave was)
@@ -158,13 +158,13 @@ module _ (u : WorldState) (x : TraceStep) (u' : WorldState) where
     made_happens must g t ts m told is (Locks i n got e f leaves ended) =
         let so = same_lock n got must g (same_Some _ _ (sym (lock_row t.act m.reply i n got e f) ∙ sym (act_answers t ts m) ∙ told)) in
         ⊎_elim
-        (λ (r : (h : Handle) × (y.event ≡ Some (event.Lock h got))).
+        (λ (r : (h : NumberedHandle) × (y.event ≡ Some (event.Lock h got))).
         inl (r.0, p.history ∙ ap (λ (q : Events). put_on d q u.ghost_state.history) (r.1 ∙ ap (λ (b : Bool). Some (event.Lock r.0 b)) so.1)))
         (λ (r : (got ≡ false) × (weak_slot (slot_pointer w.slots i) ≡ None)).
         inr (sym so.1 ∙ r.0, subst (LocksNone must w.slots) (sym (lock_ahead t ts i n is e)) (i, e ∙ ap (Lock i) so.0, r.1)))
         (locked s (weak_slot (slot_pointer w.slots i)) got y.event (lock_made t.act m.reply i n got e f m.makes))
 
-    answers_by : (h : Handle) (g : Bool) → y.event ≡ Some (event.Lock h g) → (a : Ahead) → ahead w ≡ a
+    answers_by : (h : NumberedHandle) (g : Bool) → y.event ≡ Some (event.Lock h g) → (a : Ahead) → ahead w ≡ a
         → DoesAhead no_worth s w y (frame_of (abstraction u') d) a → Answers g
     answers_by h g was Over is does = absurd does
     answers_by h g was (AnEnd e es) is (inl clears) = absurd (none_some g (ap gave_by (sym clears.makes ∙ was)))

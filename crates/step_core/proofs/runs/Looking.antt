@@ -16,15 +16,15 @@ use Rattle.step_threads.specs.declared.programs.call.CellName.{CellName}
 use Rattle.step_threads.specs.declared.pending_call.PendingCall.TheVariants.{Rest, Saw, Matched, Refill}
 use Rattle.step_table.specs.declared.cell_steps.cell_step.Cell.{Cell}
 use Rattle.step_table.specs.declared.cell_steps.cell_step.CellStep.TheVariants as cell_step
-use Rattle.step_table.specs.declared.slots.registers.Pointer.{Pointer}
-use Rattle.step_table.specs.declared.memory.past.AtomicStep.TheVariants as atomic_step
+use Rattle.control_word.specs.declared.handle.Handle.{Handle}
+use Rattle.step_table.specs.declared.memory.ghost_history.AtomicStep.TheVariants as atomic_step
 use Rattle.step_table.specs.declared.cell_steps.refill.Stage.{Stage}
 use Rattle.step_table.specs.CellAtomicSteps.{kind_in_state}
 use Rattle.step_table.specs.Cells.{IsOpenTo, word_of_cell}
 use Rattle.step_table.specs.Contents.{compared_in, is_of, is_spent, seen}
 use Rattle.step_table.specs.Registers.{HoldsBag, slot_pointer, slot_value}
 use Rattle.step_table.specs.Refills.{RefillFits}
-use Rattle.step_table.specs.GhostStates.{Kept, GhostState, model_state}
+use Rattle.step_table.specs.GhostStates.{TableInvariant, GhostState, model_state}
 use Rattle.step_threads.specs.Frames.{HasCell, FrameView, cell_of_name, comparing, hand, idle, is_there}
 use Rattle.step_threads.specs.Programs.{IsIn, kind_at}
 use Rattle.step_threads.specs.NextSteps.{first, matched, matched_on, saw, saw_on, ghost_after, waits_on}
@@ -40,7 +40,7 @@ use Rattle.step_core.proofs.watching.Blocks.{IsThere, bring_off, slot_there}
 use Rattle.step_core.proofs.watching.Cells.{block_there}
 
 -- funds that are brought leave the cell's word
-brought_cell : (v : GhostState) (d : ℕ) (k : Kind) (b : Block) (p : Option Place) (f : ℕ) (c : Cell) → Kept v → IsOpenTo v d c → IsThere v b
+brought_cell : (v : GhostState) (d : ℕ) (k : Kind) (b : Block) (p : Option Place) (f : ℕ) (c : Cell) → TableInvariant v → IsOpenTo v d c → IsThere v b
     → word_of_cell (ghost_after v d (Some (atomic_step.OnCell (cell_step.Bring k b p f)))) c ≡ word_of_cell v c
 brought_cell v d k b p f c kept way is = bring_off v d k b p f is c (somewhere v c kept (kept_cell v d c kept way))
 
@@ -55,7 +55,7 @@ compared_there true true fits same e = refl
 compared_there true false fits same e = absurd (false≢true (sym e))
 compared_there false there fits same e = absurd (false≢true (sym e))
 
-module _ (v : GhostState) (d : ℕ) (w : FrameView) (kept : Kept v) (seat : d < v.extent.actors) (holds : HoldsBag d w.slots v) where
+module _ (v : GhostState) (d : ℕ) (w : FrameView) (kept : TableInvariant v) (seat : d < v.extent.actors) (holds : HoldsBag d w.slots v) where
   -- the next act looks at its cell
   pub load_less : (k : ℕ) (t : Task) (ts : List Task) (c : CellName) → w.endings ≡ [] → w.todo ≡ t ∷ ts → t.act ≡ Load c
       → IsIn v.extent.shape c → waits_on v w (Load c) ≡ false → IsLess v d Rest w (Some (first v d w k ts (Load c)))
@@ -84,7 +84,7 @@ module _ (v : GhostState) (d : ℕ) (w : FrameView) (kept : Kept v) (seat : d < 
   -- what the cell showed is shown still, once funds are brought
   shows_still : (k : ℕ) (t : Task) (ts : List Task) (i : ℕ) (c : CellName) (weak : Bool) (x : CellWord) → w.todo ≡ t ∷ ts
       → t.act ≡ Compare i c weak
-      → IsIn v.extent.shape c → is_there w.slots c ≡ true → (p : Pointer) → slot_pointer w.slots (hand w.slots) ≡ Some p
+      → IsIn v.extent.shape c → is_there w.slots c ≡ true → (p : Handle) → slot_pointer w.slots (hand w.slots) ≡ Some p
       → shows_next (ghost_after v d (fetches w k x p).atomic_step) w.slots x w.todo ≡ shows_next v w.slots x w.todo
   shows_still k t ts i c weak x is same has there p e =
       let next = ghost_after v d (fetches w k x p).atomic_step in

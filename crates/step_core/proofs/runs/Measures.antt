@@ -11,7 +11,7 @@ use Rattle.step_threads.specs.declared.pending_call.PendingCall.TheVariants.{Res
 use Rattle.step_threads.specs.declared.said.Stepped.{Stepped}
 use Rattle.step_threads.specs.declared.said.Stepped.TheVariants.{Event, Quiet, Waited, Done}
 use Rattle.step_core.specs.Bounds.{alone, living, most_steps, spare, frame_steps}
-use Rattle.step_table.specs.declared.slots.registers.Pointer.{Pointer}
+use Rattle.control_word.specs.declared.handle.Handle.{Handle}
 use Rattle.step_table.specs.Registers.{is_full, slot_pointer}
 use Rattle.step_threads.specs.Frames.{FrameView, other}
 use Rattle.step_table.specs.Openings.{opening}
@@ -19,7 +19,7 @@ use Rattle.step_core.specs.WorldStates.{IsOver}
 use Rattle.step_threads.specs.AbstractStates.{nowhere, frame_of}
 use Rattle.step_threads.specs.NextSteps.{atomic_step_is_event, ghost_after, ghost_by, stepped, waits}
 use Rattle.step_threads.specs.Steps.{Step}
-use Rattle.step_table.specs.GhostStates.{Kept, GhostState}
+use Rattle.step_table.specs.GhostStates.{TableInvariant, GhostState}
 use Rattle.step_core.specs.Told.{IsTidy, LeavesName, step_ends, step_makes}
 use Rattle.step_core.specs.Turning.{HasBegun}
 use Rattle.step_core.specs.Worlds.{WorldState, Steps, answer_at, pending_call_of, abstraction, world_state_by, step_of}
@@ -47,7 +47,7 @@ pub record Falls (d : ℕ) (u u' : WorldState) : Type 0 where
   pub within : spare_of d u' ≤ most_steps u'
 
 -- what lives after a step, by what it made and of what the last owner left
-living_by : (d : ℕ) (u : WorldState) → HasBegun d u → Kept (ghost_by u.ghost_state d (step_of d u))
+living_by : (d : ℕ) (u : WorldState) → HasBegun d u → TableInvariant (ghost_by u.ghost_state d (step_of d u))
     → living (world_state_by d u (step_of d u)) + step_ends (stepped u.ghost_state (step_of d u)) ≤ living u + step_makes (pending_call_of u d)
     (stepped u.ghost_state (step_of d u))
 living_by d u begun kept =
@@ -123,7 +123,7 @@ left d u begun calm =
 pub empty_names : (w : FrameView) → IsTidy w → w.todo ≡ [] → (i : ℕ) → i < other w.slots → slot_pointer w.slots i ≡ None
 empty_names w tidy none i lt = go (slot_pointer w.slots i) refl
   where
-    go : (o : Option Pointer) → slot_pointer w.slots i ≡ o → o ≡ None
+    go : (o : Option Handle) → slot_pointer w.slots i ≡ o → o ≡ None
     go None e = refl
     go (Some x) e = absurd (subst (LeavesName i) none (tidy.names i lt (ap is_full e)))
 
@@ -144,11 +144,11 @@ at_end d u u' begun steps =
     go (Some x) r e l = absurd (never_done u.ghost_state x (sym r))
 
 -- any other step is one less
-pub before_end : (d : ℕ) (u u' : WorldState) (r : Stepped) → HasBegun d u → Kept u'.ghost_state → d < length u.frame_views → Steps d u r u' → r ≢ Done
+pub before_end : (d : ℕ) (u u' : WorldState) (r : Stepped) → HasBegun d u → TableInvariant u'.ghost_state → d < length u.frame_views → Steps d u r u' → r ≢ Done
     → r ≢ Waited → Falls d u u'
 before_end d u u' r begun kept lt steps ne never =
     let c = calm_by d u r steps.0 never in
-    go (step_of d u) c.answer steps.1 (living_by d u begun (subst (λ (w : WorldState). Kept w.ghost_state) steps.1 kept)) (left d u begun c.calm)
+    go (step_of d u) c.answer steps.1 (living_by d u begun (subst (λ (w : WorldState). TableInvariant w.ghost_state) steps.1 kept)) (left d u begun c.calm)
   where
     go : (o : Option Step) → r ≡ stepped u.ghost_state o → u' ≡ world_state_by d u o
         → living (world_state_by d u o) + step_ends (stepped u.ghost_state o) ≤ living u + step_makes (pending_call_of u d) (stepped u.ghost_state o)
@@ -157,11 +157,11 @@ before_end d u u' r begun kept lt steps ne never =
     go (Some x) e f live l = subst (λ (w : WorldState). Falls d u w) (sym f) (falls d u x lt begun.within live l)
 
 -- no step is one more
-pub never_more : (d : ℕ) (u u' : WorldState) (r : Stepped) → HasBegun d u → Kept u'.ghost_state → d < length u.frame_views → Steps d u r u'
+pub never_more : (d : ℕ) (u u' : WorldState) (r : Stepped) → HasBegun d u → TableInvariant u'.ghost_state → d < length u.frame_views → Steps d u r u'
     → r ≢ Waited → most_steps u' ≤ most_steps u
 never_more d u u' r begun kept lt steps never =
     let c = calm_by d u r steps.0 never in
-    go (step_of d u) steps.1 (living_by d u begun (subst (λ (w : WorldState). Kept w.ghost_state) steps.1 kept)) (left d u begun c.calm)
+    go (step_of d u) steps.1 (living_by d u begun (subst (λ (w : WorldState). TableInvariant w.ghost_state) steps.1 kept)) (left d u begun c.calm)
   where
     go : (o : Option Step) → u' ≡ world_state_by d u o
         → living (world_state_by d u o) + step_ends (stepped u.ghost_state o) ≤ living u + step_makes (pending_call_of u d) (stepped u.ghost_state o)

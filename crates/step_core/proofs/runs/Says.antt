@@ -8,7 +8,7 @@ use Rattle.control_word.specs.declared.model.handle.Kind.TheVariants.{Owner, Wea
 use Rattle.control_word.specs.Handles.{owner}
 use Rattle.control_word.specs.State.{State}
 use Rattle.step_table.specs.declared.memory.ended.Ended.{Ended}
-use Rattle.step_table.specs.declared.slots.registers.Pointer.{Pointer}
+use Rattle.control_word.specs.declared.handle.Handle.{Handle}
 use Rattle.step_table.specs.AtomicSteps.{owned, remains}
 use Rattle.step_table.specs.GhostStates.{Nothing, model_state}
 use Rattle.step_threads.specs.declared.programs.act.Task.{Task}
@@ -45,7 +45,7 @@ module _ (u : WorldState) (x : TraceStep) (u' : WorldState) (step : IsStep u x u
       (λ o l. false≢true (sym other ∙ ap is_last_in (put d e (event.Leave l.owner true) u.ghost_state.history (sym now ∙ l.left))))
 
   -- an owner left
-  one_left : (p : Pointer) (last : Bool) → u'.ghost_state.history ≡ put_on d (Some (leaves_as s Owner last p)) u.ghost_state.history
+  one_left : (p : Handle) (last : Bool) → u'.ghost_state.history ≡ put_on d (Some (leaves_as s Owner last p)) u.ghost_state.history
       → step_ended x.stepped ≡ cond last (remains_as Owner (s.object (owned s p))) None → TellsWhatIsLeft u x u'
   one_left p false now says = none_left (Some (leaves_as s Owner false p)) refl now says
   one_left p true now says =
@@ -59,12 +59,12 @@ module _ (u : WorldState) (x : TraceStep) (u' : WorldState) (step : IsStep u x u
       subst Tells (sym says) (owned s p, l, refl)
 
   -- a weak pointer left
-  weak_left : (p : Pointer) (last : Bool) → u'.ghost_state.history ≡ put_on d (Some (leaves_as s Weak last p)) u.ghost_state.history
+  weak_left : (p : Handle) (last : Bool) → u'.ghost_state.history ≡ put_on d (Some (leaves_as s Weak last p)) u.ghost_state.history
       → step_ended x.stepped ≡ cond last (remains_as Weak (s.object (owned s p))) None → TellsWhatIsLeft u x u'
   weak_left p true now says = none_left (Some (leaves_as s Weak true p)) refl now says
   weak_left p false now says = none_left (Some (leaves_as s Weak false p)) refl now says
 
-  any_left : (o : Option Pointer) (last : Bool) (r : Option Ended) (e : Events) → IsLeaveEvent s o last r e
+  any_left : (o : Option Handle) (last : Bool) (r : Option Ended) (e : Events) → IsLeaveEvent s o last r e
       → u'.ghost_state.history ≡ put_on d e u.ghost_state.history → step_ended x.stepped ≡ r → TellsWhatIsLeft u x u'
   any_left None last r e is now says = none_left e (ap is_last_in is.2) now (says ∙ is.1)
   any_left (Some p) last r e is now says = go p.kind (now ∙ ap (λ (q : Events). put_on d q u.ghost_state.history) is.0) (says ∙ is.1)

@@ -11,9 +11,9 @@ use Rattle.control_word.specs.declared.model.event.Event.{Event}
 use Rattle.control_word.specs.declared.model.view.View.{View}
 use Rattle.control_word.specs.Histories.{entry}
 use Rattle.control_word.specs.Views.{used_up}
-use Rattle.step_table.specs.declared.memory.past.AtomicStep.{AtomicStep}
+use Rattle.step_table.specs.declared.memory.ghost_history.AtomicStep.{AtomicStep}
 use Rattle.step_table.specs.Registers.{HoldsBag}
-use Rattle.step_table.specs.GhostStates.{Kept, Nothing, GhostState, event_added, event_of, model_state}
+use Rattle.step_table.specs.GhostStates.{TableInvariant, Nothing, GhostState, event_added, event_of, model_state}
 use Rattle.step_threads.specs.declared.ending.Ending.{Ending}
 use Rattle.step_threads.specs.declared.programs.act.Task.{Task}
 use Rattle.step_threads.specs.declared.pending_call.PendingCall.{PendingCall}
@@ -98,7 +98,7 @@ all_hold v threads all d lt =
     (slice_get_cases threads d).1
 
 -- threads that have begun nothing have no call half done, and beyond the threads nobody has one
-pub all_idle : (v : GhostState) (threads : List Thread) → AllFit v threads → length (map thread_frame threads) ≡ v.extent.actors → Kept v
+pub all_idle : (v : GhostState) (threads : List Thread) → AllFit v threads → length (map thread_frame threads) ≡ v.extent.actors → TableInvariant v
     → AllRestIdle (world_state v threads)
 all_idle v threads all many kept d rests =
     ⊎_elim
@@ -113,7 +113,7 @@ all_idle v threads all many kept d rests =
     (slice_get_cases threads d).1
 
 pub advances : (d : ℕ) (u u' : WorldState) (r : Stepped) → HasBegun d u → Steps d u r u' → r ≢ Waited → length u'.frame_views ≡ length u.frame_views
-    → Kept u'.ghost_state → AllHold u' → AllRestIdle u'
+    → TableInvariant u'.ghost_state → AllHold u' → AllRestIdle u'
     → Advances d u r u'
 advances d u u' r begun steps never actors kept hands idle =
     let x = step_of d u in

@@ -7,7 +7,7 @@ use Rattle.step_threads.specs.declared.pending_call.PendingCall.{PendingCall}
 use Rattle.step_threads.specs.declared.pending_call.PendingCall.TheVariants.{Rest, Making, Locking, Giving, Brought, Saw, Matched, Refill, Returning, Clearing}
 use Rattle.step_threads.specs.declared.thread.Thread.{Thread}
 use Rattle.step_core.specs.Bounds.{left_to_do, living, most_steps, spare, steps_of, frame_steps}
-use Rattle.step_table.specs.GhostStates.{Kept, GhostState}
+use Rattle.step_table.specs.GhostStates.{TableInvariant, GhostState}
 use Rattle.step_core.specs.Told.{TotalsAreTold, world_state}
 use Rattle.step_core.specs.Worlds.{AllFit, thread_pending, thread_frame}
 use Rattle.step_core.proofs.telling.Walking.{carried_most}
@@ -69,6 +69,6 @@ pub within : (v : GhostState) (threads : List Thread) → AllFit v threads → (
     → t.frame.at ≤ length t.frame.tasks.items
 within v threads all d t at = (all.each d t at).within
 
-pub few_threads : (v : GhostState) (threads : List Thread) (m e : ℕ) → Kept v → TotalsAreTold (world_state v threads) m e → length threads ≤ 64
+pub few_threads : (v : GhostState) (threads : List Thread) (m e : ℕ) → TableInvariant v → TotalsAreTold (world_state v threads) m e → length threads ≤ 64
 few_threads v threads m e kept told =
     let l = length-map threads thread_frame in let t = told.threads in let f = kept.proper.few in omega (arith, l, t, f)

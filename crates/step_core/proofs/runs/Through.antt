@@ -1,7 +1,7 @@
 -- What holds all through a run.
 use Rattle.std.proofs.Common.{◌≡◌, ℕ, ◌-◌, List, [], ◌∷◌, length, sym, ap, subst, ◌∙◌}
 use Rattle.step_table.specs.declared.memory.extent.Extent.{Extent}
-use Rattle.step_table.specs.GhostStates.{Kept, Seats}
+use Rattle.step_table.specs.GhostStates.{TableInvariant, Seats}
 use Rattle.step_core.specs.declared.trace.TraceStep.{TraceStep}
 use Rattle.step_core.specs.Chains.{Through}
 use Rattle.step_core.specs.Headline.{AfterEach, OfEach}
@@ -15,7 +15,7 @@ use Rattle.step_core.proofs.runs.Says.{tells}
 
 -- what steps keep
 pub record Goes (u : WorldState) : Type 0 where
-  pub kept : Kept u.ghost_state
+  pub kept : TableInvariant u.ghost_state
   pub actors : length u.frame_views ≡ u.ghost_state.extent.actors
   pub hands : AllHold u
   pub idle : AllRestIdle u

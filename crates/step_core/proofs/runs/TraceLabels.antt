@@ -15,7 +15,7 @@ use Rattle.control_word.specs.Handles.{weak_of}
 use Rattle.control_word.specs.Histories.{entry}
 use Rattle.control_word.specs.State.{State}
 use Rattle.step_table.specs.declared.memory.ended.Ended.{Ended}
-use Rattle.step_table.specs.declared.slots.registers.Pointer.{Pointer}
+use Rattle.control_word.specs.declared.handle.Handle.{Handle}
 use Rattle.step_table.specs.AtomicSteps.{aliased, owned}
 use Rattle.step_table.specs.Registers.{Slots, inside, is_full, owner_slot, place_in, slot_pointer, weak_slot}
 use Rattle.step_table.specs.GhostStates.{Nothing}
@@ -76,19 +76,19 @@ pub record IsOther (e : Events) (a : Option Answer) (left : Option Ended) : Type
 pub data IsDone (s : State) (l : Slots) (taken : Bool) (a : Act) (y : Reply) (e : Events) : Type 0 where
   Locks : (i : ℕ) (must got : Bool) → a ≡ Lock i must → y ≡ Got got → is_last_in e ≡ false → (row a l taken y).ended ≡ None
       → IsDone s l taken a y e
-  Leaves : (o : Option Pointer) (last : Bool) (left : Option Ended) → IsLeaveEvent s o last left e → (row a l taken y).answer ≡ None
+  Leaves : (o : Option Handle) (last : Bool) (left : Option Ended) → IsLeaveEvent s o last left e → (row a l taken y).answer ≡ None
       → (row a l taken y).ended ≡ left → IsDone s l taken a y e
   Other : IsOther e (row a l taken y).answer (row a l taken y).ended → IsDone s l taken a y e
 
 module _ (s : State) (d : ℕ) (l : Slots) (taken : Bool) where
   -- an event of a pointer, or none
-  mapped : (f : Pointer → Event Nothing) → ((x : Pointer) → sort_of (Some (f x)) ≡ Another) → (e : Events) (o : Option Pointer)
+  mapped : (f : Handle → Event Nothing) → ((x : Handle) → sort_of (Some (f x)) ≡ Another) → (e : Events) (o : Option Handle)
       → e ≡ option_map f o → sort_of e ≡ Another
   mapped f other e None is = ap sort_of is
   mapped f other e (Some x) is = ap sort_of is ∙ other x
 
-  on_pointer : {p : Pointer → Type 0} {q : Type 0} (e : Events) (o : Option Pointer) → On p q o
-      → ((x : Pointer) → p x → sort_of e ≡ Another) → (q → sort_of e ≡ Another) → sort_of e ≡ Another
+  on_pointer : {p : Handle → Type 0} {q : Type 0} (e : Events) (o : Option Handle) → On p q o
+      → ((x : Handle) → p x → sort_of e ≡ Another) → (q → sort_of e ≡ Another) → sort_of e ≡ Another
   on_pointer e None is each none = none is
   on_pointer e (Some x) is each none = each x is
 
@@ -101,7 +101,7 @@ module _ (s : State) (d : ℕ) (l : Slots) (taken : Bool) where
   given_by e true f other is = ap sort_of is ∙ other
   given_by e false f other is = ap sort_of is
 
-  copied : (k : Kind) (p : Option Place) (x : Pointer) → sort_of (Some (copies s k p x)) ≡ Another
+  copied : (k : Kind) (p : Option Place) (x : Handle) → sort_of (Some (copies s k p x)) ≡ Another
   copied Owner p x = refl
   copied Weak p x = refl
 
@@ -133,8 +133,8 @@ module _ (s : State) (d : ℕ) (l : Slots) (taken : Bool) where
   asks (question.Same i j) b = refl
   asks (question.Before i j) b = refl
 
-  lock_leaves : (e : Events) (o : Option Pointer) (got : Bool)
-      → On (λ (x : Pointer). e ≡ Some (event.Lock (weak_of (owned s x) x.place) got)) ((got ≡ false) × (e ≡ None)) o → is_last_in e ≡ false
+  lock_leaves : (e : Events) (o : Option Handle) (got : Bool)
+      → On (λ (x : Handle). e ≡ Some (event.Lock (weak_of (owned s x) x.place) got)) ((got ≡ false) × (e ≡ None)) o → is_last_in e ≡ false
   lock_leaves e None got is = ap is_last_in is.1
   lock_leaves e (Some x) got is = ap is_last_in is
 
@@ -153,7 +153,7 @@ module _ (s : State) (d : ℕ) (l : Slots) (taken : Bool) where
   each (Count k) (Told n) e is =
       none (Count k) (Told n) e (on_pointer e (slot_pointer l k) is (λ x q. ap sort_of q) (λ q. ap sort_of q.1)) refl refl
   each (Downgrade k) Plain e is =
-      none (Downgrade k) Plain e (mapped (λ (x : Pointer). copies s Weak x.place x) (λ x. refl) e (slot_pointer l k) is) refl refl
+      none (Downgrade k) Plain e (mapped (λ (x : Handle). copies s Weak x.place x) (λ x. refl) e (slot_pointer l k) is) refl refl
   each (Lock k must) (Got got) e is = Locks k must got refl refl (lock_leaves e (weak_slot (slot_pointer l k)) got is) refl
   each (Expired k) (Got b) e is =
       none (Expired k) (Got b) e (on_pointer e (slot_pointer l k) is (λ x q. ap sort_of q) (λ q. ap sort_of q.1)) refl refl

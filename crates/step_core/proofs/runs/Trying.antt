@@ -14,8 +14,8 @@ use Rattle.step_threads.specs.declared.pending_call.PendingCall.TheVariants.{Res
 use Rattle.step_table.specs.declared.cell_steps.cell_step.Cell.{Cell}
 use Rattle.step_table.specs.declared.cell_steps.cell_step.CellStep.TheVariants as cell_step
 use Rattle.step_table.specs.declared.cell_steps.cell_step.Compared.{Compared}
-use Rattle.step_table.specs.declared.slots.registers.Pointer.{Pointer}
-use Rattle.step_table.specs.declared.memory.past.AtomicStep.TheVariants as atomic_step
+use Rattle.control_word.specs.declared.handle.Handle.{Handle}
+use Rattle.step_table.specs.declared.memory.ghost_history.AtomicStep.TheVariants as atomic_step
 use Rattle.step_table.specs.declared.cell_steps.refill.Stage.{Stage}
 use Rattle.step_table.specs.declared.cell_steps.refill.Stage.TheVariants.{Turning, Checking, Lacking, Refilling, Failing}
 use Rattle.step_table.specs.CellAtomicSteps.{kind_in_state}
@@ -25,7 +25,7 @@ use Rattle.step_table.specs.Contents.{is_spent, same_value, seen}
 use Rattle.step_table.specs.AtomicSteps.{on}
 use Rattle.step_table.specs.Registers.{slot_pointer}
 use Rattle.step_table.specs.Refills.{is_drained, is_low, more_taken}
-use Rattle.step_table.specs.GhostStates.{Kept, GhostState, model_state}
+use Rattle.step_table.specs.GhostStates.{TableInvariant, GhostState, model_state}
 use Rattle.step_threads.specs.Frames.{FrameView, hand}
 use Rattle.step_threads.specs.AbstractStates.{went}
 use Rattle.step_threads.specs.NextSteps.{stepped as stepped_by, ghost_after}
@@ -38,10 +38,11 @@ use Rattle.step_core.proofs.telling.Leaves.{leaves_by}
 use Rattle.step_core.proofs.telling.Walking.{went_still}
 
 -- what a cell shows is what was seen of it
-pub shows_seen : (v : GhostState) (d : ℕ) (c : Cell) → Kept v → d < v.extent.actors → IsOpenTo v d c → (word_of_cell v c == cell_bits (seen v c)) ≡ true
+pub shows_seen : (v : GhostState) (d : ℕ) (c : Cell) → TableInvariant v → d < v.extent.actors → IsOpenTo v d c → (word_of_cell v c == cell_bits (seen v c))
+    ≡ true
 shows_seen v d c kept seat way = eq-eqb _ _ (seen_found v d c kept seat way).shows.bits
 
-alone_missed : (v : GhostState) (w : FrameView) (k : ℕ) (o : Option Pointer) → (alone v w (missed k o) ≤ 16) × (spare (missed k o) ≤ 15)
+alone_missed : (v : GhostState) (w : FrameView) (k : ℕ) (o : Option Handle) → (alone v w (missed k o) ≤ 16) × (spare (missed k o) ≤ 15)
 alone_missed v w k None = (omega arith, omega arith)
 alone_missed v w k (Some x) = (omega arith, omega arith)
 
@@ -126,9 +127,9 @@ module _ (v : GhostState) (d k : ℕ) (w : FrameView) (t : Task) (ts : List Task
 
   -- what is to go in has its funds brought first, and what the cell showed is shown still
   fetches_less : (c : Cell) (y : Compared) (x : CellWord) → shows_on v w.slots x a ≡ (word_of_cell v c == cell_bits x)
-      → ((p : Pointer) → slot_pointer w.slots (hand w.slots) ≡ Some p
+      → ((p : Handle) → slot_pointer w.slots (hand w.slots) ≡ Some p
       → shows_next (ghost_after v d (fetches w k x p).atomic_step) w.slots x w.todo ≡ shows_next v w.slots x w.todo)
-      → (o : Option Pointer) → slot_pointer w.slots (hand w.slots) ≡ o → IsLess v d (Saw x) w (Some (on (fetches w k x) (matches v d w k ts a c y x) o))
+      → (o : Option Handle) → slot_pointer w.slots (hand w.slots) ≡ o → IsLess v d (Saw x) w (Some (on (fetches w k x) (matches v d w k ts a c y x) o))
   fetches_less c y x on_act keeps None e =
       matches_less (Saw x) c y x refl refl
       (λ s. let z = alone_saw v w x true (shown x c on_act ∙ s) in omega (arith, z))
@@ -147,7 +148,7 @@ module _ (v : GhostState) (d k : ℕ) (w : FrameView) (t : Task) (ts : List Task
           record { own = omega (arith, a, b); most = omega arith }
 
   pub settles_less : (c : Cell) (y : Compared) (x : CellWord) → shows_on v w.slots x a ≡ (word_of_cell v c == cell_bits x)
-      → ((p : Pointer) → slot_pointer w.slots (hand w.slots) ≡ Some p
+      → ((p : Handle) → slot_pointer w.slots (hand w.slots) ≡ Some p
       → shows_next (ghost_after v d (fetches w k x p).atomic_step) w.slots x w.todo ≡ shows_next v w.slots x w.todo)
       → IsLess v d (Saw x) w (Some (settles v d w k ts a c y x))
   settles_less c y x on_act keeps =

@@ -13,7 +13,7 @@ use Rattle.step_threads.specs.declared.pending_call.PendingCall.TheVariants.{Res
 use Rattle.step_threads.specs.declared.said.Stepped.{Stepped}
 use Rattle.step_threads.specs.declared.said.Stepped.TheVariants.{Waited}
 use Rattle.step_table.specs.declared.cell_steps.cell_step.CellStep.TheVariants as cell_step
-use Rattle.step_table.specs.declared.memory.past.AtomicStep.TheVariants as atomic_step
+use Rattle.step_table.specs.declared.memory.ghost_history.AtomicStep.TheVariants as atomic_step
 use Rattle.step_table.specs.Contents.{as_word, compared_in, is_spent, same_value, seen}
 use Rattle.step_table.specs.Registers.{slot_value}
 use Rattle.step_table.specs.GhostStates.{GhostState, model_state}

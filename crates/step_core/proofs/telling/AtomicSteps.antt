@@ -9,7 +9,7 @@ use Rattle.control_word.specs.declared.place.Place.{Place}
 use Rattle.control_word.specs.Histories.{entry}
 use Rattle.step_threads.specs.declared.pending_call.PendingCall.{PendingCall}
 use Rattle.step_threads.specs.declared.pending_call.PendingCall.TheVariants.{Rest}
-use Rattle.step_table.specs.declared.slots.registers.Pointer.{Pointer}
+use Rattle.control_word.specs.declared.handle.Handle.{Handle}
 use Rattle.step_threads.specs.declared.said.Answer.{Answer}
 use Rattle.step_core.specs.Bounds.{frame_steps}
 use Rattle.step_threads.specs.Frames.{FrameView}
@@ -45,7 +45,7 @@ pub quiet : (v : GhostState) (d k : ℕ) (h h' : PendingCall) (w x : FrameView) 
     → IsCounted v d h w (Some (record { atomic_step = None; pending_call = h'; frame_view = x; said = record { statement = k; answer = a; ended = None } }))
 quiet v d k h h' w x a le = record { made = plus_none _; ended = plus_none _; few = omega (arith, le) }
 
-pub shared : (v : GhostState) (d k : ℕ) (w x : FrameView) (a : Option Answer) → frame_steps x ≤ frame_steps w → (y : Option Pointer)
+pub shared : (v : GhostState) (d k : ℕ) (w x : FrameView) (a : Option Answer) → frame_steps x ≤ frame_steps w → (y : Option Handle)
     → IsCounted v d Rest w (Some (record {
       atomic_step = option_map share y;
       pending_call = Rest;
@@ -64,17 +64,17 @@ shared v d k w x a le (Some y) = go y.kind
     go Owner = record { made = plus_none _; ended = plus_none _; few = omega (arith, le) }
     go Weak = record { made = plus_none _; ended = plus_none _; few = omega (arith, le) }
 
-pub downgraded : (v : GhostState) (d k : ℕ) (w x : FrameView) → frame_steps x ≤ frame_steps w → (y : Option Pointer)
+pub downgraded : (v : GhostState) (d k : ℕ) (w x : FrameView) → frame_steps x ≤ frame_steps w → (y : Option Handle)
     → IsCounted v d Rest w (Some (record { atomic_step = option_map downgrade y; pending_call = Rest; frame_view = x; said = silent k }))
 downgraded v d k w x le None = record { made = plus_none _; ended = plus_none _; few = omega (arith, le) }
 downgraded v d k w x le (Some y) = record { made = plus_none _; ended = plus_none _; few = omega (arith, le) }
 
-pub aliased_by : (v : GhostState) (d k : ℕ) (w x : FrameView) (p : Option Place) → frame_steps x ≤ frame_steps w → (y : Option Pointer)
+pub aliased_by : (v : GhostState) (d k : ℕ) (w x : FrameView) (p : Option Place) → frame_steps x ≤ frame_steps w → (y : Option Handle)
     → IsCounted v d Rest w (Some (record { atomic_step = option_map (alias p) y; pending_call = Rest; frame_view = x; said = silent k }))
 aliased_by v d k w x p le None = record { made = plus_none _; ended = plus_none _; few = omega (arith, le) }
 aliased_by v d k w x p le (Some y) = record { made = plus_none _; ended = plus_none _; few = omega (arith, le) }
 
-pub expired : (v : GhostState) (d k : ℕ) (w x : FrameView) (a : Option Answer) → frame_steps x ≤ frame_steps w → (y : Option Pointer)
+pub expired : (v : GhostState) (d k : ℕ) (w x : FrameView) (a : Option Answer) → frame_steps x ≤ frame_steps w → (y : Option Handle)
     → IsCounted v d Rest w (Some (record {
       atomic_step = option_map (tell_expired (model_state v)) y;
       pending_call = Rest;
@@ -84,7 +84,7 @@ pub expired : (v : GhostState) (d k : ℕ) (w x : FrameView) (a : Option Answer)
 expired v d k w x a le None = record { made = plus_none _; ended = plus_none _; few = omega (arith, le) }
 expired v d k w x a le (Some y) = record { made = plus_none _; ended = plus_none _; few = omega (arith, le) }
 
-pub read_one : (v : GhostState) (d k : ℕ) (w x : FrameView) (a : Option Answer) → frame_steps x ≤ frame_steps w → (y : Option Pointer)
+pub read_one : (v : GhostState) (d k : ℕ) (w x : FrameView) (a : Option Answer) → frame_steps x ≤ frame_steps w → (y : Option Handle)
     → IsCounted v d Rest w (Some (record {
       atomic_step = option_map (read_atomic_step (model_state v)) y;
       pending_call = Rest;
@@ -95,7 +95,7 @@ read_one v d k w x a le None = record { made = plus_none _; ended = plus_none _;
 read_one v d k w x a le (Some y) = record { made = plus_none _; ended = plus_none _; few = omega (arith, le) }
 
 -- a lock that is done
-pub locked_by : (v : GhostState) (d k : ℕ) (h : PendingCall) (w x : FrameView) (a : Option Answer) (y : Pointer) → is_prepared h ≡ false → frame_steps x ≤
+pub locked_by : (v : GhostState) (d k : ℕ) (h : PendingCall) (w x : FrameView) (a : Option Answer) (y : Handle) → is_prepared h ≡ false → frame_steps x ≤
     frame_steps w
     → IsCounted v d h w (Some (record {
       atomic_step = Some (lock (model_state v) y);
@@ -107,7 +107,7 @@ locked_by v d k h w x a y e le =
     let z : ◌≡◌ {A = ℕ} (cond (is_prepared h) 1 0) 0 = ap (λ (b : Bool). cond b 1 0) e in
     record { made = omega (arith, z); ended = plus_none _; few = omega (arith, le, z) }
 
-pub told : (v : GhostState) (d k : ℕ) (w x : FrameView) (a : Option Answer) → frame_steps x ≤ frame_steps w → (y : Option Pointer)
+pub told : (v : GhostState) (d k : ℕ) (w x : FrameView) (a : Option Answer) → frame_steps x ≤ frame_steps w → (y : Option Handle)
     → IsCounted v d Rest w (Some (record {
       atomic_step = option_map (tell v) y;
       pending_call = Rest;
@@ -117,7 +117,7 @@ pub told : (v : GhostState) (d k : ℕ) (w x : FrameView) (a : Option Answer) �
 told v d k w x a le None = record { made = plus_none _; ended = plus_none _; few = omega (arith, le) }
 told v d k w x a le (Some y) = record { made = plus_none _; ended = plus_none _; few = omega (arith, le) }
 
-left_by : (v : GhostState) (d k : ℕ) (w x : FrameView) (y : Pointer) (q : Kind) (b : Bool)
+left_by : (v : GhostState) (d k : ℕ) (w x : FrameView) (y : Handle) (q : Kind) (b : Bool)
     → frame_steps x ≤ frame_steps w + 13 * cond (is_some (cond b (remains_as q ((model_state v).object (owned (model_state v) y))) None)) 1 0
     → IsCounted v d Rest w (Some (record {
       atomic_step = Some (leave_as q y b);
@@ -140,7 +140,7 @@ left_by v d k w x y Owner b le =
 left_by v d k w x y Weak true le = record { made = plus_none _; ended = plus_none _; few = omega (arith, le) }
 left_by v d k w x y Weak false le = record { made = plus_none _; ended = plus_none _; few = omega (arith, le) }
 
-pub left : (v : GhostState) (d k : ℕ) (w x : FrameView) (y : Option Pointer) → frame_steps x + 1 ≤ frame_steps w + 13 * ends_at (model_state v) y
+pub left : (v : GhostState) (d k : ℕ) (w x : FrameView) (y : Option Handle) → frame_steps x + 1 ≤ frame_steps w + 13 * ends_at (model_state v) y
     → IsCounted v d Rest w (Some (record {
       atomic_step = option_map (leave (model_state v)) y;
       pending_call = Rest;

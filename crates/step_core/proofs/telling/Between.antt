@@ -28,7 +28,7 @@ use Rattle.control_word.specs.declared.model.view.Pending.TheVariants.{Idle}
 use Rattle.control_word.specs.declared.model.view.View.{View}
 use Rattle.control_word.specs.declared.packed.counts.Counts.{Counts}
 use Rattle.step_table.specs.Openings.{opening}
-use Rattle.step_table.specs.GhostStates.{Kept, Nothing, GhostState, pending, model_state}
+use Rattle.step_table.specs.GhostStates.{TableInvariant, Nothing, GhostState, pending, model_state}
 use Rattle.step_threads.specs.declared.ending.Ending.{Ending}
 use Rattle.step_threads.specs.declared.pending_call.PendingCall.{PendingCall}
 use Rattle.step_threads.specs.declared.pending_call.PendingCall.TheVariants.{Rest}
@@ -107,7 +107,7 @@ idle_at u v threads d is fit none lt =
 
 all_idle : (u : WorldState) (v : GhostState) (threads : List Thread) (m e : ℕ) → world_state v threads ≡ u → AllFit v threads → TotalsAreTold
     (world_state v threads) m e
-    → Kept v → HasNoneBegun u → (i : ℕ) (w : View Nothing) → get_elem? v.views i ≡ some w → w.pending ≡ Idle
+    → TableInvariant v → HasNoneBegun u → (i : ℕ) (w : View Nothing) → get_elem? v.views i ≡ some w → w.pending ≡ Idle
 all_idle u v threads m e is fit told kept none i w at =
     let r = at_view v.views i w at in
     let lt : i < length threads =
@@ -202,7 +202,7 @@ abbrev told_as : ℕ → ℕ → Option Counts
 told_as owners weaks = Some (record { owners = owners; weaks = weaks })
 
 module _ (v : GhostState) (threads : List Thread) (m e b : ℕ) (fit : AllFit v threads) (told : TotalsAreTold (world_state v threads) m e)
-    (kept : Kept v) (none : HasNoneBegun (world_state v threads)) (inside : InShape (opening v.extent) b) where
+    (kept : TableInvariant v) (none : HasNoneBegun (world_state v threads)) (inside : InShape (opening v.extent) b) where
   fine : Sound (opening v.extent) (model_state v)
   fine = sound (opening v.extent) v.history kept.stands.legal
 
@@ -256,7 +256,7 @@ pub record Shown (u : WorldState) (v : GhostState) (threads : List Thread) (m e 
   pub is : world_state v threads ≡ u
   pub fit : AllFit v threads
   pub told : TotalsAreTold (world_state v threads) m e
-  pub kept : Kept v
+  pub kept : TableInvariant v
   pub some : 0 < b
   pub within : b ≤ u.ghost_state.extent.shape.blocks
 

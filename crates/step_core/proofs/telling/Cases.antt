@@ -10,8 +10,8 @@ use Rattle.control_word.specs.Packing.{cell_bits}
 use Rattle.step_table.specs.declared.cell_steps.cell_step.Cell.{Cell}
 use Rattle.step_table.specs.declared.cell_steps.cell_step.CellStep.TheVariants as cell_step
 use Rattle.step_table.specs.declared.cell_steps.cell_step.Compared.{Compared}
-use Rattle.step_table.specs.declared.slots.registers.Pointer.{Pointer}
-use Rattle.step_table.specs.declared.memory.past.AtomicStep.TheVariants as atomic_step
+use Rattle.control_word.specs.declared.handle.Handle.{Handle}
+use Rattle.step_table.specs.declared.memory.ghost_history.AtomicStep.TheVariants as atomic_step
 use Rattle.step_table.specs.declared.cell_steps.refill.Stage.{Stage}
 use Rattle.step_table.specs.declared.cell_steps.refill.Stage.TheVariants.{Turning, Checking, Lacking, Refilling, Failing}
 use Rattle.step_threads.specs.declared.programs.act.Act.{Act}
@@ -40,7 +40,7 @@ pub record IsEach (v : GhostState) (d : ℕ) (w : FrameView) (k : ℕ) (ts : Lis
   pub look : (x : CellWord) (y : Option Compared) → P (step_of_act v d w k ts a (Some (atomic_step.OnCell (cell_step.Look c x y))) Rest)
   pub take : (x : CellWord) (y : Option Compared) (h : PendingCall) → P (step_of_act v d w k ts a (Some (atomic_step.OnCell (cell_step.Take c x y))) h)
   pub swap : (x : CellWord) (y : Compared) (h : PendingCall) → P (step_of_act v d w k ts a (Some (atomic_step.OnCell (cell_step.CompareSwap c x y))) h)
-  pub bring : (x : CellWord) (p : Pointer) → P (fetches w k x p)
+  pub bring : (x : CellWord) (p : Handle) → P (fetches w k x p)
 
 pub each_sees : (v : GhostState) (d : ℕ) (w : FrameView) (k : ℕ) (ts : List Task) (a : Act) (c : Cell) (P : Step → Type 0) → IsEach v d w k ts a c P
     → (y : Option Compared) (x : CellWord) → P (step_of_look v d w k ts a c y x)
@@ -85,7 +85,7 @@ each_settles v d w k ts a c P each y x =
     cond_both (same_value x y.expected) (on (fetches w k x) (matches v d w k ts a c y x) (slot_pointer w.slots (hand w.slots)))
     (takes v d w k ts a c (Some y) x) P (λ e. go (slot_pointer w.slots (hand w.slots))) (λ e. each_takes v d w k ts a c P each (Some y) x)
   where
-    go : (o : Option Pointer) → P (on (fetches w k x) (matches v d w k ts a c y x) o)
+    go : (o : Option Handle) → P (on (fetches w k x) (matches v d w k ts a c y x) o)
     go None = each_matches v d w k ts a c P each y x
     go (Some p) = each.bring x p
 

@@ -27,7 +27,7 @@ use Rattle.step_threads.specs.Actors.{PendingCallFits}
 use Rattle.step_threads.specs.Frames.{FrameView, task_at}
 use Rattle.step_table.specs.Openings.{opening}
 use Rattle.step_threads.specs.AbstractStates.{nowhere}
-use Rattle.step_table.specs.GhostStates.{Kept, Nothing, GhostState, pending, model_state}
+use Rattle.step_table.specs.GhostStates.{TableInvariant, Nothing, GhostState, pending, model_state}
 use Rattle.step_threads.specs.Endings.{endings_in_block}
 use Rattle.step_core.specs.Told.{TotalsAreTold, world_state}
 use Rattle.step_core.specs.Totals.{IsAtEnd, census_of, counts_in}
@@ -43,7 +43,7 @@ pub record IsStill (v : GhostState) : Type 0 where
   pub idle : (d : ℕ) → d < v.extent.actors → pending v d ≡ Idle
   pub none : (o e : ℕ) → ((model_state v).object o).phase ≡ ending e → ⊥
 
-pub at_rest : (v : GhostState) (b : ℕ) → Kept v → IsStill v → IsAtRest (model_state v) v.views b
+pub at_rest : (v : GhostState) (b : ℕ) → TableInvariant v → IsStill v → IsAtRest (model_state v) v.views b
 at_rest v b kept still = record {
   still = λ o e here p. still.none o e p;
   unnamed = λ i w at names.
@@ -54,7 +54,7 @@ at_rest v b kept still = record {
       subst (λ (q : Pending Nothing). NamesBlock (model_state v) q b) p names;
 }
 
-pub exact : (v : GhostState) (b : ℕ) → Kept v → IsStill v → InShape (opening v.extent) b
+pub exact : (v : GhostState) (b : ℕ) → TableInvariant v → IsStill v → InShape (opening v.extent) b
     → (number_of (slice_index v.words (spot b 0)) ≡ count (model_state v) ((model_state v).latest b))
     × (number_of (slice_index v.words (spot b 1)) ≡ weak_number (model_state v) ((model_state v).latest b))
 exact v b kept still inside = rests_exactly (opening v.extent) v.words v.views v.history kept.stands b inside (at_rest v b kept still)
@@ -84,7 +84,7 @@ abbrev counted : ℕ → ℕ → Option Counts
 counted owners weaks = Some (record { owners = owners; weaks = weaks })
 
 -- the numbers that were read say what the state says
-pub census_is : (v : GhostState) (b owners number : ℕ) → Kept v → IsStill v → InShape (opening v.extent) b
+pub census_is : (v : GhostState) (b owners number : ℕ) → TableInvariant v → IsStill v → InShape (opening v.extent) b
     → owners ≡ number_of (slice_index v.words (spot b 0)) → number ≡ number_of (slice_index v.words (spot b 1))
     → counts_in owners number ≡ census_of (model_state v) b
 census_is v b owners number kept still inside read read' =
@@ -105,7 +105,7 @@ not_none : (c : Counts) → ◌≡◌ {A = Option Counts} (Some c) None → ⊥
 not_none c e = cc
 
 -- none is told just where the block is vacant
-pub none_vacant : (v : GhostState) (b : ℕ) → Kept v → (census_of (model_state v) b ≡ None → IsVacant (model_state v) b)
+pub none_vacant : (v : GhostState) (b : ℕ) → TableInvariant v → (census_of (model_state v) b ≡ None → IsVacant (model_state v) b)
     × (IsVacant (model_state v) b → census_of
     (model_state v) b ≡ None)
 none_vacant v b kept =
@@ -166,11 +166,12 @@ pub still_now : (u : WorldState) (v : GhostState) (threads : List Thread) (m e :
 still_now u v threads m e is fit told = subst (λ (x : WorldState). IsAtEnd x → IsStill x.ghost_state) is (still_end v threads m e fit told)
 
 pub census_now : (u : WorldState) (v : GhostState) (threads : List Thread) (m e b x y : ℕ) (r : Option Counts) → world_state v threads ≡ u → AllFit v threads
-    → TotalsAreTold (world_state v threads) m e → Kept v → IsAtEnd u → 0 < b → b ≤ u.ghost_state.extent.shape.blocks → x ≡ slice_index v.words (spot b 0)
+    → TotalsAreTold (world_state v threads) m e → TableInvariant v → IsAtEnd u → 0 < b → b ≤ u.ghost_state.extent.shape.blocks → x
+    ≡ slice_index v.words (spot b 0)
     → y ≡ slice_index v.words (spot b 1) → r ≡ counts_in (number_of x) (number_of y) → r ≡ census_of (model_state u.ghost_state) b
 census_now u v threads m e b x y r is fit told kept end from within read read' answer =
     answer
-    ∙ census_is u.ghost_state b (number_of x) (number_of y) (subst (λ (z : WorldState). Kept z.ghost_state) is kept)
+    ∙ census_is u.ghost_state b (number_of x) (number_of y) (subst (λ (z : WorldState). TableInvariant z.ghost_state) is kept)
     (still_now u v threads m e is fit told end) (from, within)
     (ap number_of read ∙ ap (λ (z : WorldState). number_of (slice_index z.ghost_state.words (spot b 0))) is)
     (ap number_of read' ∙ ap (λ (z : WorldState). number_of (slice_index z.ghost_state.words (spot b 1))) is)

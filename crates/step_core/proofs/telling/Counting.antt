@@ -9,8 +9,8 @@ use Rattle.step_threads.specs.declared.programs.act.Act.TheVariants.{Move, Ask, 
 use Rattle.step_threads.specs.declared.programs.act.Task.{Task}
 use Rattle.step_threads.specs.declared.pending_call.PendingCall.{PendingCall}
 use Rattle.step_threads.specs.declared.pending_call.PendingCall.TheVariants.{Rest, Making, Locking, Giving, Brought, Saw, Matched, Refill, Returning, Clearing}
-use Rattle.step_table.specs.declared.slots.registers.Pointer.{Pointer}
-use Rattle.step_table.specs.declared.memory.past.AtomicStep.TheVariants as atomic_step
+use Rattle.control_word.specs.declared.handle.Handle.{Handle}
+use Rattle.step_table.specs.declared.memory.ghost_history.AtomicStep.TheVariants as atomic_step
 use Rattle.step_threads.specs.declared.said.Answer.{Answer}
 use Rattle.step_table.specs.declared.memory.ended.Ended.{Ended}
 use Rattle.step_threads.specs.declared.ending.Ending.{Ending}
@@ -59,7 +59,7 @@ plain : (v : GhostState) (d k : ℕ) (w : FrameView) (t : Task) (ts : List Task)
 plain v d k w t ts a none is stays = let l = went_plain (model_state v) d k w t ts a none is stays in omega (arith, l)
 
 -- an object is asked for a pointer, or gives one
-asked_one : (v : GhostState) (d k : ℕ) (w : FrameView) (t : Task) (ts : List Task) (i : ℕ) (q : Kind) (o : Option Pointer) → w.endings ≡ []
+asked_one : (v : GhostState) (d k : ℕ) (w : FrameView) (t : Task) (ts : List Task) (i : ℕ) (q : Kind) (o : Option Handle) → w.endings ≡ []
     → w.todo ≡ t ∷ ts → IsCounted v d Rest w (Some (on (asks v d w k ts i q) (step_of_act v d w k ts (FromThis i q) None Rest) o))
 asked_one v d k w t ts i q None none is =
     quiet v d k Rest Rest w (went (model_state v) d w k ts (FromThis i q)) _
@@ -71,7 +71,7 @@ asked_one v d k w t ts i q (Some y) none is =
     (λ b. quiet v d k Rest Rest w (went (model_state v) d w k ts (FromThis i q)) _
     (plain v d k w t ts (FromThis i q) none is refl))
 
-given_one : (v : GhostState) (d i k : ℕ) (q r : Kind) (y : Pointer) (w x : FrameView) (a : Option Answer) → frame_steps x ≤ frame_steps w
+given_one : (v : GhostState) (d i k : ℕ) (q r : Kind) (y : Handle) (w x : FrameView) (a : Option Answer) → frame_steps x ≤ frame_steps w
     → IsCounted v d (Giving i q y) w (Some (record {
       atomic_step = Some (give r y);
       pending_call = Rest;
@@ -81,7 +81,7 @@ given_one : (v : GhostState) (d i k : ℕ) (q r : Kind) (y : Pointer) (w x : Fra
 given_one v d i k q Owner y w x a le = record { made = plus_none _; ended = plus_none _; few = omega (arith, le) }
 given_one v d i k q Weak y w x a le = record { made = plus_none _; ended = plus_none _; few = omega (arith, le) }
 
-counted_give : (v : GhostState) (d i : ℕ) (q : Kind) (y : Pointer) (w : FrameView) (ts : List Task) → w.todo ≡ ts → w.endings ≡ []
+counted_give : (v : GhostState) (d i : ℕ) (q : Kind) (y : Handle) (w : FrameView) (ts : List Task) → w.todo ≡ ts → w.endings ≡ []
     → IsCounted v d (Giving i q y) w (given_step v d w i q y ts)
 counted_give v d i q y w [] is none = record { made = plus_none _; ended = plus_none _; few = omega arith }
 counted_give v d i q y w (t ∷ ts) is none =
@@ -90,7 +90,7 @@ counted_give v d i q y w (t ∷ ts) is none =
     (plain v d t.statement w t ts (FromThis i q) none is refl)
 
 -- a lock is tried, or done
-tried_or : (v : GhostState) (d k : ℕ) (h : PendingCall) (w : FrameView) (t : Task) (ts : List Task) (word i : ℕ) (must : Bool) (y : Pointer) (b : Bool)
+tried_or : (v : GhostState) (d k : ℕ) (h : PendingCall) (w : FrameView) (t : Task) (ts : List Task) (word i : ℕ) (must : Bool) (y : Handle) (b : Bool)
     → is_prepared h ≡ false → w.endings ≡ [] → w.todo ≡ t ∷ ts
     → IsCounted v d h w (Some (cond b (step_of_act v d w k ts (Lock i must) (Some (lock (model_state v) y)) Rest) (trying w k word)))
 tried_or v d k h w t ts word i must y true e none is =
@@ -98,7 +98,7 @@ tried_or v d k h w t ts word i must y true e none is =
     (plain v d k w t ts (Lock i must) none is refl)
 tried_or v d k h w t ts word i must y false e none is = quiet v d k h (cond (word == 0) Rest (Locking word)) w w None (omega arith)
 
-looked : (v : GhostState) (d k : ℕ) (w : FrameView) (t : Task) (ts : List Task) (i : ℕ) (must : Bool) (o : Option Pointer) → w.endings ≡ []
+looked : (v : GhostState) (d k : ℕ) (w : FrameView) (t : Task) (ts : List Task) (i : ℕ) (must : Bool) (o : Option Handle) → w.endings ≡ []
     → w.todo ≡ t ∷ ts → IsCounted v d Rest w (Some (on (looks v d w k ts (Lock i must)) (step_of_act v d w k ts (Lock i must) None Rest) o))
 looked v d k w t ts i must None none is =
     quiet v d k Rest Rest w (went (model_state v) d w k ts (Lock i must)) _
@@ -117,7 +117,7 @@ swapped v d k h w t ts a x e none is same goes =
 
 -- the funds of what goes in are brought first, where it has an object
 brought : (v : GhostState) (d k : ℕ) (w : FrameView) (t : Task) (ts : List Task) (a : Act) (x : Going) → w.endings ≡ [] → w.todo ≡ t ∷ ts
-    → t.act ≡ a → going w.slots a ≡ Some x → (o : Option Pointer)
+    → t.act ≡ a → going w.slots a ≡ Some x → (o : Option Handle)
     → IsCounted v d Rest w (Some (on (brings w k) (step_of_swap v d w k ts a x.0 x.1) o))
 brought v d k w t ts a x none is same goes None = swapped v d k Rest w t ts a x refl none is same goes
 brought v d k w t ts a x none is same goes (Some y) = record { made = plus_none _; ended = plus_none _; few = omega arith }
@@ -233,7 +233,7 @@ counted_rest v d w (e ∷ es) is =
     (λ full. left v d e.statement w (went (model_state v) d w e.statement w.todo (Leave (hand w.slots))) (slot_pointer w.slots (hand w.slots))
     (carried_leaves (model_state v) d e.statement w e es is full)) (λ free. counted_end v d w e es is free)
 
-counted_try : (v : GhostState) (d word : ℕ) (w : FrameView) (t : Task) (ts : List Task) (a : Act) (o : Option Pointer) → w.endings ≡ [] → w.todo ≡ t ∷ ts
+counted_try : (v : GhostState) (d word : ℕ) (w : FrameView) (t : Task) (ts : List Task) (a : Act) (o : Option Handle) → w.endings ≡ [] → w.todo ≡ t ∷ ts
     → locked_pointer w.slots a ≡ o → IsCounted v d (Locking word) w (option_map (tries v d w t.statement ts a word) o)
 counted_try v d word w t ts a None none is e = record { made = plus_none _; ended = plus_none _; few = omega arith }
 counted_try v d word w t ts (Lock i must) (Some y) none is e =

@@ -10,7 +10,7 @@ use Rattle.control_word.proofs.history.Legal.{sound}
 use Rattle.control_word.specs.declared.model.handle.Kind.{Kind}
 use Rattle.control_word.specs.declared.model.handle.Kind.TheVariants.{Owner, Weak}
 use Rattle.control_word.specs.declared.place.Block.{Block}
-use Rattle.control_word.specs.declared.model.handle.Handle.{Handle}
+use Rattle.control_word.specs.declared.model.handle.NumberedHandle.{NumberedHandle}
 use Rattle.control_word.specs.Handles.{empty}
 use Rattle.control_word.specs.State.{Object, common, ending, gone, kind_of_member, live, put, weak}
 use Rattle.step_threads.specs.declared.programs.act.Act.{Act}
@@ -22,10 +22,10 @@ use Rattle.step_threads.specs.declared.programs.act.Task.{Task}
 use Rattle.step_threads.specs.declared.ending.Ending.{Ending}
 use Rattle.step_threads.specs.declared.pending_call.PendingCall.{PendingCall}
 use Rattle.step_threads.specs.declared.pending_call.PendingCall.TheVariants.{Rest, Making, Locking, Giving, Brought, Saw, Matched, Refill, Returning, Clearing}
-use Rattle.step_table.specs.declared.slots.registers.Pointer.{Pointer}
+use Rattle.control_word.specs.declared.handle.Handle.{Handle}
 use Rattle.step_table.specs.declared.cell_steps.cell_step.Cell.TheVariants.{Member}
-use Rattle.step_table.specs.declared.memory.past.AtomicStep.{AtomicStep}
-use Rattle.step_table.specs.declared.memory.past.AtomicStep.TheVariants as atomic_step
+use Rattle.step_table.specs.declared.memory.ghost_history.AtomicStep.{AtomicStep}
+use Rattle.step_table.specs.declared.memory.ghost_history.AtomicStep.TheVariants as atomic_step
 use Rattle.step_threads.specs.declared.said.Said.{Said}
 use Rattle.step_threads.specs.Actors.{wanted}
 use Rattle.step_table.specs.declared.cell_steps.cell_step.CellStep.TheVariants as cell_step
@@ -41,7 +41,7 @@ use Rattle.step_threads.specs.AbstractStates.{went}
 use Rattle.step_threads.specs.Rows.{ending_as, holding, with_end}
 use Rattle.step_threads.specs.NextSteps.{at_rest, begun, emptied, first, made_on, step_at, ghost_by}
 use Rattle.step_threads.specs.Steps.{Step, begins, claims, empties, ends_on, prepares, silent, with_endings, within}
-use Rattle.step_table.specs.GhostStates.{Kept, GhostState, ghost_after_step, known_words, object_of_block, pending, model_state}
+use Rattle.step_table.specs.GhostStates.{TableInvariant, GhostState, ghost_after_step, known_words, object_of_block, pending, model_state}
 use Rattle.step_core.specs.Told.{AllEndInThreads}
 use Rattle.step_table.proofs.tables.Places.{owner_busy, there}
 use Rattle.step_core.proofs.telling.Trying.{compares_on, load_on, matched_on, refill_on, saw_on}
@@ -51,8 +51,8 @@ use Rattle.step_core.proofs.telling.Still.{sent_on, shared, tried_on}
 use Rattle.step_core.proofs.telling.Still.{within as on_the_way}
 
 -- an owner leaves
-left_by : (v : GhostState) (d k : ℕ) (w x : FrameView) (a : Said) (f : Lists) → f d ≡ w.endings → AllEndInThreads (model_state v) f → Kept v
-    → (y : Pointer) (last : Bool)
+left_by : (v : GhostState) (d k : ℕ) (w x : FrameView) (a : Said) (f : Lists) → f d ≡ w.endings → AllEndInThreads (model_state v) f → TableInvariant v
+    → (y : Handle) (last : Bool)
     → x.endings ≡ with_end k (cond last (ending_as Owner y) None) w.endings
     → Right v d w f (Some (record { atomic_step = Some (atomic_step.Leave y.block y.place last); pending_call = Rest; frame_view = x; said = a }))
 left_by v d k w x a f at all kept y true is = record {
@@ -85,16 +85,16 @@ left_by v d k w x a f at all kept y false is = record {
       (s.object o) refl (λ e p. keep (s.object o).block e (all o e p)) (λ r e n p. keep (s.object r).block e (all r e p));
 }
 
-left_as : (v : GhostState) (d k : ℕ) (w x : FrameView) (a : Said) (f : Lists) → f d ≡ w.endings → AllEndInThreads (model_state v) f → Kept v
-    → (y : Pointer) (q : Kind) (last : Bool)
+left_as : (v : GhostState) (d k : ℕ) (w x : FrameView) (a : Said) (f : Lists) → f d ≡ w.endings → AllEndInThreads (model_state v) f → TableInvariant v
+    → (y : Handle) (q : Kind) (last : Bool)
     → x.endings ≡ with_end k (cond last (ending_as q y) None) w.endings
     → Right v d w f (Some (record { atomic_step = Some (leave_as q y last); pending_call = Rest; frame_view = x; said = a }))
 left_as v d k w x a f at all kept y Owner last is = left_by v d k w x a f at all kept y last is
 left_as v d k w x a f at all kept y Weak true is = same v d w f _ refl is at all
 left_as v d k w x a f at all kept y Weak false is = same v d w f _ refl is at all
 
-left : (v : GhostState) (d k : ℕ) (w x : FrameView) (a : Said) (f : Lists) → f d ≡ w.endings → AllEndInThreads (model_state v) f → Kept v
-    → (y : Option Pointer)
+left : (v : GhostState) (d k : ℕ) (w x : FrameView) (a : Said) (f : Lists) → f d ≡ w.endings → AllEndInThreads (model_state v) f → TableInvariant v
+    → (y : Option Handle)
     → x.endings ≡ begun_by (model_state v) k w.endings y
     → Right v d w f (Some (record { atomic_step = option_map (leave (model_state v)) y; pending_call = Rest; frame_view = x; said = a }))
 left v d k w x a f at all kept None is = same v d w f _ refl is at all
@@ -105,7 +105,8 @@ begun_in : (v : GhostState) (d k : ℕ) (w : FrameView) (ts : List Task) (f : Li
 begun_in v d k w ts f at all None = same v d w f _ refl (settled_endings w.slots false w.endings ts) at all
 begun_in v d k w ts f at all (Some b) = same v d w f _ refl refl at all
 
-acted : (v : GhostState) (d k : ℕ) (w : FrameView) (ts : List Task) (f : Lists) → f d ≡ w.endings → AllEndInThreads (model_state v) f → Kept v → (a : Act)
+acted : (v : GhostState) (d k : ℕ) (w : FrameView) (ts : List Task) (f : Lists) → f d ≡ w.endings → AllEndInThreads (model_state v) f → TableInvariant v
+    → (a : Act)
     → Right v d w f (Some (first v d w k ts a))
 acted v d k w ts f at all kept (Make form) = begun_in v d k w ts f at all (least d (model_state v).stores)
 acted v d k w ts f at all kept (Share i) =
@@ -143,13 +144,14 @@ acted v d k w ts f at all kept Drop =
 acted v d k w ts f at all kept (OnShelf x) =
     plain v d k w ts (OnShelf x) _ Rest f refl (done_shelf v d x (shelf_block (model_state v) d x)) at all
 
-begun_task : (v : GhostState) (d : ℕ) (w : FrameView) (f : Lists) → f d ≡ w.endings → AllEndInThreads (model_state v) f → Kept v → (ts : List Task)
+begun_task : (v : GhostState) (d : ℕ) (w : FrameView) (f : Lists) → f d ≡ w.endings → AllEndInThreads (model_state v) f → TableInvariant v → (ts : List Task)
     → Right v d w f (begun v d w ts)
 begun_task v d w f at all kept [] = same v d w f None refl refl at all
 begun_task v d w f at all kept (t ∷ ts) = acted v d t.statement w ts f at all kept t.act
 
 -- a member is cleared, or what it held is out
-staged_right : (v : GhostState) (d m : ℕ) (w x : FrameView) (e : Ending) (es : List Ending) (a : AtomicStep) (h : PendingCall) (c : Handle) (f : Lists) →
+staged_right : (v : GhostState) (d m : ℕ) (w x : FrameView) (e : Ending) (es : List Ending) (a : AtomicStep) (h : PendingCall) (c : NumberedHandle) (f : Lists)
+    →
     w.endings ≡ e ∷ es
     → x.endings ≡ staged e ∷ es → (let o = (model_state v).object in let p = object_of_block v e.block in
     (model_state (ghost_after_step v d a)).object ≡ put o p (record (o p) { member = put (o p).member m c })) → f d ≡ w.endings
@@ -169,7 +171,7 @@ staged_right v d m w x e es a h c f was becomes is at all =
 
 -- the object is gone: no other ends in its block
 finished : (v : GhostState) (d : ℕ) (w : FrameView) (e : Ending) (es : List Ending) (vacant : Bool) (f : Lists) → f d ≡ e ∷ es
-    → AllEndInThreads (model_state v) f → Kept v
+    → AllEndInThreads (model_state v) f → TableInvariant v
     → Right v d w f (Some
     (record { atomic_step = Some (atomic_step.Finish e.block vacant); pending_call = Rest; frame_view = with_endings w es; said = silent e.statement }))
 finished v d w e es vacant f at all kept = record {
@@ -205,7 +207,7 @@ finished v d w e es vacant f at all kept = record {
 
 ended : (v : GhostState) (d : ℕ) (w : FrameView) (e : Ending) (es : List Ending) (f : Lists) → f d ≡ w.endings → w.endings ≡ e ∷ es
     → AllEndInThreads (model_state v) f
-    → Kept v → Right v d w f (Some (ends_on v w e es))
+    → TableInvariant v → Right v d w f (Some (ends_on v w e es))
 ended v d w e es f at was all kept =
     let vacant = weak (model_state v) (object_of_block v e.block) == 0 in
     let done : Step = record
@@ -231,7 +233,7 @@ emptying v d w f at all (e ∷ es) was =
     f was refl refl
     at all
 
-rested : (v : GhostState) (d : ℕ) (w : FrameView) (f : Lists) → f d ≡ w.endings → AllEndInThreads (model_state v) f → Kept v → (es : List Ending)
+rested : (v : GhostState) (d : ℕ) (w : FrameView) (f : Lists) → f d ≡ w.endings → AllEndInThreads (model_state v) f → TableInvariant v → (es : List Ending)
     → w.endings ≡ es
     → Right v d w f (at_rest v d w es)
 rested v d w f at all kept [] is = begun_task v d w f at all kept w.todo
@@ -272,7 +274,7 @@ making v d i w b c f at all (t ∷ ts) =
     (λ e. claimed v d t.statement w ts b (form_of t.act) f at all) (λ e. prepared v d t.statement found want i w b c f at all)
 
 -- after each step
-pub ends_right : (v : GhostState) (d : ℕ) (h : PendingCall) (w : FrameView) (f : Lists) → f d ≡ w.endings → AllEndInThreads (model_state v) f → Kept v
+pub ends_right : (v : GhostState) (d : ℕ) (h : PendingCall) (w : FrameView) (f : Lists) → f d ≡ w.endings → AllEndInThreads (model_state v) f → TableInvariant v
     → Right v d w f (step_at v d h w)
 ends_right v d Rest w f at all kept = rested v d w f at all kept w.endings refl
 ends_right v d (Making b i c) w f at all kept = making v d i w b c f at all w.todo

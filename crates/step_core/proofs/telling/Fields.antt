@@ -12,13 +12,13 @@ use Rattle.control_word.specs.declared.place.Block.{Block}
 use Rattle.control_word.specs.Layout.{spot}
 use Rattle.control_word.specs.State.{count, weak, weak_number}
 use Rattle.step_table.specs.Openings.{opening}
-use Rattle.step_table.specs.GhostStates.{Kept, GhostState, object_of_block, model_state}
+use Rattle.step_table.specs.GhostStates.{TableInvariant, GhostState, object_of_block, model_state}
 use Rattle.step_table.proofs.tables.Reading.{field_read, four_of}
 use Rattle.step_core.specs.Totals.{census_of, fields_of}
 use Rattle.step_core.specs.Worlds.{WorldState}
 
 -- the object has four fields
-whole : (v : GhostState) (b : Block) → Kept v → IsBusy (model_state v) (object_of_block v b)
+whole : (v : GhostState) (b : Block) → TableInvariant v → IsBusy (model_state v) (object_of_block v b)
     → length ((model_state v).object (object_of_block v b)).fields ≡ 4
 whole v b kept busy =
     let fine = sound (opening v.extent) v.history kept.stands.legal in
@@ -26,7 +26,7 @@ whole v b kept busy =
     let some : object_of_block v b ≢ 0 = λ e. let t = ap (weak_number (model_state v)) e in omega (arith, busy, z, t) in
     kept.whole (object_of_block v b) (omega (arith, some)) (fine.latest_made b.0)
 
-four_read : (v : GhostState) (b : Block) (w x y z : ℕ) → Kept v → IsBusy (model_state v) (object_of_block v b) → w ≡ get_or v.words (spot b.0 3) 0
+four_read : (v : GhostState) (b : Block) (w x y z : ℕ) → TableInvariant v → IsBusy (model_state v) (object_of_block v b) → w ≡ get_or v.words (spot b.0 3) 0
     → x ≡ get_or v.words (spot b.0 4) 0 → y ≡ get_or v.words (spot b.0 5) 0 → z ≡ get_or v.words (spot b.0 6) 0
     → w ∷ x ∷ y ∷ z ∷ [] ≡ ((model_state v).object (object_of_block v b)).fields
 four_read v b w x y z kept busy p q r s =
@@ -57,7 +57,7 @@ no_fields v b r t is some none =
     let e = (vacant_by v b (not t) (ap is_some (sym is) ∙ some)).0 (ap not none) in
     sym (cond-true (n == 0) None (Some ((model_state v).object ((model_state v).latest b)).fields) (eq-eqb n 0 e))
 
-fields_in : (v : GhostState) (b : Block) (w x y z : ℕ) (r : Option Counts) (t : Bool) → Kept v → r ≡ census_of (model_state v) b.0
+fields_in : (v : GhostState) (b : Block) (w x y z : ℕ) (r : Option Counts) (t : Bool) → TableInvariant v → r ≡ census_of (model_state v) b.0
     → is_some r ≡ not t → t ≡ false → w ≡ get_or v.words (spot b.0 3) 0 → x ≡ get_or v.words (spot b.0 4) 0
     → y ≡ get_or v.words (spot b.0 5) 0 → z ≡ get_or v.words (spot b.0 6) 0 → Some (w ∷ x ∷ y ∷ z ∷ []) ≡ fields_of (model_state v) b.0
 fields_in v b w x y z r t kept is some there p q u s =
@@ -67,7 +67,7 @@ fields_in v b w x y z r t kept is some there p q u s =
     ∙ sym (cond-false (n == 0) None (Some ((model_state v).object ((model_state v).latest b.0)).fields) (ne_eqb n 0 ne))
 
 -- any other has those that were read
-pub fields_now : (u : WorldState) (v : GhostState) (b : Block) (w x y z : ℕ) (r : Option Counts) (t : Bool) → v ≡ u.ghost_state → Kept v
+pub fields_now : (u : WorldState) (v : GhostState) (b : Block) (w x y z : ℕ) (r : Option Counts) (t : Bool) → v ≡ u.ghost_state → TableInvariant v
     → r ≡ census_of (model_state u.ghost_state) b.0 → is_some r ≡ not t → t ≡ false → w ≡ get_or v.words (spot b.0 3) 0
     → x ≡ get_or v.words (spot b.0 4) 0 → y ≡ get_or v.words (spot b.0 5) 0 → z ≡ get_or v.words (spot b.0 6) 0
     → Some (w ∷ x ∷ y ∷ z ∷ []) ≡ fields_of (model_state u.ghost_state) b.0

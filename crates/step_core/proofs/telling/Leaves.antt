@@ -11,7 +11,7 @@ use Rattle.step_threads.specs.declared.programs.act.Act.TheVariants.{Put, Leave,
 use Rattle.step_threads.specs.declared.programs.act.Act.TheVariants.{Drop}
 use Rattle.step_threads.specs.declared.programs.act.Task.{Task}
 use Rattle.step_threads.specs.declared.ending.Ending.{Ending}
-use Rattle.step_table.specs.declared.slots.registers.Pointer.{Pointer}
+use Rattle.control_word.specs.declared.handle.Handle.{Handle}
 use Rattle.step_threads.specs.Frames.{FrameView, idle, other, frame_settled, slots_idle, taken_idle}
 use Rattle.step_table.specs.declared.memory.ended.Ended.{Ended}
 use Rattle.step_table.specs.AtomicSteps.{Telling, by_word, exact, is_last, on}
@@ -27,7 +27,7 @@ settled_endings slots taken es (t ∷ ts) =
     (record { slots = slots; taken = taken; endings = es; todo = t ∷ ts }) (λ (w : FrameView). w.endings ≡ es) (λ e. r) (λ e. refl)
 
 -- the pointer that leaves by an act
-abbrev pub leaves_by : Slots → Act → Option Pointer
+abbrev pub leaves_by : Slots → Act → Option Handle
 leaves_by slots (Put k) = slot_pointer slots k
 leaves_by slots (Leave k) = slot_pointer slots k
 leaves_by slots (Clear k) = slot_pointer slots k
@@ -35,7 +35,7 @@ leaves_by slots Drop = slot_pointer slots (other slots)
 leaves_by slots _ = None
 
 -- the endings where a pointer left by statement k
-abbrev pub begun_by : State → ℕ → List Ending → Option Pointer → List Ending
+abbrev pub begun_by : State → ℕ → List Ending → Option Handle → List Ending
 begun_by s k es o = with_end k (ending_by (on (is_last s) false o) o) es
 
 -- what the step of an act tells of an object that ends

@@ -16,8 +16,8 @@ use Rattle.control_word.specs.declared.packed.cell.CellWord.{CellWord}
 use Rattle.step_table.specs.declared.cell_steps.cell_step.Cell.{Cell}
 use Rattle.step_table.specs.declared.cell_steps.cell_step.Cell.TheVariants.{Member}
 use Rattle.step_table.specs.declared.memory.form.Form.{Form}
-use Rattle.step_table.specs.declared.slots.registers.Pointer.{Pointer}
-use Rattle.step_table.specs.declared.memory.past.AtomicStep.TheVariants as atomic_step
+use Rattle.control_word.specs.declared.handle.Handle.{Handle}
+use Rattle.step_table.specs.declared.memory.ghost_history.AtomicStep.TheVariants as atomic_step
 use Rattle.step_table.specs.Cells.{word_of_cell}
 use Rattle.step_table.specs.Contents.{compared_in, held_in, seen, slot_of}
 use Rattle.step_table.specs.AtomicSteps.{is_enabled, lock, on, owner_word}
@@ -58,11 +58,11 @@ module _ (v : GhostState) (d k : ℕ) (w : FrameView) (ts : List Task) (P : Fram
   going_by a None done = done
   going_by a (Some g) done = go (slot_pointer w.slots g.1)
     where
-      go : (o : Option Pointer) → P (on (brings w k) (step_of_swap v d w k ts a g.0 g.1) o).frame_view
+      go : (o : Option Handle) → P (on (brings w k) (step_of_swap v d w k ts a g.0 g.1) o).frame_view
       go None = done
       go (Some p) = same
 
-  looks_by : (a : Act) (o : Option Pointer) → P (went (model_state v) d w k ts a)
+  looks_by : (a : Act) (o : Option Handle) → P (went (model_state v) d w k ts a)
       → P (on (looks v d w k ts a) (step_of_act v d w k ts a None Rest) o).frame_view
   looks_by a None done = done
   looks_by a (Some x) done =
@@ -81,7 +81,7 @@ module _ (v : GhostState) (d k : ℕ) (w : FrameView) (ts : List Task) (P : Fram
   first_by (Lock i must) done made = looks_by (Lock i must) (locked_pointer w.slots (Lock i must)) done
   first_by (FromThis i kind) done made = go (inside (slot_pointer w.slots i))
     where
-      go : (o : Option Pointer) → P (on (asks v d w k ts i kind) (step_of_act v d w k ts (FromThis i kind) None Rest) o).frame_view
+      go : (o : Option Handle) → P (on (asks v d w k ts i kind) (step_of_act v d w k ts (FromThis i kind) None Rest) o).frame_view
       go None = done
       go (Some x) =
           cond_both (is_enabled (model_state v) x) (record { atomic_step = None; pending_call = Giving i kind x; frame_view = w; said = silent k })
@@ -153,14 +153,14 @@ module _ (v : GhostState) (d : ℕ) (w : FrameView) (tidy : IsTidy w) where
   locking_tidy word [] is = tidy
   locking_tidy word (t ∷ ts) is = go (locked_pointer w.slots t.act)
     where
-      go : (o : Option Pointer) → Tidy (option_map (tries v d w t.statement ts t.act word) o)
+      go : (o : Option Handle) → Tidy (option_map (tries v d w t.statement ts t.act word) o)
       go None = tidy
       go (Some x) =
           cond_both (owner_word v x == word) (step_of_act v d w t.statement ts t.act (Some (lock (model_state v) x)) Rest)
           (trying w t.statement (owner_word v x))
           (λ (s : Step). IsTidy s.frame_view) (λ e. went_tidy (model_state v) d t.statement w t ts is tidy) (λ e. tidy)
 
-  giving_tidy : (i : ℕ) (kind : Kind) (x : Pointer) (ts : List Task) → w.todo ≡ ts → IsUnderWay d v (Giving i kind x) ts
+  giving_tidy : (i : ℕ) (kind : Kind) (x : Handle) (ts : List Task) → w.todo ≡ ts → IsUnderWay d v (Giving i kind x) ts
       → Tidy (given_step v d w i kind x ts)
   giving_tidy i kind x [] is way = tidy
   giving_tidy i kind x (t ∷ ts) is way =

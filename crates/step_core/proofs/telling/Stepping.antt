@@ -3,7 +3,7 @@ use Rattle.std.proofs.Common.{◌≡◌, ℕ, ◌+◌, ◌<◌, length, refl, sy
 use Rattle.std.specs.Prelude.{Option, Some, None}
 use Rattle.std.proofs.lemmas.List.Sums.{sum_by-set}
 use Rattle.step_table.specs.declared.memory.extent.Extent.{Extent}
-use Rattle.step_table.specs.declared.memory.past.AtomicStep.{AtomicStep}
+use Rattle.step_table.specs.declared.memory.ghost_history.AtomicStep.{AtomicStep}
 use Rattle.step_threads.specs.declared.said.Stepped.{Stepped}
 use Rattle.step_core.specs.Bounds.{frame_steps}
 use Rattle.step_threads.specs.Frames.{FrameView}
@@ -11,7 +11,7 @@ use Rattle.step_table.specs.Openings.{opening}
 use Rattle.step_threads.specs.AbstractStates.{nowhere, frame_of}
 use Rattle.step_threads.specs.NextSteps.{pending_call_by, ghost_after, ghost_by, stepped, frame_by}
 use Rattle.step_threads.specs.Steps.{Step}
-use Rattle.step_table.specs.GhostStates.{Kept, GhostState}
+use Rattle.step_table.specs.GhostStates.{TableInvariant, GhostState}
 use Rattle.step_core.specs.Told.{TotalsAreTold, step_ends, step_makes}
 use Rattle.step_core.specs.Turning.{HasBegun}
 use Rattle.step_core.specs.Worlds.{WorldState, Steps, pending_call_of, abstraction, world_state_by, step_of}
@@ -30,7 +30,7 @@ same_extent v d (Some x) = go x.atomic_step
     go None = refl
     go (Some y) = refl
 
-told_step : (d : ℕ) (u : WorldState) (m e : ℕ) → Kept u.ghost_state → Kept (ghost_by u.ghost_state d (step_of d u)) → HasBegun d u
+told_step : (d : ℕ) (u : WorldState) (m e : ℕ) → TableInvariant u.ghost_state → TableInvariant (ghost_by u.ghost_state d (step_of d u)) → HasBegun d u
     → d < length u.frame_views → TotalsAreTold u m e
     → TotalsAreTold (world_state_by d u (step_of d u)) (m + step_makes (pending_call_of u d) (stepped u.ghost_state (step_of d u)))
     (e + step_ends (stepped u.ghost_state (step_of d u)))
@@ -59,12 +59,13 @@ told_step d u m e kept after begun lt told =
       tidy = tidy_after d u begun.pending_call lt told.tidy;
     }
 
-pub told_by : (d : ℕ) (u v : WorldState) (r : Stepped) (m e : ℕ) → Kept u.ghost_state → Kept v.ghost_state → HasBegun d u → d < length u.frame_views
+pub told_by : (d : ℕ) (u v : WorldState) (r : Stepped) (m e : ℕ) → TableInvariant u.ghost_state → TableInvariant v.ghost_state → HasBegun d u
+    → d < length u.frame_views
     → TotalsAreTold u m e
     → Steps d u r v → TotalsAreTold v (m + step_makes (pending_call_of u d) r) (e + step_ends r)
 told_by d u v r m e kept after begun lt told steps =
     let x = step_of d u in
-    let k : Kept (ghost_by u.ghost_state d x) = subst (λ (y : WorldState). Kept y.ghost_state) steps.1 after in
+    let k : TableInvariant (ghost_by u.ghost_state d x) = subst (λ (y : WorldState). TableInvariant y.ghost_state) steps.1 after in
     let same = answered_adds u.ghost_state d (pending_call_of u d) (frame_of (abstraction u) d) in
     let a : step_makes (pending_call_of u d) r ≡ step_makes (pending_call_of u d) (stepped u.ghost_state x) = ap (step_makes (pending_call_of u d)) steps.0 ∙
     same.0 in

@@ -9,7 +9,7 @@ use Rattle.std.proofs.lemmas.Bool.{cases_eq, cond_both}
 use Rattle.control_word.proofs.lists.Tallies.{put_cases}
 use Rattle.control_word.specs.declared.model.event.Cell.{Cell as Named}
 use Rattle.control_word.specs.declared.model.event.Cell.TheVariants.{Free, Member}
-use Rattle.control_word.specs.declared.model.handle.Handle.{Handle}
+use Rattle.control_word.specs.declared.model.handle.NumberedHandle.{NumberedHandle}
 use Rattle.control_word.specs.declared.model.handle.Kind.{Kind}
 use Rattle.control_word.specs.declared.model.handle.Kind.TheVariants.{Owner, Weak}
 use Rattle.control_word.specs.Events.{swaps as event_swaps}
@@ -23,9 +23,9 @@ use Rattle.step_threads.specs.declared.programs.act.Task.{Task}
 use Rattle.step_threads.specs.declared.ending.Ending.{Ending}
 use Rattle.step_threads.specs.declared.pending_call.PendingCall.{PendingCall}
 use Rattle.step_threads.specs.declared.pending_call.PendingCall.TheVariants.{Rest, Locking, Giving, Brought}
-use Rattle.step_table.specs.declared.slots.registers.Pointer.{Pointer}
-use Rattle.step_table.specs.declared.memory.past.AtomicStep.{AtomicStep}
-use Rattle.step_table.specs.declared.memory.past.AtomicStep.TheVariants as atomic_step
+use Rattle.control_word.specs.declared.handle.Handle.{Handle}
+use Rattle.step_table.specs.declared.memory.ghost_history.AtomicStep.{AtomicStep}
+use Rattle.step_table.specs.declared.memory.ghost_history.AtomicStep.TheVariants as atomic_step
 use Rattle.step_table.specs.declared.cell_steps.cell_step.CellStep.TheVariants as cell_step
 use Rattle.step_table.specs.Contents.{as_word, seen}
 use Rattle.step_threads.specs.Programs.{kind_at}
@@ -36,7 +36,7 @@ use Rattle.step_table.specs.Registers.{slot_pointer, slot_value}
 use Rattle.step_threads.specs.AbstractStates.{went}
 use Rattle.step_threads.specs.NextSteps.{given_step, sent, ghost_after, ghost_by, tried, frame_by}
 use Rattle.step_threads.specs.Steps.{Step, step_of_act, asks, brings, gives_back, looks, sends, silent, step_of_swap, tries, trying}
-use Rattle.step_table.specs.GhostStates.{Kept, GhostState, model_state}
+use Rattle.step_table.specs.GhostStates.{TableInvariant, GhostState, model_state}
 use Rattle.step_core.specs.Told.{AllEndInThreads}
 use Rattle.step_core.proofs.telling.Leaves.{act_endings, begun_by, leaves_by}
 use Rattle.step_core.proofs.telling.Swapping.{swapping}
@@ -74,20 +74,20 @@ end_put s t g o x is here else p e =
 
 -- after the step all is as it should be
 pub record Right (v : GhostState) (d : ℕ) (w : FrameView) (f : Lists) (x : Option Step) : Type 0 where
-  pub right : (g : Lists) → Kept (ghost_by v d x) → g d ≡ (frame_by w x).endings → IsElse d f g → AllEndInThreads (model_state (ghost_by v d x)) g
+  pub right : (g : Lists) → TableInvariant (ghost_by v d x) → g d ≡ (frame_by w x).endings → IsElse d f g → AllEndInThreads (model_state (ghost_by v d x)) g
 
 -- each object is in the block that it was in, and ends in whose hands it did
 abbrev pub IsAlike : (ℕ → Object) → (ℕ → Object) → Type 0
 IsAlike f g = (o : ℕ) → ((g o).phase ≡ (f o).phase) × ((g o).block ≡ (f o).block)
 
 -- another member alone
-pub put_alike : (f : ℕ → Object) (p m : ℕ) (h : Handle) → IsAlike f (put f p (record (f p) { member = put (f p).member m h }))
+pub put_alike : (f : ℕ → Object) (p m : ℕ) (h : NumberedHandle) → IsAlike f (put f p (record (f p) { member = put (f p).member m h }))
 put_alike f p m h o =
     put_cases (λ k y. (y.phase ≡ (f k).phase) × (y.block ≡ (f k).block)) f p (record (f p) { member = put (f p).member m h }) o
     (λ q. (ap (λ k. (f k).phase) (sym q), ap (λ k. (f k).block) (sym q))) (λ n. (refl, refl))
 
 -- a cell is a member of an object or of none
-pub fills_alike : (s : State) (d : ℕ) (c : Named) (new old : Handle) → IsAlike s.object (event_swaps d c new old s).object
+pub fills_alike : (s : State) (d : ℕ) (c : Named) (new old : NumberedHandle) → IsAlike s.object (event_swaps d c new old s).object
 fills_alike s d (Free n) new old o = (refl, refl)
 fills_alike s d (Member p m) new old o = put_alike s.object p m new o
 
@@ -111,8 +111,8 @@ same v d w f x is own at all =
     alike v d w f x (same_alike (model_state v).object (model_state (ghost_by v d x)).object is) (follows_same w.endings (frame_by w x).endings own) at all
 
 -- an act on what a slot holds
-pub done_on : (v : GhostState) (d : ℕ) (f : Pointer → AtomicStep) (o : Option Pointer)
-    → ((x : Pointer) → (model_state (ghost_after v d (Some (f x)))).object ≡ (model_state v).object)
+pub done_on : (v : GhostState) (d : ℕ) (f : Handle → AtomicStep) (o : Option Handle)
+    → ((x : Handle) → (model_state (ghost_after v d (Some (f x)))).object ≡ (model_state v).object)
     → (model_state (ghost_after v d (option_map f o))).object ≡ (model_state v).object
 done_on v d f None still = refl
 done_on v d f (Some x) still = still x
@@ -125,11 +125,11 @@ done_shelf v d Shelve (Some b) = refl
 done_shelf v d (Unshelve c) None = refl
 done_shelf v d (Unshelve c) (Some b) = refl
 
-pub shared : (v : GhostState) (d : ℕ) (q : Kind) (x : Pointer) → (model_state (ghost_after v d (Some (share_as q x)))).object ≡ (model_state v).object
+pub shared : (v : GhostState) (d : ℕ) (q : Kind) (x : Handle) → (model_state (ghost_after v d (Some (share_as q x)))).object ≡ (model_state v).object
 shared v d Owner x = refl
 shared v d Weak x = refl
 
-gave : (v : GhostState) (d : ℕ) (q : Kind) (x : Pointer) → (model_state (ghost_after v d (Some (give q x)))).object ≡ (model_state v).object
+gave : (v : GhostState) (d : ℕ) (q : Kind) (x : Handle) → (model_state (ghost_after v d (Some (give q x)))).object ≡ (model_state v).object
 gave v d Owner x = refl
 gave v d Weak x = refl
 
@@ -157,7 +157,7 @@ within v d k w x h f is at all = same v d w f _ is refl at all
 
 -- an object is asked for a pointer, or gives one
 pub asked : (v : GhostState) (d k : ℕ) (w : FrameView) (ts : List Task) (i : ℕ) (q : Kind) (f : Lists) → f d ≡ w.endings → AllEndInThreads (model_state v) f
-    → (o : Option Pointer)
+    → (o : Option Handle)
     → Right v d w f (Some (on (asks v d w k ts i q) (step_of_act v d w k ts (FromThis i q) None Rest) o))
 asked v d k w ts i q f at all None = plain v d k w ts (FromThis i q) None Rest f refl refl at all
 asked v d k w ts i q f at all (Some y) =
@@ -165,7 +165,7 @@ asked v d k w ts i q f at all (Some y) =
     (step_of_act v d w k ts (FromThis i q) None Rest) (λ (x : Step). Right v d w f (Some x))
     (λ e. within v d k w None (Giving i q y) f refl at all) (λ e. plain v d k w ts (FromThis i q) None Rest f refl refl at all)
 
-pub given_on : (v : GhostState) (d i : ℕ) (q : Kind) (y : Pointer) (w : FrameView) (f : Lists) → f d ≡ w.endings → AllEndInThreads (model_state v) f
+pub given_on : (v : GhostState) (d i : ℕ) (q : Kind) (y : Handle) (w : FrameView) (f : Lists) → f d ≡ w.endings → AllEndInThreads (model_state v) f
     → (ts : List Task)
     → Right v d w f (given_step v d w i q y ts)
 given_on v d i q y w f at all [] = same v d w f None refl refl at all
@@ -174,19 +174,19 @@ given_on v d i q y w f at all (t ∷ ts) = plain v d t.statement w ts (FromThis 
 -- a lock is tried, or done
 tried_or : (v : GhostState) (d k word : ℕ) (w : FrameView) (ts : List Task) (i : ℕ) (must : Bool) (f : Lists) → f d ≡ w.endings
     → AllEndInThreads (model_state v) f
-    → (y : Pointer) (c : Bool)
+    → (y : Handle) (c : Bool)
     → Right v d w f (Some (cond c (step_of_act v d w k ts (Lock i must) (Some (lock (model_state v) y)) Rest) (trying w k word)))
 tried_or v d k word w ts i must f at all y true = plain v d k w ts (Lock i must) (Some (lock (model_state v) y)) Rest f refl refl at all
 tried_or v d k word w ts i must f at all y false = within v d k w None (cond (word == 0) Rest (Locking word)) f refl at all
 
 pub looked : (v : GhostState) (d k : ℕ) (w : FrameView) (ts : List Task) (i : ℕ) (must : Bool) (f : Lists) → f d ≡ w.endings → AllEndInThreads (model_state v) f
-    → (o : Option Pointer)
+    → (o : Option Handle)
     → Right v d w f (Some (on (looks v d w k ts (Lock i must)) (step_of_act v d w k ts (Lock i must) None Rest) o))
 looked v d k w ts i must f at all None = plain v d k w ts (Lock i must) None Rest f refl refl at all
 looked v d k w ts i must f at all (Some y) = tried_or v d k (owner_word v y) w ts i must f at all y (owner_word v y == 0)
 
 tried_by : (v : GhostState) (d word k : ℕ) (w : FrameView) (ts : List Task) (a : Act) (f : Lists) → f d ≡ w.endings → AllEndInThreads (model_state v) f
-    → (o : Option Pointer) → locked_pointer w.slots a ≡ o → Right v d w f (option_map (tries v d w k ts a word) o)
+    → (o : Option Handle) → locked_pointer w.slots a ≡ o → Right v d w f (option_map (tries v d w k ts a word) o)
 tried_by v d word k w ts a f at all None e = same v d w f None refl refl at all
 tried_by v d word k w ts (Lock i must) f at all (Some y) e = tried_or v d k (owner_word v y) w ts i must f at all y (owner_word v y == word)
 tried_by v d word k w ts (Make form) f at all (Some y) e = cc
@@ -228,7 +228,7 @@ swapped v d k w ts a x f at all goes =
 
 -- its funds are brought first, where it has an object
 brought : (v : GhostState) (d k : ℕ) (w : FrameView) (ts : List Task) (a : Act) (x : Going) (f : Lists) → f d ≡ w.endings → AllEndInThreads (model_state v) f
-    → going w.slots a ≡ Some x → (o : Option Pointer) → Right v d w f (Some (on (brings w k) (step_of_swap v d w k ts a x.0 x.1) o))
+    → going w.slots a ≡ Some x → (o : Option Handle) → Right v d w f (Some (on (brings w k) (step_of_swap v d w k ts a x.0 x.1) o))
 brought v d k w ts a x f at all goes None = swapped v d k w ts a x f at all goes
 brought v d k w ts a x f at all goes (Some y) =
     within v d k w (Some (atomic_step.OnCell (cell_step.Bring y.kind y.block y.place 256))) Brought f refl at all

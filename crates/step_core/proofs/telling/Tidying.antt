@@ -12,7 +12,7 @@ use Rattle.step_threads.specs.declared.programs.act.Act.TheVariants.{Compare, Dr
 use Rattle.step_threads.specs.declared.programs.act.Task.{Task}
 use Rattle.step_threads.specs.declared.ending.Ending.{Ending}
 use Rattle.step_table.specs.declared.memory.form.Form.{Form}
-use Rattle.step_table.specs.declared.slots.registers.Pointer.{Pointer}
+use Rattle.control_word.specs.declared.handle.Handle.{Handle}
 use Rattle.step_table.specs.declared.slots.slot.Slot.{Slot}
 use Rattle.step_table.specs.Contents.{slots_swapped}
 use Rattle.step_table.specs.AtomicSteps.{exact}
@@ -46,7 +46,7 @@ holding_size : (slots : Slots) (null : Bool) (o : Option ℕ) → length (holdin
 holding_size slots null None = refl
 holding_size slots null (Some b) = length-set slots (hand slots) _
 
-taking_size : (slots : Slots) (must : Bool) (o : Option Pointer) → length (taking slots must o).0 ≡ length slots
+taking_size : (slots : Slots) (must : Bool) (o : Option Handle) → length (taking slots must o).0 ≡ length slots
 taking_size slots must None = refl
 taking_size slots must (Some x) = length-set slots (hand slots) _
 

@@ -5,7 +5,7 @@ use Rattle.control_word.specs.declared.packed.cell.CellWord.{CellWord}
 use Rattle.step_table.specs.declared.cell_steps.cell_step.Cell.{Cell}
 use Rattle.step_table.specs.declared.cell_steps.cell_step.CellStep.TheVariants as cell_step
 use Rattle.step_table.specs.declared.cell_steps.cell_step.Compared.{Compared}
-use Rattle.step_table.specs.declared.memory.past.AtomicStep.TheVariants as atomic_step
+use Rattle.step_table.specs.declared.memory.ghost_history.AtomicStep.TheVariants as atomic_step
 use Rattle.step_table.specs.declared.cell_steps.refill.Stage.{Stage}
 use Rattle.step_threads.specs.declared.programs.act.Act.{Act}
 use Rattle.step_threads.specs.declared.programs.act.Act.TheVariants.{Load, Compare}

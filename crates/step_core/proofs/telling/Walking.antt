@@ -13,7 +13,7 @@ use Rattle.step_threads.specs.declared.programs.act.Act.TheVariants.{Move, Ask}
 use Rattle.step_threads.specs.declared.programs.act.Act.TheVariants.{Offer, Swap, Exchange, Load, Compare, Drop, OnShelf}
 use Rattle.step_threads.specs.declared.programs.act.Task.{Task}
 use Rattle.step_threads.specs.declared.ending.Ending.{Ending}
-use Rattle.step_table.specs.declared.slots.registers.Pointer.{Pointer}
+use Rattle.control_word.specs.declared.handle.Handle.{Handle}
 use Rattle.step_core.specs.Bounds.{carried, task_steps, frame_steps, weight}
 use Rattle.step_threads.specs.Endings.{ending_steps, staged}
 use Rattle.step_threads.specs.Frames.{FrameView, hand, idle, other, placed, frame_settled, slots_idle, taken_idle}
@@ -106,10 +106,10 @@ carried_free [] slots free = refl
 carried_free (e ∷ es) slots free = ap (λ (b : Bool). cond b 1 0) free
 
 -- the objects that end by a pointer's leave
-abbrev pub ends_at : State → Option Pointer → ℕ
+abbrev pub ends_at : State → Option Handle → ℕ
 ends_at s o = cond (is_some (ended_by s o)) 1 0
 
-begun_steps : (s : State) (k : ℕ) (es : List Ending) (o : Option Pointer)
+begun_steps : (s : State) (k : ℕ) (es : List Ending) (o : Option Handle)
     → sum_by ending_steps (begun_by s k es o) ≡ sum_by ending_steps es + 13 * ends_at s o
 begun_steps s k es None = omega arith
 begun_steps s k es (Some x) = go x.kind (is_last s x)
@@ -125,7 +125,7 @@ carried_one : (b : Bool) → cond b 1 0 ≤ 1
 carried_one true = omega arith
 carried_one false = omega arith
 
-begun_carried : (s : State) (k : ℕ) (slots : Slots) (o : Option Pointer) → carried (begun_by s k [] o) slots ≤ ends_at s o
+begun_carried : (s : State) (k : ℕ) (slots : Slots) (o : Option Handle) → carried (begun_by s k [] o) slots ≤ ends_at s o
 begun_carried s k slots None = omega arith
 begun_carried s k slots (Some x) = go x.kind (is_last s x)
   where

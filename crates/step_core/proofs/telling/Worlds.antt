@@ -7,7 +7,7 @@ use Rattle.step_threads.specs.declared.said.Stepped.{Stepped}
 use Rattle.step_threads.specs.declared.said.Stepped.TheVariants.{Waited}
 use Rattle.step_threads.specs.declared.thread.Thread.{Thread}
 use Rattle.step_threads.specs.AbstractStates.{frame_of}
-use Rattle.step_table.specs.GhostStates.{Kept, GhostState}
+use Rattle.step_table.specs.GhostStates.{TableInvariant, GhostState}
 use Rattle.step_threads.specs.Threads.{HasStepped}
 use Rattle.step_core.specs.Told.{TotalsAreTold, step_ends, step_makes, world_state}
 use Rattle.step_core.specs.Turning.{HasBegun}
@@ -17,7 +17,7 @@ use Rattle.step_core.proofs.telling.Waiting.{never_waits}
 use Rattle.step_core.proofs.watching.Worlds.{unwatched}
 use Rattle.step_core.proofs.Worlds.{steps}
 
-pub told_after : (v w : GhostState) (threads : List Thread) (n : ℕ) (t t' : Thread) (r : Stepped) (m e : ℕ) → Kept v → Kept w
+pub told_after : (v w : GhostState) (threads : List Thread) (n : ℕ) (t t' : Thread) (r : Stepped) (m e : ℕ) → TableInvariant v → TableInvariant w
     → HasBegun n (world_state v threads)
     → n < length threads → t ≡ get_or threads n t → HasStepped n t v r t' w → TotalsAreTold (world_state v threads) m e
     → TotalsAreTold (world_state w (set threads n t')) (m + step_makes t.pending_call r) (e + step_ends r)
@@ -29,7 +29,7 @@ told_after v w threads n t t' r m e kept after begun lt read moved told =
     (steps v w threads n t t' r lt read moved))
 
 -- the same, with the totals as they were computed
-pub told_now : (v w : GhostState) (threads : List Thread) (n : ℕ) (t t' : Thread) (r : Stepped) (m e x y : ℕ) → Kept v → Kept w
+pub told_now : (v w : GhostState) (threads : List Thread) (n : ℕ) (t t' : Thread) (r : Stepped) (m e x y : ℕ) → TableInvariant v → TableInvariant w
     → HasBegun n (world_state v threads) → n < length threads → t ≡ get_or threads n t → HasStepped n t v r t' w → TotalsAreTold (world_state v threads) m e
     → x ≡ step_makes t.pending_call r → y ≡ step_ends r
     → TotalsAreTold (world_state w (set threads n t')) (m + x) (e + y)
@@ -39,7 +39,8 @@ told_now v w threads n t t' r m e x y kept after begun lt read moved told p q =
     (told_after v w threads n t t' r m e kept after begun lt read moved told))
 
 -- the step doesn't wait
-pub never_now : (v w : GhostState) (threads : List Thread) (n : ℕ) (t t' : Thread) (r : Stepped) (m e : ℕ) → Kept v → HasBegun n (world_state v threads)
+pub never_now : (v w : GhostState) (threads : List Thread) (n : ℕ) (t t' : Thread) (r : Stepped) (m e : ℕ) → TableInvariant v
+    → HasBegun n (world_state v threads)
     → n < length threads → t ≡ get_or threads n t → HasStepped n t v r t' w → TotalsAreTold (world_state v threads) m e → r ≢ Waited
 never_now v w threads n t t' r m e kept begun lt read moved told =
     let u = world_state v threads in

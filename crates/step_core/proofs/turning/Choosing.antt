@@ -3,13 +3,13 @@ use Rattle.std.proofs.Common.{◌≡◌, ℕ, Bool, true, false, cond, refl}
 use Rattle.std.specs.Prelude.{Option, Some, None, option_map}
 use Rattle.control_word.specs.declared.model.event.Event.{Event}
 use Rattle.control_word.specs.declared.model.event.Event.TheVariants as event
-use Rattle.control_word.specs.declared.model.handle.Handle.{Handle}
+use Rattle.control_word.specs.declared.model.handle.NumberedHandle.{NumberedHandle}
 use Rattle.control_word.specs.declared.model.handle.Kind.{Kind}
 use Rattle.control_word.specs.declared.model.handle.Kind.TheVariants.{Owner, Weak}
 use Rattle.control_word.specs.declared.place.Place.{Place}
 use Rattle.control_word.specs.Histories.{leads}
 use Rattle.control_word.specs.State.{Opening, State}
-use Rattle.step_table.specs.declared.slots.registers.Pointer.{Pointer}
+use Rattle.control_word.specs.declared.handle.Handle.{Handle}
 use Rattle.step_table.specs.AtomicSteps.{Telling, exact, handle_of}
 use Rattle.step_table.specs.Registers.{inside, owner_slot, slot_pointer, weak_slot}
 use Rattle.step_table.specs.GhostStates.{Nothing}
@@ -25,7 +25,7 @@ use Rattle.step_core.specs.Turns.{IsChosen}
 use Rattle.step_core.proofs.Entries.{giving}
 use Rattle.step_core.proofs.following.Replies.{replied}
 
-module _ (Exact : Handle → Type 0) (tell : Telling) (z : Opening) (d : ℕ) (h : History) (w : FrameView) where
+module _ (Exact : NumberedHandle → Type 0) (tell : Telling) (z : Opening) (d : ℕ) (h : History) (w : FrameView) where
   abbrev now : State
   now = leads z h
 
@@ -36,11 +36,11 @@ module _ (Exact : Handle → Type 0) (tell : Telling) (z : Opening) (d : ℕ) (h
   of_map f None p = tt
   of_map f (Some x) p = p x refl
 
-  of_copies : (k : Kind) (p : Option Place) (x : Pointer) → Fine (Some (copies now k p x))
+  of_copies : (k : Kind) (p : Option Place) (x : Handle) → Fine (Some (copies now k p x))
   of_copies Owner p x = tt
   of_copies Weak p x = tt
 
-  of_leaves : (k : Kind) (b : Bool) (x : Pointer) → Fine (Some (leaves_as now k b x))
+  of_leaves : (k : Kind) (b : Bool) (x : Handle) → Fine (Some (leaves_as now k b x))
   of_leaves Owner b x = tt
   of_leaves Weak b x = tt
 
@@ -49,7 +49,7 @@ module _ (Exact : Handle → Type 0) (tell : Telling) (z : Opening) (d : ℕ) (h
   of_test false e p = tt
 
   -- each act, where counts of what is in the slots are told as they are to be
-  pub chosen : ((i : ℕ) (x : Pointer) → slot_pointer w.slots i ≡ Some x → Exact (handle_of now x) → tell now x ≡ exact now x)
+  pub chosen : ((i : ℕ) (x : Handle) → slot_pointer w.slots i ≡ Some x → Exact (handle_of now x) → tell now x ≡ exact now x)
       → (a : Act) → Fine (replied tell z d h w a).event
   unfolding replied
   chosen told (Make form) = of_map _ (least d now.stores) (λ b e. e)

@@ -7,7 +7,7 @@ use Rattle.std.proofs.lemmas.Bool.{cond-false, cond-true, cond_both, eqb-true, e
 use Rattle.std.proofs.lemmas.List.{set-get_or, set-set}
 use Rattle.control_word.specs.declared.packed.cell.CellWord.{CellWord}
 use Rattle.control_word.specs.declared.model.event.Event.TheVariants as event
-use Rattle.control_word.specs.declared.model.handle.Handle.{Handle}
+use Rattle.control_word.specs.declared.model.handle.NumberedHandle.{NumberedHandle}
 use Rattle.control_word.specs.declared.place.Block.{Block}
 use Rattle.control_word.specs.Handles.{has_object}
 use Rattle.control_word.specs.Histories.{entry}
@@ -17,7 +17,7 @@ use Rattle.step_threads.specs.declared.pending_call.PendingCall.{PendingCall}
 use Rattle.step_threads.specs.declared.pending_call.PendingCall.TheVariants.{Rest, Clearing}
 use Rattle.step_table.specs.declared.cell_steps.cell_step.Cell.TheVariants.{Member}
 use Rattle.step_table.specs.declared.cell_steps.cell_step.CellStep.TheVariants as cell_step
-use Rattle.step_table.specs.declared.memory.past.AtomicStep.TheVariants as atomic_step
+use Rattle.step_table.specs.declared.memory.ghost_history.AtomicStep.TheVariants as atomic_step
 use Rattle.step_threads.specs.Frames.{FrameView, hand}
 use Rattle.step_threads.specs.Endings.{IsEndingAtStage, staged}
 use Rattle.step_table.specs.CellAtomicSteps.{handle_as}
@@ -30,7 +30,7 @@ use Rattle.step_threads.specs.AbstractStates.{AbstractState, nowhere, put_frame,
 use Rattle.step_threads.specs.Unwinding.{Wound, unwound}
 use Rattle.step_threads.specs.NextSteps.{pending_call_by, frame_by}
 use Rattle.step_threads.specs.Steps.{Step, empties, ends_on, gives_back, silent, with_endings, within}
-use Rattle.step_table.specs.GhostStates.{Kept, object_of_block, model_state}
+use Rattle.step_table.specs.GhostStates.{TableInvariant, object_of_block, model_state}
 use Rattle.step_core.specs.Turning.{returned}
 use Rattle.step_core.specs.Worlds.{WorldState, pending_call_of, abstraction, world_state_by}
 use Rattle.step_core.proofs.turning.Members.{seen_object, told_member, zero_member}
@@ -140,18 +140,20 @@ module _ (d : ℕ) (u : WorldState) (e : Ending) (es : List Ending) (lt : d < le
 
   module _ (less : e.stage < 3) where
     -- a member without an object goes out of it
-    empty_so : (h : Handle) → h ≡ ((model_state u.ghost_state).object (object_of_block u.ghost_state e.block)).member e.stage → has_object h ≡ false
+    empty_so : (h : NumberedHandle) → h ≡ ((model_state u.ghost_state).object (object_of_block u.ghost_state e.block)).member e.stage → has_object h ≡ false
         → rested d (moved (abstraction u) d (with_endings (frame_of (abstraction u) d) (staged e ∷ es))
         (entry d (event.ClearMember (object_of_block u.ghost_state e.block) e.stage h) ∷ u.ghost_state.history)) ≡ rested d (abstraction u)
     empty_so h told bare =
         let w = frame_of (abstraction u) d in
         let z = opening u.ghost_state.extent in
-        let f : Handle → History = λ (y : Handle). entry d (event.ClearMember (object_of_block u.ghost_state e.block) e.stage y) ∷ u.ghost_state.history in
+        let f : NumberedHandle → History = λ (y : NumberedHandle). entry d (event.ClearMember (object_of_block u.ghost_state e.block) e.stage y)
+        ∷ u.ghost_state.history in
         wound_on (staged e ∷ es) (f h)
-        (ap (λ (y : Handle). unwound z d w.slots (staged e ∷ es) (f y)) told
+        (ap (λ (y : NumberedHandle). unwound z d w.slots (staged e ∷ es) (f y)) told
         ∙ unwound_empty z d w.slots e es u.ghost_state.history less (ap has_object (sym told) ∙ bare))
 
-    clear_so : (word_of_cell u.ghost_state (Member e.block e.stage) == 0) ≡ true → Kept u.ghost_state → d < u.ghost_state.extent.actors → IsEndingAtStage d e
+    clear_so : (word_of_cell u.ghost_state (Member e.block e.stage) == 0) ≡ true → TableInvariant u.ghost_state → d < u.ghost_state.extent.actors
+        → IsEndingAtStage d e
         u.ghost_state
         → Same d u (within (with_endings (frame_of (abstraction u) d) (staged e ∷ es)) e.statement (Some (atomic_step.Clear e.block e.stage)) Rest)
     clear_so zero kept seat end = (
@@ -181,17 +183,19 @@ module _ (d : ℕ) (u : WorldState) (e : Ending) (es : List Ending) (lt : d < le
           let w = frame_of (abstraction u) d in
           let s = model_state u.ghost_state in
           let z = opening u.ghost_state.extent in
-          let f : Handle → History = λ (y : Handle). entry d (event.ClearMember (object_of_block u.ghost_state e.block) e.stage y) ∷ u.ghost_state.history in
+          let f : NumberedHandle → History = λ (y : NumberedHandle). entry d (event.ClearMember (object_of_block u.ghost_state e.block) e.stage y)
+          ∷ u.ghost_state.history in
           let l = set w.slots (hand w.slots) (slot_of s ((s.object (object_of_block u.ghost_state e.block)).member e.stage)) in
           let w' : FrameView = record { slots = l; taken = w.taken; endings = staged e ∷ es; todo = w.todo } in (
             rested_moved (abstraction u) d w' (f (handle_as s (kind_of_member e.stage) x)) lt
                 ∙ ap (put_frame (abstraction u) d w) (cond-true (is_full (slot_pointer l (hand l))) _ _ (hand_out s w.slots _ some full)
-                ∙ ap (λ (y : Handle). record { history = f y; slots = l; endings = staged e ∷ es }) told
+                ∙ ap (λ (y : NumberedHandle). record { history = f y; slots = l; endings = staged e ∷ es }) told
                 ∙ sym (unwound_full z d w.slots e es u.ghost_state.history less full) ∙ sym unwound_now),
             refl,
           )
 
-    pub take_step : Kept u.ghost_state → d < u.ghost_state.extent.actors → IsEndingAtStage d e u.ghost_state → 0 < length (frame_of (abstraction u) d).slots
+    pub take_step : TableInvariant u.ghost_state → d < u.ghost_state.extent.actors → IsEndingAtStage d e u.ghost_state
+        → 0 < length (frame_of (abstraction u) d).slots
         → Same d u (empties u.ghost_state (frame_of (abstraction u) d) e es)
     take_step kept seat end some = go (seen u.ghost_state (Member e.block e.stage)).owned refl
       where
@@ -203,7 +207,7 @@ module _ (d : ℕ) (u : WorldState) (e : Ending) (es : List Ending) (lt : d < le
             taken_full (seen u.ghost_state (Member e.block e.stage)) (told_member u.ghost_state d e.block e.stage kept seat end.ending less) b some
             (seen_object u.ghost_state e.block e.stage ∙ ap is_some q)
 
-  pub end_step : Kept u.ghost_state → d < u.ghost_state.extent.actors → IsEndingAtStage d e u.ghost_state → Same d u
+  pub end_step : TableInvariant u.ghost_state → d < u.ghost_state.extent.actors → IsEndingAtStage d e u.ghost_state → Same d u
       (ends_on u.ghost_state (frame_of (abstraction u) d) e es)
   end_step kept seat end =
       let w = frame_of (abstraction u) d in

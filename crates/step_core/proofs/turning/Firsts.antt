@@ -8,7 +8,7 @@ use Rattle.step_threads.specs.declared.programs.act.Act.TheVariants.{Move, Ask}
 use Rattle.step_threads.specs.declared.programs.act.Act.TheVariants.{Offer, Swap, Exchange, Load, Compare, Drop, OnShelf}
 use Rattle.step_threads.specs.declared.programs.act.Task.{Task}
 use Rattle.step_threads.specs.declared.pending_call.PendingCall.TheVariants.{Rest, Giving}
-use Rattle.step_table.specs.declared.slots.registers.Pointer.{Pointer}
+use Rattle.control_word.specs.declared.handle.Handle.{Handle}
 use Rattle.control_word.specs.declared.model.handle.Kind.{Kind}
 use Rattle.step_threads.specs.Frames.{going, locked_pointer}
 use Rattle.step_table.specs.AtomicSteps.{is_enabled, lock, owner_word, on}
@@ -58,7 +58,7 @@ begins_same d u k ts None is = absurd (false≢true is)
 begins_same d u k ts (Some b) is = abstraction_as u _ _ _ _ refl (same_frames d u)
 
 -- a lock that has just begun
-looks_same : (d : ℕ) (u : WorldState) (k : ℕ) (ts : List Task) (a : Act) (o : Option Pointer)
+looks_same : (d : ℕ) (u : WorldState) (k : ℕ) (ts : List Task) (a : Act) (o : Option Handle)
     → let w = frame_of (abstraction u) d in
     let x = on (looks u.ghost_state d w k ts a) (step_of_act u.ghost_state d w k ts a None Rest) o in is_acting x.pending_call ≡ true
     → abstraction (world_state_by d u (Some x)) ≡ abstraction u
@@ -71,7 +71,7 @@ looks_same d u k ts a (Some y) is =
     (λ t q. abstraction_as u _ _ _ _ refl (same_frames d u)) is
 
 -- an object that was just asked
-asks_same : (d : ℕ) (u : WorldState) (k : ℕ) (ts : List Task) (i : ℕ) (q : Kind) (o : Option Pointer)
+asks_same : (d : ℕ) (u : WorldState) (k : ℕ) (ts : List Task) (i : ℕ) (q : Kind) (o : Option Handle)
     → let w = frame_of (abstraction u) d in
     let x = on (asks u.ghost_state d w k ts i q) (step_of_act u.ghost_state d w k ts (FromThis i q) None Rest) o in
     is_acting x.pending_call ≡ true → abstraction (world_state_by d u (Some x)) ≡ abstraction u

@@ -8,7 +8,7 @@ use Rattle.step_threads.specs.declared.programs.act.Act.{Act}
 use Rattle.step_threads.specs.declared.programs.act.Act.TheVariants.{FromThis}
 use Rattle.step_threads.specs.declared.programs.act.Task.{Task}
 use Rattle.step_threads.specs.declared.pending_call.PendingCall.TheVariants.{Rest, Giving}
-use Rattle.step_table.specs.declared.slots.registers.Pointer.{Pointer}
+use Rattle.control_word.specs.declared.handle.Handle.{Handle}
 use Rattle.step_table.specs.AtomicSteps.{give, is_enabled}
 use Rattle.step_table.specs.Registers.{inside, slot_pointer}
 use Rattle.step_table.specs.Openings.{opening}
@@ -22,7 +22,7 @@ use Rattle.step_core.specs.Worlds.{WorldState, abstraction}
 use Rattle.step_core.proofs.turning.Saying.{Acts}
 use Rattle.step_core.proofs.turning.Trials.{Next, Outcome}
 
-give_so : (d : ℕ) (u : WorldState) (k : ℕ) (ts : List Task) (i : ℕ) (q : Kind) (x : Pointer)
+give_so : (d : ℕ) (u : WorldState) (k : ℕ) (ts : List Task) (i : ℕ) (q : Kind) (x : Handle)
     → inside (slot_pointer (frame_of (abstraction u) d).slots i) ≡ Some x
     → is_enabled (model_state u.ghost_state) x ≡ true
     → Acts d u k ts (FromThis i q) (step_of_act u.ghost_state d (frame_of (abstraction u) d) k ts (FromThis i q) (Some (give q x)) Rest)
@@ -31,14 +31,14 @@ give_so d u k ts i q x e is =
     let g : giving (model_state u.ghost_state) (inside (slot_pointer w.slots i)) ≡ Some x = ap (giving (model_state u.ghost_state)) e ∙ cond-true
     (is_enabled (model_state u.ghost_state) x) (Some x) None is in (
       refl,
-      ap (λ (o : Option Pointer). record {
+      ap (λ (o : Option Handle). record {
         extent = u.ghost_state.extent;
         history = does (opening u.ghost_state.extent) d u.ghost_state.history (option_map (give q) o);
         frame_views = set u.frame_views d (went (model_state u.ghost_state) d w k ts (FromThis i q));
       }) (sym g),
     )
 
-pub giving_out : (d : ℕ) (u : WorldState) (i : ℕ) (q : Kind) (x : Pointer) (t : Task) (ts : List Task)
+pub giving_out : (d : ℕ) (u : WorldState) (i : ℕ) (q : Kind) (x : Handle) (t : Task) (ts : List Task)
     → IsUnderWay d u.ghost_state (Giving i q x) (t ∷ ts)
     → inside (slot_pointer (frame_of (abstraction u) d).slots i) ≡ Some x
     → Next d u t.statement ts t.act (given_step u.ghost_state d (frame_of (abstraction u) d) i q x (t ∷ ts))

@@ -7,7 +7,7 @@ use Rattle.step_threads.specs.declared.programs.act.Act.TheVariants.{Lock}
 use Rattle.step_threads.specs.declared.programs.act.Task.{Task}
 use Rattle.step_threads.specs.declared.pending_call.PendingCall.{PendingCall}
 use Rattle.step_threads.specs.declared.pending_call.PendingCall.TheVariants.{Rest, Locking}
-use Rattle.step_table.specs.declared.slots.registers.Pointer.{Pointer}
+use Rattle.control_word.specs.declared.handle.Handle.{Handle}
 use Rattle.step_threads.specs.Frames.{locked_pointer}
 use Rattle.step_table.specs.AtomicSteps.{lock, owner_word, on}
 use Rattle.step_table.specs.Registers.{is_full}
@@ -18,14 +18,14 @@ use Rattle.step_core.specs.Worlds.{WorldState, abstraction}
 use Rattle.step_core.proofs.turning.Saying.{lock_so}
 use Rattle.step_core.proofs.turning.Trials.{Outcome, is_at_cell, is_looking, is_on}
 
-pub full_some : (o : Option Pointer) → is_full o ≡ true → (y : Pointer) × (o ≡ Some y)
+pub full_some : (o : Option Handle) → is_full o ≡ true → (y : Handle) × (o ≡ Some y)
 full_some None e = absurd (false≢true e)
 full_some (Some y) e = (y, refl)
 
-module _ (d : ℕ) (u : WorldState) (k : ℕ) (ts : List Task) (a : Act) (y : Pointer)
+module _ (d : ℕ) (u : WorldState) (k : ℕ) (ts : List Task) (a : Act) (y : Handle)
     (locks : locked_pointer (frame_of (abstraction u) d).slots a ≡ Some y) where
   looking : is_looking (frame_of (abstraction u) d).slots a ≡ true
-  looking = ap (λ (o : Option Pointer). is_full o || is_at_cell (frame_of (abstraction u) d).slots a) locks
+  looking = ap (λ (o : Option Handle). is_full o || is_at_cell (frame_of (abstraction u) d).slots a) locks
 
   -- a try that finds another word goes on with that one, and one that finds 0 begins again
   trying_on : Outcome d u k ts a (trying (frame_of (abstraction u) d) k (owner_word u.ghost_state y))
@@ -61,10 +61,10 @@ module _ (d : ℕ) (u : WorldState) (k : ℕ) (ts : List Task) (a : Act) (y : Po
       (λ t. inl (record { event = refl; so = lock_so d u k ts a y locks; over = refl }))
       (λ f. trying_on)
 
-pub lock_rest : (d : ℕ) (u : WorldState) (k : ℕ) (ts : List Task) (i : ℕ) (must : Bool) (o : Option Pointer)
+pub lock_rest : (d : ℕ) (u : WorldState) (k : ℕ) (ts : List Task) (i : ℕ) (must : Bool) (o : Option Handle)
     → locked_pointer (frame_of (abstraction u) d).slots (Lock i must) ≡ o → is_looking (frame_of (abstraction u) d).slots (Lock i must) ≡ true
     → let w = frame_of (abstraction u) d in
     let a = Lock i must in
     Outcome d u k ts a (on (looks u.ghost_state d w k ts a) (step_of_act u.ghost_state d w k ts a None Rest) o)
-lock_rest d u k ts i must None e is = absurd (false≢true (sym (ap (λ (o : Option Pointer). is_full o || false) e) ∙ is))
+lock_rest d u k ts i must None e is = absurd (false≢true (sym (ap (λ (o : Option Handle). is_full o || false) e) ∙ is))
 lock_rest d u k ts i must (Some y) e is = looks_out d u k ts (Lock i must) y e

@@ -7,14 +7,14 @@ use Rattle.control_word.specs.declared.model.event.Event.{Event}
 use Rattle.step_table.specs.declared.cell_steps.cell_step.Cell.{Cell}
 use Rattle.step_table.specs.declared.cell_steps.cell_step.CellStep.TheVariants.{Look}
 use Rattle.step_table.specs.declared.cell_steps.cell_step.Compared.{Compared}
-use Rattle.step_table.specs.declared.memory.past.AtomicStep.{AtomicStep}
-use Rattle.step_table.specs.declared.memory.past.AtomicStep.TheVariants.{OnCell}
+use Rattle.step_table.specs.declared.memory.ghost_history.AtomicStep.{AtomicStep}
+use Rattle.step_table.specs.declared.memory.ghost_history.AtomicStep.TheVariants.{OnCell}
 use Rattle.step_table.specs.CellAtomicSteps.{kind_in_state}
 use Rattle.step_table.specs.Cells.{IsOpenTo}
 use Rattle.step_table.specs.Contents.{as_word, compare_of, compared_in, is_of, is_spent, load_of, same_value, seen}
 use Rattle.step_table.specs.Registers.{HoldsBag, slot_value}
 use Rattle.step_table.specs.Openings.{opening}
-use Rattle.step_table.specs.GhostStates.{Kept, Nothing, event_added, event_of, model_state}
+use Rattle.step_table.specs.GhostStates.{TableInvariant, Nothing, event_added, event_of, model_state}
 use Rattle.step_table.proofs.contained.Coming.{seen_found}
 use Rattle.step_table.proofs.contained.Telling.{look_tells, unlike_tells}
 use Rattle.step_table.proofs.tables.Shown.{Found}
@@ -40,7 +40,7 @@ use Rattle.step_core.proofs.turning.Saying.{Acts}
 -- the thread's desk is there, has what its slots tell, and this is its next act
 pub record CanLook (d : ℕ) (u : WorldState) (a : Act) : Type 0 where
   pub seat : d < u.ghost_state.extent.actors
-  pub kept : Kept u.ghost_state
+  pub kept : TableInvariant u.ghost_state
   pub cell : HasCell u.ghost_state.extent.shape a
   pub holds : HoldsBag d (frame_of (abstraction u) d).slots u.ghost_state
   pub still : idle a (frame_of (abstraction u) d).slots (frame_of (abstraction u) d).taken ≡ false

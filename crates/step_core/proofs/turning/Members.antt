@@ -3,7 +3,7 @@ use Rattle.std.proofs.Common.{◌≡◌, ℕ, ◌<◌, get_or, true, refl, sym, 
 use Rattle.std.proofs.lemmas.Bool.{eqb-true}
 use Rattle.std.specs.Prelude.{Option, Some, None, is_some, ◌==◌}
 use Rattle.control_word.specs.declared.packed.cell.CellWord.{CellWord}
-use Rattle.control_word.specs.declared.model.handle.Handle.{Handle}
+use Rattle.control_word.specs.declared.model.handle.NumberedHandle.{NumberedHandle}
 use Rattle.control_word.specs.declared.place.Block.{Block}
 use Rattle.control_word.specs.Handles.{empty, has_object}
 use Rattle.control_word.specs.Packing.{cell_bits}
@@ -13,14 +13,14 @@ use Rattle.step_table.specs.declared.cell_steps.cell_step.Cell.TheVariants.{Memb
 use Rattle.step_table.specs.CellAtomicSteps.{cell_in, handle_as}
 use Rattle.step_table.specs.Cells.{word_of_cell}
 use Rattle.step_table.specs.Contents.{held_in, seen}
-use Rattle.step_table.specs.GhostStates.{Kept, GhostState, object_of_block, model_state}
+use Rattle.step_table.specs.GhostStates.{TableInvariant, GhostState, object_of_block, model_state}
 use Rattle.step_table.proofs.contained.Told.{shows_seen}
 use Rattle.step_table.proofs.tables.Cells.{decoded}
 use Rattle.step_table.proofs.tables.Endings.{member_shows}
 use Rattle.step_table.proofs.tables.Shown.{Found, cell_there, found_in}
 use Rattle.step_table.proofs.tables.Swaps.{ending_cell}
 
-module _ (v : GhostState) (d : ℕ) (b : Block) (m : ℕ) (kept : Kept v) (lt : d < v.extent.actors)
+module _ (v : GhostState) (d : ℕ) (b : Block) (m : ℕ) (kept : TableInvariant v) (lt : d < v.extent.actors)
     (end : ((model_state v).object (object_of_block v b)).phase ≡ ending d) (few : m < 3) where
   -- its word shows what it holds
   ending_seen : Found v (Member b m) (seen v (Member b m))
@@ -47,4 +47,4 @@ some_block block (Some o) = refl
 -- and it tells whether that has an object
 pub seen_object : (v : GhostState) (b : Block) (m : ℕ)
     → has_object (((model_state v).object (object_of_block v b)).member m) ≡ is_some (seen v (Member b m)).owned
-seen_object v b m = let x : Handle = ((model_state v).object (object_of_block v b)).member m in sym (some_block (blocks_of (model_state v)) x.object)
+seen_object v b m = let x : NumberedHandle = ((model_state v).object (object_of_block v b)).member m in sym (some_block (blocks_of (model_state v)) x.object)

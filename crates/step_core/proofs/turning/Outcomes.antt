@@ -5,8 +5,8 @@ use Rattle.std.proofs.lemmas.Bool.{cond-true, cond_both, eqb-true, false≢true}
 use Rattle.control_word.specs.declared.packed.cell.CellWord.{CellWord}
 use Rattle.control_word.specs.Packing.{IsCellWord, cell_bits}
 use Rattle.step_table.specs.declared.cell_steps.cell_step.CellStep.TheVariants.{CompareSwap, Look, Take}
-use Rattle.step_table.specs.declared.slots.registers.Pointer.{Pointer}
-use Rattle.step_table.specs.declared.memory.past.AtomicStep.TheVariants.{OnCell}
+use Rattle.control_word.specs.declared.handle.Handle.{Handle}
+use Rattle.step_table.specs.declared.memory.ghost_history.AtomicStep.TheVariants.{OnCell}
 use Rattle.step_table.specs.CellAtomicSteps.{kind_in_state}
 use Rattle.step_table.specs.Cells.{word_of_cell}
 use Rattle.step_table.specs.Contents.{as_word, compared_in, is_spent, same_value, seen}
@@ -105,7 +105,7 @@ module _ (d : ℕ) (u : WorldState) (k : ℕ) (ts : List Task) (c : CellName) wh
         (differing_tells v y x found d w.slots q can.kept can.holds may.expected may.new differs)
 
     -- what is expected was seen
-    settles_so : (x : CellWord) → IsCellWord x → same_value x (as_word (slot_value (frame_of (abstraction u) d).slots i)) ≡ true → (o : Option Pointer)
+    settles_so : (x : CellWord) → IsCellWord x → same_value x (as_word (slot_value (frame_of (abstraction u) d).slots i)) ≡ true → (o : Option Handle)
         → let v = u.ghost_state in let w = frame_of (abstraction u) d in let a = Compare i c weak in
         slot_pointer w.slots (hand w.slots) ≡ o
         → Outcome d u k ts a

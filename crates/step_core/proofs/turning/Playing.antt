@@ -12,7 +12,7 @@ use Rattle.step_threads.specs.declared.said.Stepped.TheVariants.{Waited}
 use Rattle.step_threads.specs.declared.said.Turned.{Turned}
 use Rattle.step_threads.specs.Frames.{hand}
 use Rattle.control_word.specs.Histories.{IsLegal}
-use Rattle.step_table.specs.GhostStates.{Kept}
+use Rattle.step_table.specs.GhostStates.{TableInvariant}
 use Rattle.step_table.specs.Openings.{opening}
 use Rattle.step_table.specs.Registers.{is_full, slot_pointer}
 use Rattle.step_threads.specs.AbstractStates.{next, next_of, rest_of, rested, state_in, frame_of}
@@ -127,7 +127,8 @@ carried_step d u e es rest is full =
 
 plays_carried : (d : ℕ) (u : WorldState) (r : Stepped) (e : Ending) (es : List Ending) → pending_call_of u d ≡ Rest → (frame_of (abstraction u) d).endings ≡ e
     ∷ es
-    → let w = frame_of (abstraction u) d in is_full (slot_pointer w.slots (hand w.slots)) ≡ true → r ≡ stepped u.ghost_state (step_of d u) → HasBegun d u → LegalBy d u (step_of d u)
+    → let w = frame_of (abstraction u) d in is_full (slot_pointer w.slots (hand w.slots)) ≡ true → r ≡ stepped u.ghost_state (step_of d u) → HasBegun d u
+    → LegalBy d u (step_of d u)
     → Plays d u (turned_by r) (world_state_by d u (step_of d u))
 plays_carried d u r e es rest is full answer begun legal =
     let w = frame_of (abstraction u) d in
@@ -147,11 +148,12 @@ plays_rest d u r [] rest is ended awake answer begun legal over =
 plays_rest d u r (e ∷ es) rest is ended awake answer begun legal over = plays_carried d u r e es rest is (carried d u e es ended is) answer begun legal
 
 pub plays : (d : ℕ) (u v : WorldState) (r : Stepped) → is_acting (pending_call_of u d) ≡ false → has_rest u d ≡ false → HasBegun d u → Steps d u r v
-    → r ≢ Waited → Kept v.ghost_state → is_acting (pending_call_of v d) ≡ false → Plays d u (turned_by r) v
+    → r ≢ Waited → TableInvariant v.ghost_state → is_acting (pending_call_of v d) ≡ false → Plays d u (turned_by r) v
 plays d u v r m e begun steps never kept over =
     let n = none_left d u e in
     let a = awake d u v r steps never in
-    let legal : LegalBy d u (step_of d u) = subst (λ (w : WorldState). IsLegal (opening w.ghost_state.extent) w.ghost_state.history) steps.1 kept.stands.legal in
+    let legal : LegalBy d u (step_of d u) = subst (λ (w : WorldState). IsLegal (opening w.ghost_state.extent) w.ghost_state.history) steps.1 kept.stands.legal
+    in
     subst (λ (w : WorldState). is_acting (pending_call_of w d) ≡ false → Plays d u (turned_by r) w) (sym steps.1)
     (plays_rest d u r (frame_of (abstraction u) d).endings (resting (pending_call_of u d) m n.0 n.1 n.2) refl n.3 a.0 a.1 begun legal) over
 

@@ -10,8 +10,8 @@ use Rattle.step_threads.specs.declared.programs.act.Act.TheVariants.{Offer, Swap
 use Rattle.step_threads.specs.declared.programs.act.Task.{Task}
 use Rattle.step_threads.specs.declared.ending.Ending.{Ending}
 use Rattle.step_threads.specs.declared.pending_call.PendingCall.TheVariants.{Rest, Locking, Giving}
-use Rattle.step_table.specs.declared.slots.registers.Pointer.{Pointer}
-use Rattle.step_table.specs.declared.memory.past.AtomicStep.{AtomicStep}
+use Rattle.control_word.specs.declared.handle.Handle.{Handle}
+use Rattle.step_table.specs.declared.memory.ghost_history.AtomicStep.{AtomicStep}
 use Rattle.step_threads.specs.declared.said.Said.{Said}
 use Rattle.step_threads.specs.declared.said.Stepped.{Stepped}
 use Rattle.step_threads.specs.declared.said.Stepped.TheVariants.{Event, Quiet}
@@ -80,12 +80,12 @@ does_so d v None w = refl
 does_so d v (Some x) w = refl
 
 -- a lock that is done
-pub lock_so : (d : ℕ) (u : WorldState) (k : ℕ) (ts : List Task) (a : Act) (x : Pointer) → locked_pointer (frame_of (abstraction u) d).slots a ≡ Some x
+pub lock_so : (d : ℕ) (u : WorldState) (k : ℕ) (ts : List Task) (a : Act) (x : Handle) → locked_pointer (frame_of (abstraction u) d).slots a ≡ Some x
     → Acts d u k ts a (step_of_act u.ghost_state d (frame_of (abstraction u) d) k ts a (Some (lock (model_state u.ghost_state) x)) Rest)
 lock_so d u k ts (Lock i must) x e =
     let w = frame_of (abstraction u) d in (
       refl,
-      ap (λ (o : Option Pointer). record {
+      ap (λ (o : Option Handle). record {
         extent = u.ghost_state.extent;
         history = does (opening u.ghost_state.extent) d u.ghost_state.history (option_map (lock (model_state u.ghost_state)) o);
         frame_views = set u.frame_views d (went (model_state u.ghost_state) d w k ts (Lock i must));
@@ -118,14 +118,14 @@ lose_so : (d : ℕ) (u : WorldState) (k : ℕ) (ts : List Task) (i : ℕ) (must 
 lose_so d u k ts i must e =
     let w = frame_of (abstraction u) d in (
       refl,
-      ap (λ (o : Option Pointer). record {
+      ap (λ (o : Option Handle). record {
         extent = u.ghost_state.extent;
         history = does (opening u.ghost_state.extent) d u.ghost_state.history (option_map (lock (model_state u.ghost_state)) o);
         frame_views = set u.frame_views d (went (model_state u.ghost_state) d w k ts (Lock i must));
       }) (sym e),
     )
 
-pub looks_so : (d : ℕ) (u : WorldState) (k : ℕ) (ts : List Task) (i : ℕ) (must : Bool) (o : Option Pointer)
+pub looks_so : (d : ℕ) (u : WorldState) (k : ℕ) (ts : List Task) (i : ℕ) (must : Bool) (o : Option Handle)
     → locked_pointer (frame_of (abstraction u) d).slots (Lock i must) ≡ o
     → let w = frame_of (abstraction u) d in
     let a = Lock i must in
@@ -146,14 +146,14 @@ unasked_so : (d : ℕ) (u : WorldState) (k : ℕ) (ts : List Task) (i : ℕ) (q 
 unasked_so d u k ts i q e =
     let w = frame_of (abstraction u) d in (
       refl,
-      ap (λ (o : Option Pointer). record {
+      ap (λ (o : Option Handle). record {
         extent = u.ghost_state.extent;
         history = does (opening u.ghost_state.extent) d u.ghost_state.history (option_map (give q) o);
         frame_views = set u.frame_views d (went (model_state u.ghost_state) d w k ts (FromThis i q));
       }) (sym e),
     )
 
-pub asks_so : (d : ℕ) (u : WorldState) (k : ℕ) (ts : List Task) (i : ℕ) (q : Kind) (o : Option Pointer)
+pub asks_so : (d : ℕ) (u : WorldState) (k : ℕ) (ts : List Task) (i : ℕ) (q : Kind) (o : Option Handle)
     → inside (slot_pointer (frame_of (abstraction u) d).slots i) ≡ o
     → let w = frame_of (abstraction u) d in
     let a = FromThis i q in

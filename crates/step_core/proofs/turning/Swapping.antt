@@ -17,8 +17,8 @@ use Rattle.step_threads.specs.declared.programs.act.Task.{Task}
 use Rattle.step_threads.specs.declared.programs.call.CellName.{CellName}
 use Rattle.step_table.specs.declared.cell_steps.cell_step.CellStep.TheVariants as cell_step
 use Rattle.step_threads.specs.declared.pending_call.PendingCall.TheVariants.{Rest}
-use Rattle.step_table.specs.declared.slots.registers.Pointer.{Pointer}
-use Rattle.step_table.specs.declared.memory.past.AtomicStep.TheVariants as atomic_step
+use Rattle.control_word.specs.declared.handle.Handle.{Handle}
+use Rattle.step_table.specs.declared.memory.ghost_history.AtomicStep.TheVariants as atomic_step
 use Rattle.step_table.specs.Contents.{as_word, is_of, seen}
 use Rattle.step_threads.specs.Frames.{Going, HasCell, cell_of_name, going, going_from, hand, is_there, on_going}
 use Rattle.step_threads.specs.Entries.{History}
@@ -30,7 +30,7 @@ use Rattle.step_threads.specs.Programs.{IsIn, kind_at}
 use Rattle.step_threads.specs.Rows.{Reply, row, said_by_row}
 use Rattle.step_threads.specs.AbstractStates.{frame_of, went}
 use Rattle.step_threads.specs.Steps.{step_of_act, brings, gives_back, sends, step_of_swap}
-use Rattle.step_table.specs.GhostStates.{Kept, Nothing, GhostState, event_added, history_after, model_state}
+use Rattle.step_table.specs.GhostStates.{TableInvariant, Nothing, GhostState, event_added, history_after, model_state}
 use Rattle.step_core.specs.Turning.{is_acting}
 use Rattle.step_core.specs.Worlds.{WorldState, abstraction, world_state_by}
 use Rattle.step_threads.proofs.CellNames.{cell_open, goes_in}
@@ -45,7 +45,7 @@ abbrev Goes : Shape → Slots → CellName → ℕ → Type 0
 Goes z slots c i = IsIn z c × (is_there slots c ≡ true) × (is_of (kind_at c) (slot_value slots i) ≡ true)
 
 -- the event of a swap tells what goes in and what comes out
-swap_told : (v : GhostState) (d : ℕ) (slots : Slots) (c : CellName) (i : ℕ) → Kept v → d < v.extent.actors → HoldsBag d slots v
+swap_told : (v : GhostState) (d : ℕ) (slots : Slots) (c : CellName) (i : ℕ) → TableInvariant v → d < v.extent.actors → HoldsBag d slots v
     → Goes v.extent.shape slots c i
     → let x = cell_of_name (model_state v) slots c in
     history_after v d (atomic_step.OnCell (cell_step.Swap x (as_word (slot_value slots i)) (seen v x))) ≡ swaps_in (opening v.extent) d slots v.history c i
@@ -112,7 +112,8 @@ swap_over d u k ts a c i = let found = seen u.ghost_state (cell_of_name (model_s
 
 -- the thread's desk is there and has what its slots tell, and the shape has the cell of its act
 abbrev pub CanPut : ℕ → WorldState → Act → Type 0
-CanPut d u a = (d < u.ghost_state.extent.actors) × Kept u.ghost_state × HasCell u.ghost_state.extent.shape a × HoldsBag d (frame_of (abstraction u) d).slots
+CanPut d u a = (d < u.ghost_state.extent.actors) × TableInvariant u.ghost_state × HasCell u.ghost_state.extent.shape a
+    × HoldsBag d (frame_of (abstraction u) d).slots
     u.ghost_state
 
 pub swaps_so : (d : ℕ) (u : WorldState) (k : ℕ) (ts : List Task) (a : Act) (c : CellName) (i : ℕ) → CanPut d u a
@@ -127,7 +128,7 @@ swaps_so d u k ts a c i can e =
     )
 
 -- the funds are brought first, where the value has an object
-sends_so : (d : ℕ) (u : WorldState) (k : ℕ) (ts : List Task) (a : Act) (c : CellName) (i : ℕ) (o : Option Pointer) → CanPut d u a
+sends_so : (d : ℕ) (u : WorldState) (k : ℕ) (ts : List Task) (a : Act) (c : CellName) (i : ℕ) (o : Option Handle) → CanPut d u a
     → going (frame_of (abstraction u) d).slots a ≡ Some (c, i)
     → let w = frame_of (abstraction u) d in
     let x = on (brings w k) (step_of_swap u.ghost_state d w k ts a c i) o in is_acting x.pending_call ≡ false → Acts d u k ts a x
@@ -150,7 +151,7 @@ goes_so d u k ts a None can e by is =
 goes_so d u k ts a (Some g) can e by is = sends_so d u k ts a g.0 g.1 (slot_pointer (frame_of (abstraction u) d).slots g.1) can e is
 
 -- funds that were just brought
-sends_same : (d : ℕ) (u : WorldState) (k : ℕ) (ts : List Task) (a : Act) (c : CellName) (i : ℕ) (o : Option Pointer)
+sends_same : (d : ℕ) (u : WorldState) (k : ℕ) (ts : List Task) (a : Act) (c : CellName) (i : ℕ) (o : Option Handle)
     → let w = frame_of (abstraction u) d in
     let x = on (brings w k) (step_of_swap u.ghost_state d w k ts a c i) o in is_acting x.pending_call ≡ true → abstraction (world_state_by d u (Some x)) ≡
     abstraction u

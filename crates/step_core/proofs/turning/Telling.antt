@@ -4,14 +4,14 @@ use Rattle.std.proofs.Common.{◌∙◌, ⊎_elim}
 use Rattle.std.proofs.Common.{get_or-set_other}
 use Rattle.std.specs.Prelude.{Option, Some, None}
 use Rattle.std.proofs.lemmas.Bool.{cond-false, cond-true}
-use Rattle.control_word.specs.declared.model.handle.Handle.{Handle}
+use Rattle.control_word.specs.declared.model.handle.NumberedHandle.{NumberedHandle}
 use Rattle.control_word.specs.declared.model.view.Pending.{Pending}
 use Rattle.control_word.specs.declared.model.view.Pending.TheVariants.{Idle}
 use Rattle.control_word.specs.Layout.{spot}
 use Rattle.control_word.specs.State.{State}
 use Rattle.control_word.specs.Views.{owes}
-use Rattle.step_table.specs.declared.slots.registers.Pointer.{Pointer}
-use Rattle.step_table.specs.declared.memory.past.AtomicStep.{AtomicStep}
+use Rattle.control_word.specs.declared.handle.Handle.{Handle}
+use Rattle.step_table.specs.declared.memory.ghost_history.AtomicStep.{AtomicStep}
 use Rattle.step_table.specs.AtomicSteps.{Telling, by_word, exact, handle_of, owned}
 use Rattle.step_table.specs.Registers.{Slots, slot_pointer}
 use Rattle.step_table.specs.GhostStates.{Nothing, GhostState, model_state, pending}
@@ -47,7 +47,7 @@ count_or v _ = inr refl
 abbrev pub TellsCounts : ℕ → WorldState → Telling → Type 0
 TellsCounts d u tell =
     let s = model_state u.ghost_state in
-    (i : ℕ) (x : Pointer) → slot_pointer (frame_of (abstraction u) d).slots i ≡ Some x → CountsAll d u s (handle_of s x) → tell s x ≡ exact s x
+    (i : ℕ) (x : Handle) → slot_pointer (frame_of (abstraction u) d).slots i ≡ Some x → CountsAll d u s (handle_of s x) → tell s x ≡ exact s x
 
 pub exact_told : (d : ℕ) (u : WorldState) → TellsCounts d u exact
 exact_told d u = λ i x e all. refl
@@ -86,7 +86,7 @@ atomic_step_stays : (d : ℕ) (v : GhostState) (x : Option AtomicStep) (e : ℕ)
 atomic_step_stays d v None e ne = refl
 atomic_step_stays d v (Some x) e ne = same_pending v d e x (λ q. ne (sym q))
 
-step_stays : (d : ℕ) (v : GhostState) (x : Option Step) (e : ℕ) → e ≢ d → pending (ghost_by v d x) e ≡ pending v e
+pub step_stays : (d : ℕ) (v : GhostState) (x : Option Step) (e : ℕ) → e ≢ d → pending (ghost_by v d x) e ≡ pending v e
 step_stays d v None e ne = refl
 step_stays d v (Some x) e ne = atomic_step_stays d v x.atomic_step e ne
 
@@ -99,7 +99,7 @@ goes_stays d u v goes = go goes.0 u goes.1
         λ k ne. go rs by.0 by.2 k ne ∙ ap (λ (x : WorldState). pending x.ghost_state k) by.1.steps.1 ∙ step_stays d a.ghost_state (step_of d a) k ne
 
 -- a count that is to be exact before steps of the thread's own is to be so after them
-pub counts_on : (d : ℕ) (u v : WorldState) (h : PendingCall) → GoesTo d u v → v.pending_calls ≡ set u.pending_calls d h → (s : State) (x : Handle)
+pub counts_on : (d : ℕ) (u v : WorldState) (h : PendingCall) → GoesTo d u v → v.pending_calls ≡ set u.pending_calls d h → (s : State) (x : NumberedHandle)
     → CountsAll d u s x → CountsAll d v s x
 counts_on d u v h goes pending_calls s x (inl none) =
     inl (λ k ne. ap (λ (l : List PendingCall). is_loading (get_or l k Rest)) pending_calls

@@ -8,8 +8,8 @@ use Rattle.control_word.specs.Packing.{cell_bits}
 use Rattle.step_table.specs.declared.cell_steps.cell_step.Cell.{Cell}
 use Rattle.step_table.specs.declared.cell_steps.cell_step.CellStep.TheVariants.{CompareSwap, Look, Take}
 use Rattle.step_table.specs.declared.cell_steps.cell_step.Compared.{Compared}
-use Rattle.step_table.specs.declared.slots.registers.Pointer.{Pointer}
-use Rattle.step_table.specs.declared.memory.past.AtomicStep.TheVariants.{OnCell}
+use Rattle.control_word.specs.declared.handle.Handle.{Handle}
+use Rattle.step_table.specs.declared.memory.ghost_history.AtomicStep.TheVariants.{OnCell}
 use Rattle.step_table.specs.CellAtomicSteps.{kind_in_state}
 use Rattle.step_table.specs.Cells.{word_of_cell}
 use Rattle.step_table.specs.Contents.{is_spent}
@@ -104,7 +104,7 @@ module _ (d : ℕ) (u : WorldState) (k : ℕ) (ts : List Task) (a : Act) (c : Ce
       (Refill Turning c (more_taken x) k)) (within w k None Rest)
       (Outcome d u k ts a) (λ t. inl (record { event = refl; so = so t; over = refl })) (λ f. inr (on_way Rest looking))
 
-  missed_trial : (o : Option Pointer) → is_on (frame_of (abstraction u) d).slots a (missed k o) ≡ true
+  missed_trial : (o : Option Handle) → is_on (frame_of (abstraction u) d).slots a (missed k o) ≡ true
   missed_trial None = looking
   missed_trial (Some p) = looking
 

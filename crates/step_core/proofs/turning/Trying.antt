@@ -5,7 +5,7 @@ use Rattle.std.specs.Prelude.{Some}
 use Rattle.std.proofs.lemmas.Bool.{false≢true}
 use Rattle.std.proofs.lemmas.List.{set-set}
 use Rattle.control_word.specs.Histories.{IsLegal}
-use Rattle.step_table.specs.GhostStates.{Kept}
+use Rattle.step_table.specs.GhostStates.{TableInvariant}
 use Rattle.step_table.specs.Openings.{opening}
 use Rattle.step_threads.specs.declared.programs.act.Act.{Act}
 use Rattle.step_threads.specs.declared.programs.act.Task.{Task}
@@ -79,7 +79,7 @@ now d u v w r trying begun steps never =
 
 -- the event is the act
 pub trying_done : (d : ℕ) (u v w : WorldState) (r : Stepped) → IsTrying d u v → HasBegun d v → Steps d v r w → r ≢ Waited
-    → is_event r ≡ true → Kept w.ghost_state
+    → is_event r ≡ true → TableInvariant w.ghost_state
     → Plays d u (turned_by r) w
 trying_done d u v w r trying begun steps never event kept =
     let t = now d u v w r trying begun steps never in

@@ -4,7 +4,7 @@ use Rattle.std.specs.Prelude.{Option, Some, None}
 use Rattle.std.proofs.lemmas.List.{set-set}
 use Rattle.control_word.specs.declared.model.event.Event.{Event}
 use Rattle.control_word.specs.declared.model.event.Event.TheVariants as event
-use Rattle.control_word.specs.declared.model.handle.Handle.{Handle}
+use Rattle.control_word.specs.declared.model.handle.NumberedHandle.{NumberedHandle}
 use Rattle.control_word.specs.State.{State}
 use Rattle.step_table.specs.GhostStates.{Nothing}
 use Rattle.step_threads.specs.declared.programs.act.Task.{Task}
@@ -21,7 +21,7 @@ use Rattle.step_core.proofs.turning.Playing.{over_returned}
 use Rattle.step_core.proofs.turning.Telling.{counts_on}
 
 -- where fewer counts are to be exact
-module _ (Exact Fewer : Handle → Type 0) (all : (h : Handle) → Fewer h → Exact h) (d : ℕ) where
+module _ (Exact Fewer : NumberedHandle → Type 0) (all : (h : NumberedHandle) → Fewer h → Exact h) (d : ℕ) where
   chosen_less : (s : State) (e : Option (Event Nothing)) → IsChosen Exact s d e → IsChosen Fewer s d e
   chosen_less s None p = p
   chosen_less s (Some (event.Count h n)) p = λ q. p (all h q)

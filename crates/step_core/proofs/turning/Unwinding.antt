@@ -6,7 +6,7 @@ use Rattle.std.specs.Prelude.{Option, Some, None, is_some}
 use Rattle.std.proofs.lemmas.Bool.{cond-false, cond-true}
 use Rattle.std.proofs.lemmas.List.{length-set}
 use Rattle.control_word.specs.declared.model.event.Event.TheVariants as event
-use Rattle.control_word.specs.declared.model.handle.Handle.{Handle}
+use Rattle.control_word.specs.declared.model.handle.NumberedHandle.{NumberedHandle}
 use Rattle.control_word.specs.Handles.{has_object}
 use Rattle.control_word.specs.Histories.{entry, leads}
 use Rattle.control_word.specs.State.{Opening, State, weak}
@@ -87,12 +87,12 @@ unwound_full z d slots e es h lt full =
     }) next
 
 -- what comes out of a member is a pointer
-out_full : (s : State) (h : Handle) (o : Option ℕ) → is_some o ≡ true → is_full (pointer_of (slot_as s h o)) ≡ true
+out_full : (s : State) (h : NumberedHandle) (o : Option ℕ) → is_some o ≡ true → is_full (pointer_of (slot_as s h o)) ≡ true
 out_full s h None e = e
 out_full s h (Some o) e = refl
 
 -- and then the hand is full
-pub hand_out : (s : State) (slots : Slots) (h : Handle) → 0 < length slots → has_object h ≡ true
+pub hand_out : (s : State) (slots : Slots) (h : NumberedHandle) → 0 < length slots → has_object h ≡ true
     → let l = set slots (hand slots) (slot_of s h) in is_full (slot_pointer l (hand l)) ≡ true
 hand_out s slots h lt full =
     let l = set slots (hand slots) (slot_of s h) in

@@ -5,7 +5,7 @@ use Rattle.std.proofs.lemmas.Bool.{false≢true}
 use Rattle.control_word.specs.declared.packed.cell.CellWord.{CellWord}
 use Rattle.control_word.specs.declared.model.handle.Kind.{Kind}
 use Rattle.control_word.specs.declared.place.Block.{Block}
-use Rattle.step_table.specs.declared.slots.registers.Pointer.{Pointer}
+use Rattle.control_word.specs.declared.handle.Handle.{Handle}
 use Rattle.step_table.specs.Registers.{Slots}
 use Rattle.step_threads.specs.declared.programs.act.Act.TheVariants.{Count}
 use Rattle.step_threads.specs.declared.programs.act.Task.{Task}
@@ -160,7 +160,7 @@ module _ (d : ℕ) (u : WorldState) where
               (let p = y.1 in let z = ap (locked_pointer w.slots) q in cc),
         )
 
-    trial_giving : (ts : List Task) (i : ℕ) (kind : Kind) (x : Pointer) → pending_call_of u d ≡ Giving i kind x
+    trial_giving : (ts : List Task) (i : ℕ) (kind : Kind) (x : Handle) → pending_call_of u d ≡ Giving i kind x
         → (frame_of (abstraction u) d).todo ≡ ts
         → IsUnderWay d u.ghost_state (Giving i kind x) ts → Trial d u
     trial_giving [] i kind x e todo way = absurd way

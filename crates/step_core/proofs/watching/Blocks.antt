@@ -14,16 +14,16 @@ use Rattle.control_word.specs.State.{Has, InShape, Stored, stored}
 use Rattle.control_word.specs.Words.{slot as slot_of_kind}
 use Rattle.step_table.specs.declared.cell_steps.cell_step.Cell.{Cell}
 use Rattle.step_table.specs.declared.cell_steps.cell_step.CellStep.TheVariants as cell_step
-use Rattle.step_table.specs.declared.slots.registers.Pointer.{Pointer}
-use Rattle.step_table.specs.declared.memory.past.AtomicStep.{AtomicStep}
-use Rattle.step_table.specs.declared.memory.past.AtomicStep.TheVariants as atomic_step
+use Rattle.control_word.specs.declared.handle.Handle.{Handle}
+use Rattle.step_table.specs.declared.memory.ghost_history.AtomicStep.{AtomicStep}
+use Rattle.step_table.specs.declared.memory.ghost_history.AtomicStep.TheVariants as atomic_step
 use Rattle.step_table.specs.CellAtomicSteps.{word_of}
 use Rattle.step_table.specs.Cells.{IsSomewhere, word_of_cell}
 use Rattle.step_table.specs.Contents.{is_of}
 use Rattle.step_table.specs.AtomicSteps.{alias, downgrade, give, is_expired, leave_as, lock, share_as}
 use Rattle.step_table.specs.Registers.{HoldsBag, Slots, inside, owner_as, owner_slot, plain, pointer_of, slot_pointer, slot_value, weak_as, weak_slot}
 use Rattle.step_table.specs.Openings.{opening}
-use Rattle.step_table.specs.GhostStates.{Kept, GhostState, model_state}
+use Rattle.step_table.specs.GhostStates.{TableInvariant, GhostState, model_state}
 use Rattle.step_table.proofs.holding.Inside.{inside_is}
 use Rattle.step_table.proofs.holding.Owning.{slot_held}
 use Rattle.step_table.proofs.tables.Places.{handle_busy, there, vacant_place}
@@ -42,7 +42,7 @@ abbrev pub IsThere : GhostState → Block → Type 0
 IsThere v b = InShape (opening v.extent) b.0
 
 -- the block of a pointer in a slot is one of the table
-module _ (v : GhostState) (d : ℕ) (slots : Slots) (kept : Kept v) (holds : HoldsBag d slots v) (i : ℕ) (x : Pointer) where
+module _ (v : GhostState) (d : ℕ) (slots : Slots) (kept : TableInvariant v) (holds : HoldsBag d slots v) (i : ℕ) (x : Handle) where
   pub slot_there : slot_pointer slots i ≡ Some x → IsThere v x.block
   slot_there e = (there v x.block kept (handle_busy v d x.kind x.block x.place kept (slot_held d slots v i x holds e))).1
 
@@ -52,7 +52,7 @@ module _ (v : GhostState) (d : ℕ) (slots : Slots) (kept : Kept v) (holds : Hol
   pub owner_there : owner_slot (slot_pointer slots i) ≡ Some x → IsThere v x.block
   owner_there e = slot_there (owner_is (slot_pointer slots i) e)
     where
-      owner_is : (o : Option Pointer) → owner_slot o ≡ Some x → o ≡ Some x
+      owner_is : (o : Option Handle) → owner_slot o ≡ Some x → o ≡ Some x
       owner_is None e = cc
       owner_is (Some y) e = go y.kind e
         where
@@ -63,7 +63,7 @@ module _ (v : GhostState) (d : ℕ) (slots : Slots) (kept : Kept v) (holds : Hol
   pub weak_there : weak_slot (slot_pointer slots i) ≡ Some x → IsThere v x.block
   weak_there e = slot_there (weak_is (slot_pointer slots i) e)
     where
-      weak_is : (o : Option Pointer) → weak_slot o ≡ Some x → o ≡ Some x
+      weak_is : (o : Option Handle) → weak_slot o ≡ Some x → o ≡ Some x
       weak_is None e = cc
       weak_is (Some y) e = go y.kind e
         where
@@ -99,7 +99,7 @@ least_shape v d b (x ∷ xs) all e =
         lower (inl lt) = subst (λ (n : ℕ). InShape (opening v.extent) n) (sym (min-eq_left {n = x.block} {m = c} (omega arith))) here
         lower (inr le) = subst (λ (n : ℕ). InShape (opening v.extent) n) (sym (min-eq_right {n = c} {m = x.block} (omega arith))) (later c refl)
 
-pub least_there : (v : GhostState) (d : ℕ) (b : Block) → Kept v → least d (model_state v).stores ≡ Some b.0 → IsThere v b
+pub least_there : (v : GhostState) (d : ℕ) (b : Block) → TableInvariant v → least d (model_state v).stores ≡ Some b.0 → IsThere v b
 least_there v d b kept e = least_shape v d b.0 (model_state v).stores (λ f c h. vacant_place v f (record { 0 = c }) kept h) e
 
 slot_few : (k : Kind) → slot_of_kind k < 7
@@ -125,25 +125,25 @@ module _ (v : GhostState) (d : ℕ) where
   weak_off : (b : Block) (p : Option Place) → IsThere v b → StaysOff v d (Some (atomic_step.WeakShare b p))
   weak_off b p is = block_off v b.0 1 (suc (slice_index v.words (spot b.0 1))) is (omega arith)
 
-  pub share_off : (q : Kind) (x : Pointer) → IsThere v x.block → StaysOff v d (Some (share_as q x))
+  pub share_off : (q : Kind) (x : Handle) → IsThere v x.block → StaysOff v d (Some (share_as q x))
   share_off Owner x is = strong_off x.block x.place x.place is
   share_off Weak x is = weak_off x.block x.place is
 
-  pub alias_off : (p : Option Place) (x : Pointer) → IsThere v x.block → StaysOff v d (Some (alias p x))
+  pub alias_off : (p : Option Place) (x : Handle) → IsThere v x.block → StaysOff v d (Some (alias p x))
   alias_off p x is = strong_off x.block x.place p is
 
-  pub downgrade_off : (x : Pointer) → IsThere v x.block → StaysOff v d (Some (downgrade x))
+  pub downgrade_off : (x : Handle) → IsThere v x.block → StaysOff v d (Some (downgrade x))
   downgrade_off x is = weak_off x.block x.place is
 
-  pub give_off : (q : Kind) (x : Pointer) → IsThere v x.block → StaysOff v d (Some (give q x))
+  pub give_off : (q : Kind) (x : Handle) → IsThere v x.block → StaysOff v d (Some (give q x))
   give_off Owner x is = block_off v x.block.0 0 (suc (slice_index v.words (spot x.block.0 0))) is (omega arith)
   give_off Weak x is = block_off v x.block.0 1 (suc (slice_index v.words (spot x.block.0 1))) is (omega arith)
 
-  pub leave_off : (q : Kind) (x : Pointer) (last : Bool) → IsThere v x.block → StaysOff v d (Some (leave_as q x last))
+  pub leave_off : (q : Kind) (x : Handle) (last : Bool) → IsThere v x.block → StaysOff v d (Some (leave_as q x last))
   leave_off Owner x last is = block_off v x.block.0 0 (slice_index v.words (spot x.block.0 0) - 1) is (omega arith)
   leave_off Weak x last is = block_off v x.block.0 1 (slice_index v.words (spot x.block.0 1) - 1) is (omega arith)
 
-  pub lock_off : (x : Pointer) → IsThere v x.block → StaysOff v d (Some (lock (model_state v) x))
+  pub lock_off : (x : Handle) → IsThere v x.block → StaysOff v d (Some (lock (model_state v) x))
   lock_off x is c valid = go (not (is_expired (model_state v) x))
     where
       go : (b : Bool) → slice_index (cond b (slice_set v.words (spot x.block.0 0) (suc (slice_index v.words (spot x.block.0 0)))) v.words)
@@ -164,7 +164,7 @@ module _ (v : GhostState) (d : ℕ) where
       block_off v b.0 (slot_of_kind k) (slice_index v.words (spot b.0 (slot_of_kind k)) - 4294967295) is (slot_few k)
 
   -- a step on what a slot holds
-  pub each_off : (f : Pointer → AtomicStep) (o : Option Pointer) → ((x : Pointer) → o ≡ Some x → StaysOff v d (Some (f x)))
+  pub each_off : (f : Handle → AtomicStep) (o : Option Handle) → ((x : Handle) → o ≡ Some x → StaysOff v d (Some (f x)))
       → StaysOff v d (option_map f o)
   each_off f None off = λ c valid. refl
   each_off f (Some x) off = off x refl

@@ -17,15 +17,15 @@ use Rattle.step_threads.specs.declared.pending_call.PendingCall.TheVariants.{Res
 use Rattle.step_table.specs.declared.cell_steps.cell_step.Cell.{Cell}
 use Rattle.step_table.specs.declared.cell_steps.cell_step.Cell.TheVariants.{Free, Member}
 use Rattle.step_table.specs.declared.cell_steps.cell_step.CellStep.TheVariants as cell_step
-use Rattle.step_table.specs.declared.memory.past.AtomicStep.{AtomicStep}
-use Rattle.step_table.specs.declared.memory.past.AtomicStep.TheVariants as atomic_step
+use Rattle.step_table.specs.declared.memory.ghost_history.AtomicStep.{AtomicStep}
+use Rattle.step_table.specs.declared.memory.ghost_history.AtomicStep.TheVariants as atomic_step
 use Rattle.step_table.specs.declared.cell_steps.refill.Stage.{Stage}
 use Rattle.step_table.specs.declared.cell_steps.refill.Stage.TheVariants.{Turning, Checking, Lacking, Refilling, Failing}
 use Rattle.step_table.specs.CellAtomicSteps.{kind_in_state, word_of}
 use Rattle.step_table.specs.Cells.{IsSomewhere, word_of_cell}
 use Rattle.step_table.specs.Contents.{same_value, seen}
 use Rattle.step_table.specs.Refills.{RefillFits, is_drained, is_low, more_taken}
-use Rattle.step_table.specs.GhostStates.{Kept, GhostState, model_state}
+use Rattle.step_table.specs.GhostStates.{TableInvariant, GhostState, model_state}
 use Rattle.step_table.proofs.contained.Coming.{seen_found}
 use Rattle.step_table.proofs.tables.Places.{handle_busy, there}
 use Rattle.step_threads.specs.Frames.{FrameView}
@@ -40,7 +40,7 @@ pub somewhere : (z : Shape) (c : Cell) → IsCellOfShape z c → IsSomewhere c
 somewhere z (Free n) is = tt
 somewhere z (Member b m) is = (is.0, is.2)
 
-in_words : (v : GhostState) (c : Cell) → Kept v → IsCellOfShape v.extent.shape c → word_of v.extent.shape.blocks c < length v.words
+in_words : (v : GhostState) (c : Cell) → TableInvariant v → IsCellOfShape v.extent.shape c → word_of v.extent.shape.blocks c < length v.words
 in_words v (Free n) kept lt = let s = kept.stands.shows.sized in omega (arith, s, lt)
 in_words v (Member b m) kept is =
     let s = kept.stands.shows.sized in
@@ -91,7 +91,7 @@ elsewhere v s c x k p a ne =
     ap (λ (t : Bool). cond (t && is_low x && content (cell_bits x) == content a) 1 0) (ne_eqb (word_of v.extent.shape.blocks c) p (λ e. ne (sym e)))
 
 -- one cell's word is another
-module _ (v : GhostState) (c : Cell) (word : ℕ) (h g : PendingCall) (kept : Kept v)
+module _ (v : GhostState) (c : Cell) (word : ℕ) (h g : PendingCall) (kept : TableInvariant v)
     (here : Watch v.extent.shape.blocks (word_of v.extent.shape.blocks c) (word_of_cell v c) word h g)
     (else : (p a : ℕ) → p ≢ word_of v.extent.shape.blocks c → bit v.extent.shape.blocks p a h ≡ 0) where
   pub changed : WatchesWord v h (slice_set v.words (word_of v.extent.shape.blocks c) word) g
@@ -110,13 +110,13 @@ module _ (v : GhostState) (c : Cell) (word : ℕ) (h g : PendingCall) (kept : Ke
       inl (get_or-set_other v.words q p word 0 ne, (let o = else p (word_of_cell v e) ne in omega (arith, o)))) (cases_eq p q)
 
 -- a value goes into the cell, of which no fund was taken
-pub put_in : (v : GhostState) (d : ℕ) (c : Cell) (x : CellWord) (h g : PendingCall) → Kept v → IsQuiet v h → IsCellWord x → x.taken ≡ 0
+pub put_in : (v : GhostState) (d : ℕ) (c : Cell) (x : CellWord) (h g : PendingCall) → TableInvariant v → IsQuiet v h → IsCellWord x → x.taken ≡ 0
     → WatchesWord v h (slice_set v.words (word_of v.extent.shape.blocks c) (cell_bits x)) g
 put_in v d c x h g kept quiet valid none =
     changed v c (cell_bits x) h g kept (inr (inl (let t = taken_told x valid in omega (arith, t, none)))) (λ p a ne. quiet p a)
 
 -- a fund is taken
-pub taken : (v : GhostState) (c : Cell) (x : CellWord) (k : ℕ) → Kept v → IsCellWord x → word_of_cell v c ≡ cell_bits x
+pub taken : (v : GhostState) (c : Cell) (x : CellWord) (k : ℕ) → TableInvariant v → IsCellWord x → word_of_cell v c ≡ cell_bits x
     → WatchesWord v (Saw x) (slice_set v.words (word_of v.extent.shape.blocks c) (word_of_cell v c + 17179869184)) (Refill Turning c (more_taken x) k)
 taken v c x k kept valid shows =
     changed v c (word_of_cell v c + 17179869184) (Saw x) (Refill Turning c (more_taken x) k) kept (go (is_low (more_taken x)) refl) (λ p a ne. refl)
@@ -155,13 +155,13 @@ few_quiet v s c x k few p a =
     ∙ ap (λ (t : Bool). cond t 1 0) (middle_false (word_of v.extent.shape.blocks c == p) (content (cell_bits x) == content a))
 
 -- the block of what is put back is one of the table
-pub block_there : (v : GhostState) (d : ℕ) (s : Stage) (c : Cell) (x : CellWord) → Kept v → RefillFits d s c x v → (b : Block)
+pub block_there : (v : GhostState) (d : ℕ) (s : Stage) (c : Cell) (x : CellWord) → TableInvariant v → RefillFits d s c x v → (b : Block)
     → x.owned ≡ Some b → IsThere v b
 block_there v d s c x kept fits b own =
     subst (IsThere v) (same_Some _ _ (sym fits.owned ∙ own))
     (there v fits.block kept (handle_busy v d (kind_in_state (model_state v) c) fits.block x.place kept fits.has)).1
 
-module _ (v : GhostState) (d : ℕ) (c : Cell) (x : CellWord) (k : ℕ) (w : FrameView) (kept : Kept v) (seat : d < v.extent.actors) where
+module _ (v : GhostState) (d : ℕ) (c : Cell) (x : CellWord) (k : ℕ) (w : FrameView) (kept : TableInvariant v) (seat : d < v.extent.actors) where
   -- the cell is looked at
   checked : RefillFits d Checking c x v → Watches v d (Refill Checking c x k) None (cond (is_drained x (seen v c)) (Refill Lacking c (seen v c) k) Rest)
   checked fits other is = ⊎_elim (λ (e : p ≡ q). at_cell e (is_drained x y) refl) away (cases_eq p q)

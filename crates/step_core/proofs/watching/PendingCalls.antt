@@ -23,8 +23,8 @@ use Rattle.step_threads.specs.declared.pending_call.PendingCall.TheVariants.{Res
 use Rattle.step_table.specs.declared.cell_steps.cell_step.Cell.{Cell}
 use Rattle.step_table.specs.declared.cell_steps.cell_step.Cell.TheVariants.{Member}
 use Rattle.step_table.specs.declared.cell_steps.cell_step.CellStep.TheVariants as cell_step
-use Rattle.step_table.specs.declared.slots.registers.Pointer.{Pointer}
-use Rattle.step_table.specs.declared.memory.past.AtomicStep.TheVariants as atomic_step
+use Rattle.control_word.specs.declared.handle.Handle.{Handle}
+use Rattle.step_table.specs.declared.memory.ghost_history.AtomicStep.TheVariants as atomic_step
 use Rattle.step_table.specs.declared.cell_steps.refill.Stage.{Stage}
 use Rattle.step_threads.specs.Actors.{wanted}
 use Rattle.step_table.specs.CellAtomicSteps.{owing_funds}
@@ -39,7 +39,7 @@ use Rattle.step_threads.specs.NextSteps.{at_rest, begun, emptied, first, given_s
 use Rattle.step_threads.specs.Steps.{Step, claims, ends_on, gives_back}
 use Rattle.step_threads.specs.NextSteps.{made_on, matched, matched_on, saw, saw_on, sent, step_at, ghost_after, ghost_by, tried}
 use Rattle.step_threads.specs.Steps.{prepares, refills_on, silent, with_endings, within}
-use Rattle.step_table.specs.GhostStates.{Kept, Nothing, GhostState, known_words, object_of_block, pending, model_state, view_in}
+use Rattle.step_table.specs.GhostStates.{TableInvariant, Nothing, GhostState, known_words, object_of_block, pending, model_state, view_in}
 use Rattle.step_table.proofs.tables.Places.{ending_busy, handle_busy, there}
 use Rattle.step_table.proofs.tables.Standing.{point, ready}
 use Rattle.step_core.specs.Turning.{FundsAreHeld, IsProperPendingCall, IsTried, IsUnderWay}
@@ -47,12 +47,12 @@ use Rattle.step_core.proofs.watching.Blocks.{IsThere, claim_off, finish_off, giv
 use Rattle.step_core.proofs.watching.Cells.{changed, refilled, still}
 use Rattle.step_core.proofs.watching.Steps.{IsWatch, first_watch, matches_watch, sent_watch, settles_watch, takes_watch, tries_watch}
 
-module _ (v : GhostState) (d : ℕ) (w : FrameView) (kept : Kept v) (seat : d < v.extent.actors) (holds : HoldsBag d w.slots v) where
+module _ (v : GhostState) (d : ℕ) (w : FrameView) (kept : TableInvariant v) (seat : d < v.extent.actors) (holds : HoldsBag d w.slots v) where
   tried_watch : (word : ℕ) (ts : List Task) → IsWatch v d (Locking word) (tried v d w word ts)
   tried_watch word [] = tt
   tried_watch word (t ∷ ts) = tries_watch v d w kept seat holds t.statement word ts t.act (locked_pointer w.slots t.act) refl
 
-  given_watch : (i : ℕ) (q : Kind) (x : Pointer) (ts : List Task) → inside (slot_pointer w.slots i) ≡ Some x
+  given_watch : (i : ℕ) (q : Kind) (x : Handle) (ts : List Task) → inside (slot_pointer w.slots i) ≡ Some x
       → IsWatch v d (Giving i q x) (given_step v d w i q x ts)
   given_watch i q x [] e = tt
   given_watch i q x (t ∷ ts) e =
@@ -152,12 +152,12 @@ module _ (v : GhostState) (d : ℕ) (w : FrameView) (kept : Kept v) (seat : d < 
   refill_watch s c x k (Some b) e out = refilled v d c x k w kept seat s out b e
 
   -- an object that ends is one of the table
-  ends_watch : (e : Ending) (es : List Ending) → Kept (ghost_after v d (ends_on v w e es).atomic_step) → IsWatch v d Rest (Some (ends_on v w e es))
+  ends_watch : (e : Ending) (es : List Ending) → TableInvariant (ghost_after v d (ends_on v w e es).atomic_step) → IsWatch v d Rest (Some (ends_on v w e es))
   ends_watch e es =
       let finish = atomic_step.Finish e.block (weak (model_state v) (object_of_block v e.block) == 0) in
       let cleared = within (with_endings w (staged e ∷ es)) e.statement (Some (atomic_step.Clear e.block e.stage)) Rest in
       let looked = within w e.statement None Clearing in
-      let P : Step → Type 0 = λ s. Kept (ghost_after v d s.atomic_step) → IsWatch v d Rest (Some s) in
+      let P : Step → Type 0 = λ s. TableInvariant (ghost_after v d s.atomic_step) → IsWatch v d Rest (Some s) in
       cond_both (e.stage == 3) (record { atomic_step = Some finish; pending_call = Rest; frame_view = with_endings w es; said = silent e.statement })
       (cond (word_of_cell v (Member e.block e.stage) == 0) cleared looked) P
       (λ t after. still v d Rest (Some finish) Rest (λ p a. refl)
@@ -179,15 +179,15 @@ module _ (v : GhostState) (d : ℕ) (w : FrameView) (kept : Kept v) (seat : d < 
   begun_watch [] = tt
   begun_watch (t ∷ ts) = first_watch v d w kept seat holds t.statement ts t.act
 
-  rest_watch : (es : List Ending) → Kept (ghost_by v d (at_rest v d w es)) → IsWatch v d Rest (at_rest v d w es)
+  rest_watch : (es : List Ending) → TableInvariant (ghost_by v d (at_rest v d w es)) → IsWatch v d Rest (at_rest v d w es)
   rest_watch [] after = begun_watch w.todo
   rest_watch (e ∷ es) after =
       cond_both (is_full (slot_pointer w.slots (hand w.slots))) (first v d w e.statement w.todo (Leave (hand w.slots))) (ends_on v w e es)
-      (λ (s : Step). Kept (ghost_after v d s.atomic_step) → IsWatch v d Rest (Some s))
+      (λ (s : Step). TableInvariant (ghost_after v d s.atomic_step) → IsWatch v d Rest (Some s))
       (λ t a. first_watch v d w kept seat holds e.statement w.todo (Leave (hand w.slots))) (λ t a. ends_watch e es a) after
 
   pub each_watch : (h : PendingCall) → IsUnderWay d v h w.todo → IsTried h w → IsProperPendingCall d v h → FundsAreHeld d v h
-      → Kept (ghost_by v d (step_at v d h w))
+      → TableInvariant (ghost_by v d (step_at v d h w))
       → IsWatch v d h (step_at v d h w)
   each_watch Rest way held proper out after = rest_watch w.endings after
   each_watch (Making b i f) way held proper out after = made_watch b i f w.todo way

@@ -24,8 +24,8 @@ use Rattle.step_threads.specs.declared.pending_call.PendingCall.TheVariants.{Res
 use Rattle.step_table.specs.declared.cell_steps.cell_step.Cell.{Cell}
 use Rattle.step_table.specs.declared.cell_steps.cell_step.CellStep.TheVariants as cell_step
 use Rattle.step_table.specs.declared.cell_steps.cell_step.Compared.{Compared}
-use Rattle.step_table.specs.declared.slots.registers.Pointer.{Pointer}
-use Rattle.step_table.specs.declared.memory.past.AtomicStep.TheVariants as atomic_step
+use Rattle.control_word.specs.declared.handle.Handle.{Handle}
+use Rattle.step_table.specs.declared.memory.ghost_history.AtomicStep.TheVariants as atomic_step
 use Rattle.step_table.specs.declared.cell_steps.refill.Stage.TheVariants.{Turning}
 use Rattle.step_table.specs.CellAtomicSteps.{kind_in_state}
 use Rattle.step_table.specs.Cells.{word_of_cell}
@@ -41,7 +41,7 @@ use Rattle.step_threads.specs.NextSteps.{first}
 use Rattle.step_threads.specs.Steps.{Step, step_of_act, asks, begins, brings, step_of_compare, fetches, gives_back, looks, matches, missed, step_of_look, sends}
 use Rattle.step_threads.specs.Steps.{settles, silent}
 use Rattle.step_threads.specs.Steps.{step_of_swap, takes, tries, trying, within}
-use Rattle.step_table.specs.GhostStates.{Kept, GhostState, model_state}
+use Rattle.step_table.specs.GhostStates.{TableInvariant, GhostState, model_state}
 use Rattle.step_table.proofs.contained.Told.{word_valid}
 use Rattle.step_core.proofs.watching.Blocks.{IsThere, alias_off, bring_off, downgrade_off, each_off, leave_off, least_there, lock_off, offered_there}
 use Rattle.step_core.proofs.watching.Blocks.{owner_there, prepare_off, share_off, slot_there, weak_there}
@@ -53,7 +53,7 @@ IsWatch v d h None = Unit {0}
 IsWatch v d h (Some x) = Watches v d h x.atomic_step x.pending_call
 
 -- the weak pointer that an act locks is in a slot
-locked_is : (w : FrameView) (a : Act) (x : Pointer) → locked_pointer w.slots a ≡ Some x → (i : ℕ) × (weak_slot (slot_pointer w.slots i) ≡ Some x)
+locked_is : (w : FrameView) (a : Act) (x : Handle) → locked_pointer w.slots a ≡ Some x → (i : ℕ) × (weak_slot (slot_pointer w.slots i) ≡ Some x)
 locked_is w (Lock i must) x e = (i, e)
 locked_is w (Make form) x e = cc
 locked_is w (Share i) x e = cc
@@ -76,8 +76,8 @@ locked_is w (Compare i c weak) x e = cc
 locked_is w Drop x e = cc
 locked_is w (OnShelf y) x e = cc
 
-module _ (v : GhostState) (d : ℕ) (w : FrameView) (kept : Kept v) (seat : d < v.extent.actors) (holds : HoldsBag d w.slots v) where
-  in_slot : (i : ℕ) (x : Pointer) → slot_pointer w.slots i ≡ Some x → IsThere v x.block
+module _ (v : GhostState) (d : ℕ) (w : FrameView) (kept : TableInvariant v) (seat : d < v.extent.actors) (holds : HoldsBag d w.slots v) where
+  in_slot : (i : ℕ) (x : Handle) → slot_pointer w.slots i ≡ Some x → IsThere v x.block
   in_slot i x e = slot_there v d w.slots kept holds i x e
 
   leaves : (i : ℕ) → Watches v d Rest (option_map (leave (model_state v)) (slot_pointer w.slots i)) Rest
@@ -95,12 +95,12 @@ module _ (v : GhostState) (d : ℕ) (w : FrameView) (kept : Kept v) (seat : d < 
   trying_watch : (h : PendingCall) (k word : ℕ) → IsQuiet v h → Watches v d h None (trying w k word).pending_call
   trying_watch h k word quiet = still v d h None (trying w k word).pending_call quiet (λ n valid. refl)
 
-  locks_watch : (h : PendingCall) (a : Act) (x : Pointer) → IsQuiet v h → locked_pointer w.slots a ≡ Some x
+  locks_watch : (h : PendingCall) (a : Act) (x : Handle) → IsQuiet v h → locked_pointer w.slots a ≡ Some x
       → Watches v d h (Some (lock (model_state v) x)) Rest
   locks_watch h a x quiet e =
       let l = locked_is w a x e in still v d h (Some (lock (model_state v) x)) Rest quiet (lock_off v d x (weak_there v d w.slots kept holds l.0 x l.1))
 
-  looks_watch : (k : ℕ) (ts : List Task) (a : Act) (o : Option Pointer) → locked_pointer w.slots a ≡ o
+  looks_watch : (k : ℕ) (ts : List Task) (a : Act) (o : Option Handle) → locked_pointer w.slots a ≡ o
       → IsWatch v d Rest (Some (on (looks v d w k ts a) (step_of_act v d w k ts a None Rest) o))
   looks_watch k ts a None e = still v d Rest None Rest (λ p a. refl) (λ n valid. refl)
   looks_watch k ts a (Some x) e =
@@ -108,7 +108,7 @@ module _ (v : GhostState) (d : ℕ) (w : FrameView) (kept : Kept v) (seat : d < 
       (λ (y : Step). IsWatch v d Rest (Some y)) (λ t. locks_watch Rest a x (λ p q. refl) e)
       (λ t. trying_watch Rest k (owner_word v x) (λ p q. refl))
 
-  pub tries_watch : (k word : ℕ) (ts : List Task) (a : Act) (o : Option Pointer) → locked_pointer w.slots a ≡ o
+  pub tries_watch : (k word : ℕ) (ts : List Task) (a : Act) (o : Option Handle) → locked_pointer w.slots a ≡ o
       → IsWatch v d (Locking word) (option_map (tries v d w k ts a word) o)
   tries_watch k word ts a None e = tt
   tries_watch k word ts a (Some x) e =
@@ -116,7 +116,7 @@ module _ (v : GhostState) (d : ℕ) (w : FrameView) (kept : Kept v) (seat : d < 
       (λ (y : Step). IsWatch v d (Locking word) (Some y)) (λ t. locks_watch (Locking word) a x (λ p q. refl) e)
       (λ t. trying_watch (Locking word) k (owner_word v x) (λ p q. refl))
 
-  asks_watch : (k : ℕ) (ts : List Task) (i : ℕ) (q : Kind) (o : Option Pointer)
+  asks_watch : (k : ℕ) (ts : List Task) (i : ℕ) (q : Kind) (o : Option Handle)
       → IsWatch v d Rest (Some (on (asks v d w k ts i q) (step_of_act v d w k ts (FromThis i q) None Rest) o))
   asks_watch k ts i q None = still v d Rest None Rest (λ p a. refl) (λ n valid. refl)
   asks_watch k ts i q (Some x) =
@@ -139,7 +139,7 @@ module _ (v : GhostState) (d : ℕ) (w : FrameView) (kept : Kept v) (seat : d < 
       put_in v d (cell_of_name (model_state v) w.slots c) (as_word (slot_value w.slots i)) h (gives_back (kind_at c) k found found.owned) kept quiet
       (word_valid d w.slots v i kept holds) refl
 
-  sends_watch : (k : ℕ) (ts : List Task) (a : Act) (c : CellName) (i : ℕ) (o : Option Pointer) → slot_pointer w.slots i ≡ o
+  sends_watch : (k : ℕ) (ts : List Task) (a : Act) (c : CellName) (i : ℕ) (o : Option Handle) → slot_pointer w.slots i ≡ o
       → IsWatch v d Rest (Some (on (brings w k) (step_of_swap v d w k ts a c i) o))
   sends_watch k ts a c i None e = swaps_watch Rest k ts a c i (λ p q. refl)
   sends_watch k ts a c i (Some x) e =
@@ -193,7 +193,7 @@ module _ (v : GhostState) (d : ℕ) (w : FrameView) (kept : Kept v) (seat : d < 
       (word_valid d w.slots v (hand w.slots) kept holds) refl)
       (λ t. still v d h None (missed k (slot_pointer w.slots (hand w.slots))) quiet (λ n valid. refl))
 
-  fetched_watch : (k : ℕ) (ts : List Task) (a : Act) (c : Cell) (i : ℕ) (weak : Bool) (x : CellWord) (o : Option Pointer)
+  fetched_watch : (k : ℕ) (ts : List Task) (a : Act) (c : Cell) (i : ℕ) (weak : Bool) (x : CellWord) (o : Option Handle)
       → slot_pointer w.slots (hand w.slots) ≡ o
       → IsWatch v d (Saw x) (Some (on (fetches w k x) (matches v d w k ts a c (compared_in w.slots (comparing w.slots i weak)) x) o))
   fetched_watch k ts a c i weak x None e = matches_watch (Saw x) k ts a c i weak x (λ p q. refl)

@@ -18,14 +18,14 @@ use Rattle.step_threads.specs.declared.pending_call.PendingCall.{PendingCall}
 use Rattle.step_threads.specs.declared.pending_call.PendingCall.TheVariants.{Rest, Making, Locking, Giving, Brought, Saw, Matched, Refill, Returning, Clearing}
 use Rattle.step_table.specs.declared.cell_steps.cell_step.Cell.{Cell}
 use Rattle.step_table.specs.declared.cell_steps.cell_step.Cell.TheVariants.{Member}
-use Rattle.step_table.specs.declared.slots.registers.Pointer.{Pointer}
-use Rattle.step_table.specs.declared.memory.past.AtomicStep.{AtomicStep}
+use Rattle.control_word.specs.declared.handle.Handle.{Handle}
+use Rattle.step_table.specs.declared.memory.ghost_history.AtomicStep.{AtomicStep}
 use Rattle.step_table.specs.CellAtomicSteps.{word_of}
 use Rattle.step_table.specs.Cells.{word_of_cell}
 use Rattle.step_table.specs.Contents.{as_word, is_of, is_spent, same_value, seen}
 use Rattle.step_table.specs.AtomicSteps.{on}
 use Rattle.step_table.specs.Registers.{HoldsBag, Slots, inside, is_full, slot_pointer, slot_value}
-use Rattle.step_table.specs.GhostStates.{Kept, GhostState, model_state}
+use Rattle.step_table.specs.GhostStates.{TableInvariant, GhostState, model_state}
 use Rattle.step_table.proofs.contained.Told.{shared_is}
 use Rattle.step_threads.specs.Frames.{HasCell, FrameView, cell_of_name, hand, idle, is_compared, is_offered, is_there}
 use Rattle.step_threads.specs.Programs.{IsIn, kind_at}
@@ -47,7 +47,8 @@ by_atomic_step v d h g None l lt at w was c is = watch v.extent.shape.blocks (wo
 by_atomic_step v d h g (Some x) l lt at w was c is = watch v.extent.shape.blocks (word_of v.extent.shape.blocks c) _ _ d h g l lt at (w c is) (was c is)
 
 -- after a step of a thread few funds of each cell are taken, or they are to be put back
-pub watched_step : (d : ℕ) (u : WorldState) → Kept u.ghost_state → Kept (ghost_by u.ghost_state d (step_of d u)) → HasBegun d u → IsWatched u.ghost_state
+pub watched_step : (d : ℕ) (u : WorldState) → TableInvariant u.ghost_state → TableInvariant (ghost_by u.ghost_state d (step_of d u)) → HasBegun d u
+    → IsWatched u.ghost_state
     u.pending_calls
     → IsWatched (world_state_by d u (step_of d u)).ghost_state (world_state_by d u (step_of d u)).pending_calls
 watched_step d u kept after begun was =
@@ -67,15 +68,15 @@ filter_few p (x ∷ xs) =
     cond_both (p x) (x ∷ filter p xs) (filter p xs) (λ (l : List PendingCall). length l ≤ length (x ∷ xs)) (λ t. omega (arith, i)) (λ t. omega (arith, i))
 
 -- the cell that is named is one of the shape, where it is there
-pub named_cell : (v : GhostState) (d : ℕ) (slots : Slots) → Kept v → HoldsBag d slots v → (c : CellName) → IsIn v.extent.shape c
+pub named_cell : (v : GhostState) (d : ℕ) (slots : Slots) → TableInvariant v → HoldsBag d slots v → (c : CellName) → IsIn v.extent.shape c
     → is_there slots c ≡ true
     → IsCellOfShape v.extent.shape (cell_of_name (model_state v) slots c)
 named_cell v d slots kept holds (cell.Shared n) lt is = omega (arith, lt)
 named_cell v d slots kept holds (cell.Weak n) lt is = let s = shared_is v in omega (arith, s, lt)
 named_cell v d slots kept holds (cell.Member k m) lt is = go (inside (slot_pointer slots k.0)) refl is
   where
-    go : (o : Option Pointer) → inside (slot_pointer slots k.0) ≡ o → is_full o ≡ true
-        → IsCellOfShape v.extent.shape (Member (on (λ (x : Pointer). x.block) (record { 0 = 0 }) o) m)
+    go : (o : Option Handle) → inside (slot_pointer slots k.0) ≡ o → is_full o ≡ true
+        → IsCellOfShape v.extent.shape (Member (on (λ (x : Handle). x.block) (record { 0 = 0 }) o) m)
     go None e full = cc
     go (Some x) e full = let t = inside_there v d slots kept holds k.0 x e in (t.0, t.1, lt)
 
@@ -96,7 +97,7 @@ module _ (v : GhostState) (l : List PendingCall) (few : length l ≤ 64) (was : 
       let ne : (word_of_cell v c / 17179869184 == 256) ≡ false = ne_eqb _ 256 (λ e. omega (arith, a, m, few, e)) in
       ap (λ (t : Bool). is_some (seen v c).owned && t) ne ∙ last_false (is_some (seen v c).owned)
 
-  module _ (d : ℕ) (w : FrameView) (kept : Kept v) (holds : HoldsBag d w.slots v) where
+  module _ (d : ℕ) (w : FrameView) (kept : TableInvariant v) (holds : HoldsBag d w.slots v) where
     cell_spent : (c : CellName) → IsIn v.extent.shape c → is_there w.slots c ≡ true
         → is_spent (seen v (cell_of_name (model_state v) w.slots c)) ≡ false
     cell_spent c has is = not_spent (cell_of_name (model_state v) w.slots c) (named_cell v d w.slots kept holds c has is)

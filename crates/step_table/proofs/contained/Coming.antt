@@ -14,13 +14,13 @@ use Rattle.step_table.specs.declared.cell_steps.cell_step.Cell.{Cell}
 use Rattle.step_table.specs.declared.cell_steps.cell_step.Cell.TheVariants.{Member}
 use Rattle.step_table.specs.declared.cell_steps.cell_step.CellStep.TheVariants.{Look, Take, TakeOut}
 use Rattle.step_table.specs.declared.cell_steps.cell_step.Compared.{Compared}
-use Rattle.step_table.specs.declared.memory.past.AtomicStep.TheVariants.{OnCell}
+use Rattle.step_table.specs.declared.memory.ghost_history.AtomicStep.TheVariants.{OnCell}
 use Rattle.step_table.specs.declared.slots.slot.Slot.{Slot}
 use Rattle.step_table.specs.CellAtomicSteps.{cell_in, handle_as, kind_in_state, object_at}
 use Rattle.step_table.specs.Cells.{IsOpenTo, ShowsCell, word_of_cell}
 use Rattle.step_table.specs.Contents.{held_in, seen, slot_by, slot_in, slot_of}
 use Rattle.step_table.specs.Registers.{HoldsBag, Slots, slot_pointer}
-use Rattle.step_table.specs.GhostStates.{Kept, GhostState, ghost_after_step, object_of_block, model_state}
+use Rattle.step_table.specs.GhostStates.{TableInvariant, GhostState, ghost_after_step, object_of_block, model_state}
 use Rattle.step_table.proofs.contained.Told.{shows_seen, shows_slot}
 use Rattle.step_table.proofs.holding.Owning.{holds_empty, holds_look, holds_more}
 use Rattle.step_table.proofs.tables.Cells.{decoded}
@@ -88,14 +88,14 @@ holds_taken_bare d slots v b m x holds none =
     (ap (λ (o : Option Block). (gets d (handle (kind_of_member m) (object_at (model_state v) o) x.place) (model_state v)).hands) none) refl holds
 
 -- what a word that was found tells, of a cell that is open and of a member of an ending object
-pub open_found : (v : GhostState) (d : ℕ) (c : Cell) (x : CellWord) → Kept v → d < v.extent.actors → IsOpenTo v d c → IsCellWord x
+pub open_found : (v : GhostState) (d : ℕ) (c : Cell) (x : CellWord) → TableInvariant v → d < v.extent.actors → IsOpenTo v d c → IsCellWord x
     → word_of_cell v c ≡ cell_bits x → Found v c x
 open_found v d c x kept lt way valid bits = found_in v d c x kept lt (kept_cell v d c kept way) valid bits
 
-pub open_shown : (v : GhostState) (d : ℕ) (c : Cell) (x : CellWord) → Kept v → d < v.extent.actors → IsOpenTo v d c → ShowsCell v c x → Found v c x
+pub open_shown : (v : GhostState) (d : ℕ) (c : Cell) (x : CellWord) → TableInvariant v → d < v.extent.actors → IsOpenTo v d c → ShowsCell v c x → Found v c x
 open_shown v d c x kept lt way shows = open_found v d c x kept lt way shows.valid shows.bits
 
-pub member_found : (v : GhostState) (d : ℕ) (b : Block) (m : ℕ) (x : CellWord) → Kept v → d < v.extent.actors
+pub member_found : (v : GhostState) (d : ℕ) (b : Block) (m : ℕ) (x : CellWord) → TableInvariant v → d < v.extent.actors
     → ((model_state v).object (object_of_block v b)).phase ≡ ending d → m < 3 → ShowsCell v (Member b m) x → Found v (Member b m) x
 member_found v d b m x kept lt end few shows = found_in v d (Member b m) x kept lt (few, ending_busy v d b end) shows.valid shows.bits
 
@@ -106,7 +106,7 @@ pub comes : (v : GhostState) (d : ℕ) (c : Cell) (x : CellWord) (k : Kind) (y :
 comes v d c x k y found kind is = is ∙ ap (λ (q : Kind). slot_in q x) kind ∙ shows_slot v d c x found
 
 -- a cell shows what it holds
-pub seen_found : (v : GhostState) (d : ℕ) (c : Cell) → Kept v → d < v.extent.actors → IsOpenTo v d c → Found v c (seen v c)
+pub seen_found : (v : GhostState) (d : ℕ) (c : Cell) → TableInvariant v → d < v.extent.actors → IsOpenTo v d c → Found v c (seen v c)
 seen_found v d c kept lt way =
     let is = kept_cell v d c kept way in
     let code = decoded v d (cell_in (model_state v) c) kept lt is in

@@ -9,11 +9,11 @@ use Rattle.step_table.specs.declared.cell_steps.cell_step.Cell.{Cell}
 use Rattle.step_table.specs.declared.cell_steps.cell_step.CellStep.TheVariants.{Look, Take}
 use Rattle.step_table.specs.declared.cell_steps.cell_step.Compared.{Compared}
 use Rattle.step_table.specs.declared.cell_steps.comparing.Comparing.{Comparing}
-use Rattle.step_table.specs.declared.memory.past.AtomicStep.TheVariants.{OnCell}
+use Rattle.step_table.specs.declared.memory.ghost_history.AtomicStep.TheVariants.{OnCell}
 use Rattle.step_table.specs.CellAtomicSteps.{handle_told}
 use Rattle.step_table.specs.Contents.{as_word, compared_in, differed, held_in, same_value, slot_of}
 use Rattle.step_table.specs.Registers.{HoldsBag, Slots, plain, pointer_of, slot_pointer, slot_value}
-use Rattle.step_table.specs.GhostStates.{Kept, GhostState, ghost_after_step, model_state}
+use Rattle.step_table.specs.GhostStates.{TableInvariant, GhostState, ghost_after_step, model_state}
 use Rattle.step_table.proofs.contained.Coming.{holds_seen, holds_taken}
 use Rattle.step_table.proofs.contained.Told.{alike, slot_busy}
 use Rattle.step_table.proofs.holding.Owning.{holds_move}
@@ -34,7 +34,8 @@ done_if true b x y e f = cc
 done_if false true x y e f = cc
 done_if false false x y e f = refl
 
-module _ (d : ℕ) (slots : Slots) (v : GhostState) (c : Cell) (x : CellWord) (y : Comparing) (q : Compared) (kept : Kept v) (holds : HoldsBag d slots v)
+module _ (d : ℕ) (slots : Slots) (v : GhostState) (c : Cell) (x : CellWord) (y : Comparing) (q : Compared) (kept : TableInvariant v)
+    (holds : HoldsBag d slots v)
     (is : q ≡ compared_in slots y) where
   -- the word that was found tells what is expected, or not
   pub alike_in : equivalent (handle_told (model_state v) c x) (handle_told (model_state v) c q.expected) ≡ same_value x

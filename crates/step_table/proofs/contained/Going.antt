@@ -6,7 +6,7 @@ use Rattle.std.proofs.lemmas.List.{set-set, set_comm}
 use Rattle.control_word.specs.declared.packed.cell.CellWord.{CellWord}
 use Rattle.control_word.specs.declared.model.event.Cell.{Cell as Named}
 use Rattle.control_word.specs.declared.model.event.Cell.TheVariants as named
-use Rattle.control_word.specs.declared.model.handle.Handle.{Handle}
+use Rattle.control_word.specs.declared.model.handle.NumberedHandle.{NumberedHandle}
 use Rattle.control_word.specs.declared.model.handle.Kind.{Kind}
 use Rattle.control_word.specs.declared.model.handle.Kind.TheVariants.{Owner, Weak}
 use Rattle.control_word.specs.declared.place.Block.{Block}
@@ -16,8 +16,8 @@ use Rattle.control_word.specs.State.{Held, State, held, same_held, without}
 use Rattle.step_table.specs.declared.cell_steps.cell_step.Cell.{Cell}
 use Rattle.step_table.specs.declared.cell_steps.cell_step.CellStep.TheVariants.{CompareSwap, Swap}
 use Rattle.step_table.specs.declared.cell_steps.cell_step.Compared.{Compared}
-use Rattle.step_table.specs.declared.slots.registers.Pointer.{Pointer}
-use Rattle.step_table.specs.declared.memory.past.AtomicStep.TheVariants.{OnCell}
+use Rattle.control_word.specs.declared.handle.Handle.{Handle}
+use Rattle.step_table.specs.declared.memory.ghost_history.AtomicStep.TheVariants.{OnCell}
 use Rattle.step_table.specs.declared.slots.slot.Slot.{Slot}
 use Rattle.step_table.specs.declared.slots.slot.Slot.TheVariants.{Empty, Full}
 use Rattle.step_table.specs.CellAtomicSteps.{cell_in, handle_as, handle_told, kind_in_state, object_at}
@@ -31,10 +31,10 @@ use Rattle.step_table.proofs.holding.Owning.{holds_empty, holds_less}
 use Rattle.step_table.proofs.tables.Shown.{Found}
 
 -- the hands after one handle came, or went
-abbrev came : ℕ → Handle → List Held → List Held
+abbrev came : ℕ → NumberedHandle → List Held → List Held
 came d h l = cond (has_object h) (held d h ∷ l) l
 
-abbrev gone : ℕ → Handle → List Held → List Held
+abbrev gone : ℕ → NumberedHandle → List Held → List Held
 gone d h l = cond (has_object h) (without same_held (held d h) l) l
 
 -- as if the value of slot i had left by itself: no such step is made
@@ -48,7 +48,7 @@ left : (d : ℕ) (slots : Slots) (v : GhostState) (i : ℕ) (k : Kind) → Holds
     → is_of k (slot_value slots i) ≡ true → Left d slots v i k
 left d slots v i k holds lt is = go (slot_value slots i) refl is
   where
-    full : (x : Pointer) (q : Kind) → slot_value slots i ≡ Full x → x.kind ≡ q → q ≡ k → Left d slots v i k
+    full : (x : Handle) (q : Kind) → slot_value slots i ≡ Full x → x.kind ≡ q → q ≡ k → Left d slots v i k
     full x Owner at kind same =
         record {
           ghost_state = ghost_after_step v d (leave_as Owner x false);
@@ -87,11 +87,11 @@ same_told s t k x latest = go x.owned
     go (Some b) = ap (λ (f : ℕ → ℕ). handle k (Some (f b.0)) x.place) latest
 
 -- what a swap does to hands, whatever the cell
-swap_hands : (d : ℕ) (c : Named) (new old : Handle) (s : State) → (swaps d c new old s).hands ≡ came d old (gone d new s.hands)
+swap_hands : (d : ℕ) (c : Named) (new old : NumberedHandle) (s : State) → (swaps d c new old s).hands ≡ came d old (gone d new s.hands)
 swap_hands d (named.Free n) new old s = refl
 swap_hands d (named.Member o m) new old s = refl
 
-pub swap_latest : (d : ℕ) (c : Named) (new old : Handle) (s : State) → (swaps d c new old s).latest ≡ s.latest
+pub swap_latest : (d : ℕ) (c : Named) (new old : NumberedHandle) (s : State) → (swaps d c new old s).latest ≡ s.latest
 swap_latest d (named.Free n) new old s = refl
 swap_latest d (named.Member o m) new old s = refl
 
@@ -114,7 +114,7 @@ module _ (d : ℕ) (slots : Slots) (v : GhostState) (i j : ℕ) (c : Cell) (x : 
       let l = left d slots v i k holds li is in
       let u = model_state l.ghost_state in
       let at : (model_state w).hands ≡ came d (handle_as u k x) u.hands =
-      hands ∙ swap_hands d n new old s ∙ ap (came d old) (sym l.hands) ∙ ap (λ (h : Handle). came d h u.hands) (sym (same_told s u k x l.latest)) in
+      hands ∙ swap_hands d n new old s ∙ ap (came d old) (sym l.hands) ∙ ap (λ (h : NumberedHandle). came d h u.hands) (sym (same_told s u k x l.latest)) in
       subst (λ (y : Slot). HoldsBag d (set (set slots i plain) j y) w) (shows_slot v d c x found)
       (holds_got d (set slots i plain) l.ghost_state w j k x l.holds at (latest ∙ swap_latest d n new old s ∙ sym l.latest) (pointer_valid x found.shows.valid)
       (let t = length-set slots i plain in omega (arith, t, lj)) e)

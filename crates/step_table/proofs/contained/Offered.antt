@@ -11,7 +11,7 @@ use Rattle.step_table.specs.CellAtomicSteps.{kind_in_state, owing_funds}
 use Rattle.step_table.specs.Cells.{HasInHand}
 use Rattle.step_table.specs.Contents.{as_word, is_of, owing_for, block_of_value}
 use Rattle.step_table.specs.Registers.{HoldsBag, Slots, place_of, pointer_of, slot_value}
-use Rattle.step_table.specs.GhostStates.{Kept, GhostState, pending, model_state}
+use Rattle.step_table.specs.GhostStates.{TableInvariant, GhostState, pending, model_state}
 use Rattle.step_table.proofs.contained.Told.{in_hand, kind_is, word_valid}
 use Rattle.step_table.proofs.holding.Owning.{has_room}
 
@@ -19,7 +19,7 @@ owing_word : (s : State) (k : Kind) (a : Slot) (n : ℕ) → is_of k a ≡ true 
 owing_word s k (Empty p) n is = refl
 owing_word s k (Full x) n is = ap (λ (q : Kind). owing_funds s q (Some x.block) x.place n 0) (kind_is k x is)
 
-module _ (d : ℕ) (slots : Slots) (v : GhostState) (i : ℕ) (c : Cell) (w : CellWord) (kept : Kept v) (holds : HoldsBag d slots v)
+module _ (d : ℕ) (slots : Slots) (v : GhostState) (i : ℕ) (c : Cell) (w : CellWord) (kept : TableInvariant v) (holds : HoldsBag d slots v)
     (is : is_of (kind_in_state (model_state v) c) (slot_value slots i) ≡ true) (e : w ≡ as_word (slot_value slots i)) where
   pub goes_valid : IsCellWord w × (w.taken ≡ 0)
   goes_valid = (subst IsCellWord (sym e) (word_valid d slots v i kept holds), ap (λ (x : CellWord). x.taken) e)

@@ -20,7 +20,7 @@ use Rattle.control_word.specs.Views.{Fits}
 use Rattle.control_word.specs.Words.{slot}
 use Rattle.step_table.specs.declared.cell_steps.cell_step.Cell.{Cell}
 use Rattle.step_table.specs.declared.cell_steps.cell_step.Cell.TheVariants.{Free, Member}
-use Rattle.step_table.specs.declared.memory.past.AtomicStep.{AtomicStep}
+use Rattle.step_table.specs.declared.memory.ghost_history.AtomicStep.{AtomicStep}
 use Rattle.step_table.specs.declared.cell_steps.refill.Stage.{Stage}
 use Rattle.step_table.specs.declared.cell_steps.refill.Stage.TheVariants.{Turning, Checking, Lacking, Refilling, Failing}
 use Rattle.step_table.specs.declared.slots.slot.Slot.{Slot}
@@ -31,7 +31,8 @@ use Rattle.step_table.specs.Contents.{owing_for}
 use Rattle.step_table.specs.Registers.{HoldsBag, Slots}
 use Rattle.step_table.specs.Openings.{opening}
 use Rattle.step_table.specs.Refills.{RefillFits, StageFits}
-use Rattle.step_table.specs.GhostStates.{Kept, Nothing, GhostState, event_added, ghost_after_step, event_of, handle_in_block, object_of_block, pending}
+use Rattle.step_table.specs.GhostStates.{TableInvariant, Nothing, GhostState, event_added, ghost_after_step, event_of, handle_in_block, object_of_block}
+use Rattle.step_table.specs.GhostStates.{pending}
 use Rattle.step_table.specs.GhostStates.{model_state}
 use Rattle.step_table.specs.GhostStates.{view_in}
 use Rattle.step_table.proofs.contained.Told.{kind_stays}
@@ -49,7 +50,7 @@ holds_quiet d e slots v x none holds =
     holds_look d slots v (ghost_after_step v e x) (ap (λ (s : State). s.hands) same) (ap (λ (s : State). s.latest) same) holds
 
 -- the desk has a handle of the object on whose count its funds are out
-payer : (v : GhostState) (d : ℕ) (k : Kind) (b : Block) (p : Option Place) (funds loads : ℕ) → Kept v → d < v.extent.actors
+payer : (v : GhostState) (d : ℕ) (k : Kind) (b : Block) (p : Option Place) (funds loads : ℕ) → TableInvariant v → d < v.extent.actors
     → pending v d ≡ owing_funds (model_state v) k (Some b) p funds loads → Has (held d (handle_in_block v k b p)) (model_state v).hands
 payer v d k b p funds loads kept lt is =
     let owes : Pending Nothing = owing_funds (model_state v) k (Some b) p funds loads in
@@ -59,7 +60,7 @@ payer v d k b p funds loads kept lt is =
     (kept.stands.team.seated d (view_in v.views d) r.seated r.awake).fits in
     subst (λ (n : ℕ). Has (held n (handle_in_block v k b p)) (model_state v).hands) (named v d kept lt) f.0
 
-module _ (d e : ℕ) (v : GhostState) (x : AtomicStep) (n : e ≢ d) (kept : Kept v) (kept' : Kept (ghost_after_step v e x)) where
+module _ (d e : ℕ) (v : GhostState) (x : AtomicStep) (n : e ≢ d) (kept : TableInvariant v) (kept' : TableInvariant (ghost_after_step v e x)) where
   -- the object in a block stays there while the desk has a handle of it
   stays : (k : Kind) (b : Block) (p : Option Place) → Has (held d (handle_in_block v k b p)) (model_state v).hands
       → object_of_block (ghost_after_step v e x) b ≡ object_of_block v b

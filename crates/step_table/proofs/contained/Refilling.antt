@@ -4,7 +4,7 @@ use Rattle.std.proofs.Common.{get_or-set_same, ◌∷◌}
 use Rattle.std.proofs.lemmas.Bool.{cond_both}
 use Rattle.std.proofs.lemmas.Option.{same_Some}
 use Rattle.control_word.specs.declared.packed.cell.CellWord.{CellWord}
-use Rattle.control_word.specs.declared.model.handle.Handle.{Handle}
+use Rattle.control_word.specs.declared.model.handle.NumberedHandle.{NumberedHandle}
 use Rattle.control_word.specs.declared.model.handle.Kind.{Kind}
 use Rattle.control_word.specs.declared.place.Block.{Block}
 use Rattle.control_word.specs.declared.place.Place.{Place}
@@ -23,12 +23,12 @@ use Rattle.step_table.specs.declared.cell_steps.cell_step.Cell.TheVariants.{Free
 use Rattle.step_table.specs.declared.cell_steps.cell_step.CellStep.{CellStep}
 use Rattle.step_table.specs.declared.cell_steps.cell_step.CellStep.TheVariants.{Look, Bring, GiveBack, Take, Turn, Refill, Swap, CompareSwap, TakeOut}
 use Rattle.step_table.specs.declared.cell_steps.cell_step.Compared.{Compared}
-use Rattle.step_table.specs.declared.memory.past.AtomicStep.TheVariants.{OnCell}
+use Rattle.step_table.specs.declared.memory.ghost_history.AtomicStep.TheVariants.{OnCell}
 use Rattle.step_table.specs.declared.cell_steps.refill.Stage.TheVariants.{Turning, Checking, Lacking, Refilling, Failing}
 use Rattle.step_table.specs.CellAtomicSteps.{cell_in, cell_pending, handle_told, kind_in_state, object_at, owing_funds}
 use Rattle.step_table.specs.Cells.{IsOpenTo}
 use Rattle.step_table.specs.Refills.{RefillFits, more_taken}
-use Rattle.step_table.specs.GhostStates.{Kept, Nothing, GhostState, ghost_after_step, handle_in_block, pending, model_state}
+use Rattle.step_table.specs.GhostStates.{TableInvariant, Nothing, GhostState, ghost_after_step, handle_in_block, pending, model_state}
 use Rattle.step_table.proofs.contained.Going.{swap_latest}
 use Rattle.step_table.proofs.contained.Told.{kind_stays}
 
@@ -61,7 +61,7 @@ owing_at v w c o p f l same latest =
     (sym (kind_stays v w c same))
 
 -- what is out after a step of its own, as the state tells it that the step leaves
-pub owes_after : (v : GhostState) (d : ℕ) (x : CellStep) → Kept v → d < v.extent.actors
+pub owes_after : (v : GhostState) (d : ℕ) (x : CellStep) → TableInvariant v → d < v.extent.actors
     → pending (ghost_after_step v d (OnCell x)) d ≡ cell_pending (model_state (ghost_after_step v d (OnCell x))) x
 owes_after v d x kept lt =
     ap (λ (w : View Nothing). w.pending) (get_or-set_same v.views d _ used_up (let s = kept.seats.size in omega (arith, s, lt))) ∙ go x
@@ -80,7 +80,7 @@ owes_after v d x kept lt =
     go (TakeOut b m x) = same_owing (model_state v) (model_state (ghost_after_step v d (OnCell (TakeOut b m x)))) (kind_of_member m) x.owned x.place
         (256 - x.taken) 0 refl
 
-kind_got : (s : State) (d : ℕ) (h : Handle) (c : Cell) → kind_in_state (gets d h s) c ≡ kind_in_state s c
+kind_got : (s : State) (d : ℕ) (h : NumberedHandle) (c : Cell) → kind_in_state (gets d h s) c ≡ kind_in_state s c
 kind_got s d h (Free n) = refl
 kind_got s d h (Member b m) = refl
 
@@ -91,7 +91,7 @@ has_got s d k o p b is =
     subst (λ (q : Option Block). Has (held d (handle k (object_at s (Some b)) p)) (gets d (handle k (object_at s q) p) s).hands) (sym is) (inl refl)
 
 -- one more handle in the bag shuts no cell
-open_got : (s : State) (d : ℕ) (h : Handle) (c : Cell) → IsOpen s d (cell_in s c) → IsOpen (gets d h s) d (cell_in (gets d h s) c)
+open_got : (s : State) (d : ℕ) (h : NumberedHandle) (c : Cell) → IsOpen s d (cell_in s c) → IsOpen (gets d h s) d (cell_in (gets d h s) c)
 open_got s d h (Free n) way = way
 open_got s d h (Member b m) way =
     let y = way.1.0 in let hold = way.1.1 in (
@@ -107,7 +107,7 @@ open_got s d h (Member b m) way =
       ),
     )
 
-module _ (d : ℕ) (v : GhostState) (kept : Kept v) (lt : d < v.extent.actors) where
+module _ (d : ℕ) (v : GhostState) (kept : TableInvariant v) (lt : d < v.extent.actors) where
   -- a fund is taken
   pub begins_refill : (c : Cell) (x : CellWord) (y : Option Compared) (b : Block) → IsOpenTo v d c → IsCellWord x → x.owned ≡ Some b → x.taken < 256
       → RefillFits d Turning c (more_taken x) (ghost_after_step v d (OnCell (Take c x y)))

@@ -3,35 +3,35 @@ use Rattle.std.proofs.Common.{◌≡◌, ℕ, Bool, true, false, Option, Some, N
 use Rattle.control_word.specs.declared.packed.cell.CellWord.{CellWord}
 use Rattle.control_word.specs.declared.model.event.Event.{Event}
 use Rattle.control_word.specs.declared.model.event.Event.TheVariants as event
-use Rattle.control_word.specs.declared.model.handle.Handle.{Handle}
+use Rattle.control_word.specs.declared.model.handle.NumberedHandle.{NumberedHandle}
 use Rattle.control_word.specs.Handles.{equivalent}
 use Rattle.step_table.specs.declared.cell_steps.cell_step.Cell.{Cell}
 use Rattle.step_table.specs.declared.cell_steps.cell_step.CellStep.TheVariants.{CompareSwap, Look, Swap, Take}
 use Rattle.step_table.specs.declared.cell_steps.comparing.Comparing.{Comparing}
-use Rattle.step_table.specs.declared.memory.past.AtomicStep.TheVariants.{OnCell}
+use Rattle.step_table.specs.declared.memory.ghost_history.AtomicStep.TheVariants.{OnCell}
 use Rattle.step_table.specs.declared.slots.slot.Slot.{Slot}
 use Rattle.step_table.specs.CellAtomicSteps.{cell_in, handle_told, kind_in_state}
 use Rattle.step_table.specs.Contents.{as_word, compare_of, compared_in, held_in, is_of, load_of, same_value, swap_of, named_handle}
 use Rattle.step_table.specs.Registers.{HoldsBag, Slots, slot_value}
-use Rattle.step_table.specs.GhostStates.{Kept, Nothing, GhostState, event_of, model_state}
+use Rattle.step_table.specs.GhostStates.{TableInvariant, Nothing, GhostState, event_of, model_state}
 use Rattle.step_table.proofs.contained.Told.{alike_told, word_told}
 use Rattle.step_table.proofs.tables.Shown.{Found}
 
 module _ (v : GhostState) (c : Cell) (x : CellWord) (found : Found v c x) where
   pub take_tells : ◌≡◌ {A = Option (Event Nothing)} (event_of (model_state v) (OnCell (Take c x None))) (Some (load_of (model_state v) c))
-  take_tells = ap (λ (h : Handle). Some (event.Load (cell_in (model_state v) c) h)) found.shows.holds
+  take_tells = ap (λ (h : NumberedHandle). Some (event.Load (cell_in (model_state v) c) h)) found.shows.holds
 
   pub look_tells : ◌≡◌ {A = Option (Event Nothing)} (event_of (model_state v) (OnCell (Look c x None))) (Some (load_of (model_state v) c))
-  look_tells = ap (λ (h : Handle). Some (event.Load (cell_in (model_state v) c) h)) found.shows.holds
+  look_tells = ap (λ (h : NumberedHandle). Some (event.Load (cell_in (model_state v) c) h)) found.shows.holds
 
   pub swap_tells : (a : Slot) → is_of (kind_in_state (model_state v) c) a ≡ true
       → ◌≡◌ {A = Option (Event Nothing)} (event_of (model_state v) (OnCell (Swap c (as_word a) x))) (Some (swap_of (model_state v) c a))
   swap_tells a is =
       let s = model_state v in
-      ap (λ (h : Handle). Some (event.Swap (cell_in s c) (handle_told s c (as_word a)) h)) found.shows.holds
-      ∙ ap (λ (h : Handle). Some (event.Swap (cell_in s c) h (held_in s c))) (word_told s (kind_in_state s c) a is)
+      ap (λ (h : NumberedHandle). Some (event.Swap (cell_in s c) (handle_told s c (as_word a)) h)) found.shows.holds
+      ∙ ap (λ (h : NumberedHandle). Some (event.Swap (cell_in s c) h (held_in s c))) (word_told s (kind_in_state s c) a is)
 
-  module _ (d : ℕ) (slots : Slots) (y : Comparing) (kept : Kept v) (holds : HoldsBag d slots v)
+  module _ (d : ℕ) (slots : Slots) (y : Comparing) (kept : TableInvariant v) (holds : HoldsBag d slots v)
       (expected : is_of (kind_in_state (model_state v) c) (slot_value slots y.expected) ≡ true)
       (new : is_of (kind_in_state (model_state v) c) (slot_value slots y.new) ≡ true) where
     -- a compare, with what it finds
@@ -49,11 +49,11 @@ module _ (v : GhostState) (c : Cell) (x : CellWord) (found : Found v c x) where
         let w = named_handle s k (slot_value slots y.new) in
         let q = compared_in slots y in
         let t : b ≡ equivalent (held_in s c) e =
-        sym same ∙ alike_told d slots v y.expected kept holds c x expected ∙ ap (λ (h : Handle). equivalent h e) found.shows.holds in
-        ap (λ (h : Handle). Some (event.Compare n h (handle_told s c q.new) (handle_told s c x) b y.weak))
+        sym same ∙ alike_told d slots v y.expected kept holds c x expected ∙ ap (λ (h : NumberedHandle). equivalent h e) found.shows.holds in
+        ap (λ (h : NumberedHandle). Some (event.Compare n h (handle_told s c q.new) (handle_told s c x) b y.weak))
         (word_told s k (slot_value slots y.expected) expected)
-        ∙ ap (λ (h : Handle). Some (event.Compare n e h (handle_told s c x) b y.weak)) (word_told s k (slot_value slots y.new) new)
-        ∙ ap (λ (h : Handle). Some (event.Compare n e w h b y.weak)) found.shows.holds
+        ∙ ap (λ (h : NumberedHandle). Some (event.Compare n e h (handle_told s c x) b y.weak)) (word_told s k (slot_value slots y.new) new)
+        ∙ ap (λ (h : NumberedHandle). Some (event.Compare n e w h b y.weak)) found.shows.holds
         ∙ ap (λ (r : Bool). Some (event.Compare n e w (held_in s c) r y.weak)) t
 
     pub compare_swap_tells : same_value x (as_word (slot_value slots y.expected)) ≡ true

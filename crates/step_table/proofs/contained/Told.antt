@@ -14,7 +14,7 @@ use Rattle.control_word.specs.declared.model.event.Event.{Event}
 use Rattle.control_word.specs.declared.model.event.Event.TheVariants.{Shelve, Unshelve}
 use Rattle.control_word.specs.declared.model.event.Event.TheVariants.{ClearMember, Compare, Count, Expired, Finish, Join, Leave, Load, Lock, Make, Read}
 use Rattle.control_word.specs.declared.model.event.Event.TheVariants.{Share, Split, Swap, Visit, WeakLeave, WeakShare}
-use Rattle.control_word.specs.declared.model.handle.Handle.{Handle}
+use Rattle.control_word.specs.declared.model.handle.NumberedHandle.{NumberedHandle}
 use Rattle.control_word.specs.declared.model.handle.Kind.{Kind}
 use Rattle.control_word.specs.declared.model.handle.Kind.TheVariants.{Owner, Weak}
 use Rattle.control_word.specs.declared.place.Block.{Block}
@@ -28,7 +28,7 @@ use Rattle.control_word.specs.Words.{block_of, blocks_of}
 use Rattle.step_table.specs.declared.cell_steps.cell_step.Cell.{Cell}
 use Rattle.step_table.specs.declared.cell_steps.cell_step.Cell.TheVariants as at
 use Rattle.step_table.specs.declared.memory.extent.Extent.{Extent}
-use Rattle.step_table.specs.declared.slots.registers.Pointer.{Pointer}
+use Rattle.control_word.specs.declared.handle.Handle.{Handle}
 use Rattle.step_table.specs.declared.slots.slot.Slot.{Slot}
 use Rattle.step_table.specs.declared.slots.slot.Slot.TheVariants.{Empty, Full}
 use Rattle.step_table.specs.CellAtomicSteps.{handle_as, handle_told, kind_in_state, object_at}
@@ -36,7 +36,7 @@ use Rattle.step_table.specs.Cells.{HasInHand, word_of_cell}
 use Rattle.step_table.specs.Contents.{as_word, held_in, is_of, block_of_value, same_block, same_value, seen, slot_by, slot_in, slot_of, named_handle}
 use Rattle.step_table.specs.Registers.{HoldsBag, IsSlot, Slots, place_of, pointer_of, slot_value}
 use Rattle.step_table.specs.Openings.{opening}
-use Rattle.step_table.specs.GhostStates.{Kept, Nothing, GhostState, handle_in_block, object_of_block, model_state}
+use Rattle.step_table.specs.GhostStates.{TableInvariant, Nothing, GhostState, handle_in_block, object_of_block, model_state}
 use Rattle.step_table.proofs.holding.Owning.{slot_held}
 use Rattle.step_table.proofs.tables.Places.{handle_busy, there}
 use Rattle.step_table.proofs.tables.Shown.{Found}
@@ -78,8 +78,8 @@ module _ (v : GhostState) (d : ℕ) (c : Cell) (x : CellWord) (found : Found v c
       let h = held_in s c in
       let shows = found.shows in
       let o : x.owned ≡ block_of (blocks_of s) h.object =
-      sym (block_told s x.owned found.there) ∙ ap (λ (y : Handle). block_of (blocks_of s) y.object) shows.holds in
-      let p : x.place ≡ h.place = ap (λ (y : Handle). y.place) shows.holds in
+      sym (block_told s x.owned found.there) ∙ ap (λ (y : NumberedHandle). block_of (blocks_of s) y.object) shows.holds in
+      let p : x.place ≡ h.place = ap (λ (y : NumberedHandle). y.place) shows.holds in
       let t : x.taken ≡ word_of_cell v c / 17179869184 = sym (taken_told x shows.valid) ∙ ap (λ (n : ℕ). n / 17179869184) (sym shows.bits) in
       λ j. record { owned = o j; place = p j; taken = t j }
 
@@ -90,7 +90,7 @@ module _ (v : GhostState) (d : ℕ) (c : Cell) (x : CellWord) (found : Found v c
       sym (slot_told s (kind_in_state s c) x.owned x.place found.there) ∙ ap (slot_of s) found.shows.holds
 
 -- a slot's pointer that may go into a cell is of its kind
-pub kind_is : (k : Kind) (x : Pointer) → is_of k (Full x) ≡ true → x.kind ≡ k
+pub kind_is : (k : Kind) (x : Handle) → is_of k (Full x) ≡ true → x.kind ≡ k
 kind_is k x is = go k x.kind refl is
   where
     go : (k q : Kind) → x.kind ≡ q → same_kind q k ≡ true → x.kind ≡ k
@@ -104,14 +104,14 @@ pub word_told : (s : State) (k : Kind) (a : Slot) → is_of k a ≡ true → han
 word_told s k (Empty p) is = refl
 word_told s k (Full x) is = ap (λ (q : Kind). handle q (object_at s (Some x.block)) x.place) (sym (kind_is k x is))
 
-busy_some : (v : GhostState) (b : Block) → Kept v → IsBusy (model_state v) (object_of_block v b) → object_of_block v b ≢ 0
+busy_some : (v : GhostState) (b : Block) → TableInvariant v → IsBusy (model_state v) (object_of_block v b) → object_of_block v b ≢ 0
 busy_some v b kept busy e =
     let fine = sound (opening v.extent) v.history kept.stands.legal in
     let z = fine.unmade_free 0 fine.none in
     let t : 0 < 0 = subst (λ n. 0 < n) z (subst (IsBusy (model_state v)) e busy) in omega arith
 
 -- blocks are the same where their objects are, if one of these is there
-same_object : (v : GhostState) (o q : Option Block) → Kept v → ((b : Block) → q ≡ Some b → IsBusy (model_state v) (object_of_block v b))
+same_object : (v : GhostState) (o q : Option Block) → TableInvariant v → ((b : Block) → q ≡ Some b → IsBusy (model_state v) (object_of_block v b))
     → same_number (object_at (model_state v) o) (object_at (model_state v) q) ≡ same_block o q
 same_object v None None kept busy = refl
 same_object v None (Some b) kept busy = refl
@@ -123,11 +123,11 @@ same_object v (Some a) (Some b) kept busy =
     ∙ ap (blocks_of (model_state v)) e ∙ (there v b kept (busy b refl)).0)) ∙ sym (ne_eqb a.0 b.0 n)) (cases_eq a.0 b.0)
 
 -- values are equivalent where they are the same, if the object of one of them is there
-pub alike : (v : GhostState) (c : Cell) (x y : CellWord) → Kept v → ((b : Block) → y.owned ≡ Some b → IsBusy (model_state v) (object_of_block v b))
+pub alike : (v : GhostState) (c : Cell) (x y : CellWord) → TableInvariant v → ((b : Block) → y.owned ≡ Some b → IsBusy (model_state v) (object_of_block v b))
     → equivalent (handle_told (model_state v) c x) (handle_told (model_state v) c y) ≡ same_value x y
 alike v c x y kept busy = ap (λ (t : Bool). t && same_place x.place y.place) (same_object v x.owned y.owned kept busy)
 
-module _ (d : ℕ) (slots : Slots) (v : GhostState) (i : ℕ) (kept : Kept v) (holds : HoldsBag d slots v) where
+module _ (d : ℕ) (slots : Slots) (v : GhostState) (i : ℕ) (kept : TableInvariant v) (holds : HoldsBag d slots v) where
   -- the object of a slot's pointer is there
   pub slot_busy : (b : Block) → block_of_value (slot_value slots i) ≡ Some b → IsBusy (model_state v) (object_of_block v b)
   slot_busy b e = go (slot_value slots i) refl e
@@ -192,7 +192,7 @@ module _ (d : ℕ) (slots : Slots) (v : GhostState) (i : ℕ) (kept : Kept v) (h
       (named_handle (model_state v) (kind_in_state (model_state v) c) (slot_value slots i))
   alike_seen c x found is =
       ap (λ (y : CellWord). same_value y (as_word (slot_value slots i))) (sym (shows_seen v d c x found)) ∙ alike_told c x is
-      ∙ ap (λ (h : Handle). equivalent h (named_handle (model_state v) (kind_in_state (model_state v) c) (slot_value slots i))) found.shows.holds
+      ∙ ap (λ (h : NumberedHandle). equivalent h (named_handle (model_state v) (kind_in_state (model_state v) c) (slot_value slots i))) found.shows.holds
 
 -- the number of shared cells never changes
 shared_led : (z : Opening) (h : List (Entry Nothing)) → (leads z h).shared ≡ z.shared_cells

@@ -7,20 +7,20 @@ use Rattle.control_word.specs.Layout.{spot}
 use Rattle.control_word.specs.Views.{owed, owes}
 use Rattle.step_table.specs.AtomicSteps.{IsSettled, TellsUseCount, by_word, owner_word, told_number}
 use Rattle.step_table.specs.Registers.{HoldsBag, Slots, slot_pointer}
-use Rattle.step_table.specs.GhostStates.{Kept, Nothing, GhostState, pending, model_state}
-use Rattle.step_table.specs.declared.slots.registers.Pointer.{Pointer}
+use Rattle.step_table.specs.GhostStates.{TableInvariant, Nothing, GhostState, pending, model_state}
+use Rattle.control_word.specs.declared.handle.Handle.{Handle}
 use Rattle.step_table.proofs.holding.Owning.{slot_held}
 use Rattle.step_table.proofs.tables.Doors.{none_in}
 use Rattle.step_table.proofs.tables.Owners.{exact_count, told_most, told_none, told_word}
 
 -- no load of the object is under way
-settled_owes : (v : GhostState) (d : ℕ) (x : Pointer) → pending v d ≡ Idle → IsSettled v d x → owed v.views (spot x.block.0 0) ≡ 0
+settled_owes : (v : GhostState) (d : ℕ) (x : Handle) → pending v d ≡ Idle → IsSettled v d x → owed v.views (spot x.block.0 0) ≡ 0
 settled_owes v d x idle settled =
     none_in (λ p. owes p (spot x.block.0 0)) v.views
     (λ e. ⊎_elim (λ (is : e ≡ d). ap (λ (p : Pending Nothing). owes p (spot x.block.0 0)) (ap (pending v) is ∙ idle))
     (λ (ne : e ≢ d). settled e ne) (cases_eq e d))
 
-pub tells : (d i : ℕ) (slots : Slots) (x : Pointer) (v : GhostState) → Kept v → d < v.extent.actors → pending v d ≡ Idle → HoldsBag d slots v
+pub tells : (d i : ℕ) (slots : Slots) (x : Handle) (v : GhostState) → TableInvariant v → d < v.extent.actors → pending v d ≡ Idle → HoldsBag d slots v
     → slot_pointer slots i ≡ Some x → TellsUseCount v d (model_state v) (by_word v) x
 tells d i slots x v kept lt idle holds at =
     let has = slot_held d slots v i x holds at in

@@ -7,22 +7,22 @@ use Rattle.control_word.specs.declared.model.handle.Kind.TheVariants.{Owner, Wea
 use Rattle.control_word.specs.declared.place.Place.{Place}
 use Rattle.control_word.specs.Handles.{IsPointer}
 use Rattle.control_word.specs.State.{Has, held}
-use Rattle.step_table.specs.declared.slots.registers.Pointer.{Pointer}
+use Rattle.control_word.specs.declared.handle.Handle.{Handle}
 use Rattle.step_table.specs.declared.slots.slot.Slot.TheVariants.{Full}
 use Rattle.step_table.specs.AtomicSteps.{give, this_as}
 use Rattle.step_table.specs.Registers.{HoldsBag, Slots, inside, inside_as, into, slot_pointer}
-use Rattle.step_table.specs.GhostStates.{Kept, GhostState, ghost_after_step, handle_in_block, owner_in, model_state}
+use Rattle.step_table.specs.GhostStates.{TableInvariant, GhostState, ghost_after_step, handle_in_block, owner_in, model_state}
 use Rattle.step_table.proofs.holding.Owning.{holds_more, slot_held}
 use Rattle.step_table.proofs.tables.Places.{handle_busy, there}
 
 -- what is known of such an owner
-pub record Points (x : Pointer) : Type 0 where
+pub record Points (x : Handle) : Type 0 where
   pub kind : x.kind ≡ Owner
   pub place : Place
   pub points : x.place ≡ Some place
   pub inside : place.block.0 ≡ x.block.0
 
-into_is : (y x : Pointer) (p : Option Place) → y.kind ≡ Owner → y.place ≡ p → into y p ≡ Some x → (y ≡ x) × Points y
+into_is : (y x : Handle) (p : Option Place) → y.kind ≡ Owner → y.place ≡ p → into y p ≡ Some x → (y ≡ x) × Points y
 into_is y x None kind at e = cc
 into_is y x (Some p) kind at e = go (p.block.0 == y.block.0) refl e
   where
@@ -30,15 +30,15 @@ into_is y x (Some p) kind at e = go (p.block.0 == y.block.0) refl e
     go true t e = (same_Some y x e, record { kind = kind; place = p; points = at; inside = eqb-true _ _ t })
     go false t e = cc
 
-pub inside_is : (o : Option Pointer) (x : Pointer) → inside o ≡ Some x → (o ≡ Some x) × Points x
+pub inside_is : (o : Option Handle) (x : Handle) → inside o ≡ Some x → (o ≡ Some x) × Points x
 inside_is None x e = cc
 inside_is (Some y) x e = go y.kind refl e
   where
     go : (k : Kind) → y.kind ≡ k → inside_as k y ≡ Some x → (Some y ≡ Some x) × Points x
-    go Owner is e = let t = into_is y x y.place is refl e in (ap (λ (z : Pointer). Some z) t.0, subst Points t.0 t.1)
+    go Owner is e = let t = into_is y x y.place is refl e in (ap (λ (z : Handle). Some z) t.0, subst Points t.0 t.1)
     go Weak is e = cc
 
-module _ (d : ℕ) (slots : Slots) (v : GhostState) (i : ℕ) (x : Pointer) (holds : HoldsBag d slots v) (e : inside (slot_pointer slots i) ≡ Some x) where
+module _ (d : ℕ) (slots : Slots) (v : GhostState) (i : ℕ) (x : Handle) (holds : HoldsBag d slots v) (e : inside (slot_pointer slots i) ≡ Some x) where
   pub inside_held : Has (held d (handle_in_block v x.kind x.block x.place)) (model_state v).hands
   inside_held = slot_held d slots v i x holds (inside_is (slot_pointer slots i) x e).0
 
@@ -49,7 +49,7 @@ module _ (d : ℕ) (slots : Slots) (v : GhostState) (i : ℕ) (x : Pointer) (hol
       (subst (λ (k : Kind). Has (held d (handle_in_block v k x.block x.place)) (model_state v).hands) t.kind inside_held)
 
 -- a pointer that an object gives
-pub holds_give : (d : ℕ) (slots : Slots) (v : GhostState) (i : ℕ) (k : Kind) (x : Pointer) → Kept v → HoldsBag d slots v
+pub holds_give : (d : ℕ) (slots : Slots) (v : GhostState) (i : ℕ) (k : Kind) (x : Handle) → TableInvariant v → HoldsBag d slots v
     → Has (held d (handle_in_block v x.kind x.block x.place)) (model_state v).hands → i < length slots → slot_pointer slots i ≡ None
     → HoldsBag d (set slots i (Full (this_as k x))) (ghost_after_step v d (give k x))
 holds_give d slots v i k x kept holds has lt e = go k

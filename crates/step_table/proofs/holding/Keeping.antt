@@ -7,7 +7,7 @@ use Rattle.control_word.proofs.history.Legal.{held_busy, sound}
 use Rattle.control_word.proofs.lists.Parts.{part}
 use Rattle.control_word.proofs.lists.Tallies.{num, num_cons, put_cases, put_other}
 use Rattle.control_word.specs.declared.model.event.Event.TheVariants as event
-use Rattle.control_word.specs.declared.model.handle.Handle.{Handle}
+use Rattle.control_word.specs.declared.model.handle.NumberedHandle.{NumberedHandle}
 use Rattle.control_word.specs.declared.place.Block.{Block}
 use Rattle.control_word.specs.declared.model.view.View.{View}
 use Rattle.control_word.specs.Events.{moved_to, new_object}
@@ -17,14 +17,16 @@ use Rattle.control_word.specs.State.{weak_number}
 use Rattle.control_word.specs.Views.{used_up}
 use Rattle.step_table.specs.declared.memory.shelf.ShelfStep.TheVariants.{Shelve, Unshelve, Miss}
 use Rattle.step_table.proofs.tables.ShelfAtomicSteps.{shelf_framed}
-use Rattle.step_table.specs.declared.slots.registers.Pointer.{Pointer}
-use Rattle.step_table.specs.declared.memory.past.AtomicStep.{AtomicStep}
-use Rattle.step_table.specs.declared.memory.past.AtomicStep.TheVariants.{Prepare, Write, Claim, Share, WeakShare, Leave, WeakLeave, Lock, Count, Expired, Read}
-use Rattle.step_table.specs.declared.memory.past.AtomicStep.TheVariants.{Clear}
-use Rattle.step_table.specs.declared.memory.past.AtomicStep.TheVariants.{Finish, OnCell, OnShelf}
+use Rattle.control_word.specs.declared.handle.Handle.{Handle}
+use Rattle.step_table.specs.declared.memory.ghost_history.AtomicStep.{AtomicStep}
+use Rattle.step_table.specs.declared.memory.ghost_history.AtomicStep.TheVariants.{Prepare, Write, Claim, Share, WeakShare, Leave, WeakLeave, Lock, Count}
+use Rattle.step_table.specs.declared.memory.ghost_history.AtomicStep.TheVariants.{Expired, Read}
+use Rattle.step_table.specs.declared.memory.ghost_history.AtomicStep.TheVariants.{Clear}
+use Rattle.step_table.specs.declared.memory.ghost_history.AtomicStep.TheVariants.{Finish, OnCell, OnShelf}
 use Rattle.step_table.specs.Registers.{HoldsBag, Slots, slot_pointer, times_held}
 use Rattle.step_table.specs.Openings.{opening}
-use Rattle.step_table.specs.GhostStates.{Kept, Nothing, GhostState, ghost_after_step, handle_in_block, object_of_block, owner_in, pending, model_state, weak_in}
+use Rattle.step_table.specs.GhostStates.{TableInvariant, Nothing, GhostState, ghost_after_step, handle_in_block, object_of_block, owner_in, pending}
+use Rattle.step_table.specs.GhostStates.{model_state, weak_in}
 use Rattle.step_table.proofs.holding.Owning.{same_owns, slot_held}
 use Rattle.step_table.proofs.tables.CellAtomicSteps.{framed, same_cell}
 use Rattle.step_table.proofs.tables.Places.{handle_busy, there}
@@ -41,7 +43,7 @@ num_part who d p (x ∷ xs) mine =
     (λ t. let n : num p (x ∷ []) ≡ 0 = cond_both (p x) (x ∷ []) [] (λ r. length r ≡ 0)
     (λ u. let e = eq-eqb (who x) d (mine x u) in cc) (λ u. refl) in omega (arith, i, a, n))
 
-times_bag : (s : State) (d : ℕ) (h : Handle) → times_held s d h ≡ num (same_held (held d h)) (bag s d)
+times_bag : (s : State) (d : ℕ) (h : NumberedHandle) → times_held s d h ≡ num (same_held (held d h)) (bag s d)
 times_bag s d h = num_part (λ (x : Held). x.desk) d (same_held (held d h)) s.hands (λ x t. sym (eqb-true _ _ (and_parts _ _ t).0))
 
 pub same_atomic_step : (v : GhostState) (e d : ℕ) (x : AtomicStep) → e ≢ d → Same (model_state v) (model_state (ghost_after_step v e x)) d
@@ -113,7 +115,7 @@ enabled_stays v e o (OnShelf b x) le = ap (λ (s : State). (s.object o).enabled)
 enabled_stays v e o (OnCell x) le = (framed v e x).enabled o
 
 -- the object in a block that a desk keeps is the same
-pub kept_object : (v : GhostState) (e : ℕ) (b : Block) (x : AtomicStep) → Kept v → Kept (ghost_after_step v e x)
+pub kept_object : (v : GhostState) (e : ℕ) (b : Block) (x : AtomicStep) → TableInvariant v → TableInvariant (ghost_after_step v e x)
     → 0 < weak_number (model_state v) (object_of_block v b)
     → 0 < weak_number (model_state (ghost_after_step v e x)) (object_of_block v b) → object_of_block (ghost_after_step v e x) b ≡ object_of_block v b
 kept_object v e b x kept kept' busy busy' =
@@ -124,14 +126,14 @@ kept_object v e b x kept kept' busy busy' =
     let c = block_stays v e o x (fine.latest_made b.0) ∙ (there v b kept busy).0 in
     subst (λ (k : ℕ). (model_state (ghost_after_step v e x)).latest k ≡ o) c p
 
-still_held : (d : ℕ) (slots : Slots) (v : GhostState) (e : ℕ) (x : AtomicStep) (i : ℕ) (y : Pointer) → e ≢ d → HoldsBag d slots v
+still_held : (d : ℕ) (slots : Slots) (v : GhostState) (e : ℕ) (x : AtomicStep) (i : ℕ) (y : Handle) → e ≢ d → HoldsBag d slots v
     → slot_pointer slots i ≡ Some y
     → Has (held d (handle_in_block v y.kind y.block y.place)) (model_state (ghost_after_step v e x)).hands
 still_held d slots v e x i y n holds at =
     has_same (model_state v) (model_state (ghost_after_step v e x)) d _ (same_atomic_step v e d x n) (slot_held d slots v i y holds at)
 
-slot_object : (d : ℕ) (slots : Slots) (v : GhostState) (e : ℕ) (x : AtomicStep) (i : ℕ) (y : Pointer) → e ≢ d → Kept v
-    → Kept (ghost_after_step v e x) → HoldsBag d slots v
+slot_object : (d : ℕ) (slots : Slots) (v : GhostState) (e : ℕ) (x : AtomicStep) (i : ℕ) (y : Handle) → e ≢ d → TableInvariant v
+    → TableInvariant (ghost_after_step v e x) → HoldsBag d slots v
     → slot_pointer slots i ≡ Some y → object_of_block (ghost_after_step v e x) y.block ≡ object_of_block v y.block
 slot_object d slots v e x i y n kept kept' holds at =
     kept_object v e y.block x kept kept' (handle_busy v d y.kind y.block y.place kept (slot_held d slots v i y holds at))
@@ -139,7 +141,8 @@ slot_object d slots v e x i y n kept kept' holds at =
     (sound (opening v.extent) (ghost_after_step v e x).history kept'.stands.legal) (still_held d slots v e x i y n holds at))
 
 -- another desk's atomic step leaves what a desk holds
-pub holds_others : (d : ℕ) (slots : Slots) (v : GhostState) (e : ℕ) (x : AtomicStep) → e ≢ d → Kept v → Kept (ghost_after_step v e x) → HoldsBag d slots v
+pub holds_others : (d : ℕ) (slots : Slots) (v : GhostState) (e : ℕ) (x : AtomicStep) → e ≢ d → TableInvariant v → TableInvariant (ghost_after_step v e x)
+    → HoldsBag d slots v
     → HoldsBag d slots (ghost_after_step v e x)
 holds_others d slots v e x n kept kept' holds =
     let same = same_atomic_step v e d x n in

@@ -6,7 +6,7 @@ use Rattle.std.proofs.lemmas.Bool.{cases_eq}
 use Rattle.std.proofs.lemmas.Option.{same_Some}
 use Rattle.control_word.proofs.lists.Tallies.{handle_self, held_self, held_true, num, num_cons, num_has, num_without}
 use Rattle.control_word.proofs.words.Counting.{bag_one}
-use Rattle.control_word.specs.declared.model.handle.Handle.{Handle}
+use Rattle.control_word.specs.declared.model.handle.NumberedHandle.{NumberedHandle}
 use Rattle.control_word.specs.declared.place.Block.{Block}
 use Rattle.control_word.specs.declared.place.Place.{Place}
 use Rattle.control_word.proofs.history.Legal.{sound}
@@ -17,32 +17,32 @@ use Rattle.control_word.specs.declared.model.handle.Kind.TheVariants.{Owner, Wea
 use Rattle.control_word.specs.Handles.{IsPointer, handle, owner, same_handle}
 use Rattle.control_word.specs.State.{Has, Held, InShape, Opening, bag_size, held, same_held, stored, without}
 use Rattle.step_table.specs.declared.memory.form.Form.{Form}
-use Rattle.step_table.specs.declared.slots.registers.Pointer.{Pointer}
+use Rattle.control_word.specs.declared.handle.Handle.{Handle}
 use Rattle.step_table.specs.declared.slots.slot.Slot.{Slot}
 use Rattle.step_table.specs.declared.slots.slot.Slot.TheVariants.{Empty, Full}
-use Rattle.step_table.specs.declared.memory.past.AtomicStep.TheVariants.{Claim}
+use Rattle.step_table.specs.declared.memory.ghost_history.AtomicStep.TheVariants.{Claim}
 use Rattle.step_table.specs.AtomicSteps.{leave_as, share, share_as}
 use Rattle.step_table.specs.Registers.{HoldsBag, IsSlot, Slots, slot_has_object, is_it, owns, plain, pointer_of, slot_pointer, times_held, slot_value, weak_as}
 use Rattle.step_table.specs.Registers.{weak_slot}
 use Rattle.step_table.specs.Openings.{opening}
-use Rattle.step_table.specs.GhostStates.{GhostState, Kept, ghost_after_step, handle_in_block, object_of_block, model_state, weak_in}
+use Rattle.step_table.specs.GhostStates.{GhostState, TableInvariant, ghost_after_step, handle_in_block, object_of_block, model_state, weak_in}
 use Rattle.step_table.proofs.tables.Places.{handle_busy, there}
 use Rattle.step_table.proofs.holding.Slots.{counted_has, full_is, full_less, has_slot, num_none, num_set, num_some, one_held, one_slot, slot_inside}
 use Rattle.step_table.proofs.tables.Start.{forty}
 
 -- a pointer in a slot is a handle in the bag
-pub slot_held : (d : ℕ) (slots : Slots) (v : GhostState) (i : ℕ) (x : Pointer) → HoldsBag d slots v → slot_pointer slots i ≡ Some x
+pub slot_held : (d : ℕ) (slots : Slots) (v : GhostState) (i : ℕ) (x : Handle) → HoldsBag d slots v → slot_pointer slots i ≡ Some x
     → Has (held d (handle_in_block v x.kind x.block x.place)) (model_state v).hands
 slot_held d slots v i x holds e =
     let h = handle_in_block v x.kind x.block x.place in
     let n = num_has (is_it v h) (Full x) slots (has_slot slots i x e) (handle_self h) in
     counted_has (held d h) (model_state v).hands (let o = holds.owned h in omega (arith, n, o))
 
-pub slot_formed : (d : ℕ) (slots : Slots) (v : GhostState) (i : ℕ) (x : Pointer) → HoldsBag d slots v → slot_pointer slots i ≡ Some x → IsPointer x.place
+pub slot_formed : (d : ℕ) (slots : Slots) (v : GhostState) (i : ℕ) (x : Handle) → HoldsBag d slots v → slot_pointer slots i ≡ Some x → IsPointer x.place
 slot_formed d slots v i x holds e = subst IsSlot (full_is (slot_value slots i) x e) (holds.formed i)
 
 -- where a slot is empty the desk may have one more handle
-pub has_room : (d : ℕ) (slots : Slots) (v : GhostState) (i : ℕ) → Kept v → d < v.extent.actors → HoldsBag d slots v → length slots < 35
+pub has_room : (d : ℕ) (slots : Slots) (v : GhostState) (i : ℕ) → TableInvariant v → d < v.extent.actors → HoldsBag d slots v → length slots < 35
     → i < length slots → slot_pointer slots i ≡ None → bag_size (model_state v) d < (model_state v).allowance d
 has_room d slots v i kept lt holds few inside e =
     let a = full_less slots i inside e in
@@ -57,13 +57,13 @@ formed_set slots i x all lt fine j =
     (subst IsSlot (sym (get_or-set_same slots i x plain lt)) fine))
     (λ (n : j ≢ i). subst IsSlot (sym (get_or-set_other slots i j x plain n)) (all j)) (cases_eq j i)
 
-same_is : (v w : GhostState) (h : Handle) (y : Slot) → ((p : Pointer) → pointer_of y ≡ Some p → object_of_block w p.block ≡ object_of_block v p.block)
+same_is : (v w : GhostState) (h : NumberedHandle) (y : Slot) → ((p : Handle) → pointer_of y ≡ Some p → object_of_block w p.block ≡ object_of_block v p.block)
     → is_it w h y ≡ is_it v h y
 same_is v w h (Empty q) f = refl
 same_is v w h (Full p) f = ap (λ (o : ℕ). same_handle h (handle p.kind (Some o) p.place)) (f p refl)
 
-pub same_owns : (v w : GhostState) (h : Handle) (slots : Slots)
-    → ((i : ℕ) (p : Pointer) → slot_pointer slots i ≡ Some p → object_of_block w p.block ≡ object_of_block v p.block)
+pub same_owns : (v w : GhostState) (h : NumberedHandle) (slots : Slots)
+    → ((i : ℕ) (p : Handle) → slot_pointer slots i ≡ Some p → object_of_block w p.block ≡ object_of_block v p.block)
     → owns w slots h ≡ owns v slots h
 same_owns v w h [] f = refl
 same_owns v w h (y ∷ ys) f =
@@ -75,7 +75,7 @@ same_owns v w h (y ∷ ys) f =
     omega (arith, i, a, b, c)
 
 -- a handle more, in a slot that was empty
-pub holds_more : (d : ℕ) (slots : Slots) (v w : GhostState) (i : ℕ) (x : Pointer) → HoldsBag d slots v
+pub holds_more : (d : ℕ) (slots : Slots) (v w : GhostState) (i : ℕ) (x : Handle) → HoldsBag d slots v
     → (model_state w).hands ≡ held d (handle_in_block v x.kind x.block x.place) ∷ (model_state v).hands
     → (model_state w).latest ≡ (model_state v).latest → IsPointer x.place
     → i < length slots → slot_pointer slots i ≡ None → HoldsBag d (set slots i (Full x)) w
@@ -104,7 +104,7 @@ holds_more d slots v w i x holds hands latest fine lt e =
     }
 
 -- a handle less, of a slot
-pub holds_less : (d : ℕ) (slots : Slots) (v w : GhostState) (i : ℕ) (x : Pointer) → HoldsBag d slots v → slot_pointer slots i ≡ Some x
+pub holds_less : (d : ℕ) (slots : Slots) (v w : GhostState) (i : ℕ) (x : Handle) → HoldsBag d slots v → slot_pointer slots i ≡ Some x
     → (model_state w).hands ≡ without same_held (held d (handle_in_block v x.kind x.block x.place)) (model_state v).hands
     → (model_state w).latest ≡ (model_state v).latest → HoldsBag d (set slots i plain) w
 holds_less d slots v w i x holds e hands latest =
@@ -146,22 +146,22 @@ holds_look d slots v w hands latest holds =
     }
 
 -- a weak pointer in a slot
-pub weak_held : (d : ℕ) (slots : Slots) (v : GhostState) (i : ℕ) (x : Pointer) → HoldsBag d slots v → weak_slot (slot_pointer slots i) ≡ Some x
+pub weak_held : (d : ℕ) (slots : Slots) (v : GhostState) (i : ℕ) (x : Handle) → HoldsBag d slots v → weak_slot (slot_pointer slots i) ≡ Some x
     → Has (held d (weak_in v x.block x.place)) (model_state v).hands
 weak_held d slots v i x holds e =
     let w = weak_is (slot_pointer slots i) x e in
     subst (λ (k : Kind). Has (held d (handle_in_block v k x.block x.place)) (model_state v).hands) w.1 (slot_held d slots v i x holds w.0)
   where
-    weak_is : (o : Option Pointer) (x : Pointer) → weak_slot o ≡ Some x → (o ≡ Some x) × (x.kind ≡ Weak)
+    weak_is : (o : Option Handle) (x : Handle) → weak_slot o ≡ Some x → (o ≡ Some x) × (x.kind ≡ Weak)
     weak_is None x e = cc
     weak_is (Some y) x e = go y.kind refl e
       where
         go : (k : Kind) → y.kind ≡ k → weak_as k y ≡ Some x → (Some y ≡ Some x) × (x.kind ≡ Weak)
         go Owner is e = cc
-        go Weak is e = (e, ap (λ (p : Pointer). p.kind) (sym (same_Some y x e)) ∙ is)
+        go Weak is e = (e, ap (λ (p : Handle). p.kind) (sym (same_Some y x e)) ∙ is)
 
 -- the place of a weak pointer in a slot is well formed
-pub weak_formed : (d : ℕ) (slots : Slots) (v : GhostState) (i : ℕ) (x : Pointer) → HoldsBag d slots v
+pub weak_formed : (d : ℕ) (slots : Slots) (v : GhostState) (i : ℕ) (x : Handle) → HoldsBag d slots v
     → weak_slot (slot_pointer slots i) ≡ Some x → IsPointer x.place
 weak_formed d slots v i x holds e = go (slot_value slots i) (holds.formed i) e
   where
@@ -171,10 +171,10 @@ weak_formed d slots v i x holds e = go (slot_value slots i) (holds.formed i) e
       where
         kinds : (k : Kind) → weak_as k y ≡ Some x → IsPointer x.place
         kinds Owner e = cc
-        kinds Weak e = subst (λ (p : Pointer). IsPointer p.place) (same_Some y x e) f
+        kinds Weak e = subst (λ (p : Handle). IsPointer p.place) (same_Some y x e) f
 
 -- a copy of a pointer
-pub holds_share : (d : ℕ) (slots : Slots) (v : GhostState) (i : ℕ) (x : Pointer) → HoldsBag d slots v → IsPointer x.place → i < length slots
+pub holds_share : (d : ℕ) (slots : Slots) (v : GhostState) (i : ℕ) (x : Handle) → HoldsBag d slots v → IsPointer x.place → i < length slots
     → slot_pointer slots i ≡ None → HoldsBag d (set slots i (Full x)) (ghost_after_step v d (share x))
 holds_share d slots v i x holds fine lt e = go x.kind refl
   where
@@ -185,7 +185,7 @@ holds_share d slots v i x holds fine lt e = go x.kind refl
         (ap (λ (k : Kind). held d (handle_in_block v k x.block x.place) ∷ (model_state v).hands) (sym is)) refl fine lt e
 
 -- a pointer leaves
-pub holds_leave : (d : ℕ) (slots : Slots) (v : GhostState) (i : ℕ) (x : Pointer) (last : Bool) → HoldsBag d slots v → slot_pointer slots i ≡ Some x
+pub holds_leave : (d : ℕ) (slots : Slots) (v : GhostState) (i : ℕ) (x : Handle) (last : Bool) → HoldsBag d slots v → slot_pointer slots i ≡ Some x
     → HoldsBag d (set slots i plain) (ghost_after_step v d (leave_as x.kind x last))
 holds_leave d slots v i x last holds e = go x.kind refl
   where
@@ -235,7 +235,7 @@ holds_move d slots v i j holds li lj n e =
     }
 
 -- a block in a store is no block of a pointer
-apart : (d : ℕ) (slots : Slots) (v : GhostState) (b : Block) (i : ℕ) (x : Pointer) → Kept v → HoldsBag d slots v
+apart : (d : ℕ) (slots : Slots) (v : GhostState) (b : Block) (i : ℕ) (x : Handle) → TableInvariant v → HoldsBag d slots v
     → Has (stored d b.0) (model_state v).stores
     → slot_pointer slots i ≡ Some x
     → x.block.0 ≢ b.0
@@ -245,15 +245,15 @@ apart d slots v b i x kept holds has e same =
     let vacant = ((sound (opening v.extent) v.history kept.stands.legal).stores d b.0 has).0 in
     let z = vacant (object_of_block v x.block) (t.0 ∙ same) in omega (arith, busy, z)
 
-claimed_is : (v : GhostState) (d : ℕ) (b : Block) (enabled null : Bool) (fields : List ℕ) (h : Handle) (y : Slot) → ((p : Pointer)
+claimed_is : (v : GhostState) (d : ℕ) (b : Block) (enabled null : Bool) (fields : List ℕ) (h : NumberedHandle) (y : Slot) → ((p : Handle)
     → pointer_of y ≡ Some p → p.block.0 ≢ b.0)
     → is_it (ghost_after_step v d (Claim b enabled null fields)) h y ≡ is_it v h y
 claimed_is v d b enabled null fields h (Empty q) f = refl
 claimed_is v d b enabled null fields h (Full p) f =
     ap (λ (o : ℕ). same_handle h (handle p.kind (Some o) p.place)) (put_other (model_state v).latest b.0 (suc (model_state v).made) p.block.0 (f p refl))
 
-claimed_owns : (v : GhostState) (d : ℕ) (b : Block) (enabled null : Bool) (fields : List ℕ) (h : Handle) (slots : Slots)
-    → ((i : ℕ) (p : Pointer) → slot_pointer slots i ≡ Some p → p.block.0 ≢ b.0)
+claimed_owns : (v : GhostState) (d : ℕ) (b : Block) (enabled null : Bool) (fields : List ℕ) (h : NumberedHandle) (slots : Slots)
+    → ((i : ℕ) (p : Handle) → slot_pointer slots i ≡ Some p → p.block.0 ≢ b.0)
     → owns (ghost_after_step v d (Claim b enabled null fields)) slots h ≡ owns v slots h
 claimed_owns v d b enabled null fields h [] f = refl
 claimed_owns v d b enabled null fields h (y ∷ ys) f =
@@ -270,13 +270,13 @@ origin_formed : (z : Opening) (b : ℕ) (null : Bool) → InShape z b → z.bloc
 origin_formed z b true shape few = tt
 origin_formed z b false shape few = let low = shape.0 in let high = shape.1 in (low, omega (arith, high, few), omega arith)
 
-pub holds_claim : (d : ℕ) (slots : Slots) (v : GhostState) (i : ℕ) (b : Block) (form : Form) → Kept v → HoldsBag d slots v
+pub holds_claim : (d : ℕ) (slots : Slots) (v : GhostState) (i : ℕ) (b : Block) (form : Form) → TableInvariant v → HoldsBag d slots v
     → Has (stored d b.0) (model_state v).stores
     → InShape (opening v.extent) b.0 → v.extent.shape.blocks ≤ 65535 → i < length slots → slot_pointer slots i ≡ None
     → HoldsBag d (set slots i (Full (record { kind = Owner; block = b; place = origin b.0 form.null })))
     (ghost_after_step v d (Claim b form.enabled form.null form.fields))
 holds_claim d slots v i b form kept holds has shape few lt e =
-    let x : Pointer = record { kind = Owner; block = b; place = origin b.0 form.null } in
+    let x : Handle = record { kind = Owner; block = b; place = origin b.0 form.null } in
     let w = ghost_after_step v d (Claim b form.enabled form.null form.fields) in
     let y = owner (suc (model_state v).made) (origin b.0 form.null) in
     record {

@@ -6,11 +6,11 @@ use Rattle.std.proofs.lemmas.Bool.{cond_both, cond-true, cond-false, and_from}
 use Rattle.std.specs.List.{filter}
 use Rattle.std.proofs.lemmas.Option.{same_Some}
 use Rattle.control_word.proofs.lists.Tallies.{held_true, num, num_cons}
-use Rattle.control_word.specs.declared.model.handle.Handle.{Handle}
+use Rattle.control_word.specs.declared.model.handle.NumberedHandle.{NumberedHandle}
 use Rattle.control_word.specs.declared.place.Place.{Place}
 use Rattle.control_word.specs.Handles.{same_handle}
 use Rattle.control_word.specs.State.{Has, Held, held, same_held}
-use Rattle.step_table.specs.declared.slots.registers.Pointer.{Pointer}
+use Rattle.control_word.specs.declared.handle.Handle.{Handle}
 use Rattle.step_table.specs.declared.slots.slot.Slot.{Slot}
 use Rattle.step_table.specs.declared.slots.slot.Slot.TheVariants.{Empty, Full}
 use Rattle.step_table.specs.Registers.{Slots, full, slot_has_object, pointer_of, slot_pointer, slot_value}
@@ -25,16 +25,16 @@ num_set p (y ∷ ys) (suc i) x lt =
     let a = num_cons p y (set ys i x) in let b = num_cons p y ys in omega (arith, t, a, b)
 
 -- a slot within the list is one of its values
-pub full_is : (y : Slot) (x : Pointer) → pointer_of y ≡ Some x → y ≡ Full x
+pub full_is : (y : Slot) (x : Handle) → pointer_of y ≡ Some x → y ≡ Full x
 full_is (Empty p) x e = cc
-full_is (Full z) x e = ap (λ (w : Pointer). Full w) (same_Some z x e)
+full_is (Full z) x e = ap (λ (w : Handle). Full w) (same_Some z x e)
 
-pub has_slot : (l : Slots) (i : ℕ) (x : Pointer) → slot_pointer l i ≡ Some x → Has (Full x) l
+pub has_slot : (l : Slots) (i : ℕ) (x : Handle) → slot_pointer l i ≡ Some x → Has (Full x) l
 has_slot [] i x e = cc
 has_slot (y ∷ ys) zero x e = inl (sym (full_is y x e))
 has_slot (y ∷ ys) (suc i) x e = inr (has_slot ys i x e)
 
-pub slot_inside : (l : Slots) (i : ℕ) (x : Pointer) → slot_pointer l i ≡ Some x → i < length l
+pub slot_inside : (l : Slots) (i : ℕ) (x : Handle) → slot_pointer l i ≡ Some x → i < length l
 slot_inside [] i x e = cc
 slot_inside (y ∷ ys) zero x e = omega arith
 slot_inside (y ∷ ys) (suc i) x e = let t = slot_inside ys i x e in omega (arith, t)
@@ -47,7 +47,7 @@ counted_has x (y ∷ ys) lt =
     (λ e t. inl (held_true x y e)) (λ e t. inr (counted_has x ys t)) lt
 
 -- a handle of the desk, counted
-pub one_held : (d : ℕ) (h x : Handle) → num (same_held (held d h)) (held d x ∷ []) ≡ cond (same_handle h x) 1 0
+pub one_held : (d : ℕ) (h x : NumberedHandle) → num (same_held (held d h)) (held d x ∷ []) ≡ cond (same_handle h x) 1 0
 one_held d h x =
     let e = eq-eqb d d refl in
     cond_both (same_handle h x) 1 0 (λ (n : ℕ). num (same_held (held d h)) (held d x ∷ []) ≡ n)
@@ -67,7 +67,7 @@ pub num_none : (p : Slot → Bool) (y : Slot) → ((q : Option Place) → p (Emp
 num_none p (Empty q) f e = one_slot p (Empty q) ∙ ap (λ (t : Bool). cond t 1 0) (f q)
 num_none p (Full x) f e = cc
 
-pub num_some : (p : Slot → Bool) (y : Slot) (x : Pointer) → pointer_of y ≡ Some x → num p (y ∷ []) ≡ num p (Full x ∷ [])
+pub num_some : (p : Slot → Bool) (y : Slot) (x : Handle) → pointer_of y ≡ Some x → num p (y ∷ []) ≡ num p (Full x ∷ [])
 num_some p y x e = ap (λ (z : Slot). num p (z ∷ [])) (full_is y x e)
 
 -- a list with an empty slot has fewer full ones than slots

@@ -7,39 +7,39 @@ use Rattle.control_word.specs.declared.model.handle.Kind.TheVariants.{Owner, Wea
 use Rattle.control_word.specs.Handles.{empty, rank}
 use Rattle.control_word.specs.State.{Has, held}
 use Rattle.control_word.specs.Words.{blocks_of}
-use Rattle.step_table.specs.declared.slots.registers.Pointer.{Pointer}
+use Rattle.control_word.specs.declared.handle.Handle.{Handle}
 use Rattle.step_table.specs.AtomicSteps.{handle_of, on, pointer_before}
 use Rattle.step_table.specs.Registers.{HoldsBag, Slots, owner_as, owner_slot, slot_pointer}
-use Rattle.step_table.specs.GhostStates.{Kept, GhostState, handle_in_block, owner_in, model_state}
+use Rattle.step_table.specs.GhostStates.{TableInvariant, GhostState, handle_in_block, owner_in, model_state}
 use Rattle.step_table.proofs.holding.Owning.{slot_held}
 use Rattle.step_table.proofs.tables.Places.{handle_busy, there}
 
 -- an owner in a slot
-pub owner_held : (d : ℕ) (slots : Slots) (v : GhostState) (i : ℕ) (x : Pointer) → HoldsBag d slots v → owner_slot (slot_pointer slots i) ≡ Some x
+pub owner_held : (d : ℕ) (slots : Slots) (v : GhostState) (i : ℕ) (x : Handle) → HoldsBag d slots v → owner_slot (slot_pointer slots i) ≡ Some x
     → Has (held d (owner_in v x.block x.place)) (model_state v).hands
 owner_held d slots v i x holds e =
     let w = owner_is (slot_pointer slots i) x e in
     subst (λ (k : Kind). Has (held d (handle_in_block v k x.block x.place)) (model_state v).hands) w.1 (slot_held d slots v i x holds w.0)
   where
-    owner_is : (o : Option Pointer) (x : Pointer) → owner_slot o ≡ Some x → (o ≡ Some x) × (x.kind ≡ Owner)
+    owner_is : (o : Option Handle) (x : Handle) → owner_slot o ≡ Some x → (o ≡ Some x) × (x.kind ≡ Owner)
     owner_is None x e = cc
     owner_is (Some y) x e = go y.kind refl e
       where
         go : (k : Kind) → y.kind ≡ k → owner_as k y ≡ Some x → (Some y ≡ Some x) × (x.kind ≡ Owner)
         go Weak is e = cc
-        go Owner is e = (e, ap (λ (p : Pointer). p.kind) (sym (same_Some y x e)) ∙ is)
+        go Owner is e = (e, ap (λ (p : Handle). p.kind) (sym (same_Some y x e)) ∙ is)
 
 -- the block of what a slot owns tells where it stands in owner order
-slot_rank : (d : ℕ) (slots : Slots) (v : GhostState) (i : ℕ) → Kept v → HoldsBag d slots v
+slot_rank : (d : ℕ) (slots : Slots) (v : GhostState) (i : ℕ) → TableInvariant v → HoldsBag d slots v
     → rank (blocks_of (model_state v)) (on (handle_of (model_state v)) (empty Owner) (slot_pointer slots i)) ≡ on (λ x. x.block.0) 0 (slot_pointer slots i)
 slot_rank d slots v i kept holds = go (slot_pointer slots i) refl
   where
-    go : (o : Option Pointer) → slot_pointer slots i ≡ o
+    go : (o : Option Handle) → slot_pointer slots i ≡ o
         → rank (blocks_of (model_state v)) (on (handle_of (model_state v)) (empty Owner) o) ≡ on (λ x. x.block.0) 0 o
     go None e = refl
     go (Some x) e = (there v x.block kept (handle_busy v d x.kind x.block x.place kept (slot_held d slots v i x holds e))).0
 
-pub before_by : (d : ℕ) (slots : Slots) (v : GhostState) (i j : ℕ) → Kept v → HoldsBag d slots v
+pub before_by : (d : ℕ) (slots : Slots) (v : GhostState) (i j : ℕ) → TableInvariant v → HoldsBag d slots v
     → pointer_before (model_state v) (slot_pointer slots i) (slot_pointer slots j) ≡ nat_lt (on (λ x. x.block.0) 0 (slot_pointer slots i))
     (on (λ x. x.block.0) 0 (slot_pointer slots j))
 before_by d slots v i j kept holds =

@@ -6,7 +6,7 @@ use Rattle.control_word.specs.declared.model.event.Cell.{Cell as Named}
 use Rattle.control_word.specs.declared.model.event.Cell.TheVariants.{Free, Member}
 use Rattle.control_word.specs.declared.model.event.Event.{Event}
 use Rattle.control_word.specs.declared.model.event.Event.TheVariants as event
-use Rattle.control_word.specs.declared.model.handle.Handle.{Handle}
+use Rattle.control_word.specs.declared.model.handle.NumberedHandle.{NumberedHandle}
 use Rattle.control_word.specs.declared.model.handle.Kind.{Kind}
 use Rattle.control_word.specs.declared.place.Block.{Block}
 use Rattle.control_word.specs.declared.place.Place.{Place}
@@ -14,7 +14,7 @@ use Rattle.control_word.specs.Events.{clears, gets, swaps}
 use Rattle.control_word.specs.State.{Object, State, kind_of_member, put}
 use Rattle.step_table.specs.declared.cell_steps.cell_step.CellStep.{CellStep}
 use Rattle.step_table.specs.declared.cell_steps.cell_step.CellStep.TheVariants.{Look, Bring, GiveBack, Take, Turn, Refill, Swap, CompareSwap, TakeOut}
-use Rattle.step_table.specs.declared.memory.past.AtomicStep.TheVariants.{OnCell}
+use Rattle.step_table.specs.declared.memory.ghost_history.AtomicStep.TheVariants.{OnCell}
 use Rattle.step_table.specs.CellAtomicSteps.{cell_event, cell_in, cell_pending, handle_as, handle_told, kind_in_state, owing_funds}
 use Rattle.step_table.specs.GhostStates.{AllWhole, Nothing, ShutsNoDoor, GhostState, ghost_after_step, object_of_block, model_state}
 
@@ -42,16 +42,16 @@ pub record IsFramed (s t : State) : Type 0 where
   pub fields : (o : ℕ) → (t.object o).fields ≡ (s.object o).fields
   pub enabled : (o : ℕ) → (t.object o).enabled ≡ (s.object o).enabled
 
-gets_framed : (d : ℕ) (h : Handle) (s : State) → IsFramed s (gets d h s)
+gets_framed : (d : ℕ) (h : NumberedHandle) (s : State) → IsFramed s (gets d h s)
 gets_framed d h s = record { made = refl; allowance = refl; block = λ o. refl; phase = λ o. refl; fields = λ o. refl; enabled = λ o. refl }
 
 -- an object with another member
-member_put : {A : Type 0} (f : Object → A) (s : State) (i m : ℕ) (h : Handle) → ((x : Object) → f (record x { member = put x.member m h }) ≡ f x)
+member_put : {A : Type 0} (f : Object → A) (s : State) (i m : ℕ) (h : NumberedHandle) → ((x : Object) → f (record x { member = put x.member m h }) ≡ f x)
     → (o : ℕ) → f (put s.object i (record (s.object i) { member = put (s.object i).member m h }) o) ≡ f (s.object o)
 member_put f s i m h same o =
     put_cases (λ j (x : Object). f x ≡ f (s.object o)) s.object i _ o (λ e. same (s.object i) ∙ ap (λ (n : ℕ). f (s.object n)) (sym e)) (λ ne. refl)
 
-clears_framed : (d o m : ℕ) (h : Handle) (s : State) → IsFramed s (clears d o m h s)
+clears_framed : (d o m : ℕ) (h : NumberedHandle) (s : State) → IsFramed s (clears d o m h s)
 clears_framed d o m h s =
     record {
       made = refl;
@@ -62,7 +62,7 @@ clears_framed d o m h s =
       enabled = member_put (λ (x : Object). x.enabled) s o m _ (λ x. refl);
     }
 
-swaps_framed : (d : ℕ) (c : Named) (new old : Handle) (s : State) → IsFramed s (swaps d c new old s)
+swaps_framed : (d : ℕ) (c : Named) (new old : NumberedHandle) (s : State) → IsFramed s (swaps d c new old s)
 swaps_framed d (Free n) new old s = record { made = refl; allowance = refl; block = λ o. refl; phase = λ o. refl; fields = λ o. refl; enabled = λ o. refl }
 swaps_framed d (Member o m) new old s =
     record {
@@ -125,9 +125,10 @@ same_cell v e d (TakeOut b m x) n =
     same_after {V = Nothing} (model_state v) d e (event.ClearMember (object_of_block v b) m (handle_as (model_state v) (kind_of_member m) x)) n (λ z. z)
 
 -- what is so of the events of such steps
-pub by_event : (P : Option (Event Nothing) → Type 0) → P None → ((c : Named) (h : Handle) → P (Some (event.Load c h)))
-    → ((c : Named) (e n h : Handle) (b w : Bool) → P (Some (event.Compare c e n h b w))) → ((c : Named) (n h : Handle) → P (Some (event.Swap c n h)))
-    → ((o m : ℕ) (h : Handle) → P (Some (event.ClearMember o m h))) → (s : State) (x : CellStep) → P (cell_event s x)
+pub by_event : (P : Option (Event Nothing) → Type 0) → P None → ((c : Named) (h : NumberedHandle) → P (Some (event.Load c h)))
+    → ((c : Named) (e n h : NumberedHandle) (b w : Bool) → P (Some (event.Compare c e n h b w)))
+    → ((c : Named) (n h : NumberedHandle) → P (Some (event.Swap c n h)))
+    → ((o m : ℕ) (h : NumberedHandle) → P (Some (event.ClearMember o m h))) → (s : State) (x : CellStep) → P (cell_event s x)
 by_event P none load compare swap clear s (Look c x None) = load (cell_in s c) (handle_told s c x)
 by_event P none load compare swap clear s (Look c x (Some y)) =
     compare (cell_in s c) (handle_told s c y.expected) (handle_told s c y.new) (handle_told s c x) false y.weak

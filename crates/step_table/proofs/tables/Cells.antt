@@ -8,7 +8,7 @@ use Rattle.control_word.proofs.words.Banks.{IsKept}
 use Rattle.control_word.proofs.words.Decoding.{cell_decodes}
 use Rattle.control_word.specs.declared.model.event.Cell.{Cell}
 use Rattle.control_word.specs.declared.model.event.Cell.TheVariants.{Free, Member}
-use Rattle.control_word.specs.declared.model.handle.Handle.{Handle}
+use Rattle.control_word.specs.declared.model.handle.NumberedHandle.{NumberedHandle}
 use Rattle.control_word.specs.declared.model.handle.Kind.{Kind}
 use Rattle.control_word.specs.declared.place.Place.{Place}
 use Rattle.control_word.specs.Events.{cell_of, kind_of}
@@ -16,7 +16,7 @@ use Rattle.control_word.specs.Handles.{empty, handle}
 use Rattle.control_word.specs.Packing.{IsCellWord, cell_bits}
 use Rattle.control_word.specs.Words.{blocks_of, cell_at, shown}
 use Rattle.step_table.specs.Openings.{opening}
-use Rattle.step_table.specs.GhostStates.{Kept, GhostState, pending, model_state, view_in}
+use Rattle.step_table.specs.GhostStates.{TableInvariant, GhostState, pending, model_state, view_in}
 use Rattle.step_table.proofs.tables.Standing.{ready}
 
 abbrev pub at_cell : GhostState → Cell → ℕ
@@ -30,18 +30,18 @@ pub record Decoded (v : GhostState) (c : Cell) : Type 0 where
   pub bare : (cell_of (model_state v) c).object ≡ None → taken ≡ 0
   pub kind : (cell_of (model_state v) c).kind ≡ kind_of (model_state v) c
 
-none_taken : (v : GhostState) (c : Cell) (kept : Kept v) → IsKept (model_state v) c → (cell_of (model_state v) c).object ≡ None
+none_taken : (v : GhostState) (c : Cell) (kept : TableInvariant v) → IsKept (model_state v) c → (cell_of (model_state v) c).object ≡ None
     → kept.stands.taken (at_cell v c) ≡ 0
 none_taken v (Free c) kept is e = kept.stands.bare.frees c (let t = cells_led (opening v.extent) v.history in omega arith) e
 none_taken v (Member o m) kept is e =
     let place = (sound (opening v.extent) v.history kept.stands.legal).placed o is.1 in
     kept.stands.bare.members ((model_state v).object o).block m place.1 is.0 (ap (λ (n : ℕ). (((model_state v).object n).member m).object) place.0 ∙ e)
 
-of_kind : (v : GhostState) (c : Cell) → Kept v → IsKept (model_state v) c → (cell_of (model_state v) c).kind ≡ kind_of (model_state v) c
+of_kind : (v : GhostState) (c : Cell) → TableInvariant v → IsKept (model_state v) c → (cell_of (model_state v) c).kind ≡ kind_of (model_state v) c
 of_kind v (Free c) kept is = ((formed (opening v.extent) v.history kept.stands.legal).frees c is).1
 of_kind v (Member o m) kept is = ((formed (opening v.extent) v.history kept.stands.legal).members o m is.0).1
 
-pub decoded : (v : GhostState) (d : ℕ) (c : Cell) → Kept v → d < v.extent.actors → IsKept (model_state v) c → Decoded v c
+pub decoded : (v : GhostState) (d : ℕ) (c : Cell) → TableInvariant v → d < v.extent.actors → IsKept (model_state v) c → Decoded v c
 decoded v d c kept lt is =
     let r = ready v d (pending v d) kept lt refl in
     let t = cell_decodes (opening v.extent) v.words v.views v.history kept.stands d (view_in v.views d) r.seated r.awake c is in
@@ -53,8 +53,8 @@ zero_empty block k None None t valid e = refl
 zero_empty block k None (Some p) t valid e = let b = valid.place.0.0 in absurd (omega (arith, b, e))
 zero_empty block k (Some o) p t valid e = let b = valid.owned.0 in absurd (omega (arith, b, e))
 
-empty_zero : (block : ℕ → ℕ) (k : Kind) (h : Handle) → h ≡ empty k → cell_bits (shown block h 0) ≡ 0
-empty_zero block k h e = ap (λ (x : Handle). cell_bits (shown block x 0)) e
+empty_zero : (block : ℕ → ℕ) (k : Kind) (h : NumberedHandle) → h ≡ empty k → cell_bits (shown block h 0) ≡ 0
+empty_zero block k h e = ap (λ (x : NumberedHandle). cell_bits (shown block x 0)) e
 
 -- a word that is 0 is that of an empty cell
 pub zero_shows : (v : GhostState) (c : Cell) → Decoded v c
@@ -62,6 +62,6 @@ pub zero_shows : (v : GhostState) (c : Cell) → Decoded v c
 zero_shows v c code =
     let h = cell_of (model_state v) c in (
       λ e. zero_empty (blocks_of (model_state v)) h.kind h.object h.place code.taken code.valid (sym code.bits ∙ e) ∙ ap empty code.kind,
-      λ e. code.bits ∙ ap (λ (t : ℕ). cell_bits (shown (blocks_of (model_state v)) h t)) (code.bare (ap (λ (x : Handle). x.object) e))
+      λ e. code.bits ∙ ap (λ (t : ℕ). cell_bits (shown (blocks_of (model_state v)) h t)) (code.bare (ap (λ (x : NumberedHandle). x.object) e))
           ∙ empty_zero (blocks_of (model_state v)) (kind_of (model_state v) c) h e,
     )

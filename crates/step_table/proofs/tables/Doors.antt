@@ -12,14 +12,15 @@ use Rattle.control_word.specs.Histories.{IsLegal}
 use Rattle.control_word.specs.Layout.{spot}
 use Rattle.control_word.specs.State.{Object, ending}
 use Rattle.control_word.specs.Views.{added, adds, total, used_up}
-use Rattle.step_table.specs.declared.memory.past.AtomicStep.{AtomicStep}
-use Rattle.step_table.specs.declared.memory.past.AtomicStep.TheVariants.{Prepare, Write, Claim, Share, WeakShare, Leave, WeakLeave, Lock, Count, Expired, Read}
-use Rattle.step_table.specs.declared.memory.past.AtomicStep.TheVariants.{Clear}
-use Rattle.step_table.specs.declared.memory.past.AtomicStep.TheVariants.{Finish, OnCell, OnShelf}
+use Rattle.step_table.specs.declared.memory.ghost_history.AtomicStep.{AtomicStep}
+use Rattle.step_table.specs.declared.memory.ghost_history.AtomicStep.TheVariants.{Prepare, Write, Claim, Share, WeakShare, Leave, WeakLeave, Lock, Count}
+use Rattle.step_table.specs.declared.memory.ghost_history.AtomicStep.TheVariants.{Expired, Read}
+use Rattle.step_table.specs.declared.memory.ghost_history.AtomicStep.TheVariants.{Clear}
+use Rattle.step_table.specs.declared.memory.ghost_history.AtomicStep.TheVariants.{Finish, OnCell, OnShelf}
 use Rattle.step_table.proofs.tables.CellAtomicSteps.{shuts_cell, whole_framed}
 use Rattle.step_table.proofs.tables.ShelfAtomicSteps.{shelf_framed}
 use Rattle.step_table.specs.Openings.{opening}
-use Rattle.step_table.specs.GhostStates.{AllWhole, ShutsNoDoor, Kept, Nothing, GhostState, ghost_after_step, history_after, object_of_block, pending}
+use Rattle.step_table.specs.GhostStates.{AllWhole, ShutsNoDoor, TableInvariant, Nothing, GhostState, ghost_after_step, history_after, object_of_block, pending}
 use Rattle.step_table.specs.GhostStates.{pending_after}
 use Rattle.step_table.specs.GhostStates.{model_state, view_in}
 
@@ -102,5 +103,5 @@ adds_none (Parting to) b none = absurd none
 adds_none (Merging other x y) b none = absurd none
 
 -- no door is shut
-pub no_door : (v : GhostState) (b : ℕ) → Kept v → added v.views (spot b 2) ≡ 0
+pub no_door : (v : GhostState) (b : ℕ) → TableInvariant v → added v.views (spot b 2) ≡ 0
 no_door v b kept = none_in (λ p. adds p (spot b 2)) v.views (λ d. adds_none (pending v d) b (kept.doors d))

@@ -8,7 +8,7 @@ use Rattle.control_word.proofs.steps.WeakLeave.{finishes'}
 use Rattle.control_word.proofs.words.CellWords.{cell_read}
 use Rattle.control_word.specs.declared.model.event.Cell.TheVariants.{Member}
 use Rattle.control_word.specs.declared.model.event.Event.TheVariants as event
-use Rattle.control_word.specs.declared.model.handle.Handle.{Handle}
+use Rattle.control_word.specs.declared.model.handle.NumberedHandle.{NumberedHandle}
 use Rattle.control_word.specs.declared.place.Block.{Block}
 use Rattle.control_word.specs.declared.model.view.Pending.TheVariants.{Idle}
 use Rattle.control_word.specs.Events.{after as cleared}
@@ -19,9 +19,9 @@ use Rattle.control_word.specs.State.{HasRoom, ending, kind_of_member, weak}
 use Rattle.control_word.specs.Steps.{me, purse}
 use Rattle.control_word.specs.Views.{Stands, sees_as}
 use Rattle.control_word.specs.Words.{blocks_of, packed}
-use Rattle.step_table.specs.declared.memory.past.AtomicStep.TheVariants.{Clear, Finish}
+use Rattle.step_table.specs.declared.memory.ghost_history.AtomicStep.TheVariants.{Clear, Finish}
 use Rattle.step_table.specs.Openings.{opening}
-use Rattle.step_table.specs.GhostStates.{Nothing, GhostState, Kept, ghost_after_step, object_of_block, pending, model_state, view_in}
+use Rattle.step_table.specs.GhostStates.{Nothing, GhostState, TableInvariant, ghost_after_step, object_of_block, pending, model_state, view_in}
 use Rattle.step_table.proofs.tables.Cells.{decoded, zero_shows}
 use Rattle.step_table.proofs.tables.Standing.{point, ready, kept_after}
 use Rattle.step_table.proofs.tables.Places.{event_by, named, ending_busy, there}
@@ -31,12 +31,12 @@ packed_empty : (block : ℕ → ℕ) (m : ℕ) → packed block (empty (kind_of_
 unfolding packed
 packed_empty block m = refl
 
-ends : (v : GhostState) (d : ℕ) (b : Block) → Kept v → d < v.extent.actors → ((model_state v).object (object_of_block v b)).phase ≡ ending d
+ends : (v : GhostState) (d : ℕ) (b : Block) → TableInvariant v → d < v.extent.actors → ((model_state v).object (object_of_block v b)).phase ≡ ending d
     → ((model_state v).object (object_of_block v b)).phase ≡ ending (me (point v d))
 ends v d b kept lt e = e ∙ ap ending (sym (named v d kept lt))
 
 -- a member of an ending object is empty just where its word is 0
-pub member_shows : (v : GhostState) (d : ℕ) (b : Block) (m : ℕ) → Kept v → d < v.extent.actors
+pub member_shows : (v : GhostState) (d : ℕ) (b : Block) (m : ℕ) → TableInvariant v → d < v.extent.actors
     → ((model_state v).object (object_of_block v b)).phase ≡ ending d → m < 3
     → (get_or v.words (spot b.0 (7 + m)) 0 ≡ 0) ↔ (((model_state v).object (object_of_block v b)).member m ≡ empty (kind_of_member m))
 member_shows v d b m kept lt end few =
@@ -46,7 +46,7 @@ member_shows v d b m kept lt end few =
     (there v b kept busy).0 (zero_shows v c (decoded v d c kept lt (few, busy)))
 
 -- a member of an ending object is found empty
-pub member_zero : (v : GhostState) (d : ℕ) (b : Block) (m : ℕ) → Kept v → d < v.extent.actors → pending v d ≡ Idle
+pub member_zero : (v : GhostState) (d : ℕ) (b : Block) (m : ℕ) → TableInvariant v → d < v.extent.actors → pending v d ≡ Idle
     → ((model_state v).object (object_of_block v b)).phase ≡ ending d → m < 3
     → ((model_state v).object (object_of_block v b)).member m ≡ empty (kind_of_member m)
     → get_or v.words (spot b.0 (7 + m)) 0 ≡ 0
@@ -56,17 +56,17 @@ member_zero v d b m kept lt idle end few bare =
     let h = there v b kept busy in
     let r = ready v d Idle kept lt idle in
     let read = cell_read (opening v.extent) v.words v.views v.history kept.stands d (view_in v.views d) r.seated r.awake (Member o m) (few, busy) in
-    let none = kept.stands.bare.members b.0 m h.1 few (ap (λ (x : Handle). x.object) bare) in
+    let none = kept.stands.bare.members b.0 m h.1 few (ap (λ (x : NumberedHandle). x.object) bare) in
     let zero = ap (packed (blocks_of (model_state v))) bare ∙ packed_empty (blocks_of (model_state v)) m in
     subst (λ (c : ℕ). get_or v.words (spot c (7 + m)) 0 ≡ 0) h.0
     (let taken : kept.stands.taken (spot ((model_state v).object o).block (7 + m))
     ≡ 0 = subst (λ (c : ℕ). kept.stands.taken (spot c (7 + m)) ≡ 0) (sym h.0) none in
     omega arith)
 
-pub kept_clear : (v : GhostState) (d : ℕ) (b : Block) (m : ℕ) → Kept v → d < v.extent.actors → pending v d ≡ Idle
+pub kept_clear : (v : GhostState) (d : ℕ) (b : Block) (m : ℕ) → TableInvariant v → d < v.extent.actors → pending v d ≡ Idle
     → ((model_state v).object (object_of_block v b)).phase ≡ ending d → m < 3
     → ((model_state v).object (object_of_block v b)).member m ≡ empty (kind_of_member m)
-    → Kept (ghost_after_step v d (Clear b m))
+    → TableInvariant (ghost_after_step v d (Clear b m))
 kept_clear v d b m kept lt idle end few bare =
     let o = object_of_block v b in
     let x = (model_state v).object o in
@@ -81,11 +81,12 @@ kept_clear v d b m kept lt idle end few bare =
     let law : Stands (opening v.extent) (set v.words (spot x.block (7 + m)) 0)
     (set v.views d (sees_as (view_in v.views d) Idle (entry (me (point v d)) (event.ClearMember o m (empty (kind_of_member m))) ∷ v.history)))
     (entry (me (point v d)) (event.ClearMember o m (empty (kind_of_member m))) ∷ v.history) =
-    subst (λ (k : Handle). Stands (opening v.extent) (set v.words (spot x.block (7 + m)) 0)
+    subst (λ (k : NumberedHandle). Stands (opening v.extent) (set v.words (spot x.block (7 + m)) 0)
     (set v.views d (sees_as (view_in v.views d) (purse (blocks_of (model_state v)) k 256) (entry (me (point v d)) (event.ClearMember o m k) ∷ v.history)))
     (entry (me (point v d)) (event.ClearMember o m k) ∷ v.history)) bare
     (clears' (point v d) o m r (ends v d b kept lt end) few
-    (subst (λ (k : Handle). HasRoom (cleared {V = Nothing} (model_state v) (me (point v d)) (event.ClearMember o m k)) (me (point v d))) (sym bare) room) 0
+    (subst (λ (k : NumberedHandle). HasRoom (cleared {V = Nothing} (model_state v) (me (point v d)) (event.ClearMember o m k)) (me (point v d))) (sym bare)
+    room) 0
     (let t = ap (packed (blocks_of (model_state v))) bare ∙ packed_empty (blocks_of (model_state v)) m in omega arith)) in
     kept_after v d (Clear b m) kept lt
     (event_by v d v.words Idle (event.ClearMember o m (empty (kind_of_member m))) kept lt
@@ -93,7 +94,7 @@ kept_clear v d b m kept lt idle end few bare =
     (set v.views d (sees_as (view_in v.views d) Idle (entry (me (point v d)) (event.ClearMember o m (empty (kind_of_member m))) ∷ v.history)))
     (entry (me (point v d)) (event.ClearMember o m (empty (kind_of_member m))) ∷ v.history)) same law))
 
-finishing : (v : GhostState) (d : ℕ) (b : Block) → Kept v → d < v.extent.actors → pending v d ≡ Idle
+finishing : (v : GhostState) (d : ℕ) (b : Block) → TableInvariant v → d < v.extent.actors → pending v d ≡ Idle
     → ((model_state v).object (object_of_block v b)).phase ≡ ending d
     → ((m : ℕ) → m < 3 → ((model_state v).object (object_of_block v b)).member m ≡ empty (kind_of_member m))
     → (0 < get_or v.words (spot b.0 1) 0)
@@ -110,15 +111,15 @@ finishing v d b kept lt idle end bare =
     (object_of_block v b) d end)
     (ends v d b kept lt end) bare)
 
-pub some_weak : (v : GhostState) (d : ℕ) (b : Block) → Kept v → d < v.extent.actors → pending v d ≡ Idle
+pub some_weak : (v : GhostState) (d : ℕ) (b : Block) → TableInvariant v → d < v.extent.actors → pending v d ≡ Idle
     → ((model_state v).object (object_of_block v b)).phase ≡ ending d
     → ((m : ℕ) → m < 3 → ((model_state v).object (object_of_block v b)).member m ≡ empty (kind_of_member m)) → 0 < get_or v.words (spot b.0 1) 0
 some_weak v d b kept lt idle end bare = (finishing v d b kept lt idle end bare).0
 
-pub kept_finish : (v : GhostState) (d : ℕ) (b : Block) (vacant : Bool) → Kept v → d < v.extent.actors → pending v d ≡ Idle
+pub kept_finish : (v : GhostState) (d : ℕ) (b : Block) (vacant : Bool) → TableInvariant v → d < v.extent.actors → pending v d ≡ Idle
     → ((model_state v).object (object_of_block v b)).phase ≡ ending d
     → ((m : ℕ) → m < 3 → ((model_state v).object (object_of_block v b)).member m ≡ empty (kind_of_member m))
-    → vacant ≡ (get_or v.words (spot b.0 1) 0 == 1) → Kept (ghost_after_step v d (Finish b vacant))
+    → vacant ≡ (get_or v.words (spot b.0 1) 0 == 1) → TableInvariant (ghost_after_step v d (Finish b vacant))
 kept_finish v d b vacant kept lt idle end bare is =
     let o = object_of_block v b in
     kept_after v d (Finish b vacant) kept lt
@@ -129,6 +130,6 @@ kept_finish v d b vacant kept lt idle end bare is =
     (finishing v d b kept lt idle end bare).1))
 
 -- the event of a finish says whether the block is vacant
-pub finished_vacant : (v : GhostState) (d : ℕ) (b : Block) (vacant : Bool) → Kept (ghost_after_step v d (Finish b vacant))
+pub finished_vacant : (v : GhostState) (d : ℕ) (b : Block) (vacant : Bool) → TableInvariant (ghost_after_step v d (Finish b vacant))
     → vacant ≡ (weak (model_state v) (object_of_block v b) == 0)
 finished_vacant v d b vacant kept = kept.stands.legal.1.asks.2

@@ -25,10 +25,10 @@ use Rattle.control_word.specs.Steps.{Ready, me}
 use Rattle.control_word.specs.Views.{Fits, Stands, pays, sees_as}
 use Rattle.control_word.specs.Words.{slot}
 use Rattle.step_table.specs.declared.cell_steps.cell_step.CellStep.TheVariants.{Bring, GiveBack, Turn}
-use Rattle.step_table.specs.declared.memory.past.AtomicStep.TheVariants.{OnCell}
+use Rattle.step_table.specs.declared.memory.ghost_history.AtomicStep.TheVariants.{OnCell}
 use Rattle.step_table.specs.CellAtomicSteps.{owing_funds}
 use Rattle.step_table.specs.Openings.{opening}
-use Rattle.step_table.specs.GhostStates.{Kept, Nothing, GhostState, ghost_after_step, handle_in_block, object_of_block, pending, model_state, view_in}
+use Rattle.step_table.specs.GhostStates.{TableInvariant, Nothing, GhostState, ghost_after_step, handle_in_block, object_of_block, pending, model_state, view_in}
 use Rattle.step_table.proofs.tables.Owners.{mine_as}
 use Rattle.step_table.proofs.tables.Places.{handle_busy, there}
 use Rattle.step_table.proofs.tables.Standing.{kept_after, point, ready}
@@ -36,8 +36,8 @@ use Rattle.step_table.proofs.tables.Standing.{kept_after, point, ready}
 pub slot_few : (k : Kind) → slot k < 10
 slot_few k = let l = slot_low k in omega (arith, l)
 
-pub kept_bring : (v : GhostState) (d : ℕ) (k : Kind) (b : Block) (p : Option Place) (f : ℕ) → Kept v → d < v.extent.actors → pending v d ≡ Idle
-    → Has (held d (handle_in_block v k b p)) (model_state v).hands → f ≤ 256 → Kept (ghost_after_step v d (OnCell (Bring k b p f)))
+pub kept_bring : (v : GhostState) (d : ℕ) (k : Kind) (b : Block) (p : Option Place) (f : ℕ) → TableInvariant v → d < v.extent.actors → pending v d ≡ Idle
+    → Has (held d (handle_in_block v k b p)) (model_state v).hands → f ≤ 256 → TableInvariant (ghost_after_step v d (OnCell (Bring k b p f)))
 kept_bring v d k b p f kept lt idle has few =
     let o = object_of_block v b in
     kept_after v d (OnCell (Bring k b p f)) kept lt
@@ -47,7 +47,7 @@ kept_bring v d k b p f kept lt idle has few =
     (brings (point v d) k o f p (ready v d Idle kept lt idle) (mine_as v d k b p kept lt has) few))
 
 -- whoever has funds out holds a handle of the object
-pub paying_held : (v : GhostState) (d : ℕ) (k : Kind) (b : Block) (p : Option Place) (f l : ℕ) → Kept v → d < v.extent.actors
+pub paying_held : (v : GhostState) (d : ℕ) (k : Kind) (b : Block) (p : Option Place) (f l : ℕ) → TableInvariant v → d < v.extent.actors
     → pending v d ≡ owing_funds (model_state v) k (Some b) p f l → Has (held (me (point v d)) (handle_in_block v k b p)) (model_state v).hands
 paying_held v d k b p f l kept lt is =
     let q : Pending Nothing = Paying k (object_of_block v b) p (spot b.0 (slot k)) f l in
@@ -57,25 +57,25 @@ paying_held v d k b p f l kept lt is =
     (kept.stands.team.seated d (view_in v.views d) r.seated r.awake).fits in
     fits.0
 
-pub paying_busy : (v : GhostState) (d : ℕ) (k : Kind) (b : Block) (p : Option Place) (f l : ℕ) → Kept v → d < v.extent.actors
+pub paying_busy : (v : GhostState) (d : ℕ) (k : Kind) (b : Block) (p : Option Place) (f l : ℕ) → TableInvariant v → d < v.extent.actors
     → pending v d ≡ owing_funds (model_state v) k (Some b) p f l → IsBusy (model_state v) (object_of_block v b)
 paying_busy v d k b p f l kept lt is =
     held_busy (opening v.extent) (model_state v) (me (point v d)) (object_of_block v b) k p (sound (opening v.extent) v.history kept.stands.legal)
     (paying_held v d k b p f l kept lt is)
 
-pub paying_there : (v : GhostState) (d : ℕ) (k : Kind) (b : Block) (p : Option Place) (f l : ℕ) → Kept v → d < v.extent.actors
+pub paying_there : (v : GhostState) (d : ℕ) (k : Kind) (b : Block) (p : Option Place) (f l : ℕ) → TableInvariant v → d < v.extent.actors
     → pending v d ≡ owing_funds (model_state v) k (Some b) p f l → (((model_state v).object (object_of_block v b)).block ≡ b.0)
     × InShape (opening v.extent) b.0
 paying_there v d k b p f l kept lt is = there v b kept (paying_busy v d k b p f l kept lt is)
 
-ready_paying : (v : GhostState) (d : ℕ) (k : Kind) (b : Block) (p : Option Place) (f l : ℕ) (kept : Kept v) (lt : d < v.extent.actors)
+ready_paying : (v : GhostState) (d : ℕ) (k : Kind) (b : Block) (p : Option Place) (f l : ℕ) (kept : TableInvariant v) (lt : d < v.extent.actors)
     (is : pending v d ≡ owing_funds (model_state v) k (Some b) p f l)
     → Ready (point v d) (Paying k (object_of_block v b) p (spot ((model_state v).object (object_of_block v b)).block (slot k)) f l)
 ready_paying v d k b p f l kept lt is =
     ready v d _ kept lt
     (is ∙ ap (λ (c : ℕ). Paying k (object_of_block v b) p (spot c (slot k)) f l) (sym (paying_there v d k b p f l kept lt is).0))
 
-giving : (v : GhostState) (d : ℕ) (k : Kind) (b : Block) (p : Option Place) (f : ℕ) → Kept v → d < v.extent.actors
+giving : (v : GhostState) (d : ℕ) (k : Kind) (b : Block) (p : Option Place) (f : ℕ) → TableInvariant v → d < v.extent.actors
     → pending v d ≡ owing_funds (model_state v) k (Some b) p f 0
     → let i = spot b.0 (slot k) in (4294967296 * f ≤ get_or v.words i 0)
     × Stands (opening v.extent) (set v.words i (get_or v.words i 0 - 4294967296 * f)) (set v.views d (sees_as (view_in v.views d) Idle v.history)) v.history
@@ -85,16 +85,16 @@ giving v d k b p f kept lt is =
     (paying_there v d k b p f 0 kept lt is).0
     (gives_back (point v d) k (object_of_block v b) f p (ready_paying v d k b p f 0 kept lt is))
 
-pub funds_there : (v : GhostState) (d : ℕ) (k : Kind) (b : Block) (p : Option Place) (f : ℕ) → Kept v → d < v.extent.actors
+pub funds_there : (v : GhostState) (d : ℕ) (k : Kind) (b : Block) (p : Option Place) (f : ℕ) → TableInvariant v → d < v.extent.actors
     → pending v d ≡ owing_funds (model_state v) k (Some b) p f 0 → 4294967296 * f ≤ get_or v.words (spot b.0 (slot k)) 0
 funds_there v d k b p f kept lt is = (giving v d k b p f kept lt is).0
 
-pub kept_give : (v : GhostState) (d : ℕ) (k : Kind) (b : Block) (p : Option Place) (f : ℕ) → Kept v → d < v.extent.actors
-    → pending v d ≡ owing_funds (model_state v) k (Some b) p f 0 → Kept (ghost_after_step v d (OnCell (GiveBack k b f)))
+pub kept_give : (v : GhostState) (d : ℕ) (k : Kind) (b : Block) (p : Option Place) (f : ℕ) → TableInvariant v → d < v.extent.actors
+    → pending v d ≡ owing_funds (model_state v) k (Some b) p f 0 → TableInvariant (ghost_after_step v d (OnCell (GiveBack k b f)))
 kept_give v d k b p f kept lt is = kept_after v d (OnCell (GiveBack k b f)) kept lt (giving v d k b p f kept lt is).1
 
-pub kept_turn : (v : GhostState) (d : ℕ) (k : Kind) (b : Block) (p : Option Place) → Kept v → d < v.extent.actors
-    → pending v d ≡ owing_funds (model_state v) k (Some b) p 1 1 → Kept (ghost_after_step v d (OnCell (Turn k b)))
+pub kept_turn : (v : GhostState) (d : ℕ) (k : Kind) (b : Block) (p : Option Place) → TableInvariant v → d < v.extent.actors
+    → pending v d ≡ owing_funds (model_state v) k (Some b) p 1 1 → TableInvariant (ghost_after_step v d (OnCell (Turn k b)))
 kept_turn v d k b p kept lt is =
     kept_after v d (OnCell (Turn k b)) kept lt
     (subst (λ (c : ℕ). let i = spot c (slot k) in
@@ -103,7 +103,7 @@ kept_turn v d k b p kept lt is =
     (turns (point v d) k (object_of_block v b) p (ready_paying v d k b p 1 1 kept lt is)).1)
 
 -- the fund of a load under way is there, and the number has room for the handle
-pub fund_there : (v : GhostState) (d : ℕ) (k : Kind) (b : Block) (p : Option Place) → Kept v → d < v.extent.actors
+pub fund_there : (v : GhostState) (d : ℕ) (k : Kind) (b : Block) (p : Option Place) → TableInvariant v → d < v.extent.actors
     → pending v d ≡ owing_funds (model_state v) k (Some b) p 1 1
     → let w = get_or v.words (spot b.0 (slot k)) 0 in (0 < funds_of w) × (number_of w < 4294967295)
 fund_there v d k b p kept lt is =

@@ -3,7 +3,7 @@ use Rattle.std.proofs.Common.{◌≡◌, ◌≢◌, ℕ, ◌+◌, ◌-◌, ◌*�
 use Rattle.std.proofs.Common.{None, refl, sym, ap, subst, ◌∙◌, inl, arith}
 use Rattle.std.specs.Prelude.{cond, is_some, ◌||◌}
 use Rattle.std.proofs.lemmas.Bool.{false≢true}
-use Rattle.control_word.specs.declared.model.handle.Handle.{Handle}
+use Rattle.control_word.specs.declared.model.handle.NumberedHandle.{NumberedHandle}
 use Rattle.control_word.proofs.steps.Look.{differs_empty, loads_empty}
 use Rattle.control_word.proofs.steps.Refill.{refills}
 use Rattle.control_word.specs.declared.packed.cell.CellWord.{CellWord}
@@ -24,24 +24,24 @@ use Rattle.step_table.specs.declared.cell_steps.cell_step.Compared.{Compared}
 use Rattle.control_word.specs.declared.model.event.Entry.{Entry}
 use Rattle.control_word.specs.declared.model.view.View.{View}
 use Rattle.step_table.specs.declared.memory.extent.Extent.{Extent}
-use Rattle.step_table.specs.declared.memory.past.AtomicStep.{AtomicStep}
-use Rattle.step_table.specs.declared.memory.past.AtomicStep.TheVariants.{OnCell}
+use Rattle.step_table.specs.declared.memory.ghost_history.AtomicStep.{AtomicStep}
+use Rattle.step_table.specs.declared.memory.ghost_history.AtomicStep.TheVariants.{OnCell}
 use Rattle.step_table.specs.CellAtomicSteps.{cell_in, handle_told, kind_in_state, object_at, owing_funds}
 use Rattle.step_table.specs.Cells.{HasInHand, IsOpenTo, ShowsCell, word_of_cell}
 use Rattle.step_table.specs.Openings.{opening}
-use Rattle.step_table.specs.GhostStates.{Kept, Nothing, GhostState, ghost_after_step, history_after, object_of_block, pending, model_state, view_in}
+use Rattle.step_table.specs.GhostStates.{TableInvariant, Nothing, GhostState, ghost_after_step, history_after, object_of_block, pending, model_state, view_in}
 use Rattle.step_table.specs.GhostStates.{views_after}
 use Rattle.step_table.specs.GhostStates.{words_after}
 use Rattle.step_table.proofs.tables.Places.{event_by, named as own}
 use Rattle.step_table.proofs.tables.Shown.{cell_there, found_in, kept_cell}
 use Rattle.step_table.proofs.tables.Standing.{kept_after, point, ready, ghost_as}
 
-pub kept_look : (v : GhostState) (d : ℕ) (c : Cell) (x : CellWord) → Kept v → d < v.extent.actors → pending v d ≡ Idle → IsOpenTo v d c
+pub kept_look : (v : GhostState) (d : ℕ) (c : Cell) (x : CellWord) → TableInvariant v → d < v.extent.actors → pending v d ≡ Idle → IsOpenTo v d c
     → ShowsCell v c x
-    → is_some x.owned ≡ false → Kept (ghost_after_step v d (OnCell (Look c x None)))
+    → is_some x.owned ≡ false → TableInvariant (ghost_after_step v d (OnCell (Look c x None)))
 kept_look v d c x kept lt idle way shows none = go x.owned refl
   where
-    go : (o : Option Block) → x.owned ≡ o → Kept (ghost_after_step v d (OnCell (Look c x None)))
+    go : (o : Option Block) → x.owned ≡ o → TableInvariant (ghost_after_step v d (OnCell (Look c x None)))
     go (Some b) e = absurd (clash (sym (ap is_some e) ∙ none))
       where
         clash : true ≡ false → ⊥
@@ -59,13 +59,13 @@ kept_look v d c x kept lt idle way shows none = go x.owned refl
         (entry d (event.Load n y) ∷ v.history)) (sym told)
         (event_by v d v.words Idle (event.Load n (handle k None x.place)) kept lt law))
 
-pub kept_refill : (v : GhostState) (d : ℕ) (c : Cell) (x : CellWord) (p : Option Place) → Kept v → d < v.extent.actors → IsOpenTo v d c
+pub kept_refill : (v : GhostState) (d : ℕ) (c : Cell) (x : CellWord) (p : Option Place) → TableInvariant v → d < v.extent.actors → IsOpenTo v d c
     → x.owned ≢ None → IsCellWord x → word_of_cell v c ≡ cell_bits x
     → pending v d ≡ owing_funds (model_state v) (kind_in_state (model_state v) c) x.owned p x.taken 0
-    → Kept (ghost_after_step v d (OnCell (Refill c x.taken)))
+    → TableInvariant (ghost_after_step v d (OnCell (Refill c x.taken)))
 kept_refill v d c x p kept lt way some valid bits owes = go x.owned refl
   where
-    go : (o : Option Block) → x.owned ≡ o → Kept (ghost_after_step v d (OnCell (Refill c x.taken)))
+    go : (o : Option Block) → x.owned ≡ o → TableInvariant (ghost_after_step v d (OnCell (Refill c x.taken)))
     go None e = absurd (some e)
     go (Some b) e =
         let s = model_state v in
@@ -92,11 +92,11 @@ kept_refill v d c x p kept lt way some valid bits owes = go x.owned refl
 pub refilled : (x : CellWord) (n w : ℕ) → n ≡ cell_bits (record x { taken = 0 }) → w ≡ cell_bits x → n ≡ w - 17179869184 * x.taken
 refilled x n w e f = omega (arith, e, f)
 
-pub kept_look_differing : (v : GhostState) (d : ℕ) (c : Cell) (x : CellWord) (y : Compared) → Kept v → d < v.extent.actors
+pub kept_look_differing : (v : GhostState) (d : ℕ) (c : Cell) (x : CellWord) (y : Compared) → TableInvariant v → d < v.extent.actors
     → pending v d ≡ Idle → IsOpenTo v d c
     → HasInHand v d c y.expected → HasInHand v d c y.new → ShowsCell v c x → x.owned ≡ None
     → equivalent (handle_told (model_state v) c x) (handle_told (model_state v) c y.expected) ≡ false
-    → Kept (ghost_after_step v d (OnCell (Look c x (Some y))))
+    → TableInvariant (ghost_after_step v d (OnCell (Look c x (Some y))))
 kept_look_differing v d c x y kept lt idle way wanted hand shows e other =
     let s = model_state v in
     let n = cell_in s c in
@@ -106,7 +106,7 @@ kept_look_differing v d c x y kept lt idle way wanted hand shows e other =
     let h = handle_told s c y.new in
     let told : handle_told s c x ≡ handle k None x.place = ap (λ (q : Option Block). handle k (object_at s q) x.place) e in
     let same : handle k None x.place ≡ cell_of s n = sym told ∙ shows.holds in
-    let differs : equivalent (handle k None x.place) w ≡ false = ap (λ (q : Handle). equivalent q w) (sym told) ∙ other in
+    let differs : equivalent (handle k None x.place) w ≡ false = ap (λ (q : NumberedHandle). equivalent q w) (sym told) ∙ other in
     let law = differs_empty (point v d) n k x.place w h y.weak (ready v d Idle kept lt idle) same (
       subst (λ (i : ℕ). IsOpen s i n) (sym m) way,
       subst (λ (i : ℕ). InHand s i k w) (sym m) wanted,

@@ -11,14 +11,14 @@ use Rattle.control_word.specs.Layout.{spot}
 use Rattle.control_word.specs.State.{Has, bag_size, held}
 use Rattle.control_word.specs.Steps.{me}
 use Rattle.control_word.specs.Views.{Stands, sees_as}
-use Rattle.step_table.specs.declared.memory.past.AtomicStep.TheVariants.{Lock}
+use Rattle.step_table.specs.declared.memory.ghost_history.AtomicStep.TheVariants.{Lock}
 use Rattle.step_table.specs.Openings.{opening}
-use Rattle.step_table.specs.GhostStates.{GhostState, Kept, ghost_after_step, object_of_block, pending, model_state, view_in, weak_in}
+use Rattle.step_table.specs.GhostStates.{GhostState, TableInvariant, ghost_after_step, object_of_block, pending, model_state, view_in, weak_in}
 use Rattle.step_table.proofs.tables.Owners.{mine_as}
 use Rattle.step_table.proofs.tables.Places.{event_by, handle_busy, named, there}
 use Rattle.step_table.proofs.tables.Standing.{point, ready, kept_after}
 
-locking : (v : GhostState) (d : ℕ) (b : Block) (p : Option Place) → Kept v → d < v.extent.actors → pending v d ≡ Idle
+locking : (v : GhostState) (d : ℕ) (b : Block) (p : Option Place) → TableInvariant v → d < v.extent.actors → pending v d ≡ Idle
     → Has (held d (weak_in v b p)) (model_state v).hands
     → (get_or v.words (spot b.0 0) 0 ≡ 0 → let e = event.Lock (weak_in v b p) false in
     Stands (opening v.extent) v.words (set v.views d (sees_as (view_in v.views d) Idle (entry (me (point v d)) e ∷ v.history)))
@@ -39,16 +39,16 @@ locking v d b p kept lt idle has =
     (locks (point v d) (object_of_block v b) p (ready v d Idle kept lt idle) (mine_as v d Weak b p kept lt has))
 
 -- a lock that finds 0 is empty
-pub kept_lock_empty : (v : GhostState) (d : ℕ) (b : Block) (p : Option Place) → Kept v → d < v.extent.actors → pending v d ≡ Idle
-    → Has (held d (weak_in v b p)) (model_state v).hands → get_or v.words (spot b.0 0) 0 ≡ 0 → Kept (ghost_after_step v d (Lock b p false))
+pub kept_lock_empty : (v : GhostState) (d : ℕ) (b : Block) (p : Option Place) → TableInvariant v → d < v.extent.actors → pending v d ≡ Idle
+    → Has (held d (weak_in v b p)) (model_state v).hands → get_or v.words (spot b.0 0) 0 ≡ 0 → TableInvariant (ghost_after_step v d (Lock b p false))
 kept_lock_empty v d b p kept lt idle has none =
     kept_after v d (Lock b p false) kept lt
     (event_by v d v.words Idle (event.Lock (weak_in v b p) false) kept lt ((locking v d b p kept lt idle has).0 none))
 
 -- a lock that finds another word and puts one more there gives an owner
-pub kept_lock : (v : GhostState) (d : ℕ) (b : Block) (p : Option Place) → Kept v → d < v.extent.actors → pending v d ≡ Idle
+pub kept_lock : (v : GhostState) (d : ℕ) (b : Block) (p : Option Place) → TableInvariant v → d < v.extent.actors → pending v d ≡ Idle
     → Has (held d (weak_in v b p)) (model_state v).hands → 0 < get_or v.words (spot b.0 0) 0 → bag_size (model_state v) d < (model_state v).allowance d
-    → Kept (ghost_after_step v d (Lock b p true))
+    → TableInvariant (ghost_after_step v d (Lock b p true))
 kept_lock v d b p kept lt idle has some room =
     kept_after v d (Lock b p true) kept lt
     (event_by v d (set v.words (spot b.0 0) (suc (get_or v.words (spot b.0 0) 0))) Idle (event.Lock (weak_in v b p) true) kept lt

@@ -10,28 +10,29 @@ use Rattle.control_word.specs.Layout.{spot}
 use Rattle.control_word.specs.State.{Has, bag_size, stored}
 use Rattle.control_word.specs.Views.{Stands, sees_as}
 use Rattle.control_word.specs.Words.{flags_of}
-use Rattle.step_table.specs.declared.memory.past.AtomicStep.TheVariants.{Prepare, Write, Claim}
+use Rattle.step_table.specs.declared.memory.ghost_history.AtomicStep.TheVariants.{Prepare, Write, Claim}
 use Rattle.step_table.specs.Openings.{opening}
-use Rattle.step_table.specs.GhostStates.{Nothing, GhostState, Kept, IsMaking, ghost_after_step, known_words, pending, model_state, view_in}
+use Rattle.step_table.specs.GhostStates.{Nothing, GhostState, TableInvariant, IsMaking, ghost_after_step, known_words, pending, model_state, view_in}
 use Rattle.step_table.proofs.tables.Standing.{point, ready, kept_after}
 use Rattle.step_table.proofs.tables.Places.{event_by, named}
 
-pub kept_prepare : (v : GhostState) (d : ℕ) (b : Block) → Kept v → d < v.extent.actors → pending v d ≡ Idle → Has (stored d b.0) (model_state v).stores
-    → Kept (ghost_after_step v d (Prepare b))
+pub kept_prepare : (v : GhostState) (d : ℕ) (b : Block) → TableInvariant v → d < v.extent.actors → pending v d ≡ Idle
+    → Has (stored d b.0) (model_state v).stores
+    → TableInvariant (ghost_after_step v d (Prepare b))
 kept_prepare v d b kept lt idle has =
     kept_after v d (Prepare b) kept lt
     (writes_weak_word (point v d) (ready v d Idle kept lt idle) b (subst (λ (n : ℕ). Has (stored n b.0) (model_state v).stores)
     (sym (named v d kept lt)) has))
 
 -- what a make knows of a word is so
-pub known_word : (v : GhostState) (d : ℕ) (b : Block) (j : ℕ) → Kept v → d < v.extent.actors → IsMaking v d b → j < 5
+pub known_word : (v : GhostState) (d : ℕ) (b : Block) (j : ℕ) → TableInvariant v → d < v.extent.actors → IsMaking v d b → j < 5
     → get_or v.words (spot b.0 (2 + j)) 0 ≡ get_or (known_words (pending v d)) j 0
 known_word v d b j kept lt making few =
     subst (λ (p : Pending Nothing). get_or v.words (spot b.0 (2 + j)) 0 ≡ get_or (known_words p) j 0) (sym making.making)
     (writes_word (point v d) b making.words (ready v d _ kept lt making.making) making.size j 0 few).0
 
-pub kept_write : (v : GhostState) (d : ℕ) (b : Block) (j n : ℕ) → Kept v → d < v.extent.actors → IsMaking v d b → j < 5
-    → Kept (ghost_after_step v d (Write b j n))
+pub kept_write : (v : GhostState) (d : ℕ) (b : Block) (j n : ℕ) → TableInvariant v → d < v.extent.actors → IsMaking v d b → j < 5
+    → TableInvariant (ghost_after_step v d (Write b j n))
 kept_write v d b j n kept lt making few =
     kept_after v d (Write b j n) kept lt
     (subst (λ (p : Pending Nothing). Stands (opening v.extent) (set v.words (spot b.0 (2 + j)) n)
@@ -43,9 +44,9 @@ known_now : (v : GhostState) (d : ℕ) (b : Block) (flags : ℕ) (fields : List 
     → making.words ≡ flags ∷ fields
 known_now v d b flags fields making is = sym (ap known_words making.making) ∙ is
 
-pub kept_claim : (v : GhostState) (d : ℕ) (b : Block) (enabled null : Bool) (fields : List ℕ) → Kept v → d < v.extent.actors → IsMaking v d b
+pub kept_claim : (v : GhostState) (d : ℕ) (b : Block) (enabled null : Bool) (fields : List ℕ) → TableInvariant v → d < v.extent.actors → IsMaking v d b
     → known_words (pending v d) ≡ flags_of enabled null ∷ fields → bag_size (model_state v) d < (model_state v).allowance d
-    → Kept (ghost_after_step v d (Claim b enabled null fields))
+    → TableInvariant (ghost_after_step v d (Claim b enabled null fields))
 kept_claim v d b enabled null fields kept lt making is room =
     let words = known_now v d b (flags_of enabled null) fields making is in
     kept_after v d (Claim b enabled null fields) kept lt

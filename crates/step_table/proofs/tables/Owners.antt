@@ -21,41 +21,43 @@ use Rattle.control_word.specs.Packing.{funds_of, number_of}
 use Rattle.control_word.specs.State.{Has, bag_size, count, held}
 use Rattle.control_word.specs.Steps.{me}
 use Rattle.control_word.specs.Views.{Stands, owed, sees_as}
-use Rattle.step_table.specs.declared.memory.past.AtomicStep.TheVariants.{Share, Leave, Count}
+use Rattle.step_table.specs.declared.memory.ghost_history.AtomicStep.TheVariants.{Share, Leave, Count}
 use Rattle.step_table.specs.AtomicSteps.{told_number}
 use Rattle.step_table.specs.Openings.{opening}
-use Rattle.step_table.specs.GhostStates.{GhostState, Kept, ghost_after_step, handle_in_block, object_of_block, owner_in, pending, model_state, view_in}
+use Rattle.step_table.specs.GhostStates.{GhostState, TableInvariant, ghost_after_step, handle_in_block, object_of_block, owner_in, pending, model_state}
+use Rattle.step_table.specs.GhostStates.{view_in}
 use Rattle.step_table.proofs.tables.Standing.{point, ready, kept_after}
 use Rattle.step_table.proofs.tables.Places.{event_by, handle_busy, named, owner_busy, there}
 
 -- the owner word has room
-pub headroom : (v : GhostState) (d : ℕ) (b : Block) (p : Option Place) → Kept v → d < v.extent.actors → pending v d ≡ Idle
+pub headroom : (v : GhostState) (d : ℕ) (b : Block) (p : Option Place) → TableInvariant v → d < v.extent.actors → pending v d ≡ Idle
     → Has (held d (owner_in v b p)) (model_state v).hands → get_or v.words (spot b.0 0) 0 + 1099511627776 < 18446744073709551616
 headroom v d b p kept lt idle has =
     let busy = owner_busy v d b p kept has in
     subst (λ (c : ℕ). get_or v.words (spot c 0) 0 + 1099511627776 < 18446744073709551616) (there v b kept busy).0
     (has_headroom (point v d) Idle (ready v d Idle kept lt idle) Owner (object_of_block v b) busy).0
 
-pub mine : (v : GhostState) (d : ℕ) (b : Block) (p : Option Place) → Kept v → d < v.extent.actors → Has (held d (owner_in v b p)) (model_state v).hands
+pub mine : (v : GhostState) (d : ℕ) (b : Block) (p : Option Place) → TableInvariant v → d < v.extent.actors
+    → Has (held d (owner_in v b p)) (model_state v).hands
     → Has (held (me (point v d)) (owner_in v b p)) (model_state v).hands
 mine v d b p kept lt has = subst (λ (n : ℕ). Has (held n (owner_in v b p)) (model_state v).hands) (sym (named v d kept lt)) has
 
-pub mine_as : (v : GhostState) (d : ℕ) (k : Kind) (b : Block) (p : Option Place) → Kept v → d < v.extent.actors
+pub mine_as : (v : GhostState) (d : ℕ) (k : Kind) (b : Block) (p : Option Place) → TableInvariant v → d < v.extent.actors
     → Has (held d (handle_in_block v k b p)) (model_state v).hands
     → Has (held (me (point v d)) (handle_in_block v k b p)) (model_state v).hands
 mine_as v d k b p kept lt has = subst (λ (n : ℕ). Has (held n (handle_in_block v k b p)) (model_state v).hands) (sym (named v d kept lt)) has
 
 -- either word has room
-pub room_above : (v : GhostState) (d : ℕ) (i k : Kind) (b : Block) (p : Option Place) → Kept v → d < v.extent.actors → pending v d ≡ Idle
+pub room_above : (v : GhostState) (d : ℕ) (i k : Kind) (b : Block) (p : Option Place) → TableInvariant v → d < v.extent.actors → pending v d ≡ Idle
     → Has (held d (handle_in_block v k b p)) (model_state v).hands → get_or v.words (spot b.0 (slot i)) 0 + 1099511627776 < 18446744073709551616
 room_above v d i k b p kept lt idle has =
     let busy = handle_busy v d k b p kept has in
     subst (λ (c : ℕ). get_or v.words (spot c (slot i)) 0 + 1099511627776 < 18446744073709551616) (there v b kept busy).0
     (has_headroom (point v d) Idle (ready v d Idle kept lt idle) i (object_of_block v b) busy).0
 
-pub kept_share : (v : GhostState) (d : ℕ) (b : Block) (p q : Option Place) → Kept v → d < v.extent.actors → pending v d ≡ Idle
+pub kept_share : (v : GhostState) (d : ℕ) (b : Block) (p q : Option Place) → TableInvariant v → d < v.extent.actors → pending v d ≡ Idle
     → Has (held d (owner_in v b p)) (model_state v).hands → IsPointer q → bag_size (model_state v) d < (model_state v).allowance d
-    → Kept (ghost_after_step v d (Share b p q))
+    → TableInvariant (ghost_after_step v d (Share b p q))
 kept_share v d b p q kept lt idle has fine room =
     let e = event.Share (owner_in v b p) q in
     kept_after v d (Share b p q) kept lt
@@ -66,7 +68,7 @@ kept_share v d b p q kept lt idle has fine room =
     (shares (point v d) (object_of_block v b) p q (ready v d Idle kept lt idle) (mine v d b p kept lt has) fine
     (subst (λ (n : ℕ). bag_size (model_state v) n < (model_state v).allowance n) (sym (named v d kept lt)) room))))
 
-leaving : (v : GhostState) (d : ℕ) (b : Block) (p : Option Place) → Kept v → d < v.extent.actors → pending v d ≡ Idle
+leaving : (v : GhostState) (d : ℕ) (b : Block) (p : Option Place) → TableInvariant v → d < v.extent.actors → pending v d ≡ Idle
     → Has (held d (owner_in v b p)) (model_state v).hands
     → (0 < get_or v.words (spot b.0 0) 0)
     × (let e = event.Leave (owner_in v b p) (get_or v.words (spot b.0 0) 0 == 1) in
@@ -80,12 +82,12 @@ leaving v d b p kept lt idle has =
     (there v b kept (owner_busy v d b p kept has)).0
     (leaves' (point v d) (object_of_block v b) p (ready v d Idle kept lt idle) (mine v d b p kept lt has))
 
-pub some_owner : (v : GhostState) (d : ℕ) (b : Block) (p : Option Place) → Kept v → d < v.extent.actors → pending v d ≡ Idle
+pub some_owner : (v : GhostState) (d : ℕ) (b : Block) (p : Option Place) → TableInvariant v → d < v.extent.actors → pending v d ≡ Idle
     → Has (held d (owner_in v b p)) (model_state v).hands → 0 < get_or v.words (spot b.0 0) 0
 some_owner v d b p kept lt idle has = (leaving v d b p kept lt idle has).0
 
-pub kept_leave : (v : GhostState) (d : ℕ) (b : Block) (p : Option Place) (last : Bool) → Kept v → d < v.extent.actors → pending v d ≡ Idle
-    → Has (held d (owner_in v b p)) (model_state v).hands → last ≡ (get_or v.words (spot b.0 0) 0 == 1) → Kept (ghost_after_step v d (Leave b p last))
+pub kept_leave : (v : GhostState) (d : ℕ) (b : Block) (p : Option Place) (last : Bool) → TableInvariant v → d < v.extent.actors → pending v d ≡ Idle
+    → Has (held d (owner_in v b p)) (model_state v).hands → last ≡ (get_or v.words (spot b.0 0) 0 == 1) → TableInvariant (ghost_after_step v d (Leave b p last))
 kept_leave v d b p last kept lt idle has is =
     kept_after v d (Leave b p last) kept lt
     (event_by v d (set v.words (spot b.0 0) (get_or v.words (spot b.0 0) 0 - 1)) Idle (event.Leave (owner_in v b p) last) kept lt
@@ -95,7 +97,7 @@ kept_leave v d b p last kept lt idle has is =
     (leaving v d b p kept lt idle has).1))
 
 -- the event of a leave says whether it was the last
-pub left_last : (v : GhostState) (d : ℕ) (b : Block) (p : Option Place) (last : Bool) → Kept (ghost_after_step v d (Leave b p last))
+pub left_last : (v : GhostState) (d : ℕ) (b : Block) (p : Option Place) (last : Bool) → TableInvariant (ghost_after_step v d (Leave b p last))
     → last ≡ (count (model_state v) (object_of_block v b) == 1)
 left_last v d b p last kept = kept.stands.legal.1.asks.1
 
@@ -120,7 +122,7 @@ told_word w =
     (λ none some. cond-true (number_of w == 0) _ _ (eq-eqb (number_of w) 0 none) ∙ cond-false (w == 0) 0 1 (ne_eqb w 0 (λ e. absurd (omega arith))))
     (λ none bare. cond-true (number_of w == 0) _ _ (eq-eqb (number_of w) 0 none) ∙ cond-true (w == 0) 0 1 (eq-eqb w 0 (omega arith)))
 
-telling : (v : GhostState) (d : ℕ) (k : Kind) (b : Block) (p : Option Place) (n : ℕ) → Kept v → d < v.extent.actors → pending v d ≡ Idle
+telling : (v : GhostState) (d : ℕ) (k : Kind) (b : Block) (p : Option Place) (n : ℕ) → TableInvariant v → d < v.extent.actors → pending v d ≡ Idle
     → Has (held d (handle_in_block v k b p)) (model_state v).hands
     → let w = get_or v.words (spot b.0 0) 0 in n ≡ cond (number_of w == 0) (cond (funds_of w == 0) 0 1) (number_of w)
     → (let e = event.Count (handle_in_block v k b p) n in
@@ -143,27 +145,27 @@ telling v d k b p n kept lt idle has is =
     × (owed v.views (spot c 0) ≡ 0 → cond (low == 0) (cond (high == 0) 0 1) low ≡ count (model_state v) (object_of_block v b))) h.0
     (tells_count (point v d) k (object_of_block v b) p low high (ready v d Idle kept lt idle) (mine_as v d k b p kept lt has)) (omega arith) (omega arith))
 
-pub kept_count : (v : GhostState) (d : ℕ) (k : Kind) (b : Block) (p : Option Place) (n : ℕ) → Kept v → d < v.extent.actors → pending v d ≡ Idle
+pub kept_count : (v : GhostState) (d : ℕ) (k : Kind) (b : Block) (p : Option Place) (n : ℕ) → TableInvariant v → d < v.extent.actors → pending v d ≡ Idle
     → Has (held d (handle_in_block v k b p)) (model_state v).hands
     → (let w = get_or v.words (spot b.0 0) 0 in n ≡ cond (number_of w == 0) (cond (funds_of w == 0) 0 1) (number_of w))
-    → Kept (ghost_after_step v d (Count k b p n))
+    → TableInvariant (ghost_after_step v d (Count k b p n))
 kept_count v d k b p n kept lt idle has is =
     kept_after v d (Count k b p n) kept lt
     (event_by v d v.words Idle (event.Count (handle_in_block v k b p) n) kept lt (telling v d k b p n kept lt idle has is).0)
 
-pub told_none : (v : GhostState) (d : ℕ) (k : Kind) (b : Block) (p : Option Place) (n : ℕ) → Kept v → d < v.extent.actors → pending v d ≡ Idle
+pub told_none : (v : GhostState) (d : ℕ) (k : Kind) (b : Block) (p : Option Place) (n : ℕ) → TableInvariant v → d < v.extent.actors → pending v d ≡ Idle
     → Has (held d (handle_in_block v k b p)) (model_state v).hands
     → (let w = get_or v.words (spot b.0 0) 0 in n ≡ cond (number_of w == 0) (cond (funds_of w == 0) 0 1) (number_of w))
     → (n == 0) ≡ (count (model_state v) (object_of_block v b) == 0)
 told_none v d k b p n kept lt idle has is = (kept_count v d k b p n kept lt idle has is).stands.legal.1.asks.1
 
-pub told_most : (v : GhostState) (d : ℕ) (k : Kind) (b : Block) (p : Option Place) (n : ℕ) → Kept v → d < v.extent.actors → pending v d ≡ Idle
+pub told_most : (v : GhostState) (d : ℕ) (k : Kind) (b : Block) (p : Option Place) (n : ℕ) → TableInvariant v → d < v.extent.actors → pending v d ≡ Idle
     → Has (held d (handle_in_block v k b p)) (model_state v).hands
     → (let w = get_or v.words (spot b.0 0) 0 in n ≡ cond (number_of w == 0) (cond (funds_of w == 0) 0 1) (number_of w))
     → n ≤ count (model_state v) (object_of_block v b)
 told_most v d k b p n kept lt idle has is = (kept_count v d k b p n kept lt idle has is).stands.legal.1.asks.2
 
-pub exact_count : (v : GhostState) (d : ℕ) (k : Kind) (b : Block) (p : Option Place) (n : ℕ) → Kept v → d < v.extent.actors → pending v d ≡ Idle
+pub exact_count : (v : GhostState) (d : ℕ) (k : Kind) (b : Block) (p : Option Place) (n : ℕ) → TableInvariant v → d < v.extent.actors → pending v d ≡ Idle
     → Has (held d (handle_in_block v k b p)) (model_state v).hands
     → (let w = get_or v.words (spot b.0 0) 0 in n ≡ cond (number_of w == 0) (cond (funds_of w == 0) 0 1) (number_of w))
     → owed v.views (spot b.0 0) ≡ 0 → n ≡ count (model_state v) (object_of_block v b)

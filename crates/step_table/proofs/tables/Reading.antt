@@ -14,16 +14,16 @@ use Rattle.control_word.specs.Layout.{spot}
 use Rattle.control_word.specs.State.{Has, Object, held}
 use Rattle.control_word.specs.Words.{blocks_of, flags_of, object_words}
 use Rattle.step_table.specs.declared.memory.ended.Ended.TheVariants.{Fields, Null}
-use Rattle.step_table.specs.declared.memory.past.AtomicStep.TheVariants.{Read}
+use Rattle.step_table.specs.declared.memory.ghost_history.AtomicStep.TheVariants.{Read}
 use Rattle.step_table.specs.Openings.{opening}
 use Rattle.step_table.specs.AtomicSteps.{remains}
-use Rattle.step_table.specs.GhostStates.{Kept, GhostState, ghost_after_step, object_of_block, owner_in, pending, model_state, view_in}
+use Rattle.step_table.specs.GhostStates.{TableInvariant, GhostState, ghost_after_step, object_of_block, owner_in, pending, model_state, view_in}
 use Rattle.step_table.proofs.tables.Doors.{no_door}
 use Rattle.step_table.proofs.tables.Owners.{mine}
 use Rattle.step_table.proofs.tables.Places.{event_by, owner_busy, there}
 use Rattle.step_table.proofs.tables.Standing.{ready, kept_after}
 
-pub flags_read : (v : GhostState) (b : Block) → Kept v → IsBusy (model_state v) (object_of_block v b)
+pub flags_read : (v : GhostState) (b : Block) → TableInvariant v → IsBusy (model_state v) (object_of_block v b)
     → get_or v.words (spot b.0 2) 0 ≡ flags_of ((model_state v).object (object_of_block v b)).enabled ((model_state v).object (object_of_block v b)).null
 flags_read v b kept busy =
     let x = (model_state v).object (object_of_block v b) in
@@ -33,7 +33,7 @@ flags_read v b kept busy =
     let n = no_door v x.block kept in
     subst (λ (c : ℕ). get_or v.words (spot c 2) 0 ≡ flags_of x.enabled x.null) h.0 (omega (arith, r, f, n))
 
-pub field_read : (v : GhostState) (b : Block) (j : ℕ) → Kept v → IsBusy (model_state v) (object_of_block v b) → j < 4
+pub field_read : (v : GhostState) (b : Block) (j : ℕ) → TableInvariant v → IsBusy (model_state v) (object_of_block v b) → j < 4
     → get_or v.words (spot b.0 (3 + j)) 0 ≡ get_or ((model_state v).object (object_of_block v b)).fields j 0
 field_read v b j kept busy lt =
     let x = (model_state v).object (object_of_block v b) in
@@ -67,7 +67,7 @@ four_of words b w x y z p q r s (suc (suc (suc zero))) lt = s
 four_of words b w x y z p q r s (suc (suc (suc (suc j)))) lt = absurd (omega arith)
 
 -- the object has four fields
-whole_here : (v : GhostState) (b : Block) → Kept v → IsBusy (model_state v) (object_of_block v b)
+whole_here : (v : GhostState) (b : Block) → TableInvariant v → IsBusy (model_state v) (object_of_block v b)
     → length ((model_state v).object (object_of_block v b)).fields ≡ 4
 whole_here v b kept busy =
     let fine = sound (opening v.extent) v.history kept.stands.legal in
@@ -76,10 +76,10 @@ whole_here v b kept busy =
     kept.whole (object_of_block v b) (omega arith) (fine.latest_made b.0)
 
 -- a field of an object that a desk owns
-pub kept_read : (v : GhostState) (d : ℕ) (b : Block) (p : Place) (n : ℕ) → Kept v → d < v.extent.actors → pending v d ≡ Idle
+pub kept_read : (v : GhostState) (d : ℕ) (b : Block) (p : Place) (n : ℕ) → TableInvariant v → d < v.extent.actors → pending v d ≡ Idle
     → Has (held d (owner_in v b (Some p))) (model_state v).hands → p.block.0 ≡ b.0
     → n ≡ get_or ((model_state v).object (object_of_block v b)).fields p.field 0
-    → Kept (ghost_after_step v d (Read b (Some p) n))
+    → TableInvariant (ghost_after_step v d (Read b (Some p) n))
 kept_read v d b p n kept lt idle has here is =
     let r = ready v d Idle kept lt idle in
     let h = there v b kept (owner_busy v d b (Some p) kept has) in
@@ -92,7 +92,7 @@ kept_read v d b p n kept lt idle has here is =
 pub remains_null : (x : Object) → x.null ≡ true → remains x ≡ Null
 remains_null x is = cond-true x.null Null (Fields x.fields) is
 
-pub remains_fields : (v : GhostState) (b : Block) (l : List ℕ) → Kept v → IsBusy (model_state v) (object_of_block v b)
+pub remains_fields : (v : GhostState) (b : Block) (l : List ℕ) → TableInvariant v → IsBusy (model_state v) (object_of_block v b)
     → ((model_state v).object (object_of_block v b)).null ≡ false
     → length l ≡ 4 → ((j : ℕ) → j < 4 → get_or l j 0 ≡ get_or v.words (spot b.0 (3 + j)) 0)
     → remains ((model_state v).object (object_of_block v b)) ≡ Fields l

@@ -10,16 +10,16 @@ use Rattle.control_word.specs.declared.model.view.Pending.TheVariants.{Idle}
 use Rattle.control_word.specs.Layout.{bit_of}
 use Rattle.control_word.specs.State.{Has, Opening, on_shelf, stored}
 use Rattle.control_word.specs.Words.{shelf_spot}
-use Rattle.step_table.specs.declared.memory.past.AtomicStep.TheVariants.{OnShelf}
+use Rattle.step_table.specs.declared.memory.ghost_history.AtomicStep.TheVariants.{OnShelf}
 use Rattle.step_table.specs.declared.memory.shelf.ShelfStep.TheVariants.{Shelve, Unshelve, Miss}
 use Rattle.step_table.specs.Openings.{opening}
 use Rattle.step_table.specs.ShelfAtomicSteps.{shelf_words}
-use Rattle.step_table.specs.GhostStates.{GhostState, Kept, ghost_after_step, pending, model_state}
+use Rattle.step_table.specs.GhostStates.{GhostState, TableInvariant, ghost_after_step, pending, model_state}
 use Rattle.step_table.proofs.tables.Standing.{kept_after, point, ready}
 use Rattle.step_table.proofs.tables.Places.{event_by, named}
 
-pub kept_shelve : (v : GhostState) (d : ℕ) (b : Block) → Kept v → d < v.extent.actors → pending v d ≡ Idle
-    → Has (stored d b.0) (model_state v).stores → Kept (ghost_after_step v d (OnShelf b Shelve))
+pub kept_shelve : (v : GhostState) (d : ℕ) (b : Block) → TableInvariant v → d < v.extent.actors → pending v d ≡ Idle
+    → Has (stored d b.0) (model_state v).stores → TableInvariant (ghost_after_step v d (OnShelf b Shelve))
 kept_shelve v d b kept lt idle has =
     kept_after v d (OnShelf b Shelve) kept lt
     (event_by v d (shelf_words (opening v.extent) v.words b Shelve) Idle (event.Shelve b) kept lt
@@ -30,7 +30,7 @@ kept_shelve v d b kept lt idle has =
 abbrev pub found_on : GhostState → Block → ℕ
 found_on v b = get_or v.words (shelf_spot (opening v.extent) b.0) 0
 
-pub shown_bit : (v : GhostState) (b : ℕ) → Kept v → b < 65536
+pub shown_bit : (v : GhostState) (b : ℕ) → TableInvariant v → b < 65536
     → bit_at (get_or v.words (shelf_spot (opening v.extent) b) 0) (b % 64) ≡ on_shelf (model_state v) b
 shown_bit v b kept low = kept.stands.shows.shelf b low
 
@@ -41,8 +41,8 @@ pub cleared_words : (z : Opening) (words : List ℕ) (b : Block) (x : Bool)
 cleared_words z words b true = refl
 cleared_words z words b false = refl
 
-pub kept_unshelve : (v : GhostState) (d : ℕ) (b : Block) (x : Bool) → Kept v → d < v.extent.actors → pending v d ≡ Idle
-    → b.0 < 65536 → x ≡ (model_state v).shelved b.0 → Kept (ghost_after_step v d (OnShelf b (cond x Unshelve Miss)))
+pub kept_unshelve : (v : GhostState) (d : ℕ) (b : Block) (x : Bool) → TableInvariant v → d < v.extent.actors → pending v d ≡ Idle
+    → b.0 < 65536 → x ≡ (model_state v).shelved b.0 → TableInvariant (ghost_after_step v d (OnShelf b (cond x Unshelve Miss)))
 kept_unshelve v d b true kept lt idle low is =
     kept_after v d (OnShelf b Unshelve) kept lt
     (event_by v d (shelf_words (opening v.extent) v.words b Unshelve) Idle (event.Unshelve b) kept lt

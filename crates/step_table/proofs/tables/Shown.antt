@@ -33,26 +33,26 @@ use Rattle.step_table.specs.declared.cell_steps.cell_step.Cell.TheVariants.{Free
 use Rattle.step_table.specs.CellAtomicSteps.{cell_in, handle_as, kind_in_state, owing_funds, word_of}
 use Rattle.step_table.specs.Cells.{IsOpenTo, IsSomewhere, ShowsCell, word_of_cell}
 use Rattle.step_table.specs.Openings.{opening}
-use Rattle.step_table.specs.GhostStates.{Kept, Nothing, GhostState, object_of_block, pending, model_state, view_in}
+use Rattle.step_table.specs.GhostStates.{TableInvariant, Nothing, GhostState, object_of_block, pending, model_state, view_in}
 use Rattle.step_table.proofs.tables.Cells.{at_cell, decoded}
 use Rattle.step_table.proofs.tables.Places.{event_by, there}
 use Rattle.step_table.proofs.tables.Standing.{point, ready}
 
-pub kept_cell : (v : GhostState) (d : ℕ) (c : Cell) → Kept v → IsOpenTo v d c → IsKept (model_state v) (cell_in (model_state v) c)
+pub kept_cell : (v : GhostState) (d : ℕ) (c : Cell) → TableInvariant v → IsOpenTo v d c → IsKept (model_state v) (cell_in (model_state v) c)
 kept_cell v d c kept shut =
     open_kept (opening v.extent) (model_state v) d (cell_in (model_state v) c) (sound (opening v.extent) v.history kept.stands.legal) shut
 
 -- where a cell's word lies
-pub cell_there : (v : GhostState) (c : Cell) → Kept v → IsKept (model_state v) (cell_in (model_state v) c)
+pub cell_there : (v : GhostState) (c : Cell) → TableInvariant v → IsKept (model_state v) (cell_in (model_state v) c)
     → at_cell v (cell_in (model_state v) c) ≡ word_of v.extent.shape.blocks c
 cell_there v (Free n) kept is = refl
 cell_there v (Member b m) kept is = ap (λ (i : ℕ). spot i (7 + m)) (there v b kept is.1).0
 
-pub somewhere : (v : GhostState) (c : Cell) → Kept v → IsKept (model_state v) (cell_in (model_state v) c) → IsSomewhere c
+pub somewhere : (v : GhostState) (c : Cell) → TableInvariant v → IsKept (model_state v) (cell_in (model_state v) c) → IsSomewhere c
 somewhere v (Free n) kept is = tt
 somewhere v (Member b m) kept is = ((there v b kept is.1).1.0, is.0)
 
-pub word_inside : (v : GhostState) (d : ℕ) (c : Cell) → Kept v → d < v.extent.actors → IsKept (model_state v) (cell_in (model_state v) c)
+pub word_inside : (v : GhostState) (d : ℕ) (c : Cell) → TableInvariant v → d < v.extent.actors → IsKept (model_state v) (cell_in (model_state v) c)
     → word_of v.extent.shape.blocks c < length v.words
 word_inside v d c kept lt is =
     let r = ready v d (pending v d) kept lt refl in
@@ -69,7 +69,7 @@ one_cell x y hx hy e =
     λ j. record { owned = o j; place = q j; taken = t j }
 
 -- the object that a cell holds is the latest of its block
-latest_of : (v : GhostState) (c : Named) → Kept v → IsKept (model_state v) c → (o : ℕ) → (cell_of (model_state v) c).object ≡ Some o
+latest_of : (v : GhostState) (c : Named) → TableInvariant v → IsKept (model_state v) c → (o : ℕ) → (cell_of (model_state v) c).object ≡ Some o
     → (model_state v).latest (blocks_of (model_state v) o) ≡ o
 latest_of v c kept is o e = ((sound (opening v.extent) v.history kept.stands.legal).placed o (busy c is e)).0
   where
@@ -117,7 +117,7 @@ pub record Found (v : GhostState) (c : Cell) (x : CellWord) : Type 0 where
       (owing_funds (model_state v) (kind_in_state (model_state v) c) x.owned x.place f 0)
   pub there : (b : Block) → x.owned ≡ Some b → blocks_of (model_state v) (object_of_block v b) ≡ b.0
 
-pub found_in : (v : GhostState) (d : ℕ) (c : Cell) (x : CellWord) → Kept v → d < v.extent.actors → IsKept (model_state v) (cell_in (model_state v) c)
+pub found_in : (v : GhostState) (d : ℕ) (c : Cell) (x : CellWord) → TableInvariant v → d < v.extent.actors → IsKept (model_state v) (cell_in (model_state v) c)
     → IsCellWord x
     → word_of_cell v c ≡ cell_bits x → Found v c x
 found_in v d c x kept lt is valid bits =
@@ -146,7 +146,7 @@ found_in v d c x kept lt is valid bits =
     }
 
 -- an event on a cell, as the atomic step says it
-pub adds_by : (v : GhostState) (d i j n m : ℕ) (e f : Event Nothing) (p q : Pending Nothing) → Kept v → d < v.extent.actors → i ≡ j
+pub adds_by : (v : GhostState) (d i j n m : ℕ) (e f : Event Nothing) (p q : Pending Nothing) → TableInvariant v → d < v.extent.actors → i ≡ j
     → n ≡ m → e ≡ f → p ≡ q
     → Adds (point v d) i n e p
     → Stands (opening v.extent) (set v.words j m) (set v.views d (sees_as (view_in v.views d) q (entry d f ∷ v.history))) (entry d f ∷ v.history)
@@ -162,7 +162,7 @@ adds_by v d i j n m e f p q kept lt at to is owed adds =
     (set v.views d (sees_as (view_in v.views d) p (entry (me (point v d)) e ∷ v.history))) (entry (me (point v d)) e ∷ v.history)) at adds))))
 
 -- the word of a cell can be unpacked
-pub cell_packed : (v : GhostState) (d : ℕ) (c : Cell) (n : ℕ) → Kept v → d < v.extent.actors → IsKept (model_state v) (cell_in (model_state v) c)
+pub cell_packed : (v : GhostState) (d : ℕ) (c : Cell) (n : ℕ) → TableInvariant v → d < v.extent.actors → IsKept (model_state v) (cell_in (model_state v) c)
     → n ≡ word_of_cell v c
     → IsPackedCell n
 cell_packed v d c n kept lt is e =

@@ -11,12 +11,14 @@ use Rattle.control_word.specs.declared.model.view.View.{View}
 use Rattle.control_word.specs.Steps.{Point, Ready}
 use Rattle.control_word.specs.Views.{Stands, sees_as, used_up}
 use Rattle.step_table.specs.declared.memory.extent.Extent.{Extent}
-use Rattle.step_table.specs.declared.memory.past.AtomicStep.{AtomicStep}
-use Rattle.step_table.specs.declared.memory.past.AtomicStep.TheVariants.{Prepare, Write, Claim, Share, WeakShare, Leave, WeakLeave, Lock, Count, Expired, Read}
-use Rattle.step_table.specs.declared.memory.past.AtomicStep.TheVariants.{Clear}
-use Rattle.step_table.specs.declared.memory.past.AtomicStep.TheVariants.{Finish, OnCell, OnShelf}
+use Rattle.step_table.specs.declared.memory.ghost_history.AtomicStep.{AtomicStep}
+use Rattle.step_table.specs.declared.memory.ghost_history.AtomicStep.TheVariants.{Prepare, Write, Claim, Share, WeakShare, Leave, WeakLeave, Lock, Count}
+use Rattle.step_table.specs.declared.memory.ghost_history.AtomicStep.TheVariants.{Expired, Read}
+use Rattle.step_table.specs.declared.memory.ghost_history.AtomicStep.TheVariants.{Clear}
+use Rattle.step_table.specs.declared.memory.ghost_history.AtomicStep.TheVariants.{Finish, OnCell, OnShelf}
 use Rattle.step_table.specs.Openings.{opening}
-use Rattle.step_table.specs.GhostStates.{Nothing, GhostState, Seats, Kept, ghost_after_step, history_after, pending, pending_after, model_state, view_in}
+use Rattle.step_table.specs.GhostStates.{Nothing, GhostState, Seats, TableInvariant, ghost_after_step, history_after, pending, pending_after, model_state}
+use Rattle.step_table.specs.GhostStates.{view_in}
 use Rattle.step_table.specs.GhostStates.{views_after}
 use Rattle.step_table.specs.GhostStates.{words_after}
 use Rattle.control_word.specs.State.{State}
@@ -33,7 +35,7 @@ at_get (x ∷ xs) (suc i) d lt = at_get xs i d (omega arith)
 abbrev pub point : GhostState → ℕ → Point Nothing
 point v d = record { opening = opening v.extent; words = v.words; views = v.views; history = v.history; seat = d; view = view_in v.views d }
 
-pub ready : (v : GhostState) (d : ℕ) (p : Pending Nothing) → Kept v → d < v.extent.actors → pending v d ≡ p → Ready (point v d) p
+pub ready : (v : GhostState) (d : ℕ) (p : Pending Nothing) → TableInvariant v → d < v.extent.actors → pending v d ≡ p → Ready (point v d) p
 ready v d p kept lt is =
     record {
       stands = kept.stands;
@@ -78,8 +80,8 @@ same_allowance v d (OnShelf b x) = ap (λ (s : State). s.allowance) (shelf_frame
 same_allowance v d (OnCell x) = (framed v d x).allowance
 
 -- what an atomic step leaves
-pub kept_after : (v : GhostState) (d : ℕ) (x : AtomicStep) → Kept v → d < v.extent.actors
-    → Stands (opening v.extent) (words_after v x) (views_after v d x) (history_after v d x) → Kept (ghost_after_step v d x)
+pub kept_after : (v : GhostState) (d : ℕ) (x : AtomicStep) → TableInvariant v → d < v.extent.actors
+    → Stands (opening v.extent) (words_after v x) (views_after v d x) (history_after v d x) → TableInvariant (ghost_after_step v d x)
 kept_after v d x kept lt stands =
     record {
       stands = stands;
@@ -103,18 +105,18 @@ ghost_as v d x words history views same past =
 
 -- what the code leaves stands for the history
 pub kept_as : (v : GhostState) (d : ℕ) (x : AtomicStep) (extent : Extent) (words : List ℕ) (history : List (Entry Nothing)) (views : List (View Nothing))
-    → Kept (ghost_after_step v d x) → extent ≡ v.extent → words ≡ words_after v x → (history ≡ history_after v d x)
+    → TableInvariant (ghost_after_step v d x) → extent ≡ v.extent → words ≡ words_after v x → (history ≡ history_after v d x)
     × (views ≡ views_after v d x)
-    → Kept (record { extent = extent; words = words; views = views; history = history })
+    → TableInvariant (record { extent = extent; words = words; views = views; history = history })
 kept_as v d x extent words history views kept at same past =
-    subst (λ (e : Extent). Kept (record { extent = e; words = words; views = views; history = history })) (sym at)
-    (subst (λ (w : GhostState). Kept w) (sym (ghost_as v d x words history views same past)) kept)
+    subst (λ (e : Extent). TableInvariant (record { extent = e; words = words; views = views; history = history })) (sym at)
+    (subst (λ (w : GhostState). TableInvariant w) (sym (ghost_as v d x words history views same past)) kept)
 
 -- the table that a function is given, as its clauses see it
 pub kept_now : (extent : Extent) (words : List ℕ) (history : List (Entry Nothing)) (views : List (View Nothing)) (v : GhostState)
-    → Kept (record { extent = extent; words = words; views = views; history = history })
-    → ◌≡◌ {A = GhostState} (record { extent = extent; words = words; views = views; history = history }) v → Kept v
-kept_now extent words history views v kept is = subst (λ (w : GhostState). Kept w) is kept
+    → TableInvariant (record { extent = extent; words = words; views = views; history = history })
+    → ◌≡◌ {A = GhostState} (record { extent = extent; words = words; views = views; history = history }) v → TableInvariant v
+kept_now extent words history views v kept is = subst (λ (w : GhostState). TableInvariant w) is kept
 
 -- a word that the code reads
 pub found : (items words : List ℕ) (i j x : ℕ) → items ≡ words → i ≡ j → x ≡ get_or items i 0 → x ≡ get_or words j 0

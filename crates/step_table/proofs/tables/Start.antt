@@ -14,7 +14,7 @@ use Rattle.control_word.specs.State.{IsOpening, sum_below}
 use Rattle.control_word.specs.Views.{Stands, fresh, used_up}
 use Rattle.step_table.specs.declared.memory.extent.Extent.{Extent}
 use Rattle.step_table.specs.Openings.{IsExtent, each_stock, holder_of, opening, share_of}
-use Rattle.step_table.specs.GhostStates.{Kept, Nothing, ShutsNoDoor}
+use Rattle.step_table.specs.GhostStates.{TableInvariant, Nothing, ShutsNoDoor}
 
 -- of so many actors each has its share, and the first has the rest too
 sums : (q r a n : ℕ) → 1 ≤ n → n ≤ a → sum_below n (λ d. cond (nat_lt d a) (q + cond (d == 0) r 0) 0) ≡ n * q + r
@@ -86,7 +86,7 @@ idle_start d (suc n) (suc e) = idle_start (suc d) n e
 -- a new table stands for the empty history
 pub kept_start : (x : Extent) (words : List ℕ) → IsExtent x
     → words ≡ replicate (table_size x.shape) 0
-    → Kept (record { extent = x; words = words; views = fresh 0 x.actors; history = [] })
+    → TableInvariant (record { extent = x; words = words; views = fresh 0 x.actors; history = [] })
 kept_start x words fine is =
     record {
       stands = subst (λ (w : List ℕ). Stands {V = Nothing} (opening x) w (fresh 0 x.actors) []) (sym is) (opens (opening x) (proper x fine));

@@ -17,7 +17,7 @@ use Rattle.control_word.specs.declared.packed.cell.CellWord.{CellWord}
 use Rattle.control_word.specs.declared.model.event.Cell.{Cell as Named}
 use Rattle.control_word.specs.declared.model.event.Cell.TheVariants as named
 use Rattle.control_word.specs.declared.model.event.Event.TheVariants as event
-use Rattle.control_word.specs.declared.model.handle.Handle.{Handle}
+use Rattle.control_word.specs.declared.model.handle.NumberedHandle.{NumberedHandle}
 use Rattle.control_word.specs.declared.model.handle.Kind.{Kind}
 use Rattle.control_word.specs.declared.place.Block.{Block}
 use Rattle.control_word.specs.declared.place.Place.{Place}
@@ -34,11 +34,11 @@ use Rattle.step_table.specs.declared.cell_steps.cell_step.Cell.{Cell}
 use Rattle.step_table.specs.declared.cell_steps.cell_step.Cell.TheVariants.{Member}
 use Rattle.step_table.specs.declared.cell_steps.cell_step.CellStep.TheVariants.{CompareSwap, Swap, Take, TakeOut}
 use Rattle.step_table.specs.declared.cell_steps.cell_step.Compared.{Compared}
-use Rattle.step_table.specs.declared.memory.past.AtomicStep.TheVariants.{OnCell}
+use Rattle.step_table.specs.declared.memory.ghost_history.AtomicStep.TheVariants.{OnCell}
 use Rattle.step_table.specs.CellAtomicSteps.{cell_in, handle_told, kind_in_state, object_at, owing_funds, word_of}
 use Rattle.step_table.specs.Cells.{HasInHand, IsOpenTo, ShowsCell, word_of_cell}
 use Rattle.step_table.specs.Openings.{opening}
-use Rattle.step_table.specs.GhostStates.{Kept, Nothing, GhostState, ghost_after_step, object_of_block, pending, model_state}
+use Rattle.step_table.specs.GhostStates.{TableInvariant, Nothing, GhostState, ghost_after_step, object_of_block, pending, model_state}
 use Rattle.step_table.proofs.tables.Places.{ending_busy, handle_busy, named as own, there}
 use Rattle.step_table.proofs.tables.Shown.{Found, adds_by, cell_there, found_in, kept_cell}
 use Rattle.step_table.proofs.tables.Standing.{kept_after, point, ready}
@@ -51,12 +51,12 @@ hand_has : (v : GhostState) (d : ℕ) (k : Kind) (b : Block) (p : Option Place) 
     → Has (held d (handle k (Some (object_of_block v b)) p)) (model_state v).hands
 hand_has v d k b p hand = ⊎_elim (λ n. absurd (some_none n.0)) (λ t. t.0) hand.1
 
-hand_there : (v : GhostState) (d : ℕ) (k : Kind) (b : Block) (p : Option Place) → Kept v
+hand_there : (v : GhostState) (d : ℕ) (k : Kind) (b : Block) (p : Option Place) → TableInvariant v
     → InHand (model_state v) d k (handle k (object_at (model_state v) (Some b)) p)
     → ((model_state v).object (object_of_block v b)).block ≡ b.0
 hand_there v d k b p kept hand = (there v b kept (handle_busy v d k b p kept (hand_has v d k b p hand))).0
 
-hand_packed : (v : GhostState) (d : ℕ) (k : Kind) (o : Option Block) (p : Option Place) → Kept v
+hand_packed : (v : GhostState) (d : ℕ) (k : Kind) (o : Option Block) (p : Option Place) → TableInvariant v
     → InHand (model_state v) d k (handle k (object_at (model_state v) o) p)
     → packed (blocks_of (model_state v)) (handle k (object_at (model_state v) o) p) ≡ cell_bits (record { owned = o; place = p; taken = 0 })
 hand_packed v d k None p kept hand = let e = cell_shown (blocks_of (model_state v)) (handle k None p) 0 in omega (arith, e)
@@ -65,7 +65,7 @@ hand_packed v d k (Some b) p kept hand =
     let t = ap (λ (i : ℕ). cell_bits (record { owned = Some (record { 0 = i }); place = p; taken = 0 })) (hand_there v d k b p kept hand) in
     omega (arith, e, t)
 
-hand_purse : (v : GhostState) (d : ℕ) (k : Kind) (o : Option Block) (p : Option Place) (f : ℕ) → Kept v
+hand_purse : (v : GhostState) (d : ℕ) (k : Kind) (o : Option Block) (p : Option Place) (f : ℕ) → TableInvariant v
     → InHand (model_state v) d k (handle k (object_at (model_state v) o) p)
     → ◌≡◌ {A = Pending Nothing} (owing_funds (model_state v) k o p f 0) (purse (blocks_of (model_state v)) (handle k (object_at (model_state v) o) p) f)
 hand_purse v d k None p f kept hand = refl
@@ -73,13 +73,13 @@ hand_purse v d k (Some b) p f kept hand =
     ap (λ (i : ℕ). Paying k (object_of_block v b) p (spot i (slot k)) f 0) (sym (hand_there v d k b p kept hand))
 
 -- what a bag has after a handle came in
-gets_most : (s : State) (d : ℕ) (h : Handle) → bag_size (gets d h s) d ≤ suc (bag_size s d)
+gets_most : (s : State) (d : ℕ) (h : NumberedHandle) → bag_size (gets d h s) d ≤ suc (bag_size s d)
 gets_most s d h =
     cond_both (has_object h) (held d h ∷ s.hands) s.hands (λ l. length (filter (λ (x : Held). x.desk == d) l) ≤ suc (bag_size s d))
     (λ e. let a = bag_one d h s.hands in omega (arith, a)) (λ e. omega arith)
 
 -- a swap keeps to the allowance
-swap_room : (v : GhostState) (d : ℕ) (c : Named) (k : Kind) (o : Option Block) (p : Option Place) (old : Handle) → Kept v
+swap_room : (v : GhostState) (d : ℕ) (c : Named) (k : Kind) (o : Option Block) (p : Option Place) (old : NumberedHandle) → TableInvariant v
     → InHand (model_state v) d k (handle k (object_at (model_state v) o) p) → (o ≡ None → bag_size (model_state v) d < (model_state v).allowance d)
     → HasRoom (swaps d c (handle k (object_at (model_state v) o) p) old (model_state v)) d
 swap_room v d c k o p old kept hand more = go c
@@ -101,10 +101,10 @@ swap_room v d c k o p old kept hand more = go c
     go (named.Member i m) =
         let l = less o hand more in let g = gets_most (loses d (handle k (object_at (model_state v) o) p) (model_state v)) d old in omega (arith, l, g)
 
-pub kept_swap : (v : GhostState) (d : ℕ) (c : Cell) (new x : CellWord) → Kept v → d < v.extent.actors → IsOpenTo v d c → new.taken ≡ 0
+pub kept_swap : (v : GhostState) (d : ℕ) (c : Cell) (new x : CellWord) → TableInvariant v → d < v.extent.actors → IsOpenTo v d c → new.taken ≡ 0
     → HasInHand v d c new → pending v d ≡ owing_funds (model_state v) (kind_in_state (model_state v) c) new.owned new.place 256 0
     → (new.owned ≡ None → bag_size (model_state v) d < (model_state v).allowance d) → ShowsCell v c x
-    → Kept (ghost_after_step v d (OnCell (Swap c new x)))
+    → TableInvariant (ghost_after_step v d (OnCell (Swap c new x)))
 kept_swap v d c new x kept lt way full hand owes more shows =
     let s = model_state v in
     let e = cell_in s c in
@@ -142,12 +142,12 @@ load_owing v c x b f e =
     ap (λ (i : ℕ). Paying k (object_of_block v b) x.place (spot i (slot k)) 1 1) t ∙ ap
     (λ (q : Option Block). owing_funds (model_state v) k q x.place 1 1) (sym e)
 
-pub kept_take : (v : GhostState) (d : ℕ) (c : Cell) (x : CellWord) → Kept v → d < v.extent.actors → pending v d ≡ Idle → IsOpenTo v d c
+pub kept_take : (v : GhostState) (d : ℕ) (c : Cell) (x : CellWord) → TableInvariant v → d < v.extent.actors → pending v d ≡ Idle → IsOpenTo v d c
     → x.owned ≢ None → x.taken < 256 → bag_size (model_state v) d < (model_state v).allowance d → IsCellWord x → word_of_cell v c ≡ cell_bits x
-    → Kept (ghost_after_step v d (OnCell (Take c x None)))
+    → TableInvariant (ghost_after_step v d (OnCell (Take c x None)))
 kept_take v d c x kept lt idle way some few room valid bits = go x.owned refl
   where
-    go : (o : Option Block) → x.owned ≡ o → Kept (ghost_after_step v d (OnCell (Take c x None)))
+    go : (o : Option Block) → x.owned ≡ o → TableInvariant (ghost_after_step v d (OnCell (Take c x None)))
     go None e = absurd (some e)
     go (Some b) e =
         let s = model_state v in
@@ -170,11 +170,11 @@ kept_take v d c x kept lt idle way some few room valid bits = go x.owned refl
         (adds_by v d _ (word_of v.extent.shape.blocks c) _ (word_of_cell v c + 17179869184) _ _ _ _ kept lt there
         (ap (λ (i : ℕ). get_or v.words i 0 + 17179869184) there) (ap (event.Load n) (sym told)) owed law)
 
-pub kept_compare : (v : GhostState) (d : ℕ) (c : Cell) (x : CellWord) (y : Compared) → Kept v → d < v.extent.actors → IsOpenTo v d c → y.new.taken ≡ 0
+pub kept_compare : (v : GhostState) (d : ℕ) (c : Cell) (x : CellWord) (y : Compared) → TableInvariant v → d < v.extent.actors → IsOpenTo v d c → y.new.taken ≡ 0
     → equivalent (handle_told (model_state v) c x) (handle_told (model_state v) c y.expected) ≡ true → HasInHand v d c y.expected
     → HasInHand v d c y.new → pending v d ≡ owing_funds (model_state v) (kind_in_state (model_state v) c) y.new.owned y.new.place 256 0
     → (y.new.owned ≡ None → bag_size (model_state v) d < (model_state v).allowance d) → IsCellWord x → word_of_cell v c ≡ cell_bits x
-    → Kept (ghost_after_step v d (OnCell (CompareSwap c x y)))
+    → TableInvariant (ghost_after_step v d (OnCell (CompareSwap c x y)))
 kept_compare v d c x y kept lt way full alike wanted hand owes more valid bits =
     let s = model_state v in
     let e = cell_in s c in
@@ -184,7 +184,7 @@ kept_compare v d c x y kept lt way full alike wanted hand owes more valid bits =
     let is = kept_cell v d c kept way in
     let f = found_in v d c x kept lt is valid bits in
     let m = own v d kept lt in
-    let same : equivalent (cell_of s e) w ≡ true = ap (λ (q : Handle). equivalent q w) (sym f.shows.holds) ∙ alike in
+    let same : equivalent (cell_of s e) w ≡ true = ap (λ (q : NumberedHandle). equivalent q w) (sym f.shows.holds) ∙ alike in
     let law =
     compare_swaps (point v d) e w h y.weak (ready v d _ kept lt (owes ∙ hand_purse v d k y.new.owned y.new.place 256 kept hand)) same (
       subst (λ (n : ℕ). IsOpen s n e) (sym m) way,
@@ -199,17 +199,17 @@ kept_compare v d c x y kept lt way full alike wanted hand owes more valid bits =
     (adds_by v d _ (word_of v.extent.shape.blocks c) _ (cell_bits y.new) _ _ _ _ kept lt (cell_there v c kept is)
     (hand_packed v d k y.new.owned y.new.place kept hand ∙ ap
     (λ (t : ℕ). cell_bits (record { owned = y.new.owned; place = y.new.place; taken = t })) (sym full))
-    (ap (λ (q : Handle). event.Compare e w h q true y.weak) (sym f.shows.holds)) (f.owed (256 - x.taken)) law)
+    (ap (λ (q : NumberedHandle). event.Compare e w h q true y.weak) (sym f.shows.holds)) (f.owed (256 - x.taken)) law)
 
 -- an ending object's member is one that words are kept for
 pub ending_cell : (v : GhostState) (d : ℕ) (b : Block) (m : ℕ) → ((model_state v).object (object_of_block v b)).phase ≡ ending d → m < 3
     → IsKept (model_state v) (cell_in (model_state v) (Member b m))
 ending_cell v d b m end few = (few, ending_busy v d b end)
 
-pub kept_take_out : (v : GhostState) (d : ℕ) (b : Block) (m : ℕ) (x : CellWord) → Kept v → d < v.extent.actors → pending v d ≡ Idle
+pub kept_take_out : (v : GhostState) (d : ℕ) (b : Block) (m : ℕ) (x : CellWord) → TableInvariant v → d < v.extent.actors → pending v d ≡ Idle
     → ((model_state v).object (object_of_block v b)).phase ≡ ending d → m < 3 → bag_size (model_state v) d < (model_state v).allowance d
     → ShowsCell v (Member b m) x
-    → Kept (ghost_after_step v d (OnCell (TakeOut b m x)))
+    → TableInvariant (ghost_after_step v d (OnCell (TakeOut b m x)))
 kept_take_out v d b m x kept lt idle end few room shows =
     let s = model_state v in
     let c = Member b m in
@@ -226,15 +226,15 @@ kept_take_out v d b m x kept lt idle end few room shows =
     (adds_by v d _ (spot b.0 (7 + m)) _ 0 _ _ _ _ kept lt (cell_there v c kept is) refl (ap (event.ClearMember o m) (sym shows.holds))
     (f.owed (256 - x.taken)) law)
 
-pub kept_take_differing : (v : GhostState) (d : ℕ) (c : Cell) (x : CellWord) (y : Compared) → Kept v → d < v.extent.actors → pending v d ≡ Idle
+pub kept_take_differing : (v : GhostState) (d : ℕ) (c : Cell) (x : CellWord) (y : Compared) → TableInvariant v → d < v.extent.actors → pending v d ≡ Idle
     → IsOpenTo v d c → x.owned ≢ None → x.taken < 256
     → equivalent (handle_told (model_state v) c x) (handle_told (model_state v) c y.expected) ≡ false
     → HasInHand v d c y.expected → HasInHand v d c y.new → bag_size (model_state v) d < (model_state v).allowance d → IsCellWord x
     → word_of_cell v c ≡ cell_bits x
-    → Kept (ghost_after_step v d (OnCell (Take c x (Some y))))
+    → TableInvariant (ghost_after_step v d (OnCell (Take c x (Some y))))
 kept_take_differing v d c x y kept lt idle way some few other wanted hand room valid bits = go x.owned refl
   where
-    go : (o : Option Block) → x.owned ≡ o → Kept (ghost_after_step v d (OnCell (Take c x (Some y))))
+    go : (o : Option Block) → x.owned ≡ o → TableInvariant (ghost_after_step v d (OnCell (Take c x (Some y))))
     go None e = absurd (some e)
     go (Some b) e =
         let s = model_state v in
@@ -249,7 +249,7 @@ kept_take_differing v d c x y kept lt idle way some few other wanted hand room v
         let there = cell_there v c kept is in
         let told : handle_told s c x ≡ handle k (Some o) x.place = ap (λ (q : Option Block). handle k (object_at s q) x.place) e in
         let same : handle k (Some o) x.place ≡ cell_of s n = sym told ∙ f.shows.holds in
-        let differs : equivalent (handle k (Some o) x.place) w ≡ false = ap (λ (q : Handle). equivalent q w) (sym told) ∙ other in
+        let differs : equivalent (handle k (Some o) x.place) w ≡ false = ap (λ (q : NumberedHandle). equivalent q w) (sym told) ∙ other in
         let law = (takes (point v d) n k o x.place (ready v d Idle kept lt idle) same
         (subst (λ (i : ℕ). bag_size s i < s.allowance i) (sym m) room)
         (subst (λ (i : ℕ). get_or v.words i 0 < 4398046511104) (sym there) (subst (λ (i : ℕ). i < 4398046511104) (sym bits) (left_over x valid few)))).1
@@ -262,5 +262,5 @@ kept_take_differing v d c x y kept lt idle way some few other wanted hand room v
         ) in
         kept_after v d (OnCell (Take c x (Some y))) kept lt
         (adds_by v d _ (word_of v.extent.shape.blocks c) _ (word_of_cell v c + 17179869184) _ _ _ _ kept lt there
-        (ap (λ (i : ℕ). get_or v.words i 0 + 17179869184) there) (ap (λ (q : Handle). event.Compare n w h q false y.weak) (sym told))
+        (ap (λ (i : ℕ). get_or v.words i 0 + 17179869184) there) (ap (λ (q : NumberedHandle). event.Compare n w h q false y.weak) (sym told))
         (load_owing v c x b f e) law)

@@ -1,7 +1,7 @@
 -- What a cell's word tells of the object that its handle is on.
 use Rattle.std.proofs.Common.{◌≡◌, ◌<◌, Option, Some, None, refl, sym, ap, ◌∙◌, arith}
 use Rattle.control_word.specs.declared.packed.cell.CellWord.{CellWord}
-use Rattle.control_word.specs.declared.model.handle.Handle.{Handle}
+use Rattle.control_word.specs.declared.model.handle.NumberedHandle.{NumberedHandle}
 use Rattle.control_word.specs.declared.place.Block.{Block}
 use Rattle.control_word.specs.Words.{block_of, blocks_of}
 use Rattle.control_word.proofs.words.Banks.{IsKept}
@@ -9,14 +9,14 @@ use Rattle.step_table.specs.declared.cell_steps.cell_step.Cell.{Cell}
 use Rattle.step_table.specs.declared.cell_steps.cell_step.Cell.TheVariants.{Free, Member}
 use Rattle.step_table.specs.CellAtomicSteps.{cell_in, object_at}
 use Rattle.step_table.specs.Cells.{IsCellInUse, target_of}
-use Rattle.step_table.specs.GhostStates.{Kept, GhostState, object_of_block, model_state}
+use Rattle.step_table.specs.GhostStates.{TableInvariant, GhostState, object_of_block, model_state}
 use Rattle.step_table.proofs.tables.Shown.{Found}
 
 pub kept_there : (v : GhostState) (c : Cell) → IsCellInUse v c → IsKept (model_state v) (cell_in (model_state v) c)
 kept_there v (Free n) is = is
 kept_there v (Member b m) is = is
 
-pub seat_first : (v : GhostState) → Kept v → 0 < v.extent.actors
+pub seat_first : (v : GhostState) → TableInvariant v → 0 < v.extent.actors
 seat_first v kept = let some = kept.proper.some in omega arith
 
 target_told : (v : GhostState) (o : Option Block) → ((b : Block) → o ≡ Some b → blocks_of (model_state v) (object_of_block v b) ≡ b.0)
@@ -27,4 +27,4 @@ target_told v (Some b) there = ap (λ n. Some (record { 0 = n })) (there b refl)
 pub target_found : (v : GhostState) (c : Cell) (x : CellWord) → Found v c x → x.owned ≡ target_of (model_state v) c
 target_found v c x found =
     sym (target_told v x.owned found.there)
-    ∙ ap (λ (h : Handle). block_of (blocks_of (model_state v)) h.object) found.shows.holds
+    ∙ ap (λ (h : NumberedHandle). block_of (blocks_of (model_state v)) h.object) found.shows.holds

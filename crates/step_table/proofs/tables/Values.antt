@@ -11,7 +11,7 @@ use Rattle.control_word.specs.declared.model.event.Event.TheVariants.{Make, Shar
 use Rattle.control_word.specs.declared.model.event.Event.TheVariants.{Compare, ClearMember, Finish, Visit, Split, Join}
 use Rattle.control_word.specs.declared.model.event.Cell.{Cell}
 use Rattle.control_word.specs.declared.model.event.Cell.TheVariants.{Free, Member}
-use Rattle.control_word.specs.declared.model.handle.Handle.{Handle}
+use Rattle.control_word.specs.declared.model.handle.NumberedHandle.{NumberedHandle}
 use Rattle.control_word.specs.Events.{after, fills, loses}
 use Rattle.control_word.specs.Handles.{object_of}
 use Rattle.control_word.specs.Histories.{IsLegal, leads, value, valued}
@@ -22,7 +22,7 @@ abbrev HasValue : (ℕ → Option Nothing) → ℕ → Type 0
 HasValue values o = values o ≡ Some tt
 
 -- a cell that is filled makes no object
-filled_made : (c : Cell) (x : Handle) (s : State) (o : ℕ) → o ≤ (fills c x s).made → o ≤ s.made
+filled_made : (c : Cell) (x : NumberedHandle) (s : State) (o : ℕ) → o ≤ (fills c x s).made → o ≤ s.made
 filled_made (Free c) x s o le = le
 filled_made (Member p m) x s o le = le
 

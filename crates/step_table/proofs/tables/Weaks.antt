@@ -17,15 +17,16 @@ use Rattle.control_word.specs.Layout.{spot}
 use Rattle.control_word.specs.State.{Has, bag_size, count, held, weak}
 use Rattle.control_word.specs.Steps.{me}
 use Rattle.control_word.specs.Views.{Stands, sees_as}
-use Rattle.step_table.specs.declared.memory.past.AtomicStep.TheVariants.{WeakShare, WeakLeave, Expired}
+use Rattle.step_table.specs.declared.memory.ghost_history.AtomicStep.TheVariants.{WeakShare, WeakLeave, Expired}
 use Rattle.step_table.specs.Openings.{opening}
-use Rattle.step_table.specs.GhostStates.{Nothing, GhostState, Kept, ghost_after_step, handle_in_block, object_of_block, pending, model_state, view_in, weak_in}
+use Rattle.step_table.specs.GhostStates.{Nothing, GhostState, TableInvariant, ghost_after_step, handle_in_block, object_of_block, pending, model_state, view_in}
+use Rattle.step_table.specs.GhostStates.{weak_in}
 use Rattle.step_table.proofs.tables.Owners.{mine_as, some_owner}
 use Rattle.step_table.proofs.tables.Places.{event_by, handle_busy, named, there}
 use Rattle.step_table.proofs.tables.Standing.{point, ready, kept_after}
 
 -- the place of a weak handle is that of the handle that it comes from, or the object's own
-module _ (v : GhostState) (d : ℕ) (k : Kind) (b : Block) (p q : Option Place) (kept : Kept v) (lt : d < v.extent.actors)
+module _ (v : GhostState) (d : ℕ) (k : Kind) (b : Block) (p q : Option Place) (kept : TableInvariant v) (lt : d < v.extent.actors)
     (has : Has (held d (handle_in_block v k b p)) (model_state v).hands) where
   may_share : (q ≡ p) ⊎ (q ≡ place_at b.0) → Asks {V = Nothing} (model_state v) (me (point v d)) (event.WeakShare (object_of_block v b) q)
   may_share is =
@@ -38,7 +39,7 @@ module _ (v : GhostState) (d : ℕ) (k : Kind) (b : Block) (p q : Option Place) 
       )
 
   pub kept_weak_share : pending v d ≡ Idle → (q ≡ p) ⊎ (q ≡ place_at b.0) → bag_size (model_state v) d < (model_state v).allowance d
-      → Kept (ghost_after_step v d (WeakShare b q))
+      → TableInvariant (ghost_after_step v d (WeakShare b q))
   kept_weak_share idle is room =
       let e = event.WeakShare (object_of_block v b) q in
       let busy = handle_busy v d k b p kept has in
@@ -50,7 +51,7 @@ module _ (v : GhostState) (d : ℕ) (k : Kind) (b : Block) (p q : Option Place) 
       (weak_shares (point v d) (object_of_block v b) q (ready v d Idle kept lt idle) busy (may_share is)
       (subst (λ (n : ℕ). bag_size (model_state v) n < (model_state v).allowance n) (sym (named v d kept lt)) room))))
 
-leaving : (v : GhostState) (d : ℕ) (b : Block) (p : Option Place) → Kept v → d < v.extent.actors → pending v d ≡ Idle
+leaving : (v : GhostState) (d : ℕ) (b : Block) (p : Option Place) → TableInvariant v → d < v.extent.actors → pending v d ≡ Idle
     → Has (held d (weak_in v b p)) (model_state v).hands
     → (0 < get_or v.words (spot b.0 1) 0)
     × (let e = event.WeakLeave (weak_in v b p) (get_or v.words (spot b.0 1) 0 == 1) in
@@ -64,13 +65,13 @@ leaving v d b p kept lt idle has =
     (there v b kept (handle_busy v d Weak b p kept has)).0
     (weak_leaves' (point v d) (object_of_block v b) p (ready v d Idle kept lt idle) (mine_as v d Weak b p kept lt has))
 
-pub some_handle : (v : GhostState) (d : ℕ) (b : Block) (p : Option Place) → Kept v → d < v.extent.actors → pending v d ≡ Idle
+pub some_handle : (v : GhostState) (d : ℕ) (b : Block) (p : Option Place) → TableInvariant v → d < v.extent.actors → pending v d ≡ Idle
     → Has (held d (weak_in v b p)) (model_state v).hands → 0 < get_or v.words (spot b.0 1) 0
 some_handle v d b p kept lt idle has = (leaving v d b p kept lt idle has).0
 
-pub kept_weak_leave : (v : GhostState) (d : ℕ) (b : Block) (p : Option Place) (vacant : Bool) → Kept v → d < v.extent.actors → pending v d ≡ Idle
+pub kept_weak_leave : (v : GhostState) (d : ℕ) (b : Block) (p : Option Place) (vacant : Bool) → TableInvariant v → d < v.extent.actors → pending v d ≡ Idle
     → Has (held d (weak_in v b p)) (model_state v).hands → vacant ≡ (get_or v.words (spot b.0 1) 0 == 1)
-    → Kept (ghost_after_step v d (WeakLeave b p vacant))
+    → TableInvariant (ghost_after_step v d (WeakLeave b p vacant))
 kept_weak_leave v d b p vacant kept lt idle has is =
     kept_after v d (WeakLeave b p vacant) kept lt
     (event_by v d (set v.words (spot b.0 1) (get_or v.words (spot b.0 1) 0 - 1)) Idle (event.WeakLeave (weak_in v b p) vacant) kept lt
@@ -80,12 +81,12 @@ kept_weak_leave v d b p vacant kept lt idle has is =
     (leaving v d b p kept lt idle has).1))
 
 -- the event of a weak leave says whether the block is vacant
-pub left_vacant : (v : GhostState) (d : ℕ) (b : Block) (p : Option Place) (vacant : Bool) → Kept (ghost_after_step v d (WeakLeave b p vacant))
+pub left_vacant : (v : GhostState) (d : ℕ) (b : Block) (p : Option Place) (vacant : Bool) → TableInvariant (ghost_after_step v d (WeakLeave b p vacant))
     → vacant ≡ (weak (model_state v) (object_of_block v b) == 1 && is_gone ((model_state v).object (object_of_block v b)).phase)
 left_vacant v d b p vacant kept = kept.stands.legal.1.asks.1
 
 -- the owner word is 0 just where no owner is left
-pub none_left : (v : GhostState) (d : ℕ) (k : Kind) (b : Block) (p : Option Place) → Kept v → d < v.extent.actors → pending v d ≡ Idle
+pub none_left : (v : GhostState) (d : ℕ) (k : Kind) (b : Block) (p : Option Place) → TableInvariant v → d < v.extent.actors → pending v d ≡ Idle
     → Has (held d (handle_in_block v k b p)) (model_state v).hands
     → (get_or v.words (spot b.0 0) 0 == 0) ≡ (count (model_state v) (object_of_block v b) == 0)
 none_left v d Owner b p kept lt idle has =
@@ -98,9 +99,10 @@ none_left v d Weak b p kept lt idle has =
     (there v b kept (handle_busy v d Weak b p kept has)).0
     (tells_expired (point v d) (object_of_block v b) p (ready v d Idle kept lt idle) (mine_as v d Weak b p kept lt has)).legal.1.asks.1
 
-pub kept_expired : (v : GhostState) (d : ℕ) (k : Kind) (b : Block) (p : Option Place) (expired : Bool) → Kept v → d < v.extent.actors → pending v d ≡ Idle
+pub kept_expired : (v : GhostState) (d : ℕ) (k : Kind) (b : Block) (p : Option Place) (expired : Bool) → TableInvariant v → d < v.extent.actors → pending v d
+    ≡ Idle
     → Has (held d (handle_in_block v k b p)) (model_state v).hands → expired ≡ (count (model_state v) (object_of_block v b) == 0)
-    → Kept (ghost_after_step v d (Expired k b p expired))
+    → TableInvariant (ghost_after_step v d (Expired k b p expired))
 kept_expired v d k b p expired kept lt idle has is =
     let r = ready v d Idle kept lt idle in
     kept_after v d (Expired k b p expired) kept lt

@@ -14,7 +14,7 @@ ghost use Rattle.step_table.specs.Cells.{word_of_cell};
 ghost use Rattle.step_table.specs.GhostStates.{ghost_after_step, pending, model_state};
 
 use crate::cell_steps::cell_step::{Cell, CellStep, Compared};
-use crate::memory::past::AtomicStep;
+use crate::memory::ghost_history::AtomicStep;
 use crate::memory::table::Table;
 use control_word::CellWord;
 use control_word::packed::cell::{ONE_TAKEN, pack, unpack};
@@ -96,10 +96,10 @@ impl Table {
     {
         let found = self.shown(desk, cell);
         let atomic_step = CellStep::Swap { cell, new, found };
-        let past = self.then(desk, AtomicStep::OnCell { atomic_step });
+        let ghost_history = self.then(desk, AtomicStep::OnCell { atomic_step });
         self.words
             .set(place_of(cell, self.extent.shape.blocks), pack(new));
-        self.past = past;
+        self.ghost_history = ghost_history;
         found
     }
 
@@ -123,12 +123,12 @@ impl Table {
             found: seen,
             compared: None,
         };
-        let past = self.then(desk, AtomicStep::OnCell { atomic_step });
+        let ghost_history = self.then(desk, AtomicStep::OnCell { atomic_step });
         self.words.set(
             place_of(cell, self.extent.shape.blocks),
             pack(seen) + ONE_TAKEN,
         );
-        self.past = past;
+        self.ghost_history = ghost_history;
         true
     }
 
@@ -151,7 +151,7 @@ impl Table {
             found,
             compared: None,
         };
-        self.past = self.then(desk, AtomicStep::OnCell { atomic_step });
+        self.ghost_history = self.then(desk, AtomicStep::OnCell { atomic_step });
         found
     }
 
@@ -175,12 +175,12 @@ impl Table {
             cell,
             taken: seen.taken,
         };
-        let past = self.then(desk, AtomicStep::OnCell { atomic_step });
+        let ghost_history = self.then(desk, AtomicStep::OnCell { atomic_step });
         self.words.set(
             place_of(cell, self.extent.shape.blocks),
             pack(CellWord { taken: 0, ..seen }),
         );
-        self.past = past;
+        self.ghost_history = ghost_history;
         true
     }
 
@@ -217,9 +217,9 @@ impl Table {
             found: seen,
             compared,
         };
-        let past = self.then(desk, AtomicStep::OnCell { atomic_step });
+        let ghost_history = self.then(desk, AtomicStep::OnCell { atomic_step });
         self.words.set(place_of(cell, self.extent.shape.blocks), pack(compared.new));
-        self.past = past;
+        self.ghost_history = ghost_history;
         true
     }
 
@@ -249,7 +249,7 @@ impl Table {
             found,
             compared: Some(compared),
         };
-        self.past = self.then(desk, AtomicStep::OnCell { atomic_step });
+        self.ghost_history = self.then(desk, AtomicStep::OnCell { atomic_step });
         found
     }
 
@@ -282,12 +282,12 @@ impl Table {
             found: seen,
             compared: Some(compared),
         };
-        let past = self.then(desk, AtomicStep::OnCell { atomic_step });
+        let ghost_history = self.then(desk, AtomicStep::OnCell { atomic_step });
         self.words.set(
             place_of(cell, self.extent.shape.blocks),
             pack(seen) + ONE_TAKEN,
         );
-        self.past = past;
+        self.ghost_history = ghost_history;
         true
     }
 }

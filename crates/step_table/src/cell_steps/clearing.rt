@@ -8,7 +8,7 @@ ghost use Rattle.step_table.specs.Cells.{ShowsCell};
 ghost use Rattle.step_table.specs.GhostStates.{ghost_after_step, object_of_block, pending, model_state};
 
 use crate::cell_steps::cell_step::{Cell, CellStep};
-use crate::memory::past::AtomicStep;
+use crate::memory::ghost_history::AtomicStep;
 use crate::memory::table::Table;
 use control_word::CellWord;
 use control_word::packed::cell::unpack;
@@ -36,7 +36,7 @@ impl Table {
         if found > 0 {
             return found;
         }
-        self.past = self.then(desk, AtomicStep::Clear { block, member });
+        self.ghost_history = self.then(desk, AtomicStep::Clear { block, member });
         found
     }
 
@@ -71,10 +71,10 @@ impl Table {
             member,
             found,
         };
-        let past = self.then(desk, AtomicStep::OnCell { atomic_step });
+        let ghost_history = self.then(desk, AtomicStep::OnCell { atomic_step });
         self.words
             .set(block_word(block, MEMBERS + usize::from(member)), 0);
-        self.past = past;
+        self.ghost_history = ghost_history;
         found
     }
 }

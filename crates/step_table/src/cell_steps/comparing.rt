@@ -14,7 +14,7 @@ ghost use Rattle.step_table.specs.GhostStates.{ghost_after_step, pending, model_
 use crate::cell_steps::cell_step::{Cell, CellStep, Compared};
 use crate::cell_steps::cells::is_same_place;
 use crate::memory::contents::slot_in;
-use crate::memory::past::AtomicStep;
+use crate::memory::ghost_history::AtomicStep;
 use crate::memory::table::Table;
 use crate::slots::registers::Registers;
 use crate::slots::slot::Slot;
@@ -131,7 +131,8 @@ impl Registers {
             self.old.slots.items }
         ensures table { table.new
             ≡ cond result (ghost_after_step table.old desk
-            (AtomicStep.OnCell (CellStep.Take cell seen (Some (compared_in self.old.slots.items comparing))))) table.old }
+            (AtomicStep.OnCell (CellStep.Take cell seen
+            (Some (compared_in self.old.slots.items comparing))))) table.old }
         ensures stays { result ≡ false → self.new ≡ self.old }
         ensures holds { HoldsBag desk self.new.slots.items table.new }
     {
@@ -170,7 +171,8 @@ impl Registers {
             self.old.slots.items }
         ensures table { table.new
             ≡ cond result (ghost_after_step table.old desk
-            (AtomicStep.OnCell (CellStep.CompareSwap cell seen (compared_in self.old.slots.items comparing)))) table.old }
+            (AtomicStep.OnCell (CellStep.CompareSwap cell seen
+            (compared_in self.old.slots.items comparing)))) table.old }
         ensures stays { result ≡ false → self.new ≡ self.old }
         ensures holds { HoldsBag desk self.new.slots.items table.new }
     {

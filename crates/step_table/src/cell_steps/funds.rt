@@ -10,9 +10,9 @@ ghost use Rattle.step_table.specs.CellAtomicSteps.{owing_funds};
 ghost use Rattle.step_table.specs.GhostStates.{ghost_after_step, handle_in_block, pending, model_state};
 
 use crate::cell_steps::cell_step::CellStep;
-use crate::memory::past::AtomicStep;
+use crate::memory::ghost_history::AtomicStep;
 use crate::memory::table::Table;
-use crate::slots::registers::Pointer;
+use control_word::Handle;
 use control_word::model::handle::Kind;
 use control_word::packed::counts::{with_fund_turned, with_funds, without_funds};
 use control_word::packed::layout::{OWNERS, WEAKS, block_word};
@@ -32,7 +32,7 @@ pub(crate) fn count_word(block: Block, kind: Kind) -> usize
 impl Table {
     /// Brings up to 256 funds to the count of a handle in hand: for that handle, which goes into a cell, or for one
     /// like it that is there. They are out until they are in the cell or given back.
-    pub fn bring(&mut self, desk: usize, pointer: Pointer, funds: u32)
+    pub fn bring(&mut self, desk: usize, pointer: Handle, funds: u32)
         requires seat { desk < self.old.extent.actors }
         requires idle { pending self.old desk ≡ Idle }
         requires held { Has (held desk (handle_in_block self.old pointer.kind pointer.block pointer.place))
@@ -41,7 +41,7 @@ impl Table {
         ensures { self.new ≡ ghost_after_step self.old desk
             (AtomicStep.OnCell (CellStep.Bring pointer.kind pointer.block pointer.place funds)) }
     {
-        let Pointer { kind, block, place } = pointer;
+        let Handle { kind, block, place } = pointer;
         let found = self.words.get(count_word(block, kind));
         let atomic_step = CellStep::Bring {
             kind,
@@ -49,10 +49,10 @@ impl Table {
             place,
             funds,
         };
-        let past = self.then(desk, AtomicStep::OnCell { atomic_step });
+        let ghost_history = self.then(desk, AtomicStep::OnCell { atomic_step });
         self.words
             .set(count_word(block, kind), with_funds(found, funds));
-        self.past = past;
+        self.ghost_history = ghost_history;
     }
 
     /// Gives back the funds that are out, all of them: nothing is half done any more.
@@ -64,10 +64,10 @@ impl Table {
     {
         let found = self.words.get(count_word(block, kind));
         let atomic_step = CellStep::GiveBack { kind, block, funds };
-        let past = self.then(desk, AtomicStep::OnCell { atomic_step });
+        let ghost_history = self.then(desk, AtomicStep::OnCell { atomic_step });
         self.words
             .set(count_word(block, kind), without_funds(found, funds));
-        self.past = past;
+        self.ghost_history = ghost_history;
     }
 
     /// Turns the fund that a load took into a handle in the number: the load is over.
@@ -79,9 +79,9 @@ impl Table {
     {
         let found = self.words.get(count_word(block, kind));
         let atomic_step = CellStep::Turn { kind, block };
-        let past = self.then(desk, AtomicStep::OnCell { atomic_step });
+        let ghost_history = self.then(desk, AtomicStep::OnCell { atomic_step });
         self.words
             .set(count_word(block, kind), with_fund_turned(found));
-        self.past = past;
+        self.ghost_history = ghost_history;
     }
 }

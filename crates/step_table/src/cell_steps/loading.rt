@@ -11,7 +11,7 @@ ghost use Rattle.step_table.specs.GhostStates.{ghost_after_step, object_of_block
 
 use crate::cell_steps::cell_step::{Cell, CellStep};
 use crate::memory::contents::slot_in;
-use crate::memory::past::AtomicStep;
+use crate::memory::ghost_history::AtomicStep;
 use crate::memory::table::Table;
 use crate::slots::registers::Registers;
 use control_word::CellWord;

@@ -9,16 +9,16 @@ ghost use Rattle.step_table.specs.GhostStates.{ghost_after_step, pending, model_
 
 use crate::cell_steps::cell_step::{Cell, CellStep};
 use crate::memory::contents::slot_in;
-use crate::memory::past::AtomicStep;
+use crate::memory::ghost_history::AtomicStep;
 use crate::memory::table::Table;
-use crate::slots::registers::{Pointer, Registers};
+use crate::slots::registers::Registers;
 use crate::slots::slot::Slot;
-use control_word::CellWord;
 use control_word::shape::CELL_FUNDS;
+use control_word::{CellWord, Handle};
 
 impl Registers {
     /// Brings the funds of a slot's pointer, which is to go into a cell.
-    pub fn bring(&self, desk: usize, table: &mut Table, from: usize, pointer: Pointer)
+    pub fn bring(&self, desk: usize, table: &mut Table, from: usize, pointer: Handle)
         requires seat { desk < table.old.extent.actors }
         requires idle { pending table.old desk ≡ Idle }
         requires holds { HoldsBag desk self.now.slots.items table.old }

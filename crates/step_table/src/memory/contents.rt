@@ -7,10 +7,9 @@ ghost use Rattle.step_table.specs.GhostStates.{model_state};
 
 use crate::cell_steps::cell_step::Cell;
 use crate::memory::table::Table;
-use crate::slots::registers::Pointer;
 use crate::slots::slot::Slot;
-use control_word::CellWord;
 use control_word::model::handle::Kind;
+use control_word::{CellWord, Handle};
 
 impl Table {
     /// The kind of the handles in a cell.
@@ -65,6 +64,6 @@ pub(crate) fn slot_in(kind: Kind, found: CellWord) -> Slot
     let place = found.place;
     match found.owned {
         None => Slot::Empty { place },
-        Some(block) => Slot::Full(Pointer { kind, block, place }),
+        Some(block) => Slot::Full(Handle { kind, block, place }),
     }
 }

@@ -6,7 +6,7 @@ ghost use Rattle.control_word.specs.Words.{shelf_spot};
 ghost use Rattle.step_table.specs.Openings.{opening};
 ghost use Rattle.step_table.specs.GhostStates.{ghost_after_step, pending, model_state};
 
-use crate::memory::past::AtomicStep;
+use crate::memory::ghost_history::AtomicStep;
 use crate::memory::table::Table;
 use control_word::packed::layout::{shelf_bit, shelf_word};
 use control_word::place::Block;
@@ -46,9 +46,9 @@ impl Table {
         let word = self.place_on_shelf(block);
         let found = self.words.get(word);
         let atomic_step = ShelfStep::Shelve;
-        let past = self.then(desk, AtomicStep::OnShelf { block, atomic_step });
+        let ghost_history = self.then(desk, AtomicStep::OnShelf { block, atomic_step });
         self.words.set(word, found | shelf_bit(block));
-        self.past = past;
+        self.ghost_history = ghost_history;
     }
 
     /// Clears a block's bit. Answers whether it was set: just then the block was on the shelf, and is the desk's now.
@@ -63,9 +63,9 @@ impl Table {
         let found = self.words.get(word);
         let got = found & shelf_bit(block) != 0;
         let atomic_step = cleared(got);
-        let past = self.then(desk, AtomicStep::OnShelf { block, atomic_step });
+        let ghost_history = self.then(desk, AtomicStep::OnShelf { block, atomic_step });
         self.words.set(word, found & !shelf_bit(block));
-        self.past = past;
+        self.ghost_history = ghost_history;
         got
     }
 }

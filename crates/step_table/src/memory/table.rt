@@ -9,17 +9,20 @@ ghost use Rattle.control_word.specs.Views.{fresh, owed};
 ghost use Rattle.step_table.specs.AtomicSteps.{told_number, remains};
 ghost use Rattle.control_word.specs.Words.{flags_of};
 ghost use Rattle.step_table.specs.Openings.{IsExtent};
-ghost use Rattle.step_table.specs.GhostStates.{IsMaking, Kept, ghost_after_step, handle_in_block, history_after};
+ghost use Rattle.step_table.specs.GhostStates.{IsMaking, TableInvariant, ghost_after_step, handle_in_block};
+ghost use Rattle.step_table.specs.GhostStates.{history_after};
 ghost use Rattle.step_table.specs.GhostStates.{known_words, object_of_block, owner_in};
 ghost use Rattle.step_table.specs.GhostStates.{pending, model_state, views_after};
 
 use crate::memory::ended::Ended;
 use crate::memory::extent::Extent;
-use crate::memory::past::{AtomicStep, Done, Past};
+use crate::memory::ghost_history::{AtomicStep, Done, GhostHistory};
 use crate::memory::words::Words;
-use crate::slots::registers::Pointer;
-use control_word::packed::counts::{is_last, told_count};
-use control_word::packed::layout::{FIELDS, FLAGS, NULL, OWNERS, WEAKS, block_word, table_words};
+use control_word::Handle;
+use control_word::packed::counts::{is_last, use_count_of};
+use control_word::packed::layout::{
+    BLOCK_STRIDE, FIELDS, FLAGS, NULL, OWNERS, WEAKS, block_word, table_words,
+};
 use control_word::place::{Block, Place};
 use std::alloc::{AllocError, Global};
 use std::marker::Model;
@@ -29,23 +32,28 @@ use std::marker::Model;
 pub struct Table {
     pub(crate) words: Words,
     pub(crate) extent: Extent,
-    pub(crate) past: Past,
+    pub(crate) ghost_history: GhostHistory,
 }
 
 impl Model for Table {
-    ghost use Rattle.step_table.specs.GhostStates.{GhostState, Kept};
+    ghost use Rattle.step_table.specs.GhostStates.{GhostState, TableInvariant};
 
     ghost Value = { GhostState };
 
     ghost view = { λ t. record {
       extent = t.extent;
       words = t.words;
-      views = t.past.views;
-      history = t.past.history;
+      views = t.ghost_history.views;
+      history = t.ghost_history.history;
     } };
 
-    ghost invariant = { λ t. Kept
-        (record { extent = t.extent; words = t.words; views = t.past.views; history = t.past.history }) };
+    ghost invariant = { λ t. TableInvariant
+        (record {
+          extent = t.extent;
+          words = t.words;
+          views = t.ghost_history.views;
+          history = t.ghost_history.history;
+        }) };
 }
 
 impl Table {
@@ -60,17 +68,18 @@ impl Table {
               history = [];
             }) }
     {
-        let words = Words::new(alloc, table_words(&extent.shape))?;
+        let of_blocks = BLOCK_STRIDE * extent.shape.blocks as usize;
+        let words = Words::new(alloc, table_words(&extent.shape), of_blocks)?;
         Ok(Table {
             words,
             extent: *extent,
-            past: Past::start(extent),
+            ghost_history: GhostHistory::start(extent),
         })
     }
 
     /// What always holds of a table: its words stand for its history.
     pub fn known(&self)
-        ensures { Kept self.now }
+        ensures { TableInvariant self.now }
     {
         let _ = &self.words;
     }
@@ -95,11 +104,11 @@ impl Table {
     }
 
     /// What the table knows after an atomic step.
-    pub(crate) fn then(&self, desk: usize, atomic_step: AtomicStep) -> Past
+    pub(crate) fn then(&self, desk: usize, atomic_step: AtomicStep) -> GhostHistory
         ensures { (result.history ≡ history_after self.now desk atomic_step)
             × (result.views ≡ views_after self.now desk atomic_step) }
     {
-        Past::next(self, &Done { desk, atomic_step })
+        GhostHistory::next(self, &Done { desk, atomic_step })
     }
 
     /// Begins a make: the weak word of an own vacant block becomes 1, before anybody can see the object.
@@ -109,9 +118,9 @@ impl Table {
         requires stored { Has (stored desk block.0) (model_state self.old).stores }
         ensures { self.new ≡ ghost_after_step self.old desk (AtomicStep.Prepare block) }
     {
-        let past = self.then(desk, AtomicStep::Prepare { block });
+        let ghost_history = self.then(desk, AtomicStep::Prepare { block });
         self.words.set(block_word(block, WEAKS), 1);
-        self.past = past;
+        self.ghost_history = ghost_history;
     }
 
     /// Looks at the flags (0) or a field (1 to 4) of a block that a make has prepared: nobody else writes it.
@@ -132,7 +141,7 @@ impl Table {
         requires inside { index < 5 }
         ensures { self.new ≡ ghost_after_step self.old desk (AtomicStep.Write block index value) }
     {
-        let past = self.then(
+        let ghost_history = self.then(
             desk,
             AtomicStep::Write {
                 block,
@@ -142,7 +151,7 @@ impl Table {
         );
         let word = FLAGS + usize::from(index);
         self.words.set(block_word(block, word), value);
-        self.past = past;
+        self.ghost_history = ghost_history;
     }
 
     /// Makes the object: the owner word of a prepared block becomes 1, as nobody else counts on a vacant block.
@@ -153,7 +162,7 @@ impl Table {
         requires room { bag_size (model_state self.old) desk < (model_state self.old).allowance desk }
         ensures { self.new ≡ ghost_after_step self.old desk (AtomicStep.Claim block enabled null fields) }
     {
-        let past = self.then(
+        let ghost_history = self.then(
             desk,
             AtomicStep::Claim {
                 block,
@@ -163,7 +172,7 @@ impl Table {
             },
         );
         self.words.set(block_word(block, OWNERS), 1);
-        self.past = past;
+        self.ghost_history = ghost_history;
     }
 
     /// Shares what an owner owns: it keeps the object while the word goes up.
@@ -176,9 +185,9 @@ impl Table {
         ensures { self.new ≡ ghost_after_step self.old desk (AtomicStep.Share block of place) }
     {
         let found = self.words.get(block_word(block, OWNERS));
-        let past = self.then(desk, AtomicStep::Share { block, of, place });
+        let ghost_history = self.then(desk, AtomicStep::Share { block, of, place });
         self.words.set(block_word(block, OWNERS), found + 1);
-        self.past = past;
+        self.ghost_history = ghost_history;
     }
 
     /// Ends an owner. Answers whether it was the last: just where the whole word was 1, as a fund stands for a handle.
@@ -191,15 +200,15 @@ impl Table {
     {
         let found = self.words.get(block_word(block, OWNERS));
         let last = is_last(found);
-        let past = self.then(desk, AtomicStep::Leave { block, place, last });
+        let ghost_history = self.then(desk, AtomicStep::Leave { block, place, last });
         self.words.set(block_word(block, OWNERS), found - 1);
-        self.past = past;
+        self.ghost_history = ghost_history;
         last
     }
 
     /// How many owners there are, by a handle: those that the word numbers, and where it numbers none 1 if it has
     /// funds, as then a load is under way. A load that is under way may be left out.
-    pub fn count(&mut self, desk: usize, pointer: Pointer) -> u32
+    pub fn count(&mut self, desk: usize, pointer: Handle) -> u32
         requires seat { desk < self.old.extent.actors }
         requires idle { pending self.old desk ≡ Idle }
         requires held { Has (held desk (handle_in_block self.old pointer.kind pointer.block pointer.place))
@@ -212,8 +221,8 @@ impl Table {
         ensures after { self.new ≡ ghost_after_step self.old desk
             (AtomicStep.Count pointer.kind pointer.block pointer.place result) }
     {
-        let owners = told_count(self.words.get(block_word(pointer.block, OWNERS)));
-        self.past = self.then(
+        let owners = use_count_of(self.words.get(block_word(pointer.block, OWNERS)));
+        self.ghost_history = self.then(
             desk,
             AtomicStep::Count {
                 kind: pointer.kind,
@@ -239,9 +248,9 @@ impl Table {
     {
         let found = self.words.get(block_word(block, WEAKS));
         let vacant = is_last(found);
-        let past = self.then(desk, AtomicStep::Finish { block, vacant });
+        let ghost_history = self.then(desk, AtomicStep::Finish { block, vacant });
         self.words.set(block_word(block, WEAKS), found - 1);
-        self.past = past;
+        self.ghost_history = ghost_history;
         vacant
     }
 

@@ -4,12 +4,13 @@ ghost use Rattle.control_word.specs.declared.model.view.Pending.TheVariants.{Idl
 ghost use Rattle.control_word.specs.Events.{is_gone, place_at};
 ghost use Rattle.control_word.specs.Layout.{spot};
 ghost use Rattle.control_word.specs.State.{Has, held, bag_size, count, weak};
-ghost use Rattle.step_table.specs.GhostStates.{ghost_after_step, handle_in_block, object_of_block, pending, model_state};
+ghost use Rattle.step_table.specs.GhostStates.{ghost_after_step, handle_in_block, model_state, object_of_block};
+ghost use Rattle.step_table.specs.GhostStates.{pending};
 ghost use Rattle.step_table.specs.GhostStates.{weak_in};
 
-use crate::memory::past::AtomicStep;
+use crate::memory::ghost_history::AtomicStep;
 use crate::memory::table::Table;
-use crate::slots::registers::Pointer;
+use control_word::Handle;
 use control_word::packed::counts::is_last;
 use control_word::packed::layout::{OWNERS, WEAKS, block_word};
 use control_word::place::{Block, Place};
@@ -17,7 +18,7 @@ use control_word::place::{Block, Place};
 impl Table {
     /// A weak handle more, with the place of a handle or of its object itself. That handle keeps the block while the
     /// word goes up.
-    pub(crate) fn weak_share(&mut self, desk: usize, pointer: Pointer, place: Option<Place>)
+    pub(crate) fn weak_share(&mut self, desk: usize, pointer: Handle, place: Option<Place>)
         requires seat { desk < self.old.extent.actors }
         requires idle { pending self.old desk ≡ Idle }
         requires held { Has (held desk (handle_in_block self.old pointer.kind pointer.block pointer.place))
@@ -28,9 +29,9 @@ impl Table {
     {
         let block = pointer.block;
         let found = self.words.get(block_word(block, WEAKS));
-        let past = self.then(desk, AtomicStep::WeakShare { block, place });
+        let ghost_history = self.then(desk, AtomicStep::WeakShare { block, place });
         self.words.set(block_word(block, WEAKS), found + 1);
-        self.past = past;
+        self.ghost_history = ghost_history;
     }
 
     /// Ends a weak handle. Answers whether the block is vacant: just where the whole word was 1, as the owners of an
@@ -45,7 +46,7 @@ impl Table {
     {
         let found = self.words.get(block_word(block, WEAKS));
         let vacant = is_last(found);
-        let past = self.then(
+        let ghost_history = self.then(
             desk,
             AtomicStep::WeakLeave {
                 block,
@@ -54,12 +55,12 @@ impl Table {
             },
         );
         self.words.set(block_word(block, WEAKS), found - 1);
-        self.past = past;
+        self.ghost_history = ghost_history;
         vacant
     }
 
     /// Whether no owner is left, by a handle: just where the whole owner word is 0.
-    pub fn is_expired(&mut self, desk: usize, pointer: Pointer) -> bool
+    pub fn is_expired(&mut self, desk: usize, pointer: Handle) -> bool
         requires seat { desk < self.old.extent.actors }
         requires idle { pending self.old desk ≡ Idle }
         requires held { Has (held desk (handle_in_block self.old pointer.kind pointer.block pointer.place))
@@ -68,9 +69,9 @@ impl Table {
         ensures after { self.new ≡ ghost_after_step self.old desk
             (AtomicStep.Expired pointer.kind pointer.block pointer.place result) }
     {
-        let Pointer { kind, block, place } = pointer;
+        let Handle { kind, block, place } = pointer;
         let expired = self.words.get(block_word(block, OWNERS)) == 0;
-        self.past = self.then(
+        self.ghost_history = self.then(
             desk,
             AtomicStep::Expired {
                 kind,
@@ -97,7 +98,7 @@ impl Table {
         if found > 0 {
             return found;
         }
-        self.past = self.then(
+        self.ghost_history = self.then(
             desk,
             AtomicStep::Lock {
                 block,
@@ -125,7 +126,7 @@ impl Table {
         if now != found {
             return now;
         }
-        let past = self.then(
+        let ghost_history = self.then(
             desk,
             AtomicStep::Lock {
                 block,
@@ -134,7 +135,7 @@ impl Table {
             },
         );
         self.words.set(block_word(block, OWNERS), now + 1);
-        self.past = past;
+        self.ghost_history = ghost_history;
         now
     }
 }

@@ -7,12 +7,12 @@ ghost use Rattle.step_table.specs.AtomicSteps.{is_last, leave, share};
 ghost use Rattle.step_table.specs.GhostStates.{ghost_after_step, handle_in_block, pending, model_state};
 
 use crate::memory::table::Table;
-use crate::slots::registers::Pointer;
+use control_word::Handle;
 use control_word::model::handle::Kind;
 
 impl Table {
     /// A copy of a pointer.
-    pub(crate) fn copy_pointer(&mut self, desk: usize, pointer: Pointer)
+    pub(crate) fn copy_pointer(&mut self, desk: usize, pointer: Handle)
         requires seat { desk < self.old.extent.actors }
         requires idle { pending self.old desk ≡ Idle }
         requires held { Has (held desk (handle_in_block self.old pointer.kind pointer.block pointer.place))
@@ -29,7 +29,7 @@ impl Table {
 
     /// Ends a pointer. Answers whether it was the last: of an owner, that no other owner is left; of a weak pointer,
     /// that its block is vacant.
-    pub(crate) fn leave_pointer(&mut self, desk: usize, pointer: Pointer) -> bool
+    pub(crate) fn leave_pointer(&mut self, desk: usize, pointer: Handle) -> bool
         requires seat { desk < self.old.extent.actors }
         requires idle { pending self.old desk ≡ Idle }
         requires held { Has (held desk (handle_in_block self.old pointer.kind pointer.block pointer.place))

@@ -5,9 +5,10 @@ ghost use Rattle.control_word.specs.State.{Has, held};
 ghost use Rattle.step_table.specs.Registers.{inside_as, into};
 ghost use Rattle.step_table.specs.GhostStates.{ghost_after_step, object_of_block, owner_in, pending, model_state};
 
-use crate::memory::past::AtomicStep;
+use crate::memory::ghost_history::AtomicStep;
 use crate::memory::table::Table;
-use crate::slots::registers::{Pointer, Registers};
+use crate::slots::registers::Registers;
+use control_word::Handle;
 use control_word::model::handle::Kind;
 use control_word::packed::layout::{FIELDS, block_word};
 use control_word::place::{Block, Place};
@@ -27,7 +28,7 @@ impl Table {
         let value = self
             .words
             .get(block_word(block, FIELDS + usize::from(place.field)));
-        self.past = self.then(
+        self.ghost_history = self.then(
             desk,
             AtomicStep::Read {
                 block,
@@ -44,7 +45,7 @@ impl Registers {
     ghost use Rattle.step_table.specs.Registers.{HoldsBag, inside, slot_pointer};
 
     /// The owner that a slot holds, where it points into the object that it owns.
-    pub fn inside(&self, at: usize) -> Option<Pointer>
+    pub fn inside(&self, at: usize) -> Option<Handle>
         requires { at < length self.now.slots.items }
         ensures { result ≡ inside (slot_pointer self.now.slots.items at) }
     {
@@ -55,7 +56,7 @@ impl Registers {
     }
 
     /// The field that the owner in a slot points at.
-    pub fn read(&self, desk: usize, table: &mut Table, from: usize, pointer: Pointer) -> u64
+    pub fn read(&self, desk: usize, table: &mut Table, from: usize, pointer: Handle) -> u64
         requires seat { desk < table.old.extent.actors }
         requires idle { pending table.old desk ≡ Idle }
         requires holds { HoldsBag desk self.now.slots.items table.old }
@@ -73,7 +74,7 @@ impl Registers {
 }
 
 /// The pointer, if it is an owner that points into the object that it owns.
-fn inside(pointer: Pointer) -> Option<Pointer>
+fn inside(pointer: Handle) -> Option<Handle>
     ensures { result ≡ inside_as pointer.kind pointer }
 {
     match pointer.kind {
@@ -83,7 +84,7 @@ fn inside(pointer: Pointer) -> Option<Pointer>
 }
 
 /// The pointer, if it points into the object that it owns.
-fn into(pointer: Pointer) -> Option<Pointer>
+fn into(pointer: Handle) -> Option<Handle>
     ensures { result ≡ into pointer pointer.place }
 {
     match pointer.place {

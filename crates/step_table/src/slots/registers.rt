@@ -14,24 +14,17 @@ ghost use Rattle.step_table.specs.Contents.{is_of};
 ghost use Rattle.step_table.specs.Registers.{HoldsBag, is_full, place_in, plain, slot_pointer, slot_value, weak_as};
 ghost use Rattle.step_table.specs.Registers.{weak_slot};
 ghost use Rattle.step_table.specs.declared.slots.slot.Slot.TheVariants.{Empty, Full};
-ghost use Rattle.step_table.specs.GhostStates.{IsMaking, GhostState, ghost_after_step, known_words, object_of_block, pending};
+ghost use Rattle.step_table.specs.GhostStates.{GhostState, IsMaking, ghost_after_step, known_words, object_of_block};
+ghost use Rattle.step_table.specs.GhostStates.{pending};
 ghost use Rattle.step_table.specs.GhostStates.{model_state};
 
-use crate::memory::past::AtomicStep;
+use crate::memory::ghost_history::AtomicStep;
 use crate::memory::table::Table;
 use crate::slots::slot::Slot;
+use control_word::Handle;
 use control_word::model::handle::Kind;
 use control_word::place::{Block, Place};
 use std::alloc::{AllocError, Global};
-
-/// A shared or weak pointer that has an object, which its block tells: no other object is in the block while it is
-/// there.
-#[derive(Clone, Copy, Debug, PartialEq, Eq, Drop)]
-pub struct Pointer {
-    pub kind: Kind,
-    pub block: Block,
-    pub place: Option<Place>,
-}
 
 /// The values of an actor's names, then what is to be dropped at the end of a statement, and last the value that it has
 /// in hand between two acts.
@@ -52,7 +45,7 @@ impl Registers {
     }
 
     /// What a slot holds.
-    pub fn get(&self, at: usize) -> Option<Pointer>
+    pub fn get(&self, at: usize) -> Option<Handle>
         requires { at < length self.now.slots.items }
         ensures { result ≡ slot_pointer self.now.slots.items at }
     {
@@ -76,7 +69,7 @@ impl Registers {
     }
 
     /// Puts a pointer into a slot.
-    pub fn fill(&mut self, at: usize, pointer: Pointer)
+    pub fn fill(&mut self, at: usize, pointer: Handle)
         requires { at < length self.old.slots.items }
         ensures { self.new.slots.items ≡ slice_set self.old.slots.items at (Full pointer) }
     {
@@ -108,7 +101,7 @@ impl Registers {
     }
 
     /// The weak pointer that a slot holds, if it holds one.
-    pub fn weak(&self, at: usize) -> Option<Pointer>
+    pub fn weak(&self, at: usize) -> Option<Handle>
         requires { at < length self.now.slots.items }
         ensures { result ≡ weak_slot (slot_pointer self.now.slots.items at) }
     {
@@ -119,7 +112,7 @@ impl Registers {
     }
 
     /// Leaves what a slot holds. Answers whether that was the last, as `Table::leave_pointer` says.
-    pub fn leave(&mut self, desk: usize, table: &mut Table, from: usize, pointer: Pointer) -> bool
+    pub fn leave(&mut self, desk: usize, table: &mut Table, from: usize, pointer: Handle) -> bool
         requires seat { desk < table.old.extent.actors }
         requires idle { pending table.old desk ≡ Idle }
         requires holds { HoldsBag desk self.old.slots.items table.old }
@@ -137,7 +130,7 @@ impl Registers {
     }
 
     /// How many owners the object of a slot has, as its word tells.
-    pub fn count(&self, desk: usize, table: &mut Table, from: usize, pointer: Pointer) -> u32
+    pub fn count(&self, desk: usize, table: &mut Table, from: usize, pointer: Handle) -> u32
         requires seat { desk < table.old.extent.actors }
         requires idle { pending table.old desk ≡ Idle }
         requires holds { HoldsBag desk self.now.slots.items table.old }
@@ -151,7 +144,7 @@ impl Registers {
     }
 
     /// Whether no owner is left of the object of a slot.
-    pub fn is_expired(&self, desk: usize, table: &mut Table, from: usize, pointer: Pointer) -> bool
+    pub fn is_expired(&self, desk: usize, table: &mut Table, from: usize, pointer: Handle) -> bool
         requires seat { desk < table.old.extent.actors }
         requires idle { pending table.old desk ≡ Idle }
         requires holds { HoldsBag desk self.now.slots.items table.old }
@@ -165,7 +158,7 @@ impl Registers {
     }
 
     /// The first look of a lock of a weak pointer in a slot, as `Table::look_lock` says.
-    pub fn look_lock(&self, desk: usize, table: &mut Table, from: usize, pointer: Pointer) -> u64
+    pub fn look_lock(&self, desk: usize, table: &mut Table, from: usize, pointer: Handle) -> u64
         requires seat { desk < table.old.extent.actors }
         requires idle { pending table.old desk ≡ Idle }
         requires holds { HoldsBag desk self.now.slots.items table.old }
@@ -209,7 +202,7 @@ impl Registers {
 }
 
 /// The pointer, if it is weak.
-fn weak(pointer: Pointer) -> Option<Pointer>
+fn weak(pointer: Handle) -> Option<Handle>
     ensures { result ≡ weak_as pointer.kind pointer }
 {
     match pointer.kind {

@@ -3,7 +3,7 @@ ghost use Rattle.std.specs.Prelude.{◌≡◌};
 ghost use Rattle.step_table.specs.Contents.{is_of};
 ghost use Rattle.step_table.specs.Registers.{place_of, pointer_of};
 
-use crate::slots::registers::Pointer;
+use control_word::Handle;
 use control_word::model::handle::Kind;
 use control_word::place::Place;
 
@@ -14,12 +14,12 @@ pub enum Slot {
     /// aliasing constructor).
     Empty { place: Option<Place> },
     /// A pointer that has an object.
-    Full(Pointer),
+    Full(Handle),
 }
 
 impl Slot {
     /// The pointer, if it has an object.
-    pub(crate) fn pointer(self) -> Option<Pointer>
+    pub(crate) fn pointer(self) -> Option<Handle>
         ensures { result ≡ pointer_of self }
     {
         match self {

@@ -12,23 +12,17 @@ ghost use Rattle.control_word.specs.Words.{flags_of};
 ghost use Rattle.step_table.specs.GhostStates.{IsMaking, ghost_after_step, known_words, pending, model_state};
 
 use crate::memory::form::Form;
-use crate::memory::past::AtomicStep;
+use crate::memory::ghost_history::AtomicStep;
 use crate::memory::table::Table;
-use crate::slots::registers::{Pointer, Registers};
+use crate::slots::registers::Registers;
 use crate::slots::slot::Slot;
+use control_word::Handle;
 use control_word::model::handle::Kind;
 use control_word::place::{Block, Place};
 
 impl Registers {
     /// Copies the pointer of one slot into another, which is empty.
-    pub fn share(
-        &mut self,
-        desk: usize,
-        table: &mut Table,
-        from: usize,
-        to: usize,
-        pointer: Pointer,
-    )
+    pub fn share(&mut self, desk: usize, table: &mut Table, from: usize, to: usize, pointer: Handle)
         requires seat { desk < table.old.extent.actors }
         requires idle { pending table.old desk ≡ Idle }
         requires holds { HoldsBag desk self.old.slots.items table.old }
@@ -51,7 +45,7 @@ impl Registers {
         table: &mut Table,
         from: usize,
         to: usize,
-        pointer: Pointer,
+        pointer: Handle,
     )
         requires seat { desk < table.old.extent.actors }
         requires idle { pending table.old desk ≡ Idle }
@@ -65,7 +59,7 @@ impl Registers {
     {
         table.known();
         table.weak_share(desk, pointer, pointer.place);
-        self.slots[to] = Slot::Full(Pointer {
+        self.slots[to] = Slot::Full(Handle {
             kind: Kind::Weak,
             block: pointer.block,
             place: pointer.place,
@@ -80,7 +74,7 @@ impl Registers {
         table: &mut Table,
         from: usize,
         to: usize,
-        pointer: Pointer,
+        pointer: Handle,
         found: u64,
     ) -> u64
         requires seat { desk < table.old.extent.actors }
@@ -103,7 +97,7 @@ impl Registers {
         if now != found {
             return now;
         }
-        self.slots[to] = Slot::Full(Pointer {
+        self.slots[to] = Slot::Full(Handle {
             kind: Kind::Owner,
             block: pointer.block,
             place: pointer.place,
@@ -128,7 +122,7 @@ impl Registers {
         table.known();
         table.claim(desk, block, form.enabled, form.null, form.fields);
         let place = origin(block, form.null);
-        self.slots[to] = Slot::Full(Pointer {
+        self.slots[to] = Slot::Full(Handle {
             kind: Kind::Owner,
             block,
             place,

@@ -10,14 +10,15 @@ ghost use Rattle.step_table.specs.declared.slots.slot.Slot.TheVariants.{Full};
 ghost use Rattle.step_table.specs.GhostStates.{ghost_after_step, handle_in_block, pending, model_state};
 
 use crate::memory::table::Table;
-use crate::slots::registers::{Pointer, Registers};
+use crate::slots::registers::Registers;
+use control_word::Handle;
 use control_word::model::handle::Kind;
 use control_word::packed::layout::{ENABLED, FLAGS};
 use control_word::place::{Block, Place};
 
 impl Table {
     /// Whether an object gives pointers to itself, by a handle of it: its flag doesn't change.
-    pub fn is_enabled(&self, desk: usize, pointer: Pointer) -> bool
+    pub fn is_enabled(&self, desk: usize, pointer: Handle) -> bool
         requires { Has (held desk (handle_in_block self.now pointer.kind pointer.block pointer.place))
             (model_state self.now).hands }
         ensures { result ≡ is_enabled (model_state self.now) pointer }
@@ -27,7 +28,7 @@ impl Table {
     }
 
     /// A handle more, of this kind and of the object itself, from an owner.
-    pub fn give(&mut self, desk: usize, kind: Kind, pointer: Pointer)
+    pub fn give(&mut self, desk: usize, kind: Kind, pointer: Handle)
         requires seat { desk < self.old.extent.actors }
         requires idle { pending self.old desk ≡ Idle }
         requires held { Has (held desk (handle_in_block self.old pointer.kind pointer.block pointer.place))
@@ -49,7 +50,7 @@ impl Registers {
     ghost use Rattle.step_table.specs.Registers.{HoldsBag, inside, slot_pointer};
 
     /// Whether the object of an owner in a slot gives pointers to itself.
-    pub fn is_enabled(&self, desk: usize, table: &Table, from: usize, pointer: Pointer) -> bool
+    pub fn is_enabled(&self, desk: usize, table: &Table, from: usize, pointer: Handle) -> bool
         requires holds { HoldsBag desk self.now.slots.items table.now }
         requires from { inside (slot_pointer self.now.slots.items from) ≡ Some pointer }
         ensures { result ≡ is_enabled (model_state table.now) pointer }
@@ -65,7 +66,7 @@ impl Registers {
         from: usize,
         to: usize,
         kind: Kind,
-        pointer: Pointer,
+        pointer: Handle,
     )
         requires seat { desk < table.old.extent.actors }
         requires idle { pending table.old desk ≡ Idle }
@@ -98,10 +99,10 @@ fn itself(block: Block) -> Option<Place>
 }
 
 /// A pointer of a kind to the object that a pointer owns.
-fn this_of(kind: Kind, pointer: Pointer) -> Pointer
+fn this_of(kind: Kind, pointer: Handle) -> Handle
     ensures { result ≡ this_as kind pointer }
 {
-    Pointer {
+    Handle {
         kind,
         block: pointer.block,
         place: itself(pointer.block),

@@ -8,14 +8,15 @@ ghost use Rattle.step_table.specs.GhostStates.{ghost_after_step, pending, model_
 ghost use Rattle.step_table.specs.declared.slots.slot.Slot.TheVariants.{Full};
 
 use crate::memory::table::Table;
-use crate::slots::registers::{Pointer, Registers};
+use crate::slots::registers::Registers;
 use crate::slots::slot::Slot;
+use control_word::Handle;
 use control_word::model::handle::Kind;
 use control_word::place::Place;
 
 impl Registers {
     /// The owner that a slot holds, if it holds one.
-    pub fn owner(&self, at: usize) -> Option<Pointer>
+    pub fn owner(&self, at: usize) -> Option<Handle>
         requires { at < length self.now.slots.items }
         ensures { result ≡ owner_slot (slot_pointer self.now.slots.items at) }
     {
@@ -32,7 +33,7 @@ impl Registers {
         table: &mut Table,
         from: usize,
         to: usize,
-        pointer: Pointer,
+        pointer: Handle,
         place: Option<Place>,
     )
         requires seat { desk < table.old.extent.actors }
@@ -48,7 +49,7 @@ impl Registers {
     {
         table.known();
         table.share(desk, pointer.block, pointer.place, place);
-        self.slots[to] = Slot::Full(Pointer {
+        self.slots[to] = Slot::Full(Handle {
             kind: Kind::Owner,
             block: pointer.block,
             place,
@@ -69,7 +70,7 @@ impl Registers {
 }
 
 /// The pointer, if it is an owner.
-fn owner(pointer: Pointer) -> Option<Pointer>
+fn owner(pointer: Handle) -> Option<Handle>
     ensures { result ≡ owner_as pointer.kind pointer }
 {
     match pointer.kind {
@@ -79,7 +80,7 @@ fn owner(pointer: Pointer) -> Option<Pointer>
 }
 
 /// Where a pointer stands in owner order: 0 without an object.
-fn rank(pointer: Option<Pointer>) -> u16
+fn rank(pointer: Option<Handle>) -> u16
     ensures { result ≡ on (λ x. x.block.0) 0 pointer }
 {
     match pointer {

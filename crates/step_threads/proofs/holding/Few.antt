@@ -14,7 +14,7 @@ use Rattle.step_threads.specs.declared.ending.Ending.{Ending}
 use Rattle.step_threads.specs.Actors.{in_list, in_store}
 use Rattle.step_threads.specs.Endings.{EndsAll, IsEndingAtStage, endings_in_block}
 use Rattle.step_table.specs.Openings.{opening}
-use Rattle.step_table.specs.GhostStates.{Kept, GhostState, model_state}
+use Rattle.step_table.specs.GhostStates.{TableInvariant, GhostState, model_state}
 use Rattle.step_threads.proofs.holding.Ends.{one_more}
 use Rattle.step_threads.proofs.holding.Storing.{counted_stored}
 use Rattle.step_table.proofs.tables.Places.{ending_busy, there}
@@ -78,7 +78,7 @@ most_once d b s =
     (λ x t. eq-eqb x.block b (sym (eqb-true _ _ (and_parts _ _ t).1)))
 
 -- the store of a desk has each block of the shape once at most
-pub store_few : (d : ℕ) (v : GhostState) (l : List ℕ) → Kept v → ((b : ℕ) → in_store (model_state v) d b ≡ in_list b l)
+pub store_few : (d : ℕ) (v : GhostState) (l : List ℕ) → TableInvariant v → ((b : ℕ) → in_store (model_state v) d b ≡ in_list b l)
     → length l ≤ v.extent.shape.blocks
 store_few d v l kept same =
     let fine = sound (opening v.extent) v.history kept.stands.legal in
@@ -102,7 +102,7 @@ blocks_list b (e ∷ es) =
     let o = one_more b e es in omega (arith, i, a, o)
 
 -- an object that ends is in a block of the shape
-blocks_in : (d : ℕ) (v : GhostState) (es : List Ending) (b : ℕ) → Kept v → All (λ (e : Ending). IsEndingAtStage d e v) es → 0 < endings_in_block b es
+blocks_in : (d : ℕ) (v : GhostState) (es : List Ending) (b : ℕ) → TableInvariant v → All (λ (e : Ending). IsEndingAtStage d e v) es → 0 < endings_in_block b es
     → (1 ≤ b) × (b ≤ v.extent.shape.blocks)
 blocks_in d v [] b kept all lt = absurd (omega arith)
 blocks_in d v (e ∷ es) b kept all lt =
@@ -113,7 +113,7 @@ blocks_in d v (e ∷ es) b kept all lt =
     (λ (q : e.block.0 ≢ b). let z = cond-false {A = ℕ} (e.block.0 == b) 1 0 (ne_eqb e.block.0 b q) in
     blocks_in d v es b kept (All-tail (λ (x : Ending). IsEndingAtStage d x v) e es all) (omega (arith, o, z, lt))) (cases_eq e.block.0 b)
 
-pub ends_few : (d : ℕ) (v : GhostState) (es : List Ending) → Kept v → EndsAll d es v → length es ≤ v.extent.shape.blocks
+pub ends_few : (d : ℕ) (v : GhostState) (es : List Ending) → TableInvariant v → EndsAll d es v → length es ≤ v.extent.shape.blocks
 ends_few d v es kept ends =
     let f = few v.extent.shape.blocks (blocks es)
     (λ b. let o = ends.once b in let s = blocks_list b es in omega (arith, o, s))

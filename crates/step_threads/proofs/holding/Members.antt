@@ -9,12 +9,13 @@ use Rattle.control_word.specs.State.{Object, Phase, State, ending, live, put, un
 use Rattle.step_table.specs.declared.cell_steps.cell_step.Cell.TheVariants.{Free, Member}
 use Rattle.step_table.specs.declared.cell_steps.cell_step.CellStep.{CellStep}
 use Rattle.step_table.specs.declared.cell_steps.cell_step.CellStep.TheVariants.{Look, Bring, GiveBack, Take, Turn, Refill, Swap, CompareSwap, TakeOut}
-use Rattle.step_table.specs.declared.memory.past.AtomicStep.{AtomicStep}
-use Rattle.step_table.specs.declared.memory.past.AtomicStep.TheVariants.{Prepare, Write, Claim, Share, WeakShare, Leave, WeakLeave, Lock, Count, Expired, Read}
-use Rattle.step_table.specs.declared.memory.past.AtomicStep.TheVariants.{Clear}
-use Rattle.step_table.specs.declared.memory.past.AtomicStep.TheVariants.{Finish, OnShelf, OnCell}
+use Rattle.step_table.specs.declared.memory.ghost_history.AtomicStep.{AtomicStep}
+use Rattle.step_table.specs.declared.memory.ghost_history.AtomicStep.TheVariants.{Prepare, Write, Claim, Share, WeakShare, Leave, WeakLeave, Lock, Count}
+use Rattle.step_table.specs.declared.memory.ghost_history.AtomicStep.TheVariants.{Expired, Read}
+use Rattle.step_table.specs.declared.memory.ghost_history.AtomicStep.TheVariants.{Clear}
+use Rattle.step_table.specs.declared.memory.ghost_history.AtomicStep.TheVariants.{Finish, OnShelf, OnCell}
 use Rattle.step_table.specs.Openings.{opening}
-use Rattle.step_table.specs.GhostStates.{Kept, GhostState, ghost_after_step, object_of_block, model_state}
+use Rattle.step_table.specs.GhostStates.{TableInvariant, GhostState, ghost_after_step, object_of_block, model_state}
 use Rattle.step_table.proofs.tables.ShelfAtomicSteps.{shelf_framed}
 
 pub phase_differs : (d e : ℕ) (p : Phase) → p ≡ ending d → p ≡ ending e → e ≡ d
@@ -34,7 +35,7 @@ ended_else : (v : GhostState) (d e o i : ℕ) → e ≢ d → ((model_state v).o
 ended_else v d e o i n end his q =
     n (phase_differs d e ((model_state v).object o).phase end (ap (λ (j : ℕ). ((model_state v).object j).phase) q ∙ his))
 
-cell_member : (v : GhostState) (e d o m : ℕ) (x : CellStep) → e ≢ d → Kept v → Kept (ghost_after_step v e (OnCell x))
+cell_member : (v : GhostState) (e d o m : ℕ) (x : CellStep) → e ≢ d → TableInvariant v → TableInvariant (ghost_after_step v e (OnCell x))
     → ((model_state v).object o).phase ≡ ending d
     → ((model_state (ghost_after_step v e (OnCell x))).object o).member m ≡ ((model_state v).object o).member m
 cell_member v e d o m (Look c x None) n kept kept' end = refl
@@ -58,7 +59,7 @@ cell_member v e d o m (CompareSwap (Member b i) x y) n kept kept' end =
 cell_member v e d o m (TakeOut b i x) n kept kept' end =
     other_put (model_state v) (object_of_block v b) o m _ (λ q. absurd (ended_else v d e o (object_of_block v b) n end kept'.stands.legal.1.asks.0 q))
 
-pub member_kept : (v : GhostState) (e d o m : ℕ) (x : AtomicStep) → e ≢ d → Kept v → Kept (ghost_after_step v e x)
+pub member_kept : (v : GhostState) (e d o m : ℕ) (x : AtomicStep) → e ≢ d → TableInvariant v → TableInvariant (ghost_after_step v e x)
     → ((model_state v).object o).phase ≡ ending d
     → ((model_state (ghost_after_step v e x)).object o).member m ≡ ((model_state v).object o).member m
 member_kept v e d o m (Prepare b) n kept kept' end = refl

@@ -8,15 +8,16 @@ use Rattle.control_word.proofs.history.Moving.{counted_live, owner_counted}
 use Rattle.control_word.specs.State.{Object, State, Stored, common, ending, live, same_stored, stock, stored, unmade, weak_number}
 use Rattle.step_threads.specs.declared.ending.Ending.{Ending}
 use Rattle.step_threads.specs.declared.pending_call.PendingCall.{PendingCall}
-use Rattle.step_table.specs.declared.memory.past.AtomicStep.{AtomicStep}
-use Rattle.step_table.specs.declared.memory.past.AtomicStep.TheVariants.{Prepare, Write, Claim, Share, WeakShare, Leave, WeakLeave, Lock, Count, Expired, Read}
-use Rattle.step_table.specs.declared.memory.past.AtomicStep.TheVariants.{Clear}
-use Rattle.step_table.specs.declared.memory.past.AtomicStep.TheVariants.{Finish, OnShelf, OnCell}
+use Rattle.step_table.specs.declared.memory.ghost_history.AtomicStep.{AtomicStep}
+use Rattle.step_table.specs.declared.memory.ghost_history.AtomicStep.TheVariants.{Prepare, Write, Claim, Share, WeakShare, Leave, WeakLeave, Lock, Count}
+use Rattle.step_table.specs.declared.memory.ghost_history.AtomicStep.TheVariants.{Expired, Read}
+use Rattle.step_table.specs.declared.memory.ghost_history.AtomicStep.TheVariants.{Clear}
+use Rattle.step_table.specs.declared.memory.ghost_history.AtomicStep.TheVariants.{Finish, OnShelf, OnCell}
 use Rattle.step_threads.specs.Actors.{Stocks, in_store}
 use Rattle.step_threads.specs.Endings.{EndsAll}
 use Rattle.step_table.specs.Openings.{opening}
 use Rattle.step_threads.specs.Entries.{least}
-use Rattle.step_table.specs.GhostStates.{Kept, GhostState, ghost_after_step, object_of_block, model_state}
+use Rattle.step_table.specs.GhostStates.{TableInvariant, GhostState, ghost_after_step, object_of_block, model_state}
 use Rattle.step_threads.proofs.holding.Ends.{each_end}
 use Rattle.step_threads.proofs.holding.Least.{least_part}
 use Rattle.step_threads.proofs.holding.Members.{member_kept, phase_differs}
@@ -43,7 +44,8 @@ stocks_others d blocks room pending_call v e x n stocks =
     }
 
 -- an object that ends in a desk's hands goes on to end there
-ends_on : (v : GhostState) (e d o : ℕ) (x : AtomicStep) → e ≢ d → Kept v → Kept (ghost_after_step v e x) → ((model_state v).object o).phase ≡ ending d
+ends_on : (v : GhostState) (e d o : ℕ) (x : AtomicStep) → e ≢ d → TableInvariant v → TableInvariant (ghost_after_step v e x) → ((model_state v).object o).phase
+    ≡ ending d
     → ((model_state (ghost_after_step v e x)).object o).phase ≡ ending d
 ends_on v e d o (Prepare b) n kept kept' end = end
 ends_on v e d o (Write b j m) n kept kept' end = end
@@ -81,7 +83,8 @@ pub least_others : (d : ℕ) (s t : State) → Same s t d → least d t.stores �
 least_others d s t same = least_part d t.stores ∙ ap (least d) same.in_stock ∙ sym (least_part d s.stores)
 
 -- another desk's atomic step leaves the endings
-pub ends_others : (d : ℕ) (es : List Ending) (v : GhostState) (e : ℕ) (x : AtomicStep) → e ≢ d → Kept v → Kept (ghost_after_step v e x) → EndsAll d es v
+pub ends_others : (d : ℕ) (es : List Ending) (v : GhostState) (e : ℕ) (x : AtomicStep) → e ≢ d → TableInvariant v → TableInvariant (ghost_after_step v e x)
+    → EndsAll d es v
     → EndsAll d es (ghost_after_step v e x)
 ends_others d es v e x n kept kept' ends =
     record {

@@ -8,7 +8,7 @@ use Rattle.control_word.proofs.history.Allowances.{allowed}
 use Rattle.control_word.proofs.history.Kept.{has_same}
 use Rattle.control_word.proofs.history.Legal.{held_busy, sound}
 use Rattle.control_word.proofs.lists.Tallies.{num_has}
-use Rattle.control_word.specs.declared.model.handle.Handle.{Handle}
+use Rattle.control_word.specs.declared.model.handle.NumberedHandle.{NumberedHandle}
 use Rattle.control_word.specs.declared.model.handle.Kind.{Kind}
 use Rattle.control_word.specs.declared.place.Block.{Block}
 use Rattle.control_word.specs.declared.place.Place.{Place}
@@ -21,7 +21,7 @@ use Rattle.control_word.specs.Views.{used_up}
 use Rattle.step_threads.specs.declared.programs.act.Act.{Act}
 use Rattle.step_threads.specs.declared.pending_call.PendingCall.{PendingCall}
 use Rattle.step_threads.specs.declared.pending_call.PendingCall.TheVariants.{Rest, Making, Locking, Giving, Brought, Saw, Matched, Refill, Returning, Clearing}
-use Rattle.step_table.specs.declared.memory.past.AtomicStep.{AtomicStep}
+use Rattle.step_table.specs.declared.memory.ghost_history.AtomicStep.{AtomicStep}
 use Rattle.step_table.specs.declared.slots.slot.Slot.{Slot}
 use Rattle.step_table.specs.declared.slots.slot.Slot.TheVariants.{Empty, Full}
 use Rattle.step_threads.specs.Actors.{PendingCallFits}
@@ -30,19 +30,19 @@ use Rattle.step_table.specs.Contents.{owing_for}
 use Rattle.step_threads.specs.Frames.{new_of}
 use Rattle.step_table.specs.Registers.{Slots}
 use Rattle.step_table.specs.Openings.{opening, share_of}
-use Rattle.step_table.specs.GhostStates.{Kept, Nothing, GhostState, ghost_after_step, known_words, object_of_block, pending, model_state}
+use Rattle.step_table.specs.GhostStates.{TableInvariant, Nothing, GhostState, ghost_after_step, known_words, object_of_block, pending, model_state}
 use Rattle.step_table.proofs.contained.Others.{brought_others, funds_others, refill_others}
 use Rattle.step_threads.proofs.holding.Others.{least_others}
 use Rattle.step_table.proofs.holding.Keeping.{enabled_stays, kept_object, same_atomic_step, same_pending}
 use Rattle.step_table.proofs.tables.Places.{handle_busy}
 
 -- a desk that isn't there has nothing half done
-there_or_idle : (d : ℕ) (v : GhostState) → Kept v → (d < v.extent.actors) ⊎ (pending v d ≡ Idle)
+there_or_idle : (d : ℕ) (v : GhostState) → TableInvariant v → (d < v.extent.actors) ⊎ (pending v d ≡ Idle)
 there_or_idle d v kept = ⊎_elim inl (λ (le : v.extent.actors ≤ d). inr (ap (λ (w : View Nothing). w.pending)
     (get_or_past v.views d used_up (let s = kept.seats.size in omega (arith, s, le))))) (cases_lt d v.extent.actors)
 
 -- a desk that holds something is there: others have no allowance
-held_seat : (v : GhostState) (d : ℕ) (h : Handle) → Kept v → Has (held d h) (model_state v).hands → d < v.extent.actors
+held_seat : (v : GhostState) (d : ℕ) (h : NumberedHandle) → TableInvariant v → Has (held d h) (model_state v).hands → d < v.extent.actors
 held_seat v d h kept has =
     ⊎_elim (λ (lt : d < v.extent.actors). lt)
     (λ (le : v.extent.actors ≤ d).
@@ -52,7 +52,7 @@ held_seat v d h kept has =
     let one = num_has (λ (y : Held). y.desk == d) (held d h) (model_state v).hands has (eq-eqb d d refl) in
     absurd (omega (arith, none, all, room, one))) (cases_lt d v.extent.actors)
 
-module _ (d e : ℕ) (v : GhostState) (x : AtomicStep) (n : e ≢ d) (kept : Kept v) (kept' : Kept (ghost_after_step v e x)) where
+module _ (d e : ℕ) (v : GhostState) (x : AtomicStep) (n : e ≢ d) (kept : TableInvariant v) (kept' : TableInvariant (ghost_after_step v e x)) where
   brought_idle : (a : Slot) → pending v d ≡ Idle → pending v d ≡ owing_for (model_state v) a 256
       → pending (ghost_after_step v e x) d ≡ owing_for (model_state (ghost_after_step v e x)) a 256
   brought_idle (Empty p) none is = same_pending v e d x n ∙ is

@@ -10,7 +10,7 @@ use Rattle.control_word.specs.declared.place.Block.{Block}
 use Rattle.control_word.specs.State.{Has, Stored, same_stored, stored}
 use Rattle.step_table.specs.declared.memory.form.Form.{Form}
 use Rattle.step_threads.specs.declared.pending_call.PendingCall.TheVariants.{Rest, Making}
-use Rattle.step_table.specs.declared.memory.past.AtomicStep.TheVariants.{Claim}
+use Rattle.step_table.specs.declared.memory.ghost_history.AtomicStep.TheVariants.{Claim}
 use Rattle.step_threads.specs.Actors.{Stocks}
 use Rattle.step_table.specs.GhostStates.{GhostState, ghost_after_step, model_state}
 

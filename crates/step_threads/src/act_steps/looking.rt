@@ -15,13 +15,12 @@ use crate::programs::act::Act;
 use crate::programs::call::CellName;
 use crate::said::{Answer, Said, Stepped};
 use crate::thread::{Thread, silent};
-use control_word::CellWord;
 use control_word::shape::CELL_FUNDS;
+use control_word::{CellWord, Handle};
 use step_table::cell_steps::cell_step::Cell;
 use step_table::cell_steps::comparing::is_same_value;
 use step_table::cell_steps::refill::Stage;
 use step_table::memory::table::Table;
-use step_table::slots::registers::Pointer;
 
 impl Thread {
     ghost use Rattle.step_threads.specs.Frames.{task_at};
@@ -207,7 +206,8 @@ impl Thread {
         found: CellWord,
     ) -> Stepped
         requires fits { FitsThread desk self.old table.old }
-        requires pending_call { (self.old.pending_call ≡ PendingCall.Saw found) ⊎ (self.old.pending_call ≡ PendingCall.Matched found) }
+        requires pending_call { (self.old.pending_call ≡ PendingCall.Saw found)
+            ⊎ (self.old.pending_call ≡ PendingCall.Matched found) }
         requires act { (task_at self.old.frame).act ≡ Act.Compare name cell weak }
         requires alike { same_value found (as_word (slot_value self.old.frame.registers.slots.items name)) ≡ true }
         requires owes { pending table.old desk ≡ owing_for (model_state table.old)
@@ -249,7 +249,7 @@ fn turning(cell: Cell, found: CellWord, statement: u32) -> PendingCall
 }
 
 /// What was brought for a value is given back, where it has an object.
-fn missed(statement: u32, brought: Option<Pointer>) -> PendingCall
+fn missed(statement: u32, brought: Option<Handle>) -> PendingCall
     ensures { result ≡ missed statement brought }
 {
     match brought {

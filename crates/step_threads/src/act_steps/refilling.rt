@@ -7,13 +7,12 @@ ghost use Rattle.step_table.specs.declared.cell_steps.refill.Stage.{Stage};
 use crate::pending_call::PendingCall;
 use crate::said::Stepped;
 use crate::thread::{Thread, silent};
-use control_word::CellWord;
 use control_word::place::Block;
+use control_word::{CellWord, Handle};
 use step_table::cell_steps::cell_step::Cell;
 use step_table::cell_steps::comparing::is_same_value;
 use step_table::cell_steps::refill::Stage;
 use step_table::memory::table::Table;
-use step_table::slots::registers::Pointer;
 
 /// Most funds of a cell's that are taken before they are put back.
 const MOST_TAKEN: u16 = 127;
@@ -115,7 +114,7 @@ impl Thread {
         ensures fits { FitsThread desk self.new table.new }
     {
         table.known();
-        let pointer = Pointer {
+        let pointer = Handle {
             kind: table.kind_in(cell),
             block,
             place: found.place,

@@ -112,7 +112,8 @@ impl Thread {
     /// What is in hand goes into the cell. What comes out is to be dropped, once its funds are given back.
     fn swap(&mut self, desk: usize, table: &mut Table, cell: CellName) -> Stepped
         requires fits { FitsThread desk self.old table.old }
-        requires pending_call { (self.old.pending_call ≡ PendingCall.Rest) ⊎ (self.old.pending_call ≡ PendingCall.Brought) }
+        requires pending_call { (self.old.pending_call ≡ PendingCall.Rest)
+            ⊎ (self.old.pending_call ≡ PendingCall.Brought) }
         requires none { self.old.frame.endings.list ≡ [] }
         requires within { self.old.frame.at < length self.old.frame.tasks.items }
         requires act { (task_at self.old.frame).act ≡ Act.Swap cell }
@@ -135,7 +136,8 @@ impl Thread {
     #[tactic(auto, using(crate::proofs::Named::refusal_none))]
     fn exchange(&mut self, desk: usize, table: &mut Table, name: u8, cell: CellName) -> Stepped
         requires fits { FitsThread desk self.old table.old }
-        requires pending_call { (self.old.pending_call ≡ PendingCall.Rest) ⊎ (self.old.pending_call ≡ PendingCall.Brought) }
+        requires pending_call { (self.old.pending_call ≡ PendingCall.Rest)
+            ⊎ (self.old.pending_call ≡ PendingCall.Brought) }
         requires none { self.old.frame.endings.list ≡ [] }
         requires within { self.old.frame.at < length self.old.frame.tasks.items }
         requires act { (task_at self.old.frame).act ≡ Act.Exchange name cell }

@@ -7,10 +7,9 @@ use crate::act_steps::reading::{outside, tells};
 use crate::pending_call::PendingCall;
 use crate::said::{Answer, Stepped};
 use crate::thread::{Thread, silent};
-use control_word::Refusal;
 use control_word::model::handle::Kind;
+use control_word::{Handle, Refusal};
 use step_table::memory::table::Table;
-use step_table::slots::registers::Pointer;
 
 impl Thread {
     ghost use Rattle.step_threads.specs.Frames.{task_at};
@@ -51,7 +50,7 @@ impl Thread {
         table: &mut Table,
         name: u8,
         kind: Kind,
-        pointer: Pointer,
+        pointer: Handle,
     ) -> Stepped
         requires fits { FitsThread desk self.old table.old }
         requires pending_call { self.old.pending_call ≡ PendingCall.Giving name kind pointer }

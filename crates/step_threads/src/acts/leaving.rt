@@ -11,15 +11,15 @@ ghost use Rattle.step_threads.specs.AbstractStates.{remains_as};
 ghost use Rattle.step_table.specs.GhostStates.{object_of_block, model_state};
 ghost use Rattle.step_threads.specs.declared.programs.act.Act.{Act};
 ghost use Rattle.step_threads.specs.declared.pending_call.PendingCall.{PendingCall};
-ghost use Rattle.step_table.specs.declared.slots.registers.Pointer.{Pointer};
+ghost use Rattle.control_word.specs.declared.handle.Handle.{Handle};
 
 use crate::ending::Ending;
 use crate::said::{Said, Stepped};
 use crate::thread::{Thread, says};
+use control_word::Handle;
 use control_word::model::handle::Kind;
 use step_table::memory::ended::Ended;
 use step_table::memory::table::Table;
-use step_table::slots::registers::Pointer;
 
 impl Thread {
     ghost use Rattle.step_threads.specs.Frames.{task_at};
@@ -110,15 +110,15 @@ impl Thread {
         &mut self,
         desk: usize,
         table: &Table,
-        held: Option<Pointer>,
+        held: Option<Handle>,
         last: bool,
         statement: u32,
     ) -> Option<Ended>
-        requires ending { (x : Pointer) → held ≡ Some x → x.kind ≡ Owner → last ≡ true
+        requires ending { (x : Handle) → held ≡ Some x → x.kind ≡ Owner → last ≡ true
             → ((model_state table.now).object (object_of_block table.now x.block)).phase ≡ ending desk }
-        requires begins { (x : Pointer) → held ≡ Some x → x.kind ≡ Owner → last ≡ true
+        requires begins { (x : Handle) → held ≡ Some x → x.kind ≡ Owner → last ≡ true
             → length self.old.frame.endings.list < self.old.frame.endings.room }
-        requires room { (x : Pointer) → held ≡ Some x → x.kind ≡ Weak → last ≡ true
+        requires room { (x : Handle) → held ≡ Some x → x.kind ≡ Weak → last ≡ true
             → length self.old.stock.blocks < self.old.stock.room }
         ensures frame { self.new.frame ≡ record self.old.frame { endings = self.new.frame.endings } }
         ensures endings { self.new.frame.endings.list
@@ -140,7 +140,7 @@ impl Thread {
         &mut self,
         desk: usize,
         table: &Table,
-        pointer: Pointer,
+        pointer: Handle,
         statement: u32,
     ) -> Option<Ended>
         requires ending { pointer.kind ≡ Owner

@@ -16,7 +16,7 @@ use crate::programs::act::Act;
 use crate::programs::call::CellName;
 use control_word::CellWord;
 use step_table::cell_steps::cell_step::{Cell, CellStep};
-use step_table::memory::past::AtomicStep;
+use step_table::memory::ghost_history::AtomicStep;
 use step_table::memory::table::Table;
 
 impl Frame {

@@ -7,7 +7,8 @@ ghost use Rattle.step_table.specs.Contents.{as_word, compared_in, owing_for, sam
 ghost use Rattle.step_threads.specs.Frames.{CanAct, FrameReady, FrameStill, HasCell, IsNamed};
 ghost use Rattle.step_threads.specs.Passing.{HasGoneOn};
 ghost use Rattle.step_threads.specs.Frames.{cell_of_name};
-ghost use Rattle.step_threads.specs.Frames.{comparing, hand, is_compared, is_there, rest, frame_settled, task_at, frame_view};
+ghost use Rattle.step_threads.specs.Frames.{comparing, frame_settled, frame_view, hand, is_compared, is_there, rest};
+ghost use Rattle.step_threads.specs.Frames.{task_at};
 ghost use Rattle.step_table.specs.Registers.{HoldsBag, slot_value};
 ghost use Rattle.step_threads.specs.AbstractStates.{came};
 ghost use Rattle.step_threads.specs.Rows.{compared};
@@ -19,7 +20,7 @@ use crate::programs::call::CellName;
 use control_word::CellWord;
 use step_table::cell_steps::cell_step::CellStep;
 use step_table::cell_steps::comparing::{Comparing, is_same_value};
-use step_table::memory::past::AtomicStep;
+use step_table::memory::ghost_history::AtomicStep;
 use step_table::memory::table::Table;
 
 impl Frame {
@@ -194,7 +195,8 @@ impl Frame {
             cell_bits seen) }
         ensures table { table.new
             ≡ cond result (ghost_after_step table.old desk
-            (AtomicStep.OnCell (CellStep.Take (cell_of_name (model_state table.old) self.old.registers.slots.items cell) seen
+            (AtomicStep.OnCell (CellStep.Take
+            (cell_of_name (model_state table.old) self.old.registers.slots.items cell) seen
             (Some (compared_in self.old.registers.slots.items (comparing self.old.registers.slots.items name weak))))))
             table.old }
         ensures stays { result ≡ false → self.new ≡ self.old }

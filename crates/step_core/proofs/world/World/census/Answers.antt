@@ -2,7 +2,7 @@ use Rattle.std.proofs.Common.{◌≡◌, subst, sym}
 use Rattle.std.specs.Prelude.{None, Option}
 use Rattle.control_word.specs.declared.packed.counts.Counts.{Counts}
 use Rattle.control_word.specs.State.{IsVacant}
-use Rattle.step_table.specs.GhostStates.{Kept, model_state}
+use Rattle.step_table.specs.GhostStates.{TableInvariant, model_state}
 use Rattle.step_core.specs.Worlds.{WorldState}
 use Rattle.step_core.proofs.telling.Census.{census_now, none_vacant}
 use Rattle.step_core.proofs.world.World.census.Goals as goal
@@ -21,4 +21,4 @@ returns-clause-vacant c =
     let s = model_state c.args.self.now.ghost_state in
     let b = c.args.block.0 in
     subst (λ (r : Option Counts). (r ≡ None → IsVacant s b) × (IsVacant s b → r ≡ None)) (sym e)
-    (none_vacant c.args.self.now.ghost_state b (subst (λ (u : WorldState). Kept u.ghost_state) c.self.view_is c.known.ensures))
+    (none_vacant c.args.self.now.ghost_state b (subst (λ (u : WorldState). TableInvariant u.ghost_state) c.self.view_is c.known.ensures))

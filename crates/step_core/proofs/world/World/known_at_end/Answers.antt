@@ -1,11 +1,11 @@
 use Rattle.std.proofs.Common.{subst}
-use Rattle.step_table.specs.GhostStates.{Kept}
+use Rattle.step_table.specs.GhostStates.{TableInvariant}
 use Rattle.step_core.specs.Worlds.{WorldState}
 use Rattle.step_core.proofs.runs.Hands.{hands_now}
 use Rattle.step_core.proofs.world.World.known_at_end.Goals as goal
 
 pub returns-clause-kept : goal.returns-clause-kept
-returns-clause-kept c = subst (λ (u : WorldState). Kept u.ghost_state) c.self.view_is c.known.ensures
+returns-clause-kept c = subst (λ (u : WorldState). TableInvariant u.ghost_state) c.self.view_is c.known.ensures
 
 pub returns-clause-hands : goal.returns-clause-hands
 returns-clause-hands c =

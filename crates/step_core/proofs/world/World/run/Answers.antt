@@ -1,14 +1,14 @@
-use Rattle.std.proofs.Common.{ℕ, List, ◌++◌, length, ap, subst, sym, ◌∙◌, arith}
+use Rattle.std.proofs.Common.{ℕ, List, ◌++◌, length, ap, subst, ◌∙◌, arith}
 use Rattle.step_core.specs.declared.trace.TraceStep.{TraceStep}
-use Rattle.step_core.specs.WorldStates.{WorldState}
+use Rattle.step_core.specs.WorldStates.{AllRestIdle, WorldState}
 use Rattle.step_core.proofs.following.Chains.{follows}
 use Rattle.step_core.proofs.runs.Calls.{settled_run}
-use Rattle.step_core.proofs.runs.Calming.{AllCalm, all_calm, none_pays}
+use Rattle.step_core.proofs.runs.Calming.{all_calm, none_pays}
 use Rattle.step_core.proofs.runs.Chains.{moves_on, whole}
 use Rattle.step_core.proofs.runs.Ends.{at_end}
 use Rattle.step_core.proofs.runs.Extents.{extent_run}
 use Rattle.step_core.specs.Runs.{IsRun, NonePays, RunInOrder, RunsToEnd, SettleInOrder, Settles}
-use Rattle.step_table.specs.GhostStates.{Kept}
+use Rattle.step_table.specs.GhostStates.{TableInvariant}
 use Rattle.step_core.specs.Totals.{IsAtEnd}
 use Rattle.step_core.proofs.runs.Taking.{all_hold, all_idle}
 use Rattle.step_core.proofs.runs.Through.{Goes, through}
@@ -43,10 +43,13 @@ module _ (c : goal.After-known-3) where
       let adds = c.settle.ensures.adds in
       let actors = c.settle.ensures.actors in
       let each = all_calm (length c.follow.new.self.frame_views) c.follow.new.self c.settle.new.self adds.added adds.run in
-      subst NonePays c.self-2.view_is
-      (none_pays c.self-2.inside.table threads c.self-2.invariant.0 c.self-2.invariant.1.threads c.known-2.ensures
-      (subst (λ (u : WorldState). AllCalm (length u.frame_views) u) (sym c.self-2.view_is)
-      (λ e lt. each e (omega (arith, lt, actors)))))
+      let told = c.self-2.invariant.1.pending_calls in
+      let frame_views = ap (λ (u : WorldState). length u.frame_views) c.self-2.view_is in
+      let pending_calls = ap (λ (u : WorldState). length u.pending_calls) c.self-2.view_is in
+      none_pays c.settle.new.self
+      (subst AllRestIdle c.self-2.view_is
+      (all_idle c.self-2.inside.table threads c.self-2.invariant.0 c.self-2.invariant.1.threads c.known-2.ensures))
+      (λ e lt. each e (omega (arith, lt, actors, told, frame_views, pending_calls)))
 
   -- each thread is at its end
   ends : IsAtEnd c.finish.new.self
@@ -102,7 +105,7 @@ returns-clause-headline c =
 
 pub returns-clause-rest : goal.returns-clause-rest
 returns-clause-rest c = λ b inside.
-    at_rest c.finish.new.self.ghost_state b (subst (λ (u : WorldState). Kept u.ghost_state) c.self-3.view_is c.known-3.ensures)
+    at_rest c.finish.new.self.ghost_state b (subst (λ (u : WorldState). TableInvariant u.ghost_state) c.self-3.view_is c.known-3.ensures)
     (still_now c.finish.new.self c.self-3.inside.table c.self-3.inside.threads.items c.self-3.inside.made
     c.self-3.inside.ended c.self-3.view_is
     c.self-3.invariant.0 c.self-3.invariant.1 (ends c))

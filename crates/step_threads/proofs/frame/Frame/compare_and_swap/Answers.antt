@@ -12,7 +12,7 @@ use Rattle.step_threads.specs.Frames.{HasCell, IsReady, cell_of_name, comparing,
 use Rattle.step_threads.specs.Programs.{IsIn}
 use Rattle.step_threads.proofs.CellNames.{cell_open, cell_named}
 use Rattle.step_threads.proofs.Compares.{can_compare, may_compare, swapped_ready}
-use Rattle.step_table.specs.declared.memory.past.AtomicStep.TheVariants.{OnCell}
+use Rattle.step_table.specs.declared.memory.ghost_history.AtomicStep.TheVariants.{OnCell}
 use Rattle.step_threads.specs.declared.programs.act.Act.TheVariants.{Compare}
 use Rattle.step_threads.proofs.Going.{comes}
 use Rattle.control_word.specs.Packing.{cell_bits}

@@ -1,6 +1,6 @@
 use Rattle.std.proofs.Common.{◌∙◌, true, set, refl, sym, ap, subst}
 use Rattle.std.specs.Prelude.{None, Option, option_map}
-use Rattle.step_table.specs.declared.slots.registers.Pointer.{Pointer}
+use Rattle.control_word.specs.declared.handle.Handle.{Handle}
 use Rattle.step_table.specs.AtomicSteps.{as_weak, downgrade}
 use Rattle.step_table.specs.Registers.{Slots, filled, is_full, slot_pointer}
 use Rattle.step_threads.specs.declared.programs.act.Act.TheVariants.{Downgrade}
@@ -59,7 +59,7 @@ returns-in-None-clause-frame_view c =
     let t = c.args.self.now in
     let can = c.requires.can in
     let slots = t.registers.slots.items in
-    let e = ap (λ (q : Option Pointer). set slots (hand slots) (filled (option_map as_weak q)))
+    let e = ap (λ (q : Option Handle). set slots (hand slots) (filled (option_map as_weak q)))
     (found_at slots c.args.name c.from-from.result c.get.result None c.get.ensures c.from-from.ensures c.in-None.is)
     ∙ hand_stays t can.ready can.ended (comes t (Downgrade c.args.name) can.within can.ready c.requires.act).1 in
     c.go_on.ensures.frame_view ∙ ap (λ (l : Slots). frame_settled l true t.endings.list (rest t)) (sym e)

@@ -8,7 +8,7 @@ use Rattle.step_table.specs.Registers.{slot_value, Slots}
 use Rattle.step_threads.specs.Programs.{IsIn, kind_at}
 use Rattle.step_table.specs.GhostStates.{model_state, ghost_after_step, pending}
 use Rattle.step_threads.proofs.CellNames.{cell_open, goes_in, cell_named}
-use Rattle.step_table.specs.declared.memory.past.AtomicStep.TheVariants.{OnCell}
+use Rattle.step_table.specs.declared.memory.ghost_history.AtomicStep.TheVariants.{OnCell}
 use Rattle.step_table.specs.declared.cell_steps.cell_step.CellStep.TheVariants.{Swap as Swaps}
 use Rattle.step_threads.specs.declared.programs.act.Act.TheVariants.{Exchange}
 use Rattle.step_threads.proofs.Going.{comes, named_slot, sets_ready}

@@ -5,7 +5,7 @@ use Rattle.step_table.specs.Cells.{IsOpenTo}
 use Rattle.step_threads.specs.Frames.{HasCell, IsReady, hand, rest, frame_settled}
 use Rattle.step_threads.specs.Programs.{IsIn}
 use Rattle.step_threads.proofs.CellNames.{cell_open, cell_named}
-use Rattle.step_table.specs.declared.memory.past.AtomicStep.TheVariants.{OnCell}
+use Rattle.step_table.specs.declared.memory.ghost_history.AtomicStep.TheVariants.{OnCell}
 use Rattle.step_table.specs.Contents.{held_in, seen, slot_of}
 use Rattle.step_table.specs.Registers.{Slots, slot_pointer}
 use Rattle.step_table.specs.GhostStates.{ghost_after_step, model_state}

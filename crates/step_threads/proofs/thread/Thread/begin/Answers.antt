@@ -28,7 +28,9 @@ pub returns-in-Some-clause-fits : goal.returns-in-Some-clause-fits
 returns-in-Some-clause-fits c =
     subst (λ (v : GhostState). FitsThread c.args.desk
     (record { frame = c.args.self.now.frame; stock = c.take_least.new.self; pending_call = Making c.in-Some.block 0 false }) v) (sym c.prepare.ensures)
-    (fits_prepare c.args.desk c.args.self.now c.args.table.now c.in-Some.block c.take_least.new.self c.args.form c.known.ensures c.requires.begins.fits c.requires.begins.rest c.requires.begins.none c.requires.begins.within c.requires.act c.in-Some.ensures.least.0 c.in-Some.ensures.least.1 c.take_least.ensures.room)
+    (fits_prepare c.args.desk c.args.self.now c.args.table.now c.in-Some.block c.take_least.new.self c.args.form c.known.ensures c.requires.begins.fits
+    c.requires.begins.rest c.requires.begins.none c.requires.begins.within c.requires.act c.in-Some.ensures.least.0 c.in-Some.ensures.least.1
+    c.take_least.ensures.room)
 
 pub returns-in-None-clause-stepped : goal.returns-in-None-clause-stepped
 returns-in-None-clause-stepped c =
@@ -42,7 +44,8 @@ returns-in-None-clause-stepped c =
     stepped_as c.args.desk t v (begins (frame_view t.frame) k (rest t.frame) None) _ _ _
     (waits_act t v (Make c.args.form) c.requires.begins.rest c.requires.begins.none c.requires.begins.within c.requires.act) is
     (ap (λ (n : ℕ). Quiet (record { statement = n; answer = Some (Refused Full); ended = None })) c.statement-statement.ensures) refl
-    (c.go_on.ensures.frame_view ∙ ap (λ (b : Bool). frame_settled t.frame.registers.slots.items b t.frame.endings.list (rest t.frame)) empty) c.requires.begins.rest
+    (c.go_on.ensures.frame_view ∙ ap (λ (b : Bool). frame_settled t.frame.registers.slots.items b t.frame.endings.list (rest t.frame)) empty)
+    c.requires.begins.rest
 
 pub returns-in-Some-clause-stepped : goal.returns-in-Some-clause-stepped
 returns-in-Some-clause-stepped c =

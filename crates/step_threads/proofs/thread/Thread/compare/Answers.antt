@@ -12,7 +12,8 @@ use Rattle.step_threads.specs.Threads.{IsSeenBy}
 use Rattle.step_table.specs.Contents.{as_word, compared_in, same_value}
 use Rattle.step_table.specs.Registers.{slot_value}
 use Rattle.step_table.specs.GhostStates.{model_state}
-use Rattle.step_threads.proofs.Acting.{can_act, differ_looks, differ_says, differ_waits, differ_went, is_loaded, looked_on, looks_bare}
+use Rattle.step_threads.proofs.Looks.{is_loaded}
+use Rattle.step_threads.proofs.Acting.{can_act, differ_looks, differ_says, differ_waits, differ_went, looked_on, looks_bare}
 use Rattle.step_threads.proofs.Acting.{compare_goes, compare_sees, looks_full, looks_spent, sees_cell, stays_here, steps_as}
 use Rattle.step_threads.proofs.CompareSteps.{answers}
 use Rattle.step_threads.proofs.Going.{or_right}

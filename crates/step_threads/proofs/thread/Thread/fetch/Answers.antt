@@ -40,9 +40,10 @@ returns-clause-fits c =
     let p = c.in-Some.pointer in
     let slots = t.frame.registers.slots.items in
     let r = c.requires in
+    let at = sym (c.get.ensures ∙ ap (slot_pointer slots) c.hand-hand.ensures) ∙ c.in-Some.is in
     let owes =
     subst (λ (i : ℕ). pending c.bring.new.table d ≡ owing_for (model_state c.bring.new.table) (slot_value slots i) 256) c.hand-hand.ensures
     c.bring.ensures.owes in
     subst (λ (u : GhostState). FitsThread d (At t (Matched c.args.found)) u) (sym c.bring.ensures.table)
-    (compare_brought d t v c.args.name c.args.cell c.args.weak c.args.found r.fits r.act p r.pending_call r.alike
+    (compare_brought d t v c.args.name c.args.cell c.args.weak c.args.found r.fits r.act p r.pending_call r.alike at
     (subst (λ (u : GhostState). pending u d ≡ owing_for (model_state u) (slot_value slots (hand slots)) 256) c.bring.ensures.table owes))

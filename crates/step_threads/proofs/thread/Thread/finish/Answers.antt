@@ -1,6 +1,6 @@
 use Rattle.std.proofs.Common.{◌∙◌, ℕ, ◌<◌, Bool, sym, ap, subst}
-use Rattle.step_table.specs.declared.memory.past.AtomicStep.TheVariants as atomic_step
-use Rattle.step_table.specs.GhostStates.{Kept, GhostState, ghost_after_step}
+use Rattle.step_table.specs.declared.memory.ghost_history.AtomicStep.TheVariants as atomic_step
+use Rattle.step_table.specs.GhostStates.{TableInvariant, GhostState, ghost_after_step}
 use Rattle.step_threads.specs.Threads.{FitsThread}
 use Rattle.step_threads.proofs.Endings.{room_left}
 use Rattle.step_threads.proofs.EndSteps.{fits_finish, fits_finish_not, idle_here}
@@ -25,7 +25,7 @@ put-requires c =
     in
     let is = ending_here c.args.desk v c.args.self.now.frame.endings.list c.args.ending c.requires.fits.endings.all c.requires.first in
     room_left c.args.desk c.args.self.now v c.args.ending c.known.ensures
-    (subst (λ (u : GhostState). Kept u) e c.known-2.ensures) c.requires.fits c.requires.rest is
+    (subst (λ (u : GhostState). TableInvariant u) e c.known-2.ensures) c.requires.fits c.requires.rest is
 
 pub returns-clause-fits : goal.returns-clause-fits
 returns-clause-fits c =

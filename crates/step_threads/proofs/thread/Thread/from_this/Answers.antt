@@ -27,7 +27,8 @@ take-requires-then-not-is_enabled-clause-ready c =
 pub returns-clause-fits : goal.returns-clause-fits
 returns-clause-fits c =
     let slots = c.args.self.now.frame.registers.slots.items in
-    fits_asked c.args.desk c.args.self.now c.args.table.now c.args.name c.args.kind c.in-Some.pointer c.requires.begins.fits c.requires.begins.rest c.requires.begins.none c.requires.begins.within
+    fits_asked c.args.desk c.args.self.now c.args.table.now c.args.name c.args.kind c.in-Some.pointer c.requires.begins.fits c.requires.begins.rest
+    c.requires.begins.none c.requires.begins.within
     c.requires.act (sym (c.inside.ensures ∙ ap (λ (k : ℕ). inside (slot_pointer slots k)) c.from-from.ensures) ∙ c.in-Some.is)
     (sym c.is_enabled.ensures ∙ c.if-not-is_enabled.false)
 
@@ -76,7 +77,8 @@ returns-then-not-is_enabled-clause-stepped c =
     ∙ this_says v d (frame_view t.frame) (task_at t.frame).statement (rest t.frame) c.args.name c.args.kind (Some p) false (found_inside slots
     c.args.name c.from-from.result c.inside.result (Some p) c.inside.ensures c.from-from.ensures c.in-Some.is) bare)) refl
     (c.take-then-not-is_enabled.ensures.frame_view ∙ this_went v d (frame_view t.frame) (task_at t.frame).statement (rest t.frame) c.args.name c.args.kind
-    (Some p) false (found_inside slots c.args.name c.from-from.result c.inside.result (Some p) c.inside.ensures c.from-from.ensures c.in-Some.is) bare) r.begins.rest
+    (Some p) false (found_inside slots c.args.name c.from-from.result c.inside.result (Some p) c.inside.ensures c.from-from.ensures c.in-Some.is) bare)
+    r.begins.rest
 
 pub returns-then-not-is_enabled-clause-fits : goal.returns-then-not-is_enabled-clause-fits
 returns-then-not-is_enabled-clause-fits c =

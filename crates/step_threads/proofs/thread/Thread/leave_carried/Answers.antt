@@ -1,6 +1,6 @@
 use Rattle.std.proofs.Common.{◌≡◌, ◌∙◌, ℕ, Some, None, drop, set, refl, sym, ap}
 use Rattle.std.proofs.lemmas.Option.{same_Some}
-use Rattle.step_table.specs.declared.slots.registers.Pointer.{Pointer}
+use Rattle.control_word.specs.declared.handle.Handle.{Handle}
 use Rattle.step_table.specs.AtomicSteps.{is_last, leave}
 use Rattle.step_table.specs.Registers.{plain, slot_pointer}
 use Rattle.step_table.specs.GhostStates.{ghost_after_step, model_state}
@@ -17,8 +17,8 @@ left-ended-requires-clause-begins c = λ x at.
     let v = c.args.table.now in
     let same = same_Some c.in-Some.pointer x at in
     carried_room c.args.desk c.args.self.now.frame v c.leave-last.new.table x c.leave-last.result c.known.ensures c.known-2.ensures
-    c.requires.fits.endings (c.leave-last.ensures.table ∙ ap (λ (p : Pointer). ghost_after_step v c.args.desk (leave (model_state v) p)) same)
-    (c.leave-last.ensures.last ∙ ap (λ (p : Pointer). is_last (model_state v) p) same)
+    c.requires.fits.endings (c.leave-last.ensures.table ∙ ap (λ (p : Handle). ghost_after_step v c.args.desk (leave (model_state v) p)) same)
+    (c.leave-last.ensures.last ∙ ap (λ (p : Handle). is_last (model_state v) p) same)
 
 pub left-ended-requires-clause-room : goal.left-ended-requires-clause-room
 left-ended-requires-clause-room c = λ x.

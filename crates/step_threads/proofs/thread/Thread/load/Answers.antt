@@ -9,7 +9,8 @@ use Rattle.step_threads.specs.Frames.{cell_of_name, frame_view}
 use Rattle.step_threads.specs.Steps.{silent}
 use Rattle.step_threads.specs.Threads.{IsSeenBy}
 use Rattle.step_table.specs.GhostStates.{model_state}
-use Rattle.step_threads.proofs.Acting.{can_act, is_loaded, load_looks, load_says, load_waits, load_went, looked_on, looks_bare, looks_full}
+use Rattle.step_threads.proofs.Looks.{is_loaded}
+use Rattle.step_threads.proofs.Acting.{can_act, load_looks, load_says, load_waits, load_went, looked_on, looks_bare, looks_full}
 use Rattle.step_threads.proofs.Acting.{looks_spent, sees_cell, stays_here}
 use Rattle.step_threads.proofs.thread.Thread.load.Goals as goal
 

@@ -25,7 +25,8 @@ pub take-requires-clause-ready : goal.take-requires-clause-ready
 take-requires-clause-ready c = lost_ready c.args.self.now.frame c.args.name c.args.must c.requires.begins.within c.requires.begins.fits.ready c.requires.act
 
 pub take-requires-then-word-eq0-clause-ready : goal.take-requires-then-word-eq0-clause-ready
-take-requires-then-word-eq0-clause-ready c = lost_ready c.args.self.now.frame c.args.name c.args.must c.requires.begins.within c.requires.begins.fits.ready c.requires.act
+take-requires-then-word-eq0-clause-ready c = lost_ready c.args.self.now.frame c.args.name c.args.must c.requires.begins.within c.requires.begins.fits.ready
+    c.requires.act
 
 pub returns-in_default-clause-stepped : goal.returns-in_default-clause-stepped
 returns-in_default-clause-stepped c =

@@ -21,7 +21,8 @@ returns-clause-fits c =
     subst (λ (h : PendingCall). FitsThread d (record { frame = c.offer-event.new.self; stock = t.stock; pending_call = h }) c.offer-event.new.table)
     (sym c.requires.begins.rest)
     (fits_done share d t v c.offer-event.new.table (offered t.frame.registers.slots.items c.args.name c.args.cell) c.offer-event.new.self
-    c.known.ensures c.requires.begins.fits c.requires.begins.rest c.requires.begins.none (λ x. share_calm v d x x.kind) (λ x. share_stores v d x x.kind) on.table on.on)
+    c.known.ensures c.requires.begins.fits c.requires.begins.rest c.requires.begins.none (λ x. share_calm v d x x.kind) (λ x. share_stores v d x x.kind)
+    on.table on.on)
 
 pub returns-clause-stepped : goal.returns-clause-stepped
 returns-clause-stepped c =
@@ -29,7 +30,8 @@ returns-clause-stepped c =
     let r = c.requires in
     let b = c.offer-event.result in
     let on = c.offer-event.ensures in
-    step_offers c.args.desk t c.args.table.now c.args.name c.args.cell r.begins.rest r.begins.none r.begins.within r.act (sym c.is_there.ensures ∙ c.if-not-is_there.false) b _ _ _
+    step_offers c.args.desk t c.args.table.now c.args.name c.args.cell r.begins.rest r.begins.none r.begins.within r.act
+    (sym c.is_there.ensures ∙ c.if-not-is_there.false) b _ _ _
     (c.says.ensures ∙ ap (λ (s : Said). cond {A = Stepped} b (Event s) (Quiet s)) (c.silent.ensures ∙ ap silent c.statement-statement.ensures))
     on.event on.table on.frame_view r.begins.rest
 

@@ -1,7 +1,7 @@
 use Rattle.std.proofs.Common.{◌≡◌, ◌∙◌, Bool, false, cond, refl, sym, ap}
 use Rattle.std.specs.Prelude.{Option, None, option_map, slice_set}
 use Rattle.step_threads.specs.declared.programs.act.Act.TheVariants as act
-use Rattle.step_table.specs.declared.slots.registers.Pointer.{Pointer}
+use Rattle.control_word.specs.declared.handle.Handle.{Handle}
 use Rattle.step_threads.specs.Frames.{FrameView, done_on, placed, rest, task_at, frame_view}
 use Rattle.step_threads.specs.declared.pending_call.PendingCall.TheVariants.{Rest}
 use Rattle.step_threads.specs.Steps.{step_of_act}
@@ -95,14 +95,15 @@ returns-clause-stepped c =
     } in
     stepped_left c.args.desk c.args.self.now c.left-ended.new.self v c.put-last.new.table c.says.result
     (act.Put c.args.name) c.get-held.result c.put-last.result
-    c.left-ended.result c.statement-statement.result c.statement-statement.ensures c.requires.begins.rest c.requires.begins.none c.requires.begins.within c.requires.act refl
-    (ap (λ (o : Option Pointer). step_of_act v c.args.desk (frame_view c.args.self.now.frame) (task_at c.args.self.now.frame).statement
+    c.left-ended.result c.statement-statement.result c.statement-statement.ensures c.requires.begins.rest c.requires.begins.none c.requires.begins.within
+    c.requires.act refl
+    (ap (λ (o : Option Handle). step_of_act v c.args.desk (frame_view c.args.self.now.frame) (task_at c.args.self.now.frame).statement
     (rest c.args.self.now.frame)
     (act.Put c.args.name) (option_map (leave (model_state v)) o) Rest) (sym h))
-    refl (ap (λ (o : Option Pointer). ended_by (model_state v) o) (sym h)) is said
+    refl (ap (λ (o : Option Handle). ended_by (model_state v) o) (sym h)) is said
     c.left-ended.ensures.ended c.left-ended.ensures.pending_call
     (went_left c.args.desk c.args.self.now.frame c.put-last.new.self c.left-ended.new.self.frame v c.put-last.new.table
     (act.Put c.args.name) c.get-held.result c.put-last.result c.statement-statement.result has
-    (ap (λ (o : Option Pointer). ending_by (on (is_last (model_state v)) false o) o) (sym h)) said c.put-last.ensures.frame_view)
+    (ap (λ (o : Option Handle). ending_by (on (is_last (model_state v)) false o) o) (sym h)) said c.put-last.ensures.frame_view)
     (c.says.ensures ∙ ap (λ (b : Bool). cond b (Event (record { statement = c.statement-statement.result; answer = None; ended = c.left-ended.result }))
     (Quiet (record { statement = c.statement-statement.result; answer = None; ended = c.left-ended.result }))) c.is_some.ensures)

@@ -12,7 +12,7 @@ use Rattle.step_threads.specs.Frames.{rest, task_at, frame_view}
 use Rattle.step_threads.specs.Rows.{outside}
 use Rattle.step_threads.specs.Steps.{step_of_act}
 use Rattle.step_table.specs.AtomicSteps.{field_of, on, read_atomic_step}
-use Rattle.step_table.specs.declared.slots.registers.Pointer.{Pointer}
+use Rattle.control_word.specs.declared.handle.Handle.{Handle}
 use Rattle.step_threads.specs.declared.pending_call.PendingCall.{PendingCall}
 use Rattle.step_threads.specs.Threads.{FitsThread}
 use Rattle.step_threads.proofs.Acting.{acts_as, went_quiet}
@@ -43,10 +43,10 @@ returns-in_default-clause-stepped c =
     let tell : ℕ → Answer → Said = λ n a. record { statement = n; answer = Some a; ended = None } in
     let n = (task_at t.frame).statement in
     let at = (found_inside slots c.args.name c.from-from.result c.inside.result (None) c.inside.ensures c.from-from.ensures c.in_default.is) in
-    let says = λ (o : Option Pointer).
+    let says = λ (o : Option Handle).
     tell n (cond (is_full o) (answer.Read (on (field_of (model_state v)) 0 o)) (outside (place_in slots k))) in
     acts_as d t v r.begins (Read k) r.act None Rest _ _ _
-    (ap (λ (o : Option Pointer). step_of_act v d (frame_view t.frame) (task_at t.frame).statement (rest t.frame) (Read k) (option_map (read_atomic_step
+    (ap (λ (o : Option Handle). step_of_act v d (frame_view t.frame) (task_at t.frame).statement (rest t.frame) (Read k) (option_map (read_atomic_step
     (model_state v)) o) Rest) at) refl
     (ap (λ (s : Said). Quiet s) (c.tells.ensures ∙ ap (λ (i : ℕ). tell i c.outside-answer.result) c.statement-statement.ensures
     ∙ ap (tell n) (c.outside-answer.ensures ∙ ap outside (c.place.ensures ∙ ap (place_in slots) c.from-from.ensures)) ∙ sym (ap says at))) refl
@@ -73,13 +73,14 @@ returns-clause-stepped c =
     let p = c.in-Some.pointer in
     let n = (task_at t.frame).statement in
     let at = (found_inside slots c.args.name c.from-from.result c.inside.result (Some p) c.inside.ensures c.from-from.ensures c.in-Some.is) in
-    let says = λ (o : Option Pointer).
+    let says = λ (o : Option Handle).
     tell n (cond (is_full o) (answer.Read (on (field_of (model_state v)) 0 o)) (outside (place_in slots k))) in
     acts_as d t v r.begins (Read k) r.act (Some (read_atomic_step (model_state v) p)) Rest _ _ _
-    (ap (λ (o : Option Pointer). step_of_act v d (frame_view t.frame) (task_at t.frame).statement (rest t.frame) (Read k) (option_map (read_atomic_step
+    (ap (λ (o : Option Handle). step_of_act v d (frame_view t.frame) (task_at t.frame).statement (rest t.frame) (Read k) (option_map (read_atomic_step
     (model_state v)) o) Rest) at) refl
     (ap (λ (s : Said). Event s) (c.tells-2.ensures ∙ ap (λ (i : ℕ). tell i (answer.Read c.read-value.result)) c.statement-statement.ensures
-    ∙ ap (λ (i : ℕ). tell n (answer.Read i)) c.read-value.ensures.value ∙ sym (ap says at))) c.read-value.ensures.table c.go_on-2.ensures.frame_view r.begins.rest
+    ∙ ap (λ (i : ℕ). tell n (answer.Read i)) c.read-value.ensures.value ∙ sym (ap says at))) c.read-value.ensures.table c.go_on-2.ensures.frame_view
+    r.begins.rest
 
 pub returns-clause-fits : goal.returns-clause-fits
 returns-clause-fits c =
@@ -91,5 +92,6 @@ returns-clause-fits c =
     let after = c.go_on-2.new.self in
     let w = c.read-value.new.table in
     subst (λ (h : PendingCall). FitsThread d (record { frame = after; stock = t.stock; pending_call = h }) w) (sym r.begins.rest)
-    (fits_done (read_atomic_step (model_state v)) d t v w (Some c.in-Some.pointer) after c.known.ensures r.begins.fits r.begins.rest r.begins.none (λ x. refl) (λ x. refl)
+    (fits_done (read_atomic_step (model_state v)) d t v w (Some c.in-Some.pointer) after c.known.ensures r.begins.fits r.begins.rest r.begins.none (λ x. refl)
+    (λ x. refl)
     c.read-value.ensures.table (c.go_on-2.ensures.on d w c.read-value.ensures.holds))

@@ -3,7 +3,7 @@ use Rattle.control_word.specs.declared.place.Block.{Block}
 use Rattle.std.specs.Prelude.{Option}
 use Rattle.step_table.specs.declared.cell_steps.cell_step.CellStep.TheVariants.{Refill as Refills}
 use Rattle.step_threads.specs.declared.pending_call.PendingCall.TheVariants.{Rest, Refill}
-use Rattle.step_table.specs.declared.memory.past.AtomicStep.TheVariants.{OnCell}
+use Rattle.step_table.specs.declared.memory.ghost_history.AtomicStep.TheVariants.{OnCell}
 use Rattle.step_table.specs.declared.cell_steps.refill.Stage.TheVariants.{Refilling, Failing}
 use Rattle.step_table.specs.CellAtomicSteps.{kind_in_state, owing_funds}
 use Rattle.step_table.specs.GhostStates.{ghost_after_step, model_state}

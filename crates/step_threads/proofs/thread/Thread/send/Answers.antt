@@ -2,8 +2,8 @@ use Rattle.std.proofs.Common.{inr, ◌≡◌, ◌&&◌, ◌∙◌, ℕ, Bool, tr
 use Rattle.std.specs.Prelude.{None, Option, Some, is_some}
 use Rattle.step_table.specs.Contents.{is_of, owing_for}
 use Rattle.step_table.specs.declared.cell_steps.cell_step.CellStep.TheVariants.{Bring}
-use Rattle.step_table.specs.declared.memory.past.AtomicStep.TheVariants.{OnCell}
-use Rattle.step_table.specs.Registers.{slot_value}
+use Rattle.step_table.specs.declared.memory.ghost_history.AtomicStep.TheVariants.{OnCell}
+use Rattle.step_table.specs.Registers.{is_full, pointer_of, slot_value}
 use Rattle.step_table.specs.GhostStates.{GhostState, pending, ghost_after_step, model_state}
 use Rattle.step_threads.specs.declared.programs.act.Act.{Act}
 use Rattle.step_threads.specs.declared.programs.act.Act.TheVariants.{Exchange}
@@ -123,4 +123,5 @@ returns-clause-fits c =
     (fits_quiet d t v Rest Brought r.begins.fits r.begins.rest (λ b. refl) (λ b. refl) atomic_step refl
     (subst (λ (y : Act). pending (ghost_after_step v d atomic_step) d ≡ owing_for (model_state (ghost_after_step v d atomic_step)) (new_of slots y) 256)
     (sym r.act)
-    (subst (λ (u : GhostState). pending u d ≡ owing_for (model_state u) (slot_value slots k) 256) is owes)) (r.begins.within, some, r.begins.none))
+    (subst (λ (u : GhostState). pending u d ≡ owing_for (model_state u) (slot_value slots k) 256) is owes))
+    (r.begins.within, some, r.begins.none, ap (λ (y : Act). is_full (pointer_of (new_of slots y))) r.act ∙ ap is_full at))

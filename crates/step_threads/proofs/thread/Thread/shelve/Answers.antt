@@ -1,6 +1,6 @@
 use Rattle.std.proofs.Common.{ℕ, refl, sym, subst, ap}
 use Rattle.std.specs.Prelude.{Some, None}
-use Rattle.step_table.specs.declared.memory.past.AtomicStep.TheVariants as atomic_step
+use Rattle.step_table.specs.declared.memory.ghost_history.AtomicStep.TheVariants as atomic_step
 use Rattle.step_table.specs.declared.memory.shelf.ShelfStep.TheVariants as shelf
 use Rattle.step_table.specs.GhostStates.{GhostState, ghost_after_step}
 use Rattle.step_threads.specs.Actors.{Stocks}
@@ -47,7 +47,8 @@ returns-in-Some-clause-fits c =
     let s = c.take_least.new.self in
     let frame = c.go_on-in-Some.new.self in
     let holds = c.requires.begins.fits.holds in
-    let stocks = stocks_shelve d t.stock.blocks s.blocks t.stock.room v b (resting d t v c.requires.begins.fits c.requires.begins.rest) c.in-Some.ensures.least.0 in
+    let stocks = stocks_shelve d t.stock.blocks s.blocks t.stock.room v b (resting d t v c.requires.begins.fits c.requires.begins.rest)
+    c.in-Some.ensures.least.0 in
     subst (λ (h : PendingCall). FitsThread d (record { frame = frame; stock = s; pending_call = h }) c.shelve.new.self) (sym c.requires.begins.rest)
     (subst (λ (u : GhostState). FitsThread d (record { frame = frame; stock = s; pending_call = Rest }) u) (sym c.shelve.ensures)
     (fits_moved d t v b shelf.Shelve frame s c.known.ensures c.requires.begins.fits c.requires.begins.none

@@ -23,5 +23,6 @@ returns-clause-stepped c =
     let at = sym (c.get.ensures ∙ ap (slot_pointer slots) c.hand-hand.ensures) ∙ c.in-Some.is in
     stepped_as d t v (brings (frame_view t.frame) n x) _ _ _
     (waits_act t v (Swap c.args.cell) c.requires.begins.rest c.requires.begins.none c.requires.begins.within c.requires.act)
-    (step_brings d t v (Swap c.args.cell) c.args.cell (hand slots) c.requires.begins.none c.requires.begins.within c.requires.act refl x c.requires.begins.rest goes at)
+    (step_brings d t v (Swap c.args.cell) c.args.cell (hand slots) c.requires.begins.none c.requires.begins.within c.requires.act refl x c.requires.begins.rest
+    goes at)
     (ap (λ (s : Said). Quiet s) (c.silent.ensures ∙ ap silent c.statement-statement.ensures)) c.bring.ensures.table refl refl

@@ -1,5 +1,5 @@
 use Rattle.std.proofs.Common.{sym, subst, ap}
-use Rattle.step_table.specs.declared.memory.past.AtomicStep.TheVariants as atomic_step
+use Rattle.step_table.specs.declared.memory.ghost_history.AtomicStep.TheVariants as atomic_step
 use Rattle.step_table.specs.declared.memory.shelf.ShelfStep.TheVariants as shelf
 use Rattle.step_table.specs.GhostStates.{GhostState, ghost_after_step, model_state}
 use Rattle.step_threads.specs.Threads.{FitsThread}
@@ -67,7 +67,8 @@ returns-then-not-got-clause-stepped c =
     let v = c.args.table.now in
     let r = c.requires in
     let b = c.args.block in
-    stepped_shelf c.args.desk t _ v _ _ (Unshelve b) None c.statement-statement.result c.statement-statement.ensures r.begins.rest r.begins.none r.begins.within r.act
+    stepped_shelf c.args.desk t _ v _ _ (Unshelve b) None c.statement-statement.result c.statement-statement.ensures r.begins.rest r.begins.none
+    r.begins.within r.act
     (cond-false ((model_state v).shelved b.0) (Some b.0) None (sym c.if-not-got.ensures.got))
     (ap Quiet c.silent.ensures) c.if-not-got.ensures.after c.go_on.ensures.frame_view r.begins.rest
 
@@ -77,6 +78,7 @@ returns-clause-stepped c =
     let v = c.args.table.now in
     let r = c.requires in
     let b = c.args.block in
-    stepped_shelf c.args.desk t _ v _ _ (Unshelve b) (Some b.0) c.statement-statement.result c.statement-statement.ensures r.begins.rest r.begins.none r.begins.within r.act
+    stepped_shelf c.args.desk t _ v _ _ (Unshelve b) (Some b.0) c.statement-statement.result c.statement-statement.ensures r.begins.rest r.begins.none
+    r.begins.within r.act
     (cond-true ((model_state v).shelved b.0) (Some b.0) None (sym c.if-not-got.ensures.got))
     (ap Event c.silent-2.ensures) c.if-not-got.ensures.after c.go_on-2.ensures.frame_view r.begins.rest

@@ -4,7 +4,7 @@ use Rattle.std.proofs.Common.{◌+◌, false}
 use Rattle.step_threads.specs.declared.thread.Thread.{Thread}
 use Rattle.std.proofs.Common.{ℕ, sym, ap, subst, get_or, ◌∙◌}
 use Rattle.step_threads.specs.Actors.{wanted}
-use Rattle.step_table.specs.declared.memory.past.AtomicStep.TheVariants as atomic_step
+use Rattle.step_table.specs.declared.memory.ghost_history.AtomicStep.TheVariants as atomic_step
 use Rattle.step_table.specs.GhostStates.{GhostState, ghost_after_step}
 use Rattle.step_threads.specs.Threads.{FitsThread}
 use Rattle.step_threads.proofs.Threads.{form_here, fits_write}

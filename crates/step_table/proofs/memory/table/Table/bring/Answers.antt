@@ -2,8 +2,8 @@ use Rattle.std.proofs.Common.{◌≡◌, ◌+◌, ◌*◌, ℕ, ap, get_or, leng
 use Rattle.control_word.specs.Layout.{spot}
 use Rattle.control_word.specs.Words.{slot}
 use Rattle.step_table.specs.declared.cell_steps.cell_step.CellStep.TheVariants.{Bring}
-use Rattle.step_table.specs.declared.memory.past.AtomicStep.TheVariants.{OnCell}
-use Rattle.step_table.specs.GhostStates.{GhostState, Kept}
+use Rattle.step_table.specs.declared.memory.ghost_history.AtomicStep.TheVariants.{OnCell}
+use Rattle.step_table.specs.GhostStates.{GhostState, TableInvariant}
 use Rattle.step_table.proofs.tables.Funds.{kept_bring, slot_few}
 use Rattle.step_table.proofs.tables.Owners.{room_above}
 use Rattle.step_table.proofs.tables.Places.{handle_busy, inside, there}
@@ -12,21 +12,21 @@ use Rattle.step_table.proofs.memory.table.Table.bring.Goals as goal
 
 pub count_word-requires : goal.count_word-requires
 count_word-requires c =
-    let k : Kept c.args.self.now = kept_now _ _ _ _ c.args.self.now c.self.invariant c.self.view_is in
+    let k : TableInvariant c.args.self.now = kept_now _ _ _ _ c.args.self.now c.self.invariant c.self.view_is in
     let h = there c.args.self.now c.args.pointer.block k
     (handle_busy c.args.self.now c.args.desk c.args.pointer.kind c.args.pointer.block _ k c.requires.held) in
     h.1.0
 
 pub count_word-requires-2 : goal.count_word-requires-2
 count_word-requires-2 c =
-    let k : Kept c.args.self.now = kept_now _ _ _ _ c.args.self.now c.self.invariant c.self.view_is in
+    let k : TableInvariant c.args.self.now = kept_now _ _ _ _ c.args.self.now c.self.invariant c.self.view_is in
     let h = there c.args.self.now c.args.pointer.block k
     (handle_busy c.args.self.now c.args.desk c.args.pointer.kind c.args.pointer.block _ k c.requires.held) in
     h.1.0
 
 pub get-found-requires : goal.get-found-requires
 get-found-requires c =
-    let k : Kept c.args.self.now = kept_now _ _ _ _ c.args.self.now c.self.invariant c.self.view_is in
+    let k : TableInvariant c.args.self.now = kept_now _ _ _ _ c.args.self.now c.self.invariant c.self.view_is in
     let w : c.self.inside.words ≡ c.args.self.now.words = ap (λ (s : GhostState). s.words) c.self.view_is in
     let h = there c.args.self.now c.args.pointer.block k
     (handle_busy c.args.self.now c.args.desk c.args.pointer.kind c.args.pointer.block _ k c.requires.held) in
@@ -36,7 +36,7 @@ get-found-requires c =
 
 pub set-requires : goal.set-requires
 set-requires c =
-    let k : Kept c.args.self.now = kept_now _ _ _ _ c.args.self.now c.self.invariant c.self.view_is in
+    let k : TableInvariant c.args.self.now = kept_now _ _ _ _ c.args.self.now c.self.invariant c.self.view_is in
     let w : c.self.inside.words ≡ c.args.self.now.words = ap (λ (s : GhostState). s.words) c.self.view_is in
     let h = there c.args.self.now c.args.pointer.block k
     (handle_busy c.args.self.now c.args.desk c.args.pointer.kind c.args.pointer.block _ k c.requires.held) in
@@ -46,7 +46,7 @@ set-requires c =
 
 pub with_funds-requires : goal.with_funds-requires
 with_funds-requires c =
-    let k : Kept c.args.self.now = kept_now _ _ _ _ c.args.self.now c.self.invariant c.self.view_is in
+    let k : TableInvariant c.args.self.now = kept_now _ _ _ _ c.args.self.now c.self.invariant c.self.view_is in
     let w : c.self.inside.words ≡ c.args.self.now.words = ap (λ (s : GhostState). s.words) c.self.view_is in
     let h = there c.args.self.now c.args.pointer.block k
     (handle_busy c.args.self.now c.args.desk c.args.pointer.kind c.args.pointer.block _ k c.requires.held) in
@@ -57,7 +57,7 @@ with_funds-requires c =
 
 pub invariant_of-self : goal.invariant_of-self
 invariant_of-self c =
-    let k : Kept c.args.self.now = kept_now _ _ _ _ c.args.self.now c.self.invariant c.self.view_is in
+    let k : TableInvariant c.args.self.now = kept_now _ _ _ _ c.args.self.now c.self.invariant c.self.view_is in
     let w : c.self.inside.words ≡ c.args.self.now.words = ap (λ (s : GhostState). s.words) c.self.view_is in
     let h = there c.args.self.now c.args.pointer.block k
     (handle_busy c.args.self.now c.args.desk c.args.pointer.kind c.args.pointer.block _ k c.requires.held) in
@@ -69,4 +69,4 @@ invariant_of-self c =
     (let e = c.count_word-2.ensures in
     let g : c.with_funds.result ≡ get_or c.args.self.now.words (spot c.args.pointer.block.0 (slot c.args.pointer.kind)) 0 + 4294967296 * c.args.funds =
     let q = c.with_funds.ensures.word in omega (arith, f, q) in let s = c.set.ensures in cc)
-    c.then-past.ensures
+    c.then-ghost_history.ensures

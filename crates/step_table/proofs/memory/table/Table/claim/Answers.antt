@@ -1,6 +1,6 @@
 use Rattle.std.proofs.Common.{◌≡◌, ℕ, ap, length, arith}
-use Rattle.step_table.specs.declared.memory.past.AtomicStep.TheVariants.{Claim}
-use Rattle.step_table.specs.GhostStates.{GhostState, Kept}
+use Rattle.step_table.specs.declared.memory.ghost_history.AtomicStep.TheVariants.{Claim}
+use Rattle.step_table.specs.GhostStates.{GhostState, TableInvariant}
 use Rattle.step_table.proofs.tables.Making.{kept_claim}
 use Rattle.step_table.proofs.tables.Places.{inside, making_place}
 use Rattle.step_table.proofs.tables.Standing.{kept_as, kept_now}
@@ -8,12 +8,12 @@ use Rattle.step_table.proofs.memory.table.Table.claim.Goals as goal
 
 pub block_word-requires-clause-block : goal.block_word-requires-clause-block
 block_word-requires-clause-block c =
-    let k : Kept c.args.self.now = kept_now _ _ _ _ c.args.self.now c.self.invariant c.self.view_is in
+    let k : TableInvariant c.args.self.now = kept_now _ _ _ _ c.args.self.now c.self.invariant c.self.view_is in
     (making_place c.args.self.now c.args.desk c.args.block _ k c.requires.seat c.requires.making.making).0
 
 pub set-requires : goal.set-requires
 set-requires c =
-    let k : Kept c.args.self.now = kept_now _ _ _ _ c.args.self.now c.self.invariant c.self.view_is in
+    let k : TableInvariant c.args.self.now = kept_now _ _ _ _ c.args.self.now c.self.invariant c.self.view_is in
     let i = inside c.args.self.now c.args.block 0 k
     (making_place c.args.self.now c.args.desk c.args.block _ k c.requires.seat c.requires.making.making) (let q = c.requires in omega arith) in
     let w : c.self.inside.words ≡ c.args.self.now.words = ap (λ (s : GhostState). s.words) c.self.view_is in
@@ -22,11 +22,11 @@ set-requires c =
 
 pub invariant_of-self : goal.invariant_of-self
 invariant_of-self c =
-    let k : Kept c.args.self.now = kept_now _ _ _ _ c.args.self.now c.self.invariant c.self.view_is in
+    let k : TableInvariant c.args.self.now = kept_now _ _ _ _ c.args.self.now c.self.invariant c.self.view_is in
     let w : c.self.inside.words ≡ c.args.self.now.words = ap (λ (s : GhostState). s.words) c.self.view_is in
     kept_as c.args.self.now c.args.desk (Claim c.args.block c.args.enabled c.args.null c.args.fields) _ _ _ _
     (kept_claim c.args.self.now c.args.desk c.args.block c.args.enabled c.args.null c.args.fields k c.requires.seat c.requires.making
     c.requires.known c.requires.room)
     (ap (λ (s : GhostState). s.extent) c.self.view_is)
     (let e = c.block_word.ensures in let s = c.set.ensures in cc)
-    c.then-past.ensures
+    c.then-ghost_history.ensures

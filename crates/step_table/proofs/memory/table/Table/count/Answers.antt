@@ -1,8 +1,8 @@
 use Rattle.std.proofs.Common.{◌≡◌, ◌==◌, ◌∙◌, ℕ, cond, subst, sym, ap, length, arith}
 use Rattle.control_word.specs.Packing.{funds_of, number_of}
-use Rattle.step_table.specs.declared.memory.past.AtomicStep.TheVariants.{Count}
+use Rattle.step_table.specs.declared.memory.ghost_history.AtomicStep.TheVariants.{Count}
 use Rattle.step_table.specs.AtomicSteps.{told_number}
-use Rattle.step_table.specs.GhostStates.{GhostState, Kept}
+use Rattle.step_table.specs.GhostStates.{GhostState, TableInvariant}
 use Rattle.step_table.proofs.tables.Owners.{exact_count, kept_count, told, told_most, told_none, told_word}
 use Rattle.step_table.proofs.tables.Places.{inside, handle_busy, there}
 use Rattle.step_table.proofs.tables.Standing.{found, kept_as, kept_now}
@@ -10,12 +10,12 @@ use Rattle.step_table.proofs.memory.table.Table.count.Goals as goal
 
 pub block_word-requires-clause-block : goal.block_word-requires-clause-block
 block_word-requires-clause-block c =
-    let k : Kept c.args.self.now = kept_now _ _ _ _ c.args.self.now c.self.invariant c.self.view_is in
+    let k : TableInvariant c.args.self.now = kept_now _ _ _ _ c.args.self.now c.self.invariant c.self.view_is in
     (there c.args.self.now c.args.pointer.block k (handle_busy c.args.self.now c.args.desk c.args.pointer.kind c.args.pointer.block _ k c.requires.held)).1.0
 
 pub get-requires : goal.get-requires
 get-requires c =
-    let k : Kept c.args.self.now = kept_now _ _ _ _ c.args.self.now c.self.invariant c.self.view_is in
+    let k : TableInvariant c.args.self.now = kept_now _ _ _ _ c.args.self.now c.self.invariant c.self.view_is in
     let i = inside c.args.self.now c.args.pointer.block 0 k (there c.args.self.now c.args.pointer.block k
     (handle_busy c.args.self.now c.args.desk c.args.pointer.kind c.args.pointer.block _ k c.requires.held)).1 (let q = c.requires in omega arith) in
     let w : c.self.inside.words ≡ c.args.self.now.words = ap (λ (s : GhostState). s.words) c.self.view_is in
@@ -24,56 +24,56 @@ get-requires c =
 
 pub invariant_of-self : goal.invariant_of-self
 invariant_of-self c =
-    let k : Kept c.args.self.now = kept_now _ _ _ _ c.args.self.now c.self.invariant c.self.view_is in
+    let k : TableInvariant c.args.self.now = kept_now _ _ _ _ c.args.self.now c.self.invariant c.self.view_is in
     let w : c.self.inside.words ≡ c.args.self.now.words = ap (λ (s : GhostState). s.words) c.self.view_is in
     let f = found c.self.inside.words c.args.self.now.words c.block_word.result _ _ w c.block_word.ensures c.get.ensures in
-    kept_as c.args.self.now c.args.desk (Count c.args.pointer.kind c.args.pointer.block c.args.pointer.place c.told_count-owners.result) _ _ _ _
-    (kept_count c.args.self.now c.args.desk c.args.pointer.kind c.args.pointer.block c.args.pointer.place c.told_count-owners.result k
+    kept_as c.args.self.now c.args.desk (Count c.args.pointer.kind c.args.pointer.block c.args.pointer.place c.use_count_of-owners.result) _ _ _ _
+    (kept_count c.args.self.now c.args.desk c.args.pointer.kind c.args.pointer.block c.args.pointer.place c.use_count_of-owners.result k
     c.requires.seat c.requires.idle
     c.requires.held (subst
-    (λ (x : ℕ). c.told_count-owners.result ≡ cond (number_of x == 0) (cond (funds_of x == 0) 0 1) (number_of x)) f
-    (told _ _ c.told_count-owners.ensures.counted c.told_count-owners.ensures.under_way c.told_count-owners.ensures.none)))
+    (λ (x : ℕ). c.use_count_of-owners.result ≡ cond (number_of x == 0) (cond (funds_of x == 0) 0 1) (number_of x)) f
+    (told _ _ c.use_count_of-owners.ensures.counted c.use_count_of-owners.ensures.under_way c.use_count_of-owners.ensures.none)))
     (ap (λ (s : GhostState). s.extent) c.self.view_is)
     (w)
     c.then-self-inside.ensures
 
 pub returns-clause-none : goal.returns-clause-none
 returns-clause-none c =
-    let k : Kept c.args.self.now = kept_now _ _ _ _ c.args.self.now c.self.invariant c.self.view_is in
+    let k : TableInvariant c.args.self.now = kept_now _ _ _ _ c.args.self.now c.self.invariant c.self.view_is in
     let w : c.self.inside.words ≡ c.args.self.now.words = ap (λ (s : GhostState). s.words) c.self.view_is in
     let f = found c.self.inside.words c.args.self.now.words c.block_word.result _ _ w c.block_word.ensures c.get.ensures in
-    told_none c.args.self.now c.args.desk c.args.pointer.kind c.args.pointer.block c.args.pointer.place c.told_count-owners.result k
+    told_none c.args.self.now c.args.desk c.args.pointer.kind c.args.pointer.block c.args.pointer.place c.use_count_of-owners.result k
     c.requires.seat c.requires.idle
     c.requires.held (subst
-    (λ (x : ℕ). c.told_count-owners.result ≡ cond (number_of x == 0) (cond (funds_of x == 0) 0 1) (number_of x)) f
-    (told _ _ c.told_count-owners.ensures.counted c.told_count-owners.ensures.under_way c.told_count-owners.ensures.none))
+    (λ (x : ℕ). c.use_count_of-owners.result ≡ cond (number_of x == 0) (cond (funds_of x == 0) 0 1) (number_of x)) f
+    (told _ _ c.use_count_of-owners.ensures.counted c.use_count_of-owners.ensures.under_way c.use_count_of-owners.ensures.none))
 
 pub returns-clause-most : goal.returns-clause-most
 returns-clause-most c =
-    let k : Kept c.args.self.now = kept_now _ _ _ _ c.args.self.now c.self.invariant c.self.view_is in
+    let k : TableInvariant c.args.self.now = kept_now _ _ _ _ c.args.self.now c.self.invariant c.self.view_is in
     let w : c.self.inside.words ≡ c.args.self.now.words = ap (λ (s : GhostState). s.words) c.self.view_is in
     let f = found c.self.inside.words c.args.self.now.words c.block_word.result _ _ w c.block_word.ensures c.get.ensures in
-    told_most c.args.self.now c.args.desk c.args.pointer.kind c.args.pointer.block c.args.pointer.place c.told_count-owners.result k
+    told_most c.args.self.now c.args.desk c.args.pointer.kind c.args.pointer.block c.args.pointer.place c.use_count_of-owners.result k
     c.requires.seat c.requires.idle
     c.requires.held (subst
-    (λ (x : ℕ). c.told_count-owners.result ≡ cond (number_of x == 0) (cond (funds_of x == 0) 0 1) (number_of x)) f
-    (told _ _ c.told_count-owners.ensures.counted c.told_count-owners.ensures.under_way c.told_count-owners.ensures.none))
+    (λ (x : ℕ). c.use_count_of-owners.result ≡ cond (number_of x == 0) (cond (funds_of x == 0) 0 1) (number_of x)) f
+    (told _ _ c.use_count_of-owners.ensures.counted c.use_count_of-owners.ensures.under_way c.use_count_of-owners.ensures.none))
 
 pub returns-clause-exact : goal.returns-clause-exact
 returns-clause-exact c =
-    let k : Kept c.args.self.now = kept_now _ _ _ _ c.args.self.now c.self.invariant c.self.view_is in
+    let k : TableInvariant c.args.self.now = kept_now _ _ _ _ c.args.self.now c.self.invariant c.self.view_is in
     let w : c.self.inside.words ≡ c.args.self.now.words = ap (λ (s : GhostState). s.words) c.self.view_is in
     let f = found c.self.inside.words c.args.self.now.words c.block_word.result _ _ w c.block_word.ensures c.get.ensures in
-    exact_count c.args.self.now c.args.desk c.args.pointer.kind c.args.pointer.block c.args.pointer.place c.told_count-owners.result k
+    exact_count c.args.self.now c.args.desk c.args.pointer.kind c.args.pointer.block c.args.pointer.place c.use_count_of-owners.result k
     c.requires.seat c.requires.idle
     c.requires.held (subst
-    (λ (x : ℕ). c.told_count-owners.result ≡ cond (number_of x == 0) (cond (funds_of x == 0) 0 1) (number_of x)) f
-    (told _ _ c.told_count-owners.ensures.counted c.told_count-owners.ensures.under_way c.told_count-owners.ensures.none))
+    (λ (x : ℕ). c.use_count_of-owners.result ≡ cond (number_of x == 0) (cond (funds_of x == 0) 0 1) (number_of x)) f
+    (told _ _ c.use_count_of-owners.ensures.counted c.use_count_of-owners.ensures.under_way c.use_count_of-owners.ensures.none))
 
 pub returns-clause-told : goal.returns-clause-told
 returns-clause-told c =
-    let k : Kept c.args.self.now = kept_now _ _ _ _ c.args.self.now c.self.invariant c.self.view_is in
+    let k : TableInvariant c.args.self.now = kept_now _ _ _ _ c.args.self.now c.self.invariant c.self.view_is in
     let w : c.self.inside.words ≡ c.args.self.now.words = ap (λ (s : GhostState). s.words) c.self.view_is in
     let f = found c.self.inside.words c.args.self.now.words c.block_word.result _ _ w c.block_word.ensures c.get.ensures in
-    told _ _ c.told_count-owners.ensures.counted c.told_count-owners.ensures.under_way c.told_count-owners.ensures.none
+    told _ _ c.use_count_of-owners.ensures.counted c.use_count_of-owners.ensures.under_way c.use_count_of-owners.ensures.none
     ∙ sym (told_word c.get.result) ∙ ap told_number f

@@ -2,8 +2,8 @@ use Rattle.std.proofs.Common.{◌≡◌, ◌-◌, ◌*◌, ℕ, ap, get_or, leng
 use Rattle.control_word.specs.Layout.{spot}
 use Rattle.control_word.specs.Words.{slot}
 use Rattle.step_table.specs.declared.cell_steps.cell_step.CellStep.TheVariants.{GiveBack}
-use Rattle.step_table.specs.declared.memory.past.AtomicStep.TheVariants.{OnCell}
-use Rattle.step_table.specs.GhostStates.{GhostState, Kept}
+use Rattle.step_table.specs.declared.memory.ghost_history.AtomicStep.TheVariants.{OnCell}
+use Rattle.step_table.specs.GhostStates.{GhostState, TableInvariant}
 use Rattle.step_table.proofs.tables.Funds.{funds_there, kept_give, paying_there, slot_few}
 use Rattle.step_table.proofs.tables.Places.{inside}
 use Rattle.step_table.proofs.tables.Standing.{found, kept_as, kept_now}
@@ -11,19 +11,19 @@ use Rattle.step_table.proofs.memory.table.Table.give_back.Goals as goal
 
 pub count_word-requires : goal.count_word-requires
 count_word-requires c =
-    let k : Kept c.args.self.now = kept_now _ _ _ _ c.args.self.now c.self.invariant c.self.view_is in
+    let k : TableInvariant c.args.self.now = kept_now _ _ _ _ c.args.self.now c.self.invariant c.self.view_is in
     let h = paying_there c.args.self.now c.args.desk c.args.kind c.args.block c.requires.owes.0 c.args.funds 0 k c.requires.seat c.requires.owes.1 in
     h.1.0
 
 pub count_word-requires-2 : goal.count_word-requires-2
 count_word-requires-2 c =
-    let k : Kept c.args.self.now = kept_now _ _ _ _ c.args.self.now c.self.invariant c.self.view_is in
+    let k : TableInvariant c.args.self.now = kept_now _ _ _ _ c.args.self.now c.self.invariant c.self.view_is in
     let h = paying_there c.args.self.now c.args.desk c.args.kind c.args.block c.requires.owes.0 c.args.funds 0 k c.requires.seat c.requires.owes.1 in
     h.1.0
 
 pub get-found-requires : goal.get-found-requires
 get-found-requires c =
-    let k : Kept c.args.self.now = kept_now _ _ _ _ c.args.self.now c.self.invariant c.self.view_is in
+    let k : TableInvariant c.args.self.now = kept_now _ _ _ _ c.args.self.now c.self.invariant c.self.view_is in
     let w : c.self.inside.words ≡ c.args.self.now.words = ap (λ (s : GhostState). s.words) c.self.view_is in
     let h = paying_there c.args.self.now c.args.desk c.args.kind c.args.block c.requires.owes.0 c.args.funds 0 k c.requires.seat c.requires.owes.1 in
     let i = inside c.args.self.now c.args.block (slot c.args.kind) k h.1 (slot_few c.args.kind) in
@@ -32,7 +32,7 @@ get-found-requires c =
 
 pub set-requires : goal.set-requires
 set-requires c =
-    let k : Kept c.args.self.now = kept_now _ _ _ _ c.args.self.now c.self.invariant c.self.view_is in
+    let k : TableInvariant c.args.self.now = kept_now _ _ _ _ c.args.self.now c.self.invariant c.self.view_is in
     let w : c.self.inside.words ≡ c.args.self.now.words = ap (λ (s : GhostState). s.words) c.self.view_is in
     let h = paying_there c.args.self.now c.args.desk c.args.kind c.args.block c.requires.owes.0 c.args.funds 0 k c.requires.seat c.requires.owes.1 in
     let i = inside c.args.self.now c.args.block (slot c.args.kind) k h.1 (slot_few c.args.kind) in
@@ -41,7 +41,7 @@ set-requires c =
 
 pub without_funds-requires : goal.without_funds-requires
 without_funds-requires c =
-    let k : Kept c.args.self.now = kept_now _ _ _ _ c.args.self.now c.self.invariant c.self.view_is in
+    let k : TableInvariant c.args.self.now = kept_now _ _ _ _ c.args.self.now c.self.invariant c.self.view_is in
     let w : c.self.inside.words ≡ c.args.self.now.words = ap (λ (s : GhostState). s.words) c.self.view_is in
     let h = paying_there c.args.self.now c.args.desk c.args.kind c.args.block c.requires.owes.0 c.args.funds 0 k c.requires.seat c.requires.owes.1 in
     let f = found c.self.inside.words c.args.self.now.words c.count_word.result _ _ w c.count_word.ensures c.get-found.ensures in
@@ -50,7 +50,7 @@ without_funds-requires c =
 
 pub invariant_of-self : goal.invariant_of-self
 invariant_of-self c =
-    let k : Kept c.args.self.now = kept_now _ _ _ _ c.args.self.now c.self.invariant c.self.view_is in
+    let k : TableInvariant c.args.self.now = kept_now _ _ _ _ c.args.self.now c.self.invariant c.self.view_is in
     let w : c.self.inside.words ≡ c.args.self.now.words = ap (λ (s : GhostState). s.words) c.self.view_is in
     let h = paying_there c.args.self.now c.args.desk c.args.kind c.args.block c.requires.owes.0 c.args.funds 0 k c.requires.seat c.requires.owes.1 in
     let f = found c.self.inside.words c.args.self.now.words c.count_word.result _ _ w c.count_word.ensures c.get-found.ensures in
@@ -60,4 +60,4 @@ invariant_of-self c =
     (let e = c.count_word-2.ensures in
     let g : c.without_funds.result ≡ get_or c.args.self.now.words (spot c.args.block.0 (slot c.args.kind)) 0 - 4294967296 * c.args.funds =
     let q = c.without_funds.ensures.word in omega (arith, f, q) in let s = c.set.ensures in cc)
-    c.then-past.ensures
+    c.then-ghost_history.ensures

@@ -1,20 +1,20 @@
 use Rattle.std.proofs.Common.{◌≡◌, ◌==◌, ◌∙◌, ℕ, ap, length, arith}
-use Rattle.step_table.specs.declared.memory.past.AtomicStep.TheVariants.{Expired}
+use Rattle.step_table.specs.declared.memory.ghost_history.AtomicStep.TheVariants.{Expired}
 use Rattle.step_table.proofs.tables.Weaks.{kept_expired, none_left}
-use Rattle.step_table.specs.GhostStates.{GhostState, Kept}
+use Rattle.step_table.specs.GhostStates.{GhostState, TableInvariant}
 use Rattle.step_table.proofs.tables.Places.{handle_busy, inside, there}
 use Rattle.step_table.proofs.tables.Standing.{found, kept_as, kept_now}
 use Rattle.step_table.proofs.memory.table.Table.is_expired.Goals as goal
 
 pub block_word-requires-clause-block : goal.block_word-requires-clause-block
 block_word-requires-clause-block c =
-    let k : Kept c.args.self.now = kept_now _ _ _ _ c.args.self.now c.self.invariant c.self.view_is in
+    let k : TableInvariant c.args.self.now = kept_now _ _ _ _ c.args.self.now c.self.invariant c.self.view_is in
     (there c.args.self.now c.args.pointer.block k
     (handle_busy c.args.self.now c.args.desk c.args.pointer.kind c.args.pointer.block c.args.pointer.place k c.requires.held)).1.0
 
 pub get-expired-requires : goal.get-expired-requires
 get-expired-requires c =
-    let k : Kept c.args.self.now = kept_now _ _ _ _ c.args.self.now c.self.invariant c.self.view_is in
+    let k : TableInvariant c.args.self.now = kept_now _ _ _ _ c.args.self.now c.self.invariant c.self.view_is in
     let i = inside c.args.self.now c.args.pointer.block 0 k (there c.args.self.now c.args.pointer.block k
     (handle_busy c.args.self.now c.args.desk c.args.pointer.kind c.args.pointer.block c.args.pointer.place k c.requires.held)).1
     (let q = c.requires in omega arith) in
@@ -24,7 +24,7 @@ get-expired-requires c =
 
 pub invariant_of-self : goal.invariant_of-self
 invariant_of-self c =
-    let k : Kept c.args.self.now = kept_now _ _ _ _ c.args.self.now c.self.invariant c.self.view_is in
+    let k : TableInvariant c.args.self.now = kept_now _ _ _ _ c.args.self.now c.self.invariant c.self.view_is in
     let w : c.self.inside.words ≡ c.args.self.now.words = ap (λ (s : GhostState). s.words) c.self.view_is in
     let f = found c.self.inside.words c.args.self.now.words c.block_word.result _ _ w c.block_word.ensures c.get-expired.ensures in
     let z = ap (λ (n : ℕ). n == 0) f
@@ -38,7 +38,7 @@ invariant_of-self c =
 
 pub returns-clause-exact : goal.returns-clause-exact
 returns-clause-exact c =
-    let k : Kept c.args.self.now = kept_now _ _ _ _ c.args.self.now c.self.invariant c.self.view_is in
+    let k : TableInvariant c.args.self.now = kept_now _ _ _ _ c.args.self.now c.self.invariant c.self.view_is in
     let w : c.self.inside.words ≡ c.args.self.now.words = ap (λ (s : GhostState). s.words) c.self.view_is in
     let f = found c.self.inside.words c.args.self.now.words c.block_word.result _ _ w c.block_word.ensures c.get-expired.ensures in
     ap (λ (n : ℕ). n == 0) f

@@ -1,6 +1,6 @@
 use Rattle.std.proofs.Common.{◌≡◌, ◌==◌, ◌∙◌, ℕ, ap, length, arith}
-use Rattle.step_table.specs.declared.memory.past.AtomicStep.TheVariants.{Leave}
-use Rattle.step_table.specs.GhostStates.{GhostState, Kept}
+use Rattle.step_table.specs.declared.memory.ghost_history.AtomicStep.TheVariants.{Leave}
+use Rattle.step_table.specs.GhostStates.{GhostState, TableInvariant}
 use Rattle.step_table.proofs.tables.Owners.{kept_leave, left_last, some_owner, whole_one}
 use Rattle.step_table.proofs.tables.Places.{inside, owner_busy, there}
 use Rattle.step_table.proofs.tables.Standing.{found, kept_as, kept_now}
@@ -8,12 +8,12 @@ use Rattle.step_table.proofs.memory.table.Table.leave.Goals as goal
 
 pub block_word-requires-clause-block : goal.block_word-requires-clause-block
 block_word-requires-clause-block c =
-    let k : Kept c.args.self.now = kept_now _ _ _ _ c.args.self.now c.self.invariant c.self.view_is in
+    let k : TableInvariant c.args.self.now = kept_now _ _ _ _ c.args.self.now c.self.invariant c.self.view_is in
     (there c.args.self.now c.args.block k (owner_busy c.args.self.now c.args.desk c.args.block _ k c.requires.held)).1.0
 
 pub get-found-requires : goal.get-found-requires
 get-found-requires c =
-    let k : Kept c.args.self.now = kept_now _ _ _ _ c.args.self.now c.self.invariant c.self.view_is in
+    let k : TableInvariant c.args.self.now = kept_now _ _ _ _ c.args.self.now c.self.invariant c.self.view_is in
     let i = inside c.args.self.now c.args.block 0 k (there c.args.self.now c.args.block k
     (owner_busy c.args.self.now c.args.desk c.args.block _ k c.requires.held)).1 (let q = c.requires in omega arith) in
     let w : c.self.inside.words ≡ c.args.self.now.words = ap (λ (s : GhostState). s.words) c.self.view_is in
@@ -22,12 +22,12 @@ get-found-requires c =
 
 pub block_word-requires-2-clause-block : goal.block_word-requires-2-clause-block
 block_word-requires-2-clause-block c =
-    let k : Kept c.args.self.now = kept_now _ _ _ _ c.args.self.now c.self.invariant c.self.view_is in
+    let k : TableInvariant c.args.self.now = kept_now _ _ _ _ c.args.self.now c.self.invariant c.self.view_is in
     (there c.args.self.now c.args.block k (owner_busy c.args.self.now c.args.desk c.args.block _ k c.requires.held)).1.0
 
 pub set-requires : goal.set-requires
 set-requires c =
-    let k : Kept c.args.self.now = kept_now _ _ _ _ c.args.self.now c.self.invariant c.self.view_is in
+    let k : TableInvariant c.args.self.now = kept_now _ _ _ _ c.args.self.now c.self.invariant c.self.view_is in
     let i = inside c.args.self.now c.args.block 0 k (there c.args.self.now c.args.block k
     (owner_busy c.args.self.now c.args.desk c.args.block _ k c.requires.held)).1 (let q = c.requires in omega arith) in
     let w : c.self.inside.words ≡ c.args.self.now.words = ap (λ (s : GhostState). s.words) c.self.view_is in
@@ -36,7 +36,7 @@ set-requires c =
 
 pub overflow_sub-found : goal.overflow_sub-found
 overflow_sub-found c =
-    let k : Kept c.args.self.now = kept_now _ _ _ _ c.args.self.now c.self.invariant c.self.view_is in
+    let k : TableInvariant c.args.self.now = kept_now _ _ _ _ c.args.self.now c.self.invariant c.self.view_is in
     let w : c.self.inside.words ≡ c.args.self.now.words = ap (λ (s : GhostState). s.words) c.self.view_is in
     let f = found c.self.inside.words c.args.self.now.words c.block_word.result _ _ w c.block_word.ensures c.get-found.ensures in
     let s = some_owner c.args.self.now c.args.desk c.args.block c.args.place k c.requires.seat c.requires.idle c.requires.held in
@@ -44,7 +44,7 @@ overflow_sub-found c =
 
 pub invariant_of-self : goal.invariant_of-self
 invariant_of-self c =
-    let k : Kept c.args.self.now = kept_now _ _ _ _ c.args.self.now c.self.invariant c.self.view_is in
+    let k : TableInvariant c.args.self.now = kept_now _ _ _ _ c.args.self.now c.self.invariant c.self.view_is in
     let w : c.self.inside.words ≡ c.args.self.now.words = ap (λ (s : GhostState). s.words) c.self.view_is in
     let f = found c.self.inside.words c.args.self.now.words c.block_word.result _ _ w c.block_word.ensures c.get-found.ensures in
     kept_as c.args.self.now c.args.desk (Leave c.args.block c.args.place c.is_last-last.result) _ _ _ _
@@ -52,11 +52,11 @@ invariant_of-self c =
     c.requires.held (whole_one c.is_last-last.result c.get-found.result c.is_last-last.ensures ∙ ap (λ (n : ℕ). n == 1) f))
     (ap (λ (s : GhostState). s.extent) c.self.view_is)
     (let e = c.block_word-2.ensures in let s = c.set.ensures in cc)
-    c.then-past.ensures
+    c.then-ghost_history.ensures
 
 pub returns-clause-last : goal.returns-clause-last
 returns-clause-last c =
-    let k : Kept c.args.self.now = kept_now _ _ _ _ c.args.self.now c.self.invariant c.self.view_is in
+    let k : TableInvariant c.args.self.now = kept_now _ _ _ _ c.args.self.now c.self.invariant c.self.view_is in
     let w : c.self.inside.words ≡ c.args.self.now.words = ap (λ (s : GhostState). s.words) c.self.view_is in
     let f = found c.self.inside.words c.args.self.now.words c.block_word.result _ _ w c.block_word.ensures c.get-found.ensures in
     left_last c.args.self.now c.args.desk c.args.block c.args.place _

@@ -1,6 +1,6 @@
 use Rattle.std.proofs.Common.{◌≡◌, ◌+◌, ◌∙◌, ℕ, ap, length, arith}
 use Rattle.control_word.specs.Layout.{spot}
-use Rattle.step_table.specs.GhostStates.{GhostState, Kept}
+use Rattle.step_table.specs.GhostStates.{GhostState, TableInvariant}
 use Rattle.step_table.proofs.tables.Making.{known_word}
 use Rattle.step_table.proofs.tables.Places.{inside, making_place}
 use Rattle.step_table.proofs.tables.Standing.{found, kept_now}
@@ -8,12 +8,12 @@ use Rattle.step_table.proofs.memory.table.Table.look.Goals as goal
 
 pub block_word-requires-clause-block : goal.block_word-requires-clause-block
 block_word-requires-clause-block c =
-    let k : Kept c.args.self.now = kept_now _ _ _ _ c.args.self.now c.self.invariant c.self.view_is in
+    let k : TableInvariant c.args.self.now = kept_now _ _ _ _ c.args.self.now c.self.invariant c.self.view_is in
     (making_place c.args.self.now c.args.desk c.args.block _ k c.requires.seat c.requires.making.making).0
 
 pub get-requires : goal.get-requires
 get-requires c =
-    let k : Kept c.args.self.now = kept_now _ _ _ _ c.args.self.now c.self.invariant c.self.view_is in
+    let k : TableInvariant c.args.self.now = kept_now _ _ _ _ c.args.self.now c.self.invariant c.self.view_is in
     let i = inside c.args.self.now c.args.block (2 + c.args.index) k
     (making_place c.args.self.now c.args.desk c.args.block _ k c.requires.seat c.requires.making.making) (let q = c.requires in omega arith) in
     let w : c.self.inside.words ≡ c.args.self.now.words = ap (λ (s : GhostState). s.words) c.self.view_is in
@@ -22,7 +22,7 @@ get-requires c =
 
 pub returns : goal.returns
 returns c =
-    let k : Kept c.args.self.now = kept_now _ _ _ _ c.args.self.now c.self.invariant c.self.view_is in
+    let k : TableInvariant c.args.self.now = kept_now _ _ _ _ c.args.self.now c.self.invariant c.self.view_is in
     let w : c.self.inside.words ≡ c.args.self.now.words = ap (λ (s : GhostState). s.words) c.self.view_is in
     let i = inside c.args.self.now c.args.block (2 + c.args.index) k
     (making_place c.args.self.now c.args.desk c.args.block _ k c.requires.seat c.requires.making.making) (let q = c.requires in omega arith) in

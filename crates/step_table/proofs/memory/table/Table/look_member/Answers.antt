@@ -1,7 +1,7 @@
 use Rattle.std.proofs.Common.{◌≡◌, ◌+◌, ◌∙◌, ℕ, ap, length, sym, arith}
 use Rattle.control_word.specs.Layout.{spot}
-use Rattle.step_table.specs.declared.memory.past.AtomicStep.TheVariants.{Clear}
-use Rattle.step_table.specs.GhostStates.{GhostState, Kept}
+use Rattle.step_table.specs.declared.memory.ghost_history.AtomicStep.TheVariants.{Clear}
+use Rattle.step_table.specs.GhostStates.{GhostState, TableInvariant}
 use Rattle.step_table.proofs.tables.Endings.{kept_clear, member_shows}
 use Rattle.step_table.proofs.tables.Places.{ending_busy, inside, there}
 use Rattle.step_table.proofs.tables.Standing.{found, kept_as, kept_now}
@@ -9,12 +9,12 @@ use Rattle.step_table.proofs.memory.table.Table.look_member.Goals as goal
 
 pub block_word-requires-clause-block : goal.block_word-requires-clause-block
 block_word-requires-clause-block c =
-    let k : Kept c.args.self.now = kept_now _ _ _ _ c.args.self.now c.self.invariant c.self.view_is in
+    let k : TableInvariant c.args.self.now = kept_now _ _ _ _ c.args.self.now c.self.invariant c.self.view_is in
     (there c.args.self.now c.args.block k (ending_busy c.args.self.now c.args.desk c.args.block c.requires.ending)).1.0
 
 pub get-found-requires : goal.get-found-requires
 get-found-requires c =
-    let k : Kept c.args.self.now = kept_now _ _ _ _ c.args.self.now c.self.invariant c.self.view_is in
+    let k : TableInvariant c.args.self.now = kept_now _ _ _ _ c.args.self.now c.self.invariant c.self.view_is in
     let i = inside c.args.self.now c.args.block (7 + c.args.member) k (there c.args.self.now c.args.block k
     (ending_busy c.args.self.now c.args.desk c.args.block c.requires.ending)).1 (let q = c.requires in omega arith) in
     let w : c.self.inside.words ≡ c.args.self.now.words = ap (λ (s : GhostState). s.words) c.self.view_is in
@@ -23,7 +23,7 @@ get-found-requires c =
 
 pub returns-then-found-gt0-clause-found : goal.returns-then-found-gt0-clause-found
 returns-then-found-gt0-clause-found c =
-    let k : Kept c.args.self.now = kept_now _ _ _ _ c.args.self.now c.self.invariant c.self.view_is in
+    let k : TableInvariant c.args.self.now = kept_now _ _ _ _ c.args.self.now c.self.invariant c.self.view_is in
     let w : c.self.inside.words ≡ c.args.self.now.words = ap (λ (s : GhostState). s.words) c.self.view_is in
     let i = inside c.args.self.now c.args.block (7 + c.args.member) k (there c.args.self.now c.args.block k
     (ending_busy c.args.self.now c.args.desk c.args.block c.requires.ending)).1 (let q = c.requires in omega arith) in
@@ -33,7 +33,7 @@ returns-then-found-gt0-clause-found c =
 
 pub returns-then-found-gt0-clause-empty : goal.returns-then-found-gt0-clause-empty
 returns-then-found-gt0-clause-empty c =
-    let k : Kept c.args.self.now = kept_now _ _ _ _ c.args.self.now c.self.invariant c.self.view_is in
+    let k : TableInvariant c.args.self.now = kept_now _ _ _ _ c.args.self.now c.self.invariant c.self.view_is in
     let w : c.self.inside.words ≡ c.args.self.now.words = ap (λ (s : GhostState). s.words) c.self.view_is in
     let i = inside c.args.self.now c.args.block (7 + c.args.member) k (there c.args.self.now c.args.block k
     (ending_busy c.args.self.now c.args.desk c.args.block c.requires.ending)).1 (let q = c.requires in omega arith) in
@@ -44,7 +44,7 @@ returns-then-found-gt0-clause-empty c =
 
 pub returns-clause-found : goal.returns-clause-found
 returns-clause-found c =
-    let k : Kept c.args.self.now = kept_now _ _ _ _ c.args.self.now c.self.invariant c.self.view_is in
+    let k : TableInvariant c.args.self.now = kept_now _ _ _ _ c.args.self.now c.self.invariant c.self.view_is in
     let w : c.self.inside.words ≡ c.args.self.now.words = ap (λ (s : GhostState). s.words) c.self.view_is in
     let i = inside c.args.self.now c.args.block (7 + c.args.member) k (there c.args.self.now c.args.block k
     (ending_busy c.args.self.now c.args.desk c.args.block c.requires.ending)).1 (let q = c.requires in omega arith) in
@@ -54,7 +54,7 @@ returns-clause-found c =
 
 pub returns-clause-empty : goal.returns-clause-empty
 returns-clause-empty c =
-    let k : Kept c.args.self.now = kept_now _ _ _ _ c.args.self.now c.self.invariant c.self.view_is in
+    let k : TableInvariant c.args.self.now = kept_now _ _ _ _ c.args.self.now c.self.invariant c.self.view_is in
     let w : c.self.inside.words ≡ c.args.self.now.words = ap (λ (s : GhostState). s.words) c.self.view_is in
     let i = inside c.args.self.now c.args.block (7 + c.args.member) k (there c.args.self.now c.args.block k
     (ending_busy c.args.self.now c.args.desk c.args.block c.requires.ending)).1 (let q = c.requires in omega arith) in
@@ -65,7 +65,7 @@ returns-clause-empty c =
 
 pub invariant_of-self : goal.invariant_of-self
 invariant_of-self c =
-    let k : Kept c.args.self.now = kept_now _ _ _ _ c.args.self.now c.self.invariant c.self.view_is in
+    let k : TableInvariant c.args.self.now = kept_now _ _ _ _ c.args.self.now c.self.invariant c.self.view_is in
     let w : c.self.inside.words ≡ c.args.self.now.words = ap (λ (s : GhostState). s.words) c.self.view_is in
     let i = inside c.args.self.now c.args.block (7 + c.args.member) k (there c.args.self.now c.args.block k
     (ending_busy c.args.self.now c.args.desk c.args.block c.requires.ending)).1 (let q = c.requires in omega arith) in

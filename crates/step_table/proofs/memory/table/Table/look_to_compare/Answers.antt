@@ -1,11 +1,11 @@
 use Rattle.std.proofs.Common.{◌≡◌, ◌∙◌, ap, sym}
 use Rattle.control_word.specs.Handles.{equivalent}
 use Rattle.step_table.specs.CellAtomicSteps.{handle_told}
-use Rattle.step_table.specs.GhostStates.{GhostState, Kept, model_state}
+use Rattle.step_table.specs.GhostStates.{GhostState, TableInvariant, model_state}
 use Rattle.step_table.proofs.tables.Standing.{kept_as, kept_now}
 use Rattle.std.specs.Prelude.{Some, is_some}
 use Rattle.step_table.specs.declared.cell_steps.cell_step.CellStep.TheVariants.{Look}
-use Rattle.step_table.specs.declared.memory.past.AtomicStep.TheVariants.{OnCell}
+use Rattle.step_table.specs.declared.memory.ghost_history.AtomicStep.TheVariants.{OnCell}
 use Rattle.step_table.proofs.tables.Loads.{is_bare, kept_look_differing, left_none, left_same, ghost_here}
 use Rattle.step_table.proofs.memory.table.Table.look_to_compare.Goals as goal
 
@@ -14,7 +14,7 @@ is_same_empty-requires c = is_bare c.shown-found.result (sym c.is_some.ensures �
 
 pub invariant_of-self : goal.invariant_of-self
 invariant_of-self c =
-    let k : Kept c.args.self.now = kept_now _ _ _ _ c.args.self.now c.self.invariant c.self.view_is in
+    let k : TableInvariant c.args.self.now = kept_now _ _ _ _ c.args.self.now c.self.invariant c.self.view_is in
     let w : c.self.inside.words ≡ c.args.self.now.words = ap (λ (s : GhostState). s.words) c.self.view_is in
     let x : c.self.inside.extent ≡ c.args.self.now.extent = ap (λ (s : GhostState). s.extent) c.self.view_is in
     let e = is_bare c.shown-found.result (sym c.is_some.ensures ∙ c.if-is_some.false) in

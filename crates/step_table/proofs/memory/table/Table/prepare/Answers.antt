@@ -1,5 +1,5 @@
 use Rattle.std.proofs.Common.{◌≡◌, ℕ, ap, length, arith}
-use Rattle.step_table.specs.declared.memory.past.AtomicStep.TheVariants.{Prepare}
+use Rattle.step_table.specs.declared.memory.ghost_history.AtomicStep.TheVariants.{Prepare}
 use Rattle.step_table.specs.GhostStates.{GhostState}
 use Rattle.step_table.proofs.tables.Making.{kept_prepare}
 use Rattle.step_table.proofs.tables.Places.{inside, vacant_place}
@@ -24,4 +24,4 @@ invariant_of-self c =
     kept_as c.args.self.now c.args.desk (Prepare c.args.block) _ _ _ _ (kept_prepare _ _ _ k c.requires.seat c.requires.idle c.requires.stored)
     (ap (λ (s : GhostState). s.extent) c.self.view_is)
     (let e = c.block_word.ensures in let s = c.set.ensures in cc)
-    c.then-past.ensures
+    c.then-ghost_history.ensures

@@ -1,20 +1,20 @@
 use Rattle.std.proofs.Common.{◌≡◌, ◌∙◌, ℕ, ap, length, sym, arith}
 use Rattle.step_table.specs.declared.memory.extent.Extent.{Extent}
 use Rattle.step_table.specs.CellAtomicSteps.{word_of}
-use Rattle.step_table.specs.GhostStates.{GhostState, Kept}
+use Rattle.step_table.specs.GhostStates.{GhostState, TableInvariant}
 use Rattle.step_table.proofs.tables.Standing.{found, kept_now}
 use Rattle.step_table.proofs.tables.Shown.{cell_packed, found_in, kept_cell, somewhere, word_inside}
 use Rattle.step_table.proofs.memory.table.Table.shown.Goals as goal
 
 pub place_of-requires : goal.place_of-requires
 place_of-requires c =
-    let k : Kept c.args.self.now = kept_now _ _ _ _ c.args.self.now c.self.invariant c.self.view_is in
+    let k : TableInvariant c.args.self.now = kept_now _ _ _ _ c.args.self.now c.self.invariant c.self.view_is in
     let is = kept_cell c.args.self.now c.args.desk c.args.cell k c.requires.open in
     somewhere c.args.self.now c.args.cell k is
 
 pub get-requires : goal.get-requires
 get-requires c =
-    let k : Kept c.args.self.now = kept_now _ _ _ _ c.args.self.now c.self.invariant c.self.view_is in
+    let k : TableInvariant c.args.self.now = kept_now _ _ _ _ c.args.self.now c.self.invariant c.self.view_is in
     let w : c.self.inside.words ≡ c.args.self.now.words = ap (λ (s : GhostState). s.words) c.self.view_is in
     let x : c.self.inside.extent ≡ c.args.self.now.extent = ap (λ (s : GhostState). s.extent) c.self.view_is in
     let is = kept_cell c.args.self.now c.args.desk c.args.cell k c.requires.open in
@@ -25,7 +25,7 @@ get-requires c =
 
 pub unpack-requires : goal.unpack-requires
 unpack-requires c =
-    let k : Kept c.args.self.now = kept_now _ _ _ _ c.args.self.now c.self.invariant c.self.view_is in
+    let k : TableInvariant c.args.self.now = kept_now _ _ _ _ c.args.self.now c.self.invariant c.self.view_is in
     let w : c.self.inside.words ≡ c.args.self.now.words = ap (λ (s : GhostState). s.words) c.self.view_is in
     let x : c.self.inside.extent ≡ c.args.self.now.extent = ap (λ (s : GhostState). s.extent) c.self.view_is in
     let is = kept_cell c.args.self.now c.args.desk c.args.cell k c.requires.open in
@@ -36,7 +36,7 @@ unpack-requires c =
 
 pub returns : goal.returns
 returns c =
-    let k : Kept c.args.self.now = kept_now _ _ _ _ c.args.self.now c.self.invariant c.self.view_is in
+    let k : TableInvariant c.args.self.now = kept_now _ _ _ _ c.args.self.now c.self.invariant c.self.view_is in
     let w : c.self.inside.words ≡ c.args.self.now.words = ap (λ (s : GhostState). s.words) c.self.view_is in
     let x : c.self.inside.extent ≡ c.args.self.now.extent = ap (λ (s : GhostState). s.extent) c.self.view_is in
     let is = kept_cell c.args.self.now c.args.desk c.args.cell k c.requires.open in

@@ -1,5 +1,5 @@
 use Rattle.std.proofs.Common.{◌≡◌, ◌+◌, ◌∙◌, ℕ, ap, length, sym, arith}
-use Rattle.step_table.specs.GhostStates.{GhostState, Kept}
+use Rattle.step_table.specs.GhostStates.{GhostState, TableInvariant}
 use Rattle.step_table.proofs.tables.Standing.{found, kept_now}
 use Rattle.control_word.specs.Layout.{spot}
 use Rattle.step_table.specs.declared.cell_steps.cell_step.Cell.TheVariants.{Member}
@@ -9,13 +9,13 @@ use Rattle.step_table.proofs.memory.table.Table.shown_member.Goals as goal
 
 pub block_word-requires-clause-block : goal.block_word-requires-clause-block
 block_word-requires-clause-block c =
-    let k : Kept c.args.self.now = kept_now _ _ _ _ c.args.self.now c.self.invariant c.self.view_is in
+    let k : TableInvariant c.args.self.now = kept_now _ _ _ _ c.args.self.now c.self.invariant c.self.view_is in
     let is = ending_cell c.args.self.now c.args.desk c.args.block c.args.member c.requires.ending c.requires.inside in
     (somewhere c.args.self.now (Member c.args.block c.args.member) k is).0
 
 pub get-requires : goal.get-requires
 get-requires c =
-    let k : Kept c.args.self.now = kept_now _ _ _ _ c.args.self.now c.self.invariant c.self.view_is in
+    let k : TableInvariant c.args.self.now = kept_now _ _ _ _ c.args.self.now c.self.invariant c.self.view_is in
     let w : c.self.inside.words ≡ c.args.self.now.words = ap (λ (s : GhostState). s.words) c.self.view_is in
     let is = ending_cell c.args.self.now c.args.desk c.args.block c.args.member c.requires.ending c.requires.inside in
     let i = word_inside c.args.self.now c.args.desk (Member c.args.block c.args.member) k c.requires.seat is in
@@ -25,7 +25,7 @@ get-requires c =
 
 pub unpack-requires : goal.unpack-requires
 unpack-requires c =
-    let k : Kept c.args.self.now = kept_now _ _ _ _ c.args.self.now c.self.invariant c.self.view_is in
+    let k : TableInvariant c.args.self.now = kept_now _ _ _ _ c.args.self.now c.self.invariant c.self.view_is in
     let w : c.self.inside.words ≡ c.args.self.now.words = ap (λ (s : GhostState). s.words) c.self.view_is in
     let is = ending_cell c.args.self.now c.args.desk c.args.block c.args.member c.requires.ending c.requires.inside in
     let at : c.block_word.result ≡ spot c.args.block.0 (7 + c.args.member) =
@@ -35,7 +35,7 @@ unpack-requires c =
 
 pub returns : goal.returns
 returns c =
-    let k : Kept c.args.self.now = kept_now _ _ _ _ c.args.self.now c.self.invariant c.self.view_is in
+    let k : TableInvariant c.args.self.now = kept_now _ _ _ _ c.args.self.now c.self.invariant c.self.view_is in
     let w : c.self.inside.words ≡ c.args.self.now.words = ap (λ (s : GhostState). s.words) c.self.view_is in
     let is = ending_cell c.args.self.now c.args.desk c.args.block c.args.member c.requires.ending c.requires.inside in
     let at : c.block_word.result ≡ spot c.args.block.0 (7 + c.args.member) =

@@ -1,12 +1,12 @@
 use Rattle.std.proofs.Common.{◌≡◌, ◌+◌, ◌∙◌, ℕ, ap, get_or, length, sym, arith}
 use Rattle.step_table.specs.declared.memory.extent.Extent.{Extent}
 use Rattle.step_table.specs.CellAtomicSteps.{word_of}
-use Rattle.step_table.specs.GhostStates.{GhostState, Kept}
+use Rattle.step_table.specs.GhostStates.{GhostState, TableInvariant}
 use Rattle.step_table.proofs.tables.Standing.{kept_as, kept_now}
 use Rattle.std.specs.Prelude.{Some}
 use Rattle.std.proofs.lemmas.Bool.{eqb-true}
 use Rattle.step_table.specs.declared.cell_steps.cell_step.CellStep.TheVariants.{Take}
-use Rattle.step_table.specs.declared.memory.past.AtomicStep.TheVariants.{OnCell}
+use Rattle.step_table.specs.declared.memory.ghost_history.AtomicStep.TheVariants.{OnCell}
 use Rattle.step_table.proofs.tables.Shown.{kept_cell, somewhere, word_inside}
 use Rattle.step_table.proofs.tables.Swaps.{cell_bits_few, kept_take_differing}
 use Rattle.step_table.proofs.memory.table.Table.take_differing.Goals as goal
@@ -17,13 +17,13 @@ overflow_add-pack c =
 
 pub place_of-requires : goal.place_of-requires
 place_of-requires c =
-    let k : Kept c.args.self.now = kept_now _ _ _ _ c.args.self.now c.self.invariant c.self.view_is in
+    let k : TableInvariant c.args.self.now = kept_now _ _ _ _ c.args.self.now c.self.invariant c.self.view_is in
     let is = kept_cell c.args.self.now c.args.desk c.args.cell k c.requires.open in
     somewhere c.args.self.now c.args.cell k is
 
 pub set-requires : goal.set-requires
 set-requires c =
-    let k : Kept c.args.self.now = kept_now _ _ _ _ c.args.self.now c.self.invariant c.self.view_is in
+    let k : TableInvariant c.args.self.now = kept_now _ _ _ _ c.args.self.now c.self.invariant c.self.view_is in
     let w : c.self.inside.words ≡ c.args.self.now.words = ap (λ (s : GhostState). s.words) c.self.view_is in
     let x : c.self.inside.extent ≡ c.args.self.now.extent = ap (λ (s : GhostState). s.extent) c.self.view_is in
     let is = kept_cell c.args.self.now c.args.desk c.args.cell k c.requires.open in
@@ -34,7 +34,7 @@ set-requires c =
 
 pub invariant_of-self : goal.invariant_of-self
 invariant_of-self c =
-    let k : Kept c.args.self.now = kept_now _ _ _ _ c.args.self.now c.self.invariant c.self.view_is in
+    let k : TableInvariant c.args.self.now = kept_now _ _ _ _ c.args.self.now c.self.invariant c.self.view_is in
     let w : c.self.inside.words ≡ c.args.self.now.words = ap (λ (s : GhostState). s.words) c.self.view_is in
     let x : c.self.inside.extent ≡ c.args.self.now.extent = ap (λ (s : GhostState). s.extent) c.self.view_is in
     let is = kept_cell c.args.self.now c.args.desk c.args.cell k c.requires.open in
@@ -47,4 +47,4 @@ invariant_of-self c =
     c.requires.differs c.requires.expected c.requires.hand c.requires.room
     c.requires.seen.0 z)
     x (let e = c.pack.ensures in let g : c.pack.result + 17179869184 ≡ get_or c.args.self.now.words
-    (word_of c.args.self.now.extent.shape.blocks c.args.cell) 0 + 17179869184 = omega (arith, e, z) in let s = c.set.ensures in cc) c.then-past.ensures
+    (word_of c.args.self.now.extent.shape.blocks c.args.cell) 0 + 17179869184 = omega (arith, e, z) in let s = c.set.ensures in cc) c.then-ghost_history.ensures

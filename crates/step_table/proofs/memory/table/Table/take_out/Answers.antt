@@ -1,23 +1,23 @@
 use Rattle.std.proofs.Common.{◌≡◌, ◌+◌, ◌∙◌, ℕ, ap, length, arith}
-use Rattle.step_table.specs.GhostStates.{GhostState, Kept}
+use Rattle.step_table.specs.GhostStates.{GhostState, TableInvariant}
 use Rattle.step_table.proofs.tables.Standing.{kept_as, kept_now}
 use Rattle.control_word.specs.Layout.{spot}
 use Rattle.step_table.specs.declared.cell_steps.cell_step.Cell.TheVariants.{Member}
 use Rattle.step_table.specs.declared.cell_steps.cell_step.CellStep.TheVariants.{TakeOut}
-use Rattle.step_table.specs.declared.memory.past.AtomicStep.TheVariants.{OnCell}
+use Rattle.step_table.specs.declared.memory.ghost_history.AtomicStep.TheVariants.{OnCell}
 use Rattle.step_table.proofs.tables.Shown.{somewhere, word_inside}
 use Rattle.step_table.proofs.tables.Swaps.{ending_cell, kept_take_out}
 use Rattle.step_table.proofs.memory.table.Table.take_out.Goals as goal
 
 pub block_word-requires-clause-block : goal.block_word-requires-clause-block
 block_word-requires-clause-block c =
-    let k : Kept c.args.self.now = kept_now _ _ _ _ c.args.self.now c.self.invariant c.self.view_is in
+    let k : TableInvariant c.args.self.now = kept_now _ _ _ _ c.args.self.now c.self.invariant c.self.view_is in
     let is = ending_cell c.args.self.now c.args.desk c.args.block c.args.member c.requires.ending c.requires.inside in
     (somewhere c.args.self.now (Member c.args.block c.args.member) k is).0
 
 pub set-requires : goal.set-requires
 set-requires c =
-    let k : Kept c.args.self.now = kept_now _ _ _ _ c.args.self.now c.self.invariant c.self.view_is in
+    let k : TableInvariant c.args.self.now = kept_now _ _ _ _ c.args.self.now c.self.invariant c.self.view_is in
     let w : c.self.inside.words ≡ c.args.self.now.words = ap (λ (s : GhostState). s.words) c.self.view_is in
     let is = ending_cell c.args.self.now c.args.desk c.args.block c.args.member c.requires.ending c.requires.inside in
     let i = word_inside c.args.self.now c.args.desk (Member c.args.block c.args.member) k c.requires.seat is in
@@ -27,7 +27,7 @@ set-requires c =
 
 pub invariant_of-self : goal.invariant_of-self
 invariant_of-self c =
-    let k : Kept c.args.self.now = kept_now _ _ _ _ c.args.self.now c.self.invariant c.self.view_is in
+    let k : TableInvariant c.args.self.now = kept_now _ _ _ _ c.args.self.now c.self.invariant c.self.view_is in
     let w : c.self.inside.words ≡ c.args.self.now.words = ap (λ (s : GhostState). s.words) c.self.view_is in
     let x : c.self.inside.extent ≡ c.args.self.now.extent = ap (λ (s : GhostState). s.extent) c.self.view_is in
     let is = ending_cell c.args.self.now c.args.desk c.args.block c.args.member c.requires.ending c.requires.inside in
@@ -37,4 +37,4 @@ invariant_of-self c =
     (kept_take_out c.args.self.now c.args.desk c.args.block c.args.member c.shown_member-found.result k c.requires.seat c.requires.idle
     c.requires.ending c.requires.inside
     c.requires.room c.shown_member-found.ensures)
-    x (let e = at in let s = c.set.ensures in cc) c.then-past.ensures
+    x (let e = at in let s = c.set.ensures in cc) c.then-ghost_history.ensures

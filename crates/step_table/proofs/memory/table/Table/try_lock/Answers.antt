@@ -1,25 +1,25 @@
 use Rattle.std.proofs.Common.{◌≡◌, ◌==◌, ◌∙◌, ℕ, suc, ◌+◌, get_or, ap, length, arith}
 use Rattle.control_word.specs.declared.model.handle.Kind.TheVariants.{Owner, Weak}
-use Rattle.step_table.specs.declared.memory.past.AtomicStep.TheVariants.{Lock}
+use Rattle.step_table.specs.declared.memory.ghost_history.AtomicStep.TheVariants.{Lock}
 use Rattle.std.specs.Prelude.{true}
 use Rattle.step_table.proofs.tables.Locks.{kept_lock}
 use Rattle.step_table.proofs.tables.Owners.{room_above}
 use Rattle.step_table.proofs.tables.Weaks.{none_left}
 use Rattle.control_word.specs.Layout.{spot}
-use Rattle.step_table.specs.GhostStates.{GhostState, Kept}
+use Rattle.step_table.specs.GhostStates.{GhostState, TableInvariant}
 use Rattle.step_table.proofs.tables.Places.{handle_busy, inside, there}
 use Rattle.step_table.proofs.tables.Standing.{found, kept_as, kept_now}
 use Rattle.step_table.proofs.memory.table.Table.try_lock.Goals as goal
 
 pub block_word-requires-clause-block : goal.block_word-requires-clause-block
 block_word-requires-clause-block c =
-    let k : Kept c.args.self.now = kept_now _ _ _ _ c.args.self.now c.self.invariant c.self.view_is in
+    let k : TableInvariant c.args.self.now = kept_now _ _ _ _ c.args.self.now c.self.invariant c.self.view_is in
     (there c.args.self.now c.args.block k
     (handle_busy c.args.self.now c.args.desk Weak c.args.block c.args.place k c.requires.held)).1.0
 
 pub get-now-requires : goal.get-now-requires
 get-now-requires c =
-    let k : Kept c.args.self.now = kept_now _ _ _ _ c.args.self.now c.self.invariant c.self.view_is in
+    let k : TableInvariant c.args.self.now = kept_now _ _ _ _ c.args.self.now c.self.invariant c.self.view_is in
     let i = inside c.args.self.now c.args.block 0 k (there c.args.self.now c.args.block k
     (handle_busy c.args.self.now c.args.desk Weak c.args.block c.args.place k c.requires.held)).1 (let q = c.requires in omega arith) in
     let w : c.self.inside.words ≡ c.args.self.now.words = ap (λ (s : GhostState). s.words) c.self.view_is in
@@ -28,35 +28,35 @@ get-now-requires c =
 
 pub returns-then-now-found-clause-word : goal.returns-then-now-found-clause-word
 returns-then-now-found-clause-word c =
-    let k : Kept c.args.self.now = kept_now _ _ _ _ c.args.self.now c.self.invariant c.self.view_is in
+    let k : TableInvariant c.args.self.now = kept_now _ _ _ _ c.args.self.now c.self.invariant c.self.view_is in
     let w : c.self.inside.words ≡ c.args.self.now.words = ap (λ (s : GhostState). s.words) c.self.view_is in
     let f = found c.self.inside.words c.args.self.now.words c.block_word.result _ _ w c.block_word.ensures c.get-now.ensures in
     f
 
 pub returns-clause-word : goal.returns-clause-word
 returns-clause-word c =
-    let k : Kept c.args.self.now = kept_now _ _ _ _ c.args.self.now c.self.invariant c.self.view_is in
+    let k : TableInvariant c.args.self.now = kept_now _ _ _ _ c.args.self.now c.self.invariant c.self.view_is in
     let w : c.self.inside.words ≡ c.args.self.now.words = ap (λ (s : GhostState). s.words) c.self.view_is in
     let f = found c.self.inside.words c.args.self.now.words c.block_word.result _ _ w c.block_word.ensures c.get-now.ensures in
     f
 
 pub returns-then-now-found-clause-left : goal.returns-then-now-found-clause-left
 returns-then-now-found-clause-left c =
-    let k : Kept c.args.self.now = kept_now _ _ _ _ c.args.self.now c.self.invariant c.self.view_is in
+    let k : TableInvariant c.args.self.now = kept_now _ _ _ _ c.args.self.now c.self.invariant c.self.view_is in
     let w : c.self.inside.words ≡ c.args.self.now.words = ap (λ (s : GhostState). s.words) c.self.view_is in
     let f = found c.self.inside.words c.args.self.now.words c.block_word.result _ _ w c.block_word.ensures c.get-now.ensures in
     ap (λ (n : ℕ). n == 0) f ∙ none_left c.args.self.now c.args.desk Weak c.args.block c.args.place k c.requires.seat c.requires.idle c.requires.held
 
 pub returns-clause-left : goal.returns-clause-left
 returns-clause-left c =
-    let k : Kept c.args.self.now = kept_now _ _ _ _ c.args.self.now c.self.invariant c.self.view_is in
+    let k : TableInvariant c.args.self.now = kept_now _ _ _ _ c.args.self.now c.self.invariant c.self.view_is in
     let w : c.self.inside.words ≡ c.args.self.now.words = ap (λ (s : GhostState). s.words) c.self.view_is in
     let f = found c.self.inside.words c.args.self.now.words c.block_word.result _ _ w c.block_word.ensures c.get-now.ensures in
     ap (λ (n : ℕ). n == 0) f ∙ none_left c.args.self.now c.args.desk Weak c.args.block c.args.place k c.requires.seat c.requires.idle c.requires.held
 
 pub overflow_add-now : goal.overflow_add-now
 overflow_add-now c =
-    let k : Kept c.args.self.now = kept_now _ _ _ _ c.args.self.now c.self.invariant c.self.view_is in
+    let k : TableInvariant c.args.self.now = kept_now _ _ _ _ c.args.self.now c.self.invariant c.self.view_is in
     let w : c.self.inside.words ≡ c.args.self.now.words = ap (λ (s : GhostState). s.words) c.self.view_is in
     let f = found c.self.inside.words c.args.self.now.words c.block_word.result _ _ w c.block_word.ensures c.get-now.ensures in
     let h = room_above c.args.self.now c.args.desk Owner Weak c.args.block c.args.place k c.requires.seat c.requires.idle c.requires.held in
@@ -64,13 +64,13 @@ overflow_add-now c =
 
 pub block_word-requires-2-clause-block : goal.block_word-requires-2-clause-block
 block_word-requires-2-clause-block c =
-    let k : Kept c.args.self.now = kept_now _ _ _ _ c.args.self.now c.self.invariant c.self.view_is in
+    let k : TableInvariant c.args.self.now = kept_now _ _ _ _ c.args.self.now c.self.invariant c.self.view_is in
     (there c.args.self.now c.args.block k
     (handle_busy c.args.self.now c.args.desk Weak c.args.block c.args.place k c.requires.held)).1.0
 
 pub set-requires : goal.set-requires
 set-requires c =
-    let k : Kept c.args.self.now = kept_now _ _ _ _ c.args.self.now c.self.invariant c.self.view_is in
+    let k : TableInvariant c.args.self.now = kept_now _ _ _ _ c.args.self.now c.self.invariant c.self.view_is in
     let i = inside c.args.self.now c.args.block 0 k (there c.args.self.now c.args.block k
     (handle_busy c.args.self.now c.args.desk Weak c.args.block c.args.place k c.requires.held)).1 (let q = c.requires in omega arith) in
     let w : c.self.inside.words ≡ c.args.self.now.words = ap (λ (s : GhostState). s.words) c.self.view_is in
@@ -79,7 +79,7 @@ set-requires c =
 
 pub invariant_of-self : goal.invariant_of-self
 invariant_of-self c =
-    let k : Kept c.args.self.now = kept_now _ _ _ _ c.args.self.now c.self.invariant c.self.view_is in
+    let k : TableInvariant c.args.self.now = kept_now _ _ _ _ c.args.self.now c.self.invariant c.self.view_is in
     let w : c.self.inside.words ≡ c.args.self.now.words = ap (λ (s : GhostState). s.words) c.self.view_is in
     let f = found c.self.inside.words c.args.self.now.words c.block_word.result _ _ w c.block_word.ensures c.get-now.ensures in
     let z = c.if-now-found.false in
@@ -89,4 +89,4 @@ invariant_of-self c =
     (ap (λ (s : GhostState). s.extent) c.self.view_is)
     (let e = c.block_word-2.ensures in
     let g : c.get-now.result + 1 ≡ suc (get_or c.args.self.now.words (spot c.args.block.0 0) 0) = omega (arith, f) in
-    let s = c.set.ensures in cc) c.then-past.ensures
+    let s = c.set.ensures in cc) c.then-ghost_history.ensures

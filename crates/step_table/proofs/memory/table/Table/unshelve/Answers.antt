@@ -1,10 +1,10 @@
 use Rattle.std.proofs.Common.{◌≡◌, ◌%◌, ◌==◌, not, cond, ap, ◌∙◌, arith, subst}
 use Rattle.std.specs.Prelude.{bit_and}
-use Rattle.step_table.specs.declared.memory.past.AtomicStep.TheVariants.{OnShelf}
+use Rattle.step_table.specs.declared.memory.ghost_history.AtomicStep.TheVariants.{OnShelf}
 use Rattle.step_table.specs.declared.memory.shelf.ShelfStep.TheVariants.{Unshelve, Miss}
 use Rattle.step_table.specs.Openings.{opening}
 use Rattle.step_table.specs.declared.memory.shelf.ShelfStep.{ShelfStep}
-use Rattle.step_table.specs.GhostStates.{GhostState, Kept, history_after, model_state, views_after}
+use Rattle.step_table.specs.GhostStates.{GhostState, TableInvariant, history_after, model_state, views_after}
 use Rattle.control_word.proofs.packing.Bits.{bit_tells}
 use Rattle.step_table.proofs.tables.Shelf.{cleared_words, found_on, kept_unshelve, shown_bit}
 use Rattle.step_table.proofs.tables.Standing.{found, kept_as, kept_now}
@@ -14,7 +14,7 @@ pub returns-clause-got : goal.returns-clause-got
 returns-clause-got c =
     let v = c.args.self.now in
     let b = c.args.block in
-    let k : Kept v = kept_now _ _ _ _ v c.self.invariant c.self.view_is in
+    let k : TableInvariant v = kept_now _ _ _ _ v c.self.invariant c.self.view_is in
     let w : c.self.inside.words ≡ v.words = ap (λ (s : GhostState). s.words) c.self.view_is in
     let f : c.get-found.result ≡ found_on v b = found c.self.inside.words v.words c.place_on_shelf-word.result _ _ w
     c.place_on_shelf-word.ensures c.get-found.ensures in
@@ -26,7 +26,7 @@ pub invariant_of-self : goal.invariant_of-self
 invariant_of-self c =
     let v = c.args.self.now in
     let b = c.args.block in
-    let k : Kept v = kept_now _ _ _ _ v c.self.invariant c.self.view_is in
+    let k : TableInvariant v = kept_now _ _ _ _ v c.self.invariant c.self.view_is in
     let w : c.self.inside.words ≡ v.words = ap (λ (s : GhostState). s.words) c.self.view_is in
     let x = not (bit_and c.get-found.result c.shelf_bit.result == 0) in
     kept_as v c.args.desk (OnShelf b (cond x Unshelve Miss)) _ _ _ _
@@ -34,5 +34,5 @@ invariant_of-self c =
     (ap (λ (s : GhostState). s.extent) c.self.view_is)
     (let e = c.place_on_shelf-word.ensures in let f = c.get-found.ensures in let m = c.shelf_bit-2.ensures in
     let s = c.set.ensures in let t = cleared_words (opening v.extent) v.words b x in cc)
-    (subst (λ (y : ShelfStep). (c.then-past.result.history ≡ history_after v c.args.desk (OnShelf b y))
-    × (c.then-past.result.views ≡ views_after v c.args.desk (OnShelf b y))) c.cleared-atomic_step.ensures c.then-past.ensures)
+    (subst (λ (y : ShelfStep). (c.then-ghost_history.result.history ≡ history_after v c.args.desk (OnShelf b y))
+    × (c.then-ghost_history.result.views ≡ views_after v c.args.desk (OnShelf b y))) c.cleared-atomic_step.ensures c.then-ghost_history.ensures)

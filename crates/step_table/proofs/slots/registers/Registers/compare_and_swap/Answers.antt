@@ -2,7 +2,7 @@ use Rattle.std.proofs.Common.{◌∙◌, Bool, cond, sym, ap, subst, refl}
 use Rattle.std.proofs.lemmas.Bool.{eqb-true, cond-true, cond-false, false≢true}
 use Rattle.step_table.specs.declared.cell_steps.cell_step.CellStep.TheVariants.{CompareSwap}
 use Rattle.step_table.specs.declared.cell_steps.cell_step.Compared.{Compared}
-use Rattle.step_table.specs.declared.memory.past.AtomicStep.TheVariants.{OnCell}
+use Rattle.step_table.specs.declared.memory.ghost_history.AtomicStep.TheVariants.{OnCell}
 use Rattle.step_table.specs.declared.slots.slot.Slot.{Slot}
 use Rattle.step_table.specs.Contents.{held_in, slot_of, slots_swapped}
 use Rattle.step_table.specs.Registers.{HoldsBag}

@@ -1,5 +1,5 @@
 use Rattle.std.proofs.Common.{set, ap, sym, subst, ◌∙◌}
-use Rattle.step_table.specs.declared.slots.registers.Pointer.{Pointer}
+use Rattle.control_word.specs.declared.handle.Handle.{Handle}
 use Rattle.step_table.specs.declared.slots.slot.Slot.TheVariants.{Full}
 use Rattle.step_table.specs.AtomicSteps.{this_as}
 use Rattle.step_table.specs.Registers.{HoldsBag, Slots}
@@ -20,7 +20,7 @@ pub returns-clause-holds : goal.returns-clause-holds
 returns-clause-holds c =
     let slots = c.args.self.now.slots.items in
     subst (λ (s : Slots). HoldsBag c.args.desk s c.give.new.self)
-    (sym (c.fill.ensures ∙ ap (λ (x : Pointer). set slots c.args.to (Full x)) c.this_of.ensures))
+    (sym (c.fill.ensures ∙ ap (λ (x : Handle). set slots c.args.to (Full x)) c.this_of.ensures))
     (subst (λ (v : GhostState). HoldsBag c.args.desk (set slots c.args.to (Full (this_as c.args.kind c.args.pointer))) v) (sym c.give.ensures)
     (holds_give c.args.desk slots c.args.table.now c.args.to c.args.kind c.args.pointer c.known.ensures c.requires.holds
     (inside_held c.args.desk slots c.args.table.now c.args.from c.args.pointer c.requires.holds c.requires.from) c.requires.inside c.requires.empty))

@@ -2,7 +2,7 @@ use Rattle.std.proofs.Common.{◌∙◌, sym, ap, subst}
 use Rattle.std.specs.Prelude.{Some, is_some}
 use Rattle.step_table.specs.declared.cell_steps.cell_step.CellStep.TheVariants.{Look}
 use Rattle.step_table.specs.declared.cell_steps.cell_step.Compared.{Compared}
-use Rattle.step_table.specs.declared.memory.past.AtomicStep.TheVariants.{OnCell}
+use Rattle.step_table.specs.declared.memory.ghost_history.AtomicStep.TheVariants.{OnCell}
 use Rattle.step_table.specs.declared.slots.slot.Slot.{Slot}
 use Rattle.step_table.specs.Contents.{as_word, compared_in, differed, held_in, same_value, slot_of}
 use Rattle.step_table.specs.Registers.{HoldsBag, Slots, slot_value}

@@ -2,7 +2,7 @@ use Rattle.std.proofs.Common.{◌∙◌, Bool, cond, set, sym, ap, subst, refl}
 use Rattle.std.proofs.lemmas.Bool.{cond-false, cond-true, false≢true}
 use Rattle.std.specs.Prelude.{None, is_some}
 use Rattle.step_table.specs.declared.cell_steps.cell_step.CellStep.TheVariants.{Look}
-use Rattle.step_table.specs.declared.memory.past.AtomicStep.TheVariants.{OnCell}
+use Rattle.step_table.specs.declared.memory.ghost_history.AtomicStep.TheVariants.{OnCell}
 use Rattle.step_table.specs.declared.slots.slot.Slot.{Slot}
 use Rattle.step_table.specs.Contents.{held_in, slot_of}
 use Rattle.step_table.specs.Registers.{HoldsBag}

@@ -2,7 +2,7 @@ use Rattle.std.proofs.Common.{◌∙◌, set, sym, ap, subst}
 use Rattle.std.proofs.lemmas.List.{get_or_read}
 use Rattle.control_word.specs.declared.packed.cell.CellWord.{CellWord}
 use Rattle.step_table.specs.declared.cell_steps.cell_step.CellStep.TheVariants.{Swap}
-use Rattle.step_table.specs.declared.memory.past.AtomicStep.TheVariants.{OnCell}
+use Rattle.step_table.specs.declared.memory.ghost_history.AtomicStep.TheVariants.{OnCell}
 use Rattle.step_table.specs.declared.slots.slot.Slot.{Slot}
 use Rattle.step_table.specs.Contents.{as_word, held_in, slot_of, slots_swapped}
 use Rattle.step_table.specs.Registers.{HoldsBag, plain}

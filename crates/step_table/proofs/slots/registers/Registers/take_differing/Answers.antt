@@ -3,7 +3,7 @@ use Rattle.std.proofs.lemmas.Bool.{eqb-true, cond-true, cond-false, false≢true
 use Rattle.std.specs.Prelude.{Some}
 use Rattle.step_table.specs.declared.cell_steps.cell_step.CellStep.TheVariants.{Take}
 use Rattle.step_table.specs.declared.cell_steps.cell_step.Compared.{Compared}
-use Rattle.step_table.specs.declared.memory.past.AtomicStep.TheVariants.{OnCell}
+use Rattle.step_table.specs.declared.memory.ghost_history.AtomicStep.TheVariants.{OnCell}
 use Rattle.step_table.specs.declared.slots.slot.Slot.{Slot}
 use Rattle.step_table.specs.Contents.{differed, held_in, slot_of}
 use Rattle.step_table.specs.Registers.{HoldsBag, Slots}

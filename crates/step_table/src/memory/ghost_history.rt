@@ -113,28 +113,28 @@ pub struct Done {
 
 /// All events so far, newest first, and the view of each desk. It takes no bytes.
 #[derive(Drop)]
-pub struct Past {
+pub struct GhostHistory {
     pub ghost history: { List (Entry Nothing) },
     pub ghost views: { List (View Nothing) },
 }
 
-impl Model for Past {
+impl Model for GhostHistory {
     ghost also_owns = { λ _. ftrue };
 }
 
-impl Past {
+impl GhostHistory {
     /// Nothing happened yet.
-    pub(crate) fn start(_extent: &Extent) -> Past
+    pub(crate) fn start(_extent: &Extent) -> GhostHistory
         ensures { (result.history ≡ []) × (result.views ≡ fresh 0 _extent.now.actors) }
     {
-        Past {}
+        GhostHistory {}
     }
 
     /// What is known after one more atomic step.
-    pub(crate) fn next(_table: &Table, _done: &Done) -> Past
+    pub(crate) fn next(_table: &Table, _done: &Done) -> GhostHistory
         ensures { (result.history ≡ history_after _table.now _done.now.desk _done.now.atomic_step)
             × (result.views ≡ views_after _table.now _done.now.desk _done.now.atomic_step) }
     {
-        Past {}
+        GhostHistory {}
     }
 }

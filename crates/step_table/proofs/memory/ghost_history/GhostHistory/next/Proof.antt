@@ -1,4 +1,4 @@
--- `start` picks an empty history. Assumes `Logic`.
+-- `next` picks what is known after an atomic step. Assumes `Logic`.
 use Rattle.std.proofs.Common.{List, [], ◌∷◌, ◌++◌, refl}
 use seplogic.Ra.Ura.{Ura}
 use mir.Syntax.{Fn}
@@ -26,13 +26,14 @@ use denote.Triple.Spec.{Meets, triple_of}
 use denote.Triple.Table.{entered}
 use denote.Triple.Walked.{says, Stays, stay_dropped, walk_of, ends_at, walk_Meets, Goes-dropped}
 use Rattle.step_table.proofs.FrameViews.{none, none_made}
-use Rattle.step_table.specs.contracts.memory.past.Past as Past
-use Rattle.step_table.specs.contracts.memory.extent.Extent as Extent
-use Rattle.control_word.specs.Views.{fresh}
-use Rattle.step_table.specs.contracts.memory.past.Past.start as F
-use Rattle.step_table.specs.contracts.memory.past.Past.start.Key.{name as #self}
-use Rattle.step_table.proofs.memory.past.Past.start.Statement as stated
-use Rattle.step_table.proofs.memory.past.Past.start.Code as code
+use Rattle.step_table.specs.contracts.memory.ghost_history.GhostHistory as GhostHistory
+use Rattle.step_table.specs.contracts.memory.ghost_history.Done as Done
+use Rattle.step_table.specs.contracts.memory.table.Table as Table
+use Rattle.step_table.specs.GhostStates.{history_after, views_after}
+use Rattle.step_table.specs.contracts.memory.ghost_history.GhostHistory.next as F
+use Rattle.step_table.specs.contracts.memory.ghost_history.GhostHistory.next.Key.{name as #self}
+use Rattle.step_table.proofs.memory.ghost_history.GhostHistory.next.Statement as stated
+use Rattle.step_table.proofs.memory.ghost_history.GhostHistory.next.Code as code
 
 abbrev function : Fn
 function = code.function
@@ -41,7 +42,7 @@ abbrev ended : Ended
 ended = F.ended
 
 abbrev stayed : Stays ended.signature.params ended.kept
-stayed = (stay_dropped _ yes, tt)
+stayed = (stay_dropped _ yes, (stay_dropped _ yes, tt))
 
 module _ {M : Type 1} {𝓤 : Ura M} (𝓛 : Logic 𝓤) (at_mem : Memory → SProp 𝓤) (run : Routine → Fun 𝓤) where
   open 𝓛 use {H}
@@ -61,25 +62,36 @@ module _ {M : Type 1} {𝓤 : Ura M} (𝓛 : Logic 𝓤) (at_mem : Memory → SP
         let a = z.0.3 in
         let vss = z.0.4 in
         let u : Val = vptr a.0.ref_ptr.0 a.0.ref_ptr.1 in
-        let log : (Past.the_row).Denot = record { history = []; views = fresh 0 a.0.now.actors } in
+        let v : Val = vptr a.1.0.ref_ptr.0 a.1.0.ref_ptr.1 in
+        let log : (GhostHistory.the_row).Denot = record {
+          history = history_after a.0.now a.1.0.now.desk a.1.0.now.atomic_step;
+          views = views_after a.0.now
+              a.1.0.now.desk a.1.0.now.atomic_step;
+        } in
         qed 𝓛 ((raw toks ⊛ ‵ (owns (types_at ended.signature.params z.0.0) a vss)) ∷ raw ((held z.0.0 a).requires z.1) ∷ []) ∵
-        keep ! (0 ∷ []) $ split ! $ move ! (1 ∷ []) $ fsplit ! $ fsplit ! $ feq_l ! (λ is₀. drop ! $ drop ! $
-        regoal ! (λ (us : List Val). prop (WpFn 𝓤 H C Λ function (us ++ []) Post)) is₀ refl $
-        enter ! C Λ function (u ∷ []) Post $ alloc_all ! (λ l. pass_all ! refl ((tt, tt), tt) $
+        keep ! (0 ∷ []) $ split ! $ move ! (1 ∷ []) $ fsplit ! $ fsplit ! $ feq_l ! (λ is₀. drop ! $ fsplit ! $ fsplit ! $ feq_l !
+        (λ is₁. drop ! $ drop ! $
+        regoal ! (λ (us : List Val). prop (WpFn 𝓤 H C Λ function (us ++ (vss.1.0 ++ [])) Post)) is₀ refl $
+        regoal ! (λ (us : List Val). prop (WpFn 𝓤 H C Λ function ((u ∷ []) ++ (us ++ [])) Post)) is₁ refl $
+        enter ! C Λ function (u ∷ v ∷ []) Post $ alloc_all ! (λ l. pass_all ! refl ((tt, tt), ((tt, tt), tt)) $
         sets ! (agg ! (no_more !)) refl (tt, tt) $
         nothing ! $ none_made ! $ fjoin ! $
         returns ! (look_at ! 0 refl) $ free_all ! refl $
-        suffices ! _ (ends_at 𝓛 ended stayed held z none log (tt, tt) (tt, tt)) $ says ! (refl, refl) $
-        nothing ! $ nothing ! $ fjoin ! $ move ! (2 ∷ 0 ∷ 1 ∷ []) $ done !))
+        suffices ! _ (ends_at 𝓛 ended stayed held z none log (tt, (tt, tt)) (tt, (tt, tt))) $ says ! (refl, refl) $
+        nothing ! $ nothing ! $ fjoin ! $ nothing ! $ fjoin ! $ move ! (2 ∷ 0 ∷ 1 ∷ []) $ done !)))
 
   meets : (𝓣 : Tables 𝓤 H) → Meets 𝓛 ended.signature (WpFn 𝓤 H 𝓣.C 𝓣.Λ function) (closing 𝓛 ended held)
   meets 𝓣 =
-      walk_Meets 𝓛 ended stayed (Goes-dropped 𝓛 1 (RefOf (0 ∷ []) tt (plain (λ _. Extent.the_row)) (λ _. tt)) yes (λ κs x f. refl), tt) held
+      walk_Meets 𝓛 ended stayed (
+        Goes-dropped 𝓛 2 (RefOf (0 ∷ []) tt (plain (λ _. Table.the_row)) (λ _. tt)) yes
+            (λ κs x f. refl),
+        (Goes-dropped 𝓛 2 (RefOf (1 ∷ []) tt (plain (λ _. Done.the_row)) (λ _. tt)) yes (λ κs x f. refl), tt),
+      ) held
       (WpFn 𝓤 H 𝓣.C 𝓣.Λ function) (WpFn-mono 𝓤 H 𝓛.laws 𝓣 function) (frame_views 𝓣.C 𝓣.Λ)
 
-pub start_spec : {M : Type 1} → stated.statement M
+pub next_spec : {M : Type 1} → stated.statement M
 unfolding tables_of
-start_spec 𝓤 𝓛 𝓜 𝓡 wired =
+next_spec 𝓤 𝓛 𝓜 𝓡 wired =
     let 𝓣 : Tables 𝓤 𝓛.H = tables_of 𝓤 𝓛.H 𝓜 (tables 𝓤 𝓛.H 𝓜 𝓡 𝓡.env) in
     entered 𝓤 𝓛.H (triple_of 𝓛 ended.signature (closing 𝓛 ended (held 𝓛 𝓜.mem 𝓡.returns))) 𝓣.C 𝓣.Λ #self function
     (code.unfolded 𝓤 𝓛.H 𝓜 𝓡 wired) (meets 𝓛 𝓜.mem 𝓡.returns 𝓣)
