@@ -19,12 +19,12 @@ use Rattle.script_runner.proofs.Takings as taking
 use Rattle.script_runner.specs.Deals.{IsActed, IsEmptied, field_0, thread_slots}
 use Rattle.script_runner.specs.Seats.{Acts, Done, IsHand}
 use Rattle.script_runner.specs.TableCalls.{null_form}
-use Rattle.script_runner.specs.declared.acts.went.Went.{Went}
+use Rattle.script_runner.specs.declared.acts.act_result.ActResult.{ActResult}
 use Rattle.step_table.specs.AtomicSteps.{aliased, as_owner, this_as}
 use Rattle.step_table.specs.Registers.{Slots, inside, place_in, slot_pointer, weak_slot}
 use Rattle.step_table.specs.declared.memory.field.Field.{Field}
 use Rattle.step_table.specs.declared.memory.form.Form.{Form}
-use Rattle.step_table.specs.declared.slots.registers.Pointer.{Pointer}
+use Rattle.control_word.specs.declared.handle.Handle.{Handle}
 use Rattle.step_threads.specs.Frames.{idle}
 use Rattle.step_threads.specs.TraceLabels.{On}
 use Rattle.step_threads.specs.Rows.{Found, Got, Plain, Reply, row}
@@ -34,10 +34,10 @@ use Rattle.step_threads.specs.declared.programs.act.Act.{Act}
 use Rattle.step_threads.specs.declared.said.Answer.TheVariants as answer
 use Rattle.step_threads.specs.declared.said.Answer.{Answer}
 
-abbrev pub went : Bool → Option Answer → Went
+abbrev pub went : Bool → Option Answer → ActResult
 went taken says = record { taken = taken; answer = says; ended = None }
 
-abbrev pub took : Went
+abbrev pub took : ActResult
 took = went true None
 
 pub below : (hand i : ℕ) → i < hand → i < hand + 1
@@ -56,7 +56,7 @@ pub acted : (hand : ℕ) (t u : TableNow ℕ) (taken : Bool) (a : Act) (r : Repl
 acted hand t u taken a r busy acts = record { busy = busy; reply = r; acts = acts; takes = refl; says = refl; tells = refl }
 
 -- the same, with what it says written out
-pub acted_as : (hand : ℕ) (t u : TableNow ℕ) (taken : Bool) (a : Act) (r : Reply) (x : Went) → idle a (thread_slots hand t) taken ≡ false
+pub acted_as : (hand : ℕ) (t u : TableNow ℕ) (taken : Bool) (a : Act) (r : Reply) (x : ActResult) → idle a (thread_slots hand t) taken ≡ false
     → Acts field_0 (hand + 1) t taken a r u
     → x.taken ≡ (row a (thread_slots hand t) taken r).taken → x.answer ≡ (row a (thread_slots hand t) taken r).answer
     → x.ended ≡ (row a (thread_slots hand t) taken r).ended
@@ -64,12 +64,12 @@ pub acted_as : (hand : ℕ) (t u : TableNow ℕ) (taken : Bool) (a : Act) (r : R
 acted_as hand t u taken a r x busy acts takes says tells = record { busy = busy; reply = r; acts = acts; takes = takes; says = says; tells = tells }
 
 -- a lock that needn't succeed takes something
-taking_any : (l : Slots) (x : Option Pointer) → (rows.taking l false x).1 ≡ true
+taking_any : (l : Slots) (x : Option Handle) → (rows.taking l false x).1 ≡ true
 taking_any l None = refl
 taking_any l (Some x) = refl
 
 -- what came was there
-came_with : (f : Pointer → Pointer) (l : Slots) (g : Pointer → Type 0) (n : Type 0) (w : Option Pointer) → On g ((true ≡ false) × n) w
+came_with : (f : Handle → Handle) (l : Slots) (g : Handle → Type 0) (n : Type 0) (w : Option Handle) → On g ((true ≡ false) × n) w
     → (rows.taking l true (option_map f w)).1 ≡ true
 came_with f l g n None on = absurd cc
 came_with f l g n (Some x) on = refl
@@ -143,7 +143,7 @@ pub alias_told : (hand j : ℕ) (t : TableNow ℕ) (p : Option Place) → j < ha
 alias_told hand j t p lt at = at.2 ∙ sym (place_shown (hand + 1) j t (Owner at.0) (below hand j lt) at.1)
 
 -- there is no block for a new object
-pub no_room : (hand : ℕ) (t u : TableNow ℕ) (form : Form) (why : Fault) (x : Option Went)
+pub no_room : (hand : ℕ) (t u : TableNow ℕ) (form : Form) (why : Fault) (x : Option ActResult)
     → IfSome x (λ y. (why ≡ Call Full) × (y ≡ went false (Some (answer.Refused Full))))
     → calls.WhyNotMade t hand why → u ≡ t
     → IfSome x (λ y. IsActed hand t false (act.Make form) y u)

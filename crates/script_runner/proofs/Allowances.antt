@@ -22,7 +22,7 @@ use Rattle.script_runner.specs.Calls.{state_before_event}
 use Rattle.script_runner.specs.CellCalls.{ByCompare, ByDiffering}
 use Rattle.script_runner.specs.Deals.{IsCompared, IsDealt, field_0}
 use Rattle.script_runner.specs.Seats.{Acts, Done, IsQuiet, shown_slots}
-use Rattle.script_runner.specs.declared.acts.went.Went.{Went}
+use Rattle.script_runner.specs.declared.acts.act_result.ActResult.{ActResult}
 use Rattle.shared_handle.specs.Calls.{LeavesWeakly}
 use Rattle.shared_handle.specs.Endings.{IsClearing, IsLeft}
 use Rattle.shared_handle.specs.Piles.{AreRounds, IsRound, Past}
@@ -159,7 +159,7 @@ module _ {V : Type 0} where
           (stays_acted worth m x.between true (act.Put k) (Left puts.last puts.left) u puts.acts)
       go true is = stay_both t.desk x.between.desk u.desk first (stays_quiet x.between.desk u.desk (x.passes is).0)
 
-pub stays_dealt : (hand : ℕ) (t : TableNow ℕ) (taken : Bool) (a : Act) (x : Went) (u : TableNow ℕ) → IsDealt hand t taken a x u
+pub stays_dealt : (hand : ℕ) (t : TableNow ℕ) (taken : Bool) (a : Act) (x : ActResult) (u : TableNow ℕ) → IsDealt hand t taken a x u
     → Stays t.desk u.desk
 stays_dealt hand t taken a x u (inl acted) = stays_acted field_0 (hand + 1) t taken a acted.reply u acted.acts
 stays_dealt hand t taken a x u (inr passed) = stays_quiet t.desk u.desk passed.quiet

@@ -1,5 +1,5 @@
 -- Workers that were ready for their threads, and what came of them.
-use Rattle.std.proofs.Common.{◌≡◌, ℕ, ◌+◌, ◌<◌, ◌≤◌, List}
+use Rattle.std.proofs.Common.{◌≡◌, ℕ, ◌+◌, ◌<◌, ◌≤◌, false, List}
 use Rattle.std.proofs.Common.{[], ◌∷◌, ◌++◌, length, map, take, get_or, reverse, refl, sym, ap, subst, ◌∙◌, arith}
 use Rattle.std.proofs.Common.{append_assoc}
 use Rattle.std.proofs.lemmas.List.{length-append, map_more, reverse-append}
@@ -92,7 +92,6 @@ module _ {G : Type 0} where
       → IsReadyFor objects p w
   ready objects p r w book is has = record {
     tasks = (is.0.0 ∙ sym (ap (λ (v : Vec Kind). v.items) has.kinds), ap (λ (v : Vec Task). v.items) has.tasks ∙ is.0.1);
-    taken = has.taken;
     said = ap (λ (v : Vec Said). v.items) has.said ∙ no_lines r.said.items r.silent;
     memory =
         let long = ap (λ (v : Vec Task). length v.items) has.tasks in
@@ -121,6 +120,10 @@ module _ {G : Type 0} where
   all_share book [] (w ∷ ws) has = absurd has
   all_share book (r ∷ rs) [] has = absurd has
 
+  -- what a worker needs of its table
+  abbrev pub Needs : Worker G → TableNow ℕ → Type 0
+  Needs w t = IsFitting t × (w.log.taken ≡ false)
+
   -- what comes of a worker's work
   abbrev pub Does : Worker G → TableNow ℕ → Worker G → TableNow ℕ → Type 0
   Does w t x u =
@@ -141,21 +144,21 @@ module _ {G : Type 0} where
     pub note : AllNote ws xs lines
 
   pub all_play : (objects : ℕ) (ps : List Part) (ws : List (Worker G)) (ts : List (TableNow ℕ)) (xs : List (Worker G)) (us : List (TableNow ℕ))
-      → AllZip (IsReadyFor objects) ps ws → AllByRecursion IsFitting ts → EachDoes Does ws ts xs us → HavePlayed ps ws ts xs us
-  all_play objects [] [] [] [] [] ready fit each = record { lines = []; play = tt; note = tt }
-  all_play objects (p ∷ ps) (w ∷ ws) (t ∷ ts) (x ∷ xs) (u ∷ us) ready fit each =
+      → AllZip (IsReadyFor objects) ps ws → EachDoes Does ws ts xs us → HavePlayed ps ws ts xs us
+  all_play objects [] [] [] [] [] ready each = record { lines = []; play = tt; note = tt }
+  all_play objects (p ∷ ps) (w ∷ ws) (t ∷ ts) (x ∷ xs) (u ∷ us) ready each =
       let r = ready.0 in
-      let here = each.0.2 p r.tasks fit.0 r.taken in
-      let ih = all_play objects ps ws ts xs us ready.1 fit.1 each.1 in
+      let here = each.0.2 p r.tasks in
+      let ih = all_play objects ps ws ts xs us ready.1 each.1 in
       record { lines = here.lines ∷ ih.lines; play = (here.plays, ih.play); note = (here.notes, ih.note) }
-  all_play objects [] (w ∷ ws) ts xs us ready fit each = absurd ready
-  all_play objects (p ∷ ps) [] ts xs us ready fit each = absurd ready
-  all_play objects [] [] (t ∷ ts) xs us ready fit each = absurd each
-  all_play objects [] [] [] (x ∷ xs) us ready fit each = absurd each
-  all_play objects [] [] [] [] (u ∷ us) ready fit each = absurd each
-  all_play objects (p ∷ ps) (w ∷ ws) [] xs us ready fit each = absurd each
-  all_play objects (p ∷ ps) (w ∷ ws) (t ∷ ts) [] us ready fit each = absurd each
-  all_play objects (p ∷ ps) (w ∷ ws) (t ∷ ts) (x ∷ xs) [] ready fit each = absurd each
+  all_play objects [] (w ∷ ws) ts xs us ready each = absurd ready
+  all_play objects (p ∷ ps) [] ts xs us ready each = absurd ready
+  all_play objects [] [] (t ∷ ts) xs us ready each = absurd each
+  all_play objects [] [] [] (x ∷ xs) us ready each = absurd each
+  all_play objects [] [] [] [] (u ∷ us) ready each = absurd each
+  all_play objects (p ∷ ps) (w ∷ ws) [] xs us ready each = absurd each
+  all_play objects (p ∷ ps) (w ∷ ws) (t ∷ ts) [] us ready each = absurd each
+  all_play objects (p ∷ ps) (w ∷ ws) (t ∷ ts) (x ∷ xs) [] ready each = absurd each
 
   -- each worker has its table, and its lines
   pub as_many : (ws : List (Worker G)) (ts : List (TableNow ℕ)) (xs : List (Worker G)) (us : List (TableNow ℕ)) → EachDoes Does ws ts xs us

@@ -18,7 +18,7 @@ use Rattle.control_word.specs.declared.place.Place.{Place}
 use Rattle.control_block.specs.Desks.{AddsEvent, DeskNow, HasHandle, latest_of, object_in, on_latest}
 use Rattle.control_block.specs.Rule.{opening_of}
 use Rattle.step_table.specs.declared.memory.form.Form.{Form}
-use Rattle.step_table.specs.declared.slots.registers.Pointer.{Pointer}
+use Rattle.control_word.specs.declared.handle.Handle.{Handle}
 use Rattle.step_table.specs.declared.memory.ended.Ended.{Ended}
 use Rattle.step_table.specs.declared.memory.ended.Ended.TheVariants as ended
 use Rattle.step_table.specs.AtomicSteps.{aliased, handle_of, is_enabled, owned, remains}
@@ -75,21 +75,21 @@ module _ {V : Type 0} where
   copied worth n d e l i b p is adds =
       let s = calls.state_before_event V adds in
       let o = held_latest d e _ adds Owner p b.0 is.has in
-      subst (λ (x : Option Pointer). Some (event.Share (on_latest d Owner p b.0) p) ≡ option_map (copy {V = V} s) x) (sym is.at)
+      subst (λ (x : Option Handle). Some (event.Share (on_latest d Owner p b.0) p) ≡ option_map (copy {V = V} s) x) (sym is.at)
       (ap (λ q. Some (event.Share (handle Owner (Some q) p) p)) (sym o))
 
   pub copied_weakly : calls.CopiedWeakly V
   copied_weakly worth n d e l i b p is adds =
       let s = calls.state_before_event V adds in
       let o = held_latest d e _ adds Weak p b.0 is.has in
-      subst (λ (x : Option Pointer). Some (event.WeakShare (latest_of d b.0) p) ≡ option_map (copy {V = V} s) x) (sym is.at)
+      subst (λ (x : Option Handle). Some (event.WeakShare (latest_of d b.0) p) ≡ option_map (copy {V = V} s) x) (sym is.at)
       (ap (λ q. Some (event.WeakShare q p)) (sym o))
 
   pub downgraded : calls.Downgraded V
   downgraded worth n d e l i b p is adds =
       let s = calls.state_before_event V adds in
       let o = held_latest d e _ adds Owner p b.0 is.has in
-      subst (λ (x : Option Pointer). Some (event.WeakShare (latest_of d b.0) p) ≡ option_map (λ (y : Pointer). copies {V = V} s Weak y.place y) x)
+      subst (λ (x : Option Handle). Some (event.WeakShare (latest_of d b.0) p) ≡ option_map (λ (y : Handle). copies {V = V} s Weak y.place y) x)
       (sym is.at)
       (ap (λ q. Some (event.WeakShare q p)) (sym o))
 
@@ -98,7 +98,7 @@ module _ {V : Type 0} where
       let s = calls.state_before_event V adds in
       let r = aliased field (place_in l j) in
       let o = held_latest d e _ adds Owner p b.0 is.has in
-      subst (λ (x : Option Pointer). Some (event.Share (on_latest d Owner p b.0) r) ≡ option_map (copies {V = V} s Owner r) (owner_slot x)) (sym is.at)
+      subst (λ (x : Option Handle). Some (event.Share (on_latest d Owner p b.0) r) ≡ option_map (copies {V = V} s Owner r) (owner_slot x)) (sym is.at)
       (ap (λ q. Some (event.Share (handle Owner (Some q) p) r)) (sym o))
 
   pub locked : calls.Locked V
@@ -106,7 +106,7 @@ module _ {V : Type 0} where
       let s = calls.state_before_event V adds in
       let v : Event V = event.Lock (on_latest d Weak p b.0) got in
       let o = held_latest d e v adds Weak p b.0 is.has in
-      subst (λ (x : Option Pointer). On (λ y. Some v ≡ Some (event.Lock (weak_of (owned s y) y.place) got))
+      subst (λ (x : Option Handle). On (λ y. Some v ≡ Some (event.Lock (weak_of (owned s y) y.place) got))
       ((got ≡ false) × (Some v ≡ None)) (weak_slot x))
       (sym is.at) (ap (λ q. Some (event.Lock (handle Weak (Some q) p) got)) (sym o))
 
@@ -115,7 +115,7 @@ module _ {V : Type 0} where
       let s = calls.state_before_event V adds in
       let v : Event V = event.Count (on_latest d k p b.0) owners in
       let o = held_latest d e v adds k p b.0 is.has in
-      subst (λ (x : Option Pointer). On (λ y. Some v ≡ Some (event.Count (handle_of s y) owners)) ((owners ≡ 0) × (Some v ≡ None)) x)
+      subst (λ (x : Option Handle). On (λ y. Some v ≡ Some (event.Count (handle_of s y) owners)) ((owners ≡ 0) × (Some v ≡ None)) x)
       (sym is.at) (ap (λ q. Some (event.Count (handle k (Some q) p) owners)) (sym o))
 
   pub expired : calls.Expired V
@@ -123,7 +123,7 @@ module _ {V : Type 0} where
       let s = calls.state_before_event V adds in
       let v : Event V = event.Expired (on_latest d Weak p b.0) so in
       let o = held_latest d e v adds Weak p b.0 is.has in
-      subst (λ (x : Option Pointer). On (λ y. Some v ≡ Some (event.Expired (handle_of s y) so)) ((so ≡ true) × (Some v ≡ None)) x)
+      subst (λ (x : Option Handle). On (λ y. Some v ≡ Some (event.Expired (handle_of s y) so)) ((so ≡ true) × (Some v ≡ None)) x)
       (sym is.at) (ap (λ q. Some (event.Expired (handle Weak (Some q) p) so)) (sym o))
 
   pub read : calls.Read V
@@ -131,10 +131,10 @@ module _ {V : Type 0} where
       let s = calls.state_before_event V adds in
       let v : Event V = event.Read (on_latest d Owner (Some q) q.block.0) field in
       let o = held_latest d e v adds Owner (Some q) q.block.0 is.has in
-      subst (λ (x : Option Pointer). On (λ y. Some v ≡ Some (event.Read (owner (owned s y) y.place) field)) (Some v ≡ None) x)
+      subst (λ (x : Option Handle). On (λ y. Some v ≡ Some (event.Read (owner (owned s y) y.place) field)) (Some v ≡ None) x)
       (sym (is_inside l i q is.at)) (ap (λ t. Some (event.Read (handle Owner (Some t) (Some q)) field)) (sym o))
 
-  abbrev GivesAs : State → Kind → Event V → Pointer → Type 0
+  abbrev GivesAs : State → Kind → Event V → Handle → Type 0
   GivesAs s k v x = (true ≡ is_enabled s x) × (Some v ≡ cond true (Some (copies s k (place_at x.block.0) x)) None)
 
   pub given_this : calls.GivenThis V
@@ -143,7 +143,7 @@ module _ {V : Type 0} where
       let v : Event V = event.Share (on_latest d Owner (Some q) q.block.0) (place_at q.block.0) in
       let o = held_latest d e v adds Owner (Some q) q.block.0 is.has in
       let same = same_object d e v adds Owner (Some q) q.block.0 is.has in
-      subst (λ (x : Option Pointer). On (GivesAs s Owner v) ((true ≡ false) × (Some v ≡ None)) x)
+      subst (λ (x : Option Handle). On (GivesAs s Owner v) ((true ≡ false) × (Some v ≡ None)) x)
       (sym (is_inside l i q is.at))
       (sym (same.1 ∙ on), ap (λ t. Some (event.Share (handle Owner (Some t) (Some q)) (place_at q.block.0))) (sym o))
 
@@ -153,7 +153,7 @@ module _ {V : Type 0} where
       let v : Event V = event.WeakShare (latest_of d q.block.0) (place_at q.block.0) in
       let o = held_latest d e v adds Owner (Some q) q.block.0 is.has in
       let same = same_object d e v adds Owner (Some q) q.block.0 is.has in
-      subst (λ (x : Option Pointer). On (GivesAs s Weak v) ((true ≡ false) × (Some v ≡ None)) x)
+      subst (λ (x : Option Handle). On (GivesAs s Weak v) ((true ≡ false) × (Some v ≡ None)) x)
       (sym (is_inside l i q is.at))
       (sym (same.1 ∙ on), ap (λ t. Some (event.WeakShare t (place_at q.block.0))) (sym o))
 
@@ -190,7 +190,7 @@ module _ {V : Type 0} where
       let same = same_object d e v adds Owner p b.0 is.has in
       let left = cond last (Some (remains (object_in d b.0))) None in
       by_slot worth s n l a i last left (Some v) at
-      (subst (λ (x : Option Pointer). IsLeaveEvent s x last left (Some v)) (sym is.at) (
+      (subst (λ (x : Option Handle). IsLeaveEvent s x last left (Some v)) (sym is.at) (
         ap (λ q. Some (event.Leave (handle Owner (Some q) p) last)) (sym o),
         ap (λ (r : Ended). cond last (Some r) None) (sym (same_remains (s.object (s.latest b.0)) (object_in d b.0) same.0 same.2)),
       ))
@@ -201,7 +201,7 @@ module _ {V : Type 0} where
       let v : Event V = event.WeakLeave (on_latest d Weak p b.0) vacant in
       let o = held_latest d e v adds Weak p b.0 is.has in
       by_slot worth s n l a i vacant None (Some v) at
-      (subst (λ (x : Option Pointer). IsLeaveEvent s x vacant None (Some v)) (sym is.at)
+      (subst (λ (x : Option Handle). IsLeaveEvent s x vacant None (Some v)) (sym is.at)
       (ap (λ q. Some (event.WeakLeave (handle Weak (Some q) p) vacant)) (sym o), no_more vacant))
     where
       no_more : (b : Bool) → ◌≡◌ {A = Option Ended} None (cond b None None)

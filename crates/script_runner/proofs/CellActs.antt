@@ -25,19 +25,19 @@ use Rattle.script_runner.specs.Deals.{IsActed, IsCompared, IsDealt, IsPassedOver
 use Rattle.script_runner.specs.Kinds.{HasKind, IsVacant, KeepsKinds, SetsKind, TakesKind, slot_kinds}
 use Rattle.script_runner.specs.Reached.{IsReachable, nothing}
 use Rattle.script_runner.specs.Seats.{IsHand, IsSeated}
-use Rattle.script_runner.specs.declared.acts.went.Went.{Went}
+use Rattle.script_runner.specs.declared.acts.act_result.ActResult.{ActResult}
 use Rattle.step_threads.specs.Programs.{kind_at}
 use Rattle.step_threads.specs.declared.programs.act.Act.TheVariants as act
 use Rattle.step_threads.specs.declared.programs.call.CellName.{CellName}
 use Rattle.step_threads.specs.declared.said.Answer.TheVariants as answer
 
-abbrev refuses : Bool → Refusal → Went
+abbrev refuses : Bool → Refusal → ActResult
 refuses taken r = went taken (Some (answer.Refused r))
 
 -- nothing was taken, and nothing changed
-pub refused_kinds : (hand : ℕ) (k : Kind) (t u : TableNow ℕ) (x : Went) (r : Refusal) → x ≡ refuses false r → u ≡ t → TakesKind hand k x.taken t u
+pub refused_kinds : (hand : ℕ) (k : Kind) (t u : TableNow ℕ) (x : ActResult) (r : Refusal) → x ≡ refuses false r → u ≡ t → TakesKind hand k x.taken t u
 refused_kinds hand k t u x r says same =
-    subst (λ b. TakesKind hand k b t u) (sym (ap (λ (y : Went). y.taken) says)) (ap (λ (v : TableNow ℕ). slot_kinds v.slots) same)
+    subst (λ b. TakesKind hand k b t u) (sym (ap (λ (y : ActResult). y.taken) says)) (ap (λ (v : TableNow ℕ). slot_kinds v.slots) same)
 
 module _ (hand : ℕ) (t : TableNow ℕ) (c : CellName) (of : IsOfName hand c) (reach : IsReachable t c) (to : Cell) (e : to ≡ as_cell c) where
   gone : (f : Fault) (r : Refusal) → f ≡ Call r → WhyNoCell t.desk.shape t.slots (as_cell c) f → WhyNoCell t.desk.shape t.slots (as_cell c) (Call r)
@@ -47,7 +47,7 @@ module _ (hand : ℕ) (t : TableNow ℕ) (c : CellName) (of : IsOfName hand c) (
   pub offer_why : (f : Fault) → WhyNoCell t.desk.shape t.slots to f → (r : Refusal) × (f ≡ Call r)
   offer_why f why = is_refusal t c f reach (subst (λ k. WhyNoCell t.desk.shape t.slots k f) e why)
 
-  pub offer_refused : (i : ℕ) (f : Fault) (r : Refusal) (x : Went) → IsHand (hand + 1) hand t → WhyNoCell t.desk.shape t.slots to f → f ≡ Call r
+  pub offer_refused : (i : ℕ) (f : Fault) (r : Refusal) (x : ActResult) → IsHand (hand + 1) hand t → WhyNoCell t.desk.shape t.slots to f → f ≡ Call r
       → x ≡ refuses false r → IsActed hand t false (act.Offer i c) x t
   offer_refused i f r x is why call says =
       subst (λ y. IsActed hand t false (act.Offer i c) y t) (sym says)
@@ -71,7 +71,7 @@ module _ (hand : ℕ) (t : TableNow ℕ) (c : CellName) (of : IsOfName hand c) (
   pub load_fault : (f : Fault) → IsHand (hand + 1) hand t → IsBelow t.desk → WhyNotLoaded t to hand f → (r : Refusal) × (f ≡ Call r)
   load_fault f is below why = is_refusal t c f reach (load_gone f is below why)
 
-  pub load_refused : (f : Fault) (r : Refusal) (x : Went) (u : TableNow ℕ) → IsHand (hand + 1) hand t → IsBelow t.desk
+  pub load_refused : (f : Fault) (r : Refusal) (x : ActResult) (u : TableNow ℕ) → IsHand (hand + 1) hand t → IsBelow t.desk
       → WhyNotLoaded t to hand f × (u ≡ t) → f ≡ Call r → x ≡ refuses false r → IsActed hand t false (act.Load c) x u
   load_refused f r x u is below why call says =
       subst (λ v. IsActed hand t false (act.Load c) x v) (sym why.1)

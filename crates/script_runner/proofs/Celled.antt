@@ -37,7 +37,7 @@ use Rattle.step_table.specs.Contents.{slot_by, slot_of}
 use Rattle.step_table.specs.AtomicSteps.{on}
 use Rattle.step_table.specs.Registers.{inside, into, Slots, is_full, slot_pointer}
 use Rattle.step_table.specs.declared.memory.form.Form.{Form}
-use Rattle.step_table.specs.declared.slots.registers.Pointer.{Pointer}
+use Rattle.control_word.specs.declared.handle.Handle.{Handle}
 use Rattle.step_table.specs.declared.slots.slot.Slot.TheVariants.{Full}
 use Rattle.step_table.specs.declared.slots.slot.Slot.{Slot}
 use Rattle.step_threads.specs.Frames.{block_at, cell_of_name, hand as hand_of, is_there}
@@ -103,7 +103,7 @@ module _ {V : Type 0} where
         ap (λ j. inside (slot_pointer (shown_slots m t.slots) j)) is
         ∙ (ap inside has.at ∙ (ap (into (calls.pointer kind.Owner b owns.owner.place)) q
         ∙ cond-true (owns.place.block.0 == b.0) _ None (eq-eqb owns.place.block.0 b.0 (ap (λ (x : Block). x.0) owns.points.1)))) in
-        let block : block_at (shown_slots m t.slots) name.0 ≡ b = ap (λ y. on (λ (x : Pointer). x.block) (record { 0 = 0 }) y) inside_is in
+        let block : block_at (shown_slots m t.slots) name.0 ≡ b = ap (λ y. on (λ (x : Handle). x.block) (record { 0 = 0 }) y) inside_is in
         record {
           there = ap is_full inside_is;
           kind = same;

@@ -19,7 +19,7 @@ use Rattle.control_word.specs.declared.model.event.Cell.TheVariants as named
 use Rattle.control_word.specs.declared.model.event.Cell.{Cell as Named}
 use Rattle.control_word.specs.declared.model.event.Event.TheVariants as event
 use Rattle.control_word.specs.declared.model.event.Event.{Event}
-use Rattle.control_word.specs.declared.model.handle.Handle.{Handle}
+use Rattle.control_word.specs.declared.model.handle.NumberedHandle.{NumberedHandle}
 use Rattle.control_word.specs.declared.model.handle.Kind.{Kind}
 use Rattle.control_word.specs.declared.place.Block.{Block}
 use Rattle.control_word.specs.declared.place.Place.{Place}
@@ -48,12 +48,12 @@ use Rattle.step_threads.specs.declared.programs.act.Act.TheVariants as act
 use Rattle.step_threads.specs.declared.programs.call.CellName.{CellName}
 
 module _ (V : Type 0) where
-  compare_made : (c : Named) (expected new old : Handle) (s : State) (d : ℕ) (weak : Bool)
+  compare_made : (c : Named) (expected new old : NumberedHandle) (s : State) (d : ℕ) (weak : Bool)
       → (after {V = V} s d (event.Compare c expected new old true weak)).made ≡ s.made
   compare_made (named.Free n) expected new old s d weak = refl
   compare_made (named.Member o n) expected new old s d weak = refl
 
-  compare_gets : (c : Named) (expected new : Handle) (k : Kind) (o : ℕ) (p : Option Place) (s : State) (d : ℕ) (weak : Bool)
+  compare_gets : (c : Named) (expected new : NumberedHandle) (k : Kind) (o : ℕ) (p : Option Place) (s : State) (d : ℕ) (weak : Bool)
       → Has (held d (handle k (Some o) p)) (after {V = V} s d (event.Compare c expected new (handle k (Some o) p) true weak)).hands
   compare_gets (named.Free n) expected new k o p s d weak = inl refl
   compare_gets (named.Member q n) expected new k o p s d weak = inl refl

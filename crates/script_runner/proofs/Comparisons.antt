@@ -26,7 +26,7 @@ use Rattle.script_runner.specs.Handling.{Changes, IsAlone, MayDo, MayGoOn, MaySe
 use Rattle.script_runner.specs.Kinds.{AllSuit, HasKind, IsArranged, IsVacant, KeepsLimits, SetsKind, Stance, Suits, kind_in, slot_kinds, stance_after}
 use Rattle.script_runner.specs.Reached.{IsReachable, SetsAside}
 use Rattle.script_runner.specs.Seats.{Begun, IsQuiet, IsSeated}
-use Rattle.script_runner.specs.declared.acts.went.Went.{Went}
+use Rattle.script_runner.specs.declared.acts.act_result.ActResult.{ActResult}
 use Rattle.shared_handle.specs.Piles.{AllEnd}
 use Rattle.shared_handle.specs.declared.endings.Ending.{Ending}
 use Rattle.step_table.specs.declared.memory.ended.Ended.{Ended}
@@ -61,7 +61,7 @@ begun_none b xs ys e begun = subst (λ c. Begun xs c ys) e begun
 
 -- what an act left to end may do so
 pub may_settle : (ks : List Kind) (x : Stance) (hand : ℕ) (taken : Bool) (t u : TableNow ℕ) (is : IsArranged ks x hand taken t) → KeepsLimits t u
-    → (a : Act) (w : Went) → IsAlone taken a → Suits ks x a → Changes hand taken a t w.taken u → IsArranged ks (stance_after ks x a) hand w.taken u
+    → (a : Act) (w : ActResult) → IsAlone taken a → Suits ks x a → Changes hand taken a t w.taken u → IsArranged ks (stance_after ks x a) hand w.taken u
     → t.endings ≡ [] → IsDealt hand t taken a w u → MaySettle hand u
 may_settle ks x hand taken t u is same a w alone suits changes after none dealt = go w.taken refl
   where

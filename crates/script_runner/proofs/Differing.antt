@@ -17,7 +17,7 @@ use Rattle.control_word.specs.State.{Has, State, held, Held}
 use Rattle.control_word.specs.declared.model.event.Cell.{Cell as Named}
 use Rattle.control_word.specs.declared.model.event.Event.TheVariants as event
 use Rattle.control_word.specs.declared.model.event.Event.{Event}
-use Rattle.control_word.specs.declared.model.handle.Handle.{Handle}
+use Rattle.control_word.specs.declared.model.handle.NumberedHandle.{NumberedHandle}
 use Rattle.control_word.specs.declared.model.handle.Kind.{Kind}
 use Rattle.control_word.specs.declared.place.Block.{Block}
 use Rattle.control_word.specs.declared.place.Place.{Place}
@@ -53,15 +53,15 @@ keeps_by true x y l has = inr has
 keeps_by false x y l has = has
 
 module _ (V : Type 0) where
-  differs_made : (c : Named) (expected new old : Handle) (s : State) (d : ℕ) (weak : Bool)
+  differs_made : (c : Named) (expected new old : NumberedHandle) (s : State) (d : ℕ) (weak : Bool)
       → (after {V = V} s d (event.Compare c expected new old false weak)).made ≡ s.made
   differs_made c expected new old s d weak = refl
 
-  differs_gets : (c : Named) (expected new : Handle) (k : Kind) (o : ℕ) (p : Option Place) (s : State) (d : ℕ) (weak : Bool)
+  differs_gets : (c : Named) (expected new : NumberedHandle) (k : Kind) (o : ℕ) (p : Option Place) (s : State) (d : ℕ) (weak : Bool)
       → Has (held d (handle k (Some o) p)) (after {V = V} s d (event.Compare c expected new (handle k (Some o) p) false weak)).hands
   differs_gets c expected new k o p s d weak = inl refl
 
-  differs_keeps : (c : Named) (expected new old : Handle) (s : State) (d : ℕ) (weak : Bool) (x : Held) → Has x s.hands
+  differs_keeps : (c : Named) (expected new old : NumberedHandle) (s : State) (d : ℕ) (weak : Bool) (x : Held) → Has x s.hands
       → Has x (after {V = V} s d (event.Compare c expected new old false weak)).hands
   differs_keeps c expected new old s d weak x has = keeps_by (has_object old) x (held d old) s.hands has
 

@@ -19,7 +19,7 @@ use Rattle.control_word.specs.State.{ending, unmade, Has, Held, State, bag, held
 use Rattle.control_word.specs.Words.{blocks_of}
 use Rattle.control_word.specs.declared.model.event.Event.TheVariants as event
 use Rattle.control_word.specs.declared.model.event.Event.{Event}
-use Rattle.control_word.specs.declared.model.handle.Handle.{Handle}
+use Rattle.control_word.specs.declared.model.handle.NumberedHandle.{NumberedHandle}
 use Rattle.control_word.specs.declared.model.handle.Kind.{Kind}
 use Rattle.control_word.specs.declared.place.Block.{Block}
 use Rattle.control_word.specs.declared.place.Place.{Place}
@@ -151,7 +151,7 @@ module _ {V : Type 0} (worth : Form → V) where
     frame_is es = with_endings l taken es todo
 
     -- the next member is cleared
-    pub clears : (d e : DeskNow V) (b j : ℕ) (held : Handle) (adds : AddsEvent d (event.ClearMember (latest_of d b) j held) e) (x : V) → IsEnding d b x
+    pub clears : (d e : DeskNow V) (b j : ℕ) (held : NumberedHandle) (adds : AddsEvent d (event.ClearMember (latest_of d b) j held) e) (x : V) → IsEnding d b x
         → (f : Ending) (es : List Ending) → f.block.0 ≡ b → f.stage ≡ j → j < 3 → (log : List Said)
         → TakesThread worth d (frame_at (f ∷ es)) log e
         (record {

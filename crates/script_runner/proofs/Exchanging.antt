@@ -15,7 +15,7 @@ use Rattle.control_word.specs.declared.model.event.Cell.TheVariants as named
 use Rattle.control_word.specs.declared.model.event.Cell.{Cell as Named}
 use Rattle.control_word.specs.declared.model.event.Event.TheVariants as event
 use Rattle.control_word.specs.declared.model.event.Event.{Event}
-use Rattle.control_word.specs.declared.model.handle.Handle.{Handle}
+use Rattle.control_word.specs.declared.model.handle.NumberedHandle.{NumberedHandle}
 use Rattle.control_word.specs.declared.model.handle.Kind.TheVariants as kind
 use Rattle.control_word.specs.declared.model.handle.Kind.{Kind}
 use Rattle.control_word.specs.declared.place.Block.{Block}
@@ -58,7 +58,7 @@ is_of_own (Weak w) k e = subst (λ q. is_of q (as_slot (Some (Weak w))) ≡ true
     go (Some b) some = refl
 
 module _ (V : Type 0) where
-  swap_made : (c : Named) (new old : Handle) (s : State) (d : ℕ) → (after {V = V} s d (event.Swap c new old)).made ≡ s.made
+  swap_made : (c : Named) (new old : NumberedHandle) (s : State) (d : ℕ) → (after {V = V} s d (event.Swap c new old)).made ≡ s.made
   swap_made (named.Free n) new old s d = refl
   swap_made (named.Member o n) new old s d = refl
 

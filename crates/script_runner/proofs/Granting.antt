@@ -34,7 +34,7 @@ use Rattle.script_runner.proofs.TableLaws.{as_seated}
 use Rattle.script_runner.specs.Deals.{IsActed, NotGiven}
 use Rattle.script_runner.specs.Kinds.{HasKind, KeepsKinds, SetsKind, TakesKind, slot_kinds}
 use Rattle.script_runner.specs.Seats.{IsHand}
-use Rattle.script_runner.specs.declared.acts.went.Went.{Went}
+use Rattle.script_runner.specs.declared.acts.act_result.ActResult.{ActResult}
 use Rattle.shared_handle.proofs.Owned.{points_well}
 use Rattle.shared_handle.specs.Endings.{WhyNotThis}
 use Rattle.shared_handle.specs.Locks.{IsUpgrade}
@@ -103,7 +103,7 @@ moved_within i to t v k has m =
     (kind_within t.slots i k has)
 
 -- nothing was taken
-pub kept_kind : (to : ℕ) (k : Kind) (t u : TableNow ℕ) (x : Went) → x.taken ≡ false → KeepsKinds t u → TakesKind to k x.taken t u
+pub kept_kind : (to : ℕ) (k : Kind) (t u : TableNow ℕ) (x : ActResult) → x.taken ≡ false → KeepsKinds t u → TakesKind to k x.taken t u
 kept_kind to k t u x none keeps = subst (λ b. TakesKind to k b t u) (sym none) keeps
 
 -- with room for a handle a weak one gives none only since it is expired
@@ -168,7 +168,7 @@ module _ (hand : ℕ) (t : TableNow ℕ) (is : IsHand (hand + 1) hand t) (below 
   make_refused (inr (inr x)) = x.0.0
 
 -- and what is done then
-module _ (hand : ℕ) (t u : TableNow ℕ) (is : IsHand (hand + 1) hand t) (below : IsBelow t.desk) (why : Fault) (x : Went) where
+module _ (hand : ℕ) (t u : TableNow ℕ) (is : IsHand (hand + 1) hand t) (below : IsBelow t.desk) (why : Fault) (x : ActResult) where
   pub not_upgraded : (i : ℕ) → i < hand → HasKind t.slots i kind.Weak → handles.WhyNotUpgraded t i hand why u
       → x ≡ law.went false (Some (answer.Refused BadWeak))
       → IsActed hand t false (act.Lock i true) x u × TakesKind hand kind.Owner x.taken t u
@@ -176,21 +176,21 @@ module _ (hand : ℕ) (t u : TableNow ℕ) (is : IsHand (hand + 1) hand t) (belo
       let r = upgrade_refused hand t is below why i u has c in (
         subst (λ y. IsActed hand t false (act.Lock i true) y u) (sym says)
             (law.upgraded_not hand i t u is lt (subst (λ w. handles.WhyNotUpgraded t i hand w u) r.0 c)),
-        kept_kind hand kind.Owner t u x (ap (λ (y : Went). y.taken) says) (kinds_kept t u r.1),
+        kept_kind hand kind.Owner t u x (ap (λ (y : ActResult). y.taken) says) (kinds_kept t u r.1),
       )
 
   pub not_given : (i : ℕ) (k : Kind) → i < hand → this.WhyNoThis t i hand why → u ≡ t → NotGiven why x
       → IsActed hand t false (act.FromThis i k) x u × TakesKind hand k x.taken t u
   not_given i k lt c same says = (
     inquiring.not_given hand i t (as_seated (hand + 1) hand t is) k why (Some x) u lt says c same,
-    kept_kind hand k t u x (ap (λ (y : Went). y.taken) says.says) (kinds_kept t u (ap (λ (v : TableNow ℕ). v.slots) same)),
+    kept_kind hand k t u x (ap (λ (y : ActResult). y.taken) says.says) (kinds_kept t u (ap (λ (v : TableNow ℕ). v.slots) same)),
   )
 
   pub not_made : (form : Form) → calls.WhyNotMade t hand why → u ≡ t → x ≡ law.went false (Some (answer.Refused Full))
       → IsActed hand t false (act.Make form) x u × TakesKind hand kind.Owner x.taken t u
   not_made form c same says = (
     law.no_room hand t u form why (Some x) (make_refused hand t is below why c, says) c same,
-    kept_kind hand kind.Owner t u x (ap (λ (y : Went). y.taken) says) (kinds_kept t u (ap (λ (v : TableNow ℕ). v.slots) same)),
+    kept_kind hand kind.Owner t u x (ap (λ (y : ActResult). y.taken) says) (kinds_kept t u (ap (λ (v : TableNow ℕ). v.slots) same)),
   )
 
 -- an owner points at one of a block's fields or nowhere, and so does an alias

@@ -22,7 +22,7 @@ use Rattle.handle_table.specs.declared.fault.Fault.{Fault}
 use Rattle.script_runner.specs.Deals.{IsActed, NotGiven, field_0, thread_slots}
 use Rattle.script_runner.specs.Seats.{IsSeated}
 use Rattle.script_runner.specs.TableCalls.{IsAway, MarksAct}
-use Rattle.script_runner.specs.declared.acts.went.Went.{Went}
+use Rattle.script_runner.specs.declared.acts.act_result.ActResult.{ActResult}
 use Rattle.shared_handle.specs.Endings.{IsRead}
 use Rattle.step_table.specs.Registers.{inside, is_full, place_in, slot_pointer}
 use Rattle.step_threads.specs.Frames.{idle}
@@ -104,7 +104,7 @@ module _ (hand i : ℕ) (t : TableNow ℕ) (is : IsSeated (hand + 1) hand t) whe
       marked hand t false (act.FromThis i k) (Got false) (answer.Refused why) false refl
       (law.gives_not field_0 (hand + 1) i hand false t t is (below hand i lt) k why (this_not why c) unlike) refl refl
 
-  pub not_given : (k : Kind) (why : Fault) (x : Option Went) (v : TableNow ℕ) → i < hand → IfSome x (NotGiven why)
+  pub not_given : (k : Kind) (why : Fault) (x : Option ActResult) (v : TableNow ℕ) → i < hand → IfSome x (NotGiven why)
       → this.WhyNoThis t i hand why → v ≡ t → IfSome x (λ y. IsActed hand t false (act.FromThis i k) y v)
   not_given k why None v lt some c same = tt
   not_given k why (Some x) v lt some c same =

@@ -38,7 +38,7 @@ use Rattle.step_table.specs.AtomicSteps.{remains}
 use Rattle.step_table.specs.Registers.{Slots, slot_pointer}
 use Rattle.step_table.specs.declared.memory.ended.Ended.{Ended}
 use Rattle.step_table.specs.declared.memory.form.Form.{Form}
-use Rattle.step_table.specs.declared.slots.registers.Pointer.{Pointer}
+use Rattle.control_word.specs.declared.handle.Handle.{Handle}
 use Rattle.step_threads.specs.TraceLabels.{IsLeaveEvent}
 use Rattle.step_threads.specs.Rows as rows
 use Rattle.step_threads.specs.Rows.{frame_after_act}
@@ -80,9 +80,9 @@ module _ {V : Type 0} (worth : Form → V) (d e : DeskNow V) (l : Slots) (a : Ac
         done = inl (
           quietly d e n is,
           law.by_slot worth (state_of d) d.name l a i false None None at
-              (subst (λ (x : Option Pointer). IsLeaveEvent {V = V} (state_of d) x false None None) (sym none) (refl, refl, refl)),
+              (subst (λ (x : Option Handle). IsLeaveEvent {V = V} (state_of d) x false None None) (sym none) (refl, refl, refl)),
         );
-        ends = subst (λ (x : Option Pointer). Begun xs (rows.ending_by false x) ys) (sym none) same;
+        ends = subst (λ (x : Option Handle). Begun xs (rows.ending_by false x) ys) (sym none) same;
         told = same;
       }
 
@@ -100,7 +100,7 @@ module _ {V : Type 0} (worth : Form → V) (d e : DeskNow V) (l : Slots) (a : Ac
           leaves.2,
           law.gone worth d.name d e l a i false c h.place at has leaves.2,
         );
-        ends = subst (λ (x : Option Pointer). Begun xs (rows.ending_by false x) ys) (sym has.at) are;
+        ends = subst (λ (x : Option Handle). Begun xs (rows.ending_by false x) ys) (sym has.at) are;
         told = are;
       }
   owner_left h gone full none (left.Last x) leaves are =
@@ -113,11 +113,11 @@ module _ {V : Type 0} (worth : Form → V) (d e : DeskNow V) (l : Slots) (a : Ac
           leaves.1,
           law.gone worth d.name d e l a i true x.block h.place at has leaves.1,
         );
-        ends = subst (λ (y : Option Pointer). Begun xs (rows.ending_by true y) ys) (sym has.at) (x, are, refl, leaves.3);
+        ends = subst (λ (y : Option Handle). Begun xs (rows.ending_by true y) ys) (sym has.at) (x, are, refl, leaves.3);
         told = (x, are, remains_kept d e _ leaves.1 kind.Owner h.place x.block.0 has.has);
       }
 
-  begun_not : (vacant : Bool) (x : Pointer) → x.kind ≡ kind.Weak → ys ≡ xs → Begun xs (rows.ending_by vacant (Some x)) ys
+  begun_not : (vacant : Bool) (x : Handle) → x.kind ≡ kind.Weak → ys ≡ xs → Begun xs (rows.ending_by vacant (Some x)) ys
   begun_not false x w same = same
   begun_not true x w same = subst (λ k. Begun xs (rows.ending_as k x) ys) (sym w) same
 
@@ -135,7 +135,7 @@ module _ {V : Type 0} (worth : Form → V) (d e : DeskNow V) (l : Slots) (a : Ac
           leaves,
           law.gone_weakly worth d.name d e l a i vacant b w.place at has leaves,
         );
-        ends = subst (λ (x : Option Pointer). Begun xs (rows.ending_by vacant x) ys) (sym has.at)
+        ends = subst (λ (x : Option Handle). Begun xs (rows.ending_by vacant x) ys) (sym has.at)
             (begun_not vacant (calls.pointer kind.Weak b w.place) refl same);
         told = same;
       }

@@ -1,29 +1,50 @@
 -- Each worker of a script gets a table that fits its thread, so that a run is refused for want of memory alone.
 use Rattle.std.proofs.Common.{◌≡◌, ◌⊎◌, ◌↔◌, inl, inr, ℕ, ◌*◌, ◌/◌, ◌≤◌, List, [], ◌∷◌, ap, sym, subst, arith}
-use Rattle.std.specs.List.{AllByRecursion}
+use Rattle.std.proofs.lemmas.List.Elements.{All-from_recursion}
+use Rattle.std.specs.List.{AllByRecursion, AllZip}
 use Rattle.std.specs.Prelude.{Err, IfErr, Ok, Result}
-use Rattle.control_block.specs.Desks.{DeskNow}
+use Rattle.atomic_table.specs.Seated.{TableId}
 use Rattle.control_word.specs.declared.refusal.Refusal.{Refusal}
 use Rattle.control_word.specs.declared.refusal.Refusal.TheVariants as refusal
 use Rattle.control_word.specs.declared.shape.Shape.{Shape}
-use Rattle.handle_table.specs.Parting.{IsNew, IsPartedInto}
-use Rattle.handle_table.specs.Staffs.{HasShares}
+use Rattle.handle_table.specs.Parting.{IsNew}
+use Rattle.handle_table.specs.Staffs.{HasShares, IsLent, MeetsNeeds}
 use Rattle.handle_table.specs.Tables.{TableNow}
 use Rattle.handle_table.specs.declared.staff.Share.{Share}
+use Rattle.script_runner.proofs.Assigning.{Needs}
+use Rattle.script_runner.specs.Assignments.{HasAssignment}
 use Rattle.script_runner.specs.Beginnings.{IsFitting}
+use Rattle.script_runner.specs.declared.workers.assignment.Assignment.{Assignment}
+use Rattle.script_runner.specs.declared.workers.worker.Worker.{Worker}
 use Rattle.script_text.specs.Beginnings.{shape_for}
 use Rattle.script_text.specs.Scripts.{HasTextCells}
 
--- new tables of a desk's parts fit, where the domain has the cells that texts name
-pub all_fit : (d e : DeskNow ℕ) (a k : ℕ) (ts : List (TableNow ℕ)) → 36 ≤ a → HasTextCells d.shape → IsPartedInto d a k ts e
-    → AllByRecursion (IsNew 36) ts → AllByRecursion IsFitting ts
-all_fit d e a k [] enough cells parts new = tt
-all_fit d e a k (t ∷ ts) enough cells parts new =
-    let off = parts.1 in
-    let has = off.allowance.0 in (
-      record { new = new.0; none = off.count.1; room = omega (arith, has, enough); cells = subst HasTextCells (sym off.beside.1) cells },
-      all_fit parts.0 e a k ts enough (subst HasTextCells (sym off.event.same.1) cells) parts.2 new.1,
-    )
+-- a table that is lent in a domain with the cells that texts name fits
+fits : (shape : Shape) (share : Share) (t : TableNow ℕ) → share.slots ≡ 36 → 36 ≤ share.allowance → HasTextCells shape → IsLent shape share t
+    → IsFitting t
+fits shape share t slots enough cells lent =
+    record {
+      new = subst (λ (n : ℕ). IsNew n t) slots lent.new;
+      room = let has = lent.allowance in omega (arith, has, enough);
+      cells = subst HasTextCells (sym lent.of) cells;
+    }
+
+module _ {G : Type 0} where
+  need : (book : TableId) (shape : Shape) (share : Share) (rs : List Assignment) (ws : List (Worker G)) → share.slots ≡ 36 → 36 ≤ share.allowance
+      → HasTextCells shape → AllZip (HasAssignment book) rs ws
+      → AllByRecursion (λ (w : Worker G). (t : TableNow ℕ) → IsLent shape share t → Needs w t) ws
+  need book shape share [] [] slots enough cells has = tt
+  need book shape share (r ∷ rs) (w ∷ ws) slots enough cells has =
+      (λ t lent. (fits shape share t slots enough cells lent, has.0.taken), need book shape share rs ws slots enough cells has.1)
+  need book shape share [] (w ∷ ws) slots enough cells has = absurd has
+  need book shape share (r ∷ rs) [] slots enough cells has = absurd has
+
+  -- so each worker that has an assignment has what it needs
+  pub all_need : (book : TableId) (shape : Shape) (share : Share) (rs : List Assignment) (ws : List (Worker G)) → share.slots ≡ 36
+      → 36 ≤ share.allowance → HasTextCells shape → AllZip (HasAssignment book) rs ws → MeetsNeeds Needs shape share ws
+  all_need book shape share rs ws slots enough cells has =
+      All-from_recursion (λ (w : Worker G). (t : TableNow ℕ) → IsLent shape share t → Needs w t) ws
+      (need book shape share rs ws slots enough cells has)
 
 -- a script's domain has an allowance and blocks for each of its threads
 pub has_shares : (shape : Shape) (share : Share) (blocks threads n : ℕ)

@@ -2,7 +2,6 @@ pub mod Arranging
 pub mod Handling
 pub mod Room
 pub mod Endless
-pub mod Beginning
 pub mod Naming
 pub mod Calling
 pub mod Logging

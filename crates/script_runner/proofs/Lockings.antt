@@ -28,7 +28,7 @@ use Rattle.step_table.specs.Contents.{slot_by}
 use Rattle.step_table.specs.AtomicSteps.{as_owner, owned}
 use Rattle.step_table.specs.Registers.{plain, slot_pointer, slot_value, weak_slot}
 use Rattle.step_table.specs.declared.memory.form.Form.{Form}
-use Rattle.step_table.specs.declared.slots.registers.Pointer.{Pointer}
+use Rattle.control_word.specs.declared.handle.Handle.{Handle}
 use Rattle.step_threads.specs.Frames.{hand as hand_of}
 use Rattle.step_threads.specs.TraceLabels.{On}
 use Rattle.step_threads.specs.Rows.{Found, Got, taking}
@@ -42,7 +42,7 @@ module _ {V : Type 0} (worth : Form → V) (m i hand : ℕ) (taken : Bool) (t u 
   locked_done w must got at None e locks =
       inl (
         quietly t.desk u.desk _ locks.1,
-        subst (λ (x : Option Pointer). On (λ y. ◌≡◌ {A = Option (Event V)} None (Some (event.Lock (weak_of (owned (state_of t.desk) y) y.place) got)))
+        subst (λ (x : Option Handle). On (λ y. ◌≡◌ {A = Option (Event V)} None (Some (event.Lock (weak_of (owned (state_of t.desk) y) y.place) got)))
             ((got ≡ false) × (◌≡◌ {A = Option (Event V)} None None)) (weak_slot x))
             (sym (no_pointer m i t (Weak w) lt at e)) (locks.0, refl),
       )
@@ -117,7 +117,7 @@ module _ {V : Type 0} (worth : Form → V) (m i hand : ℕ) (taken : Bool) (t u 
   refused_done w at None e up =
       inl (
         stayed t.desk u.desk up.1,
-        subst (λ (x : Option Pointer). On (λ y. ◌≡◌ {A = Option (Event V)} None (Some (event.Lock (weak_of (owned (state_of t.desk) y) y.place) false)))
+        subst (λ (x : Option Handle). On (λ y. ◌≡◌ {A = Option (Event V)} None (Some (event.Lock (weak_of (owned (state_of t.desk) y) y.place) false)))
             ((false ≡ false) × (◌≡◌ {A = Option (Event V)} None None)) (weak_slot x))
             (sym (no_pointer m i t (Weak w) lt at e)) (refl, refl),
       )

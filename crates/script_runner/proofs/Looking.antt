@@ -34,7 +34,7 @@ use Rattle.step_table.specs.AtomicSteps.{handle_of, is_enabled, owned}
 use Rattle.step_table.specs.Registers as slots
 use Rattle.step_table.specs.Registers.{inside, place_in, slot_pointer, is_full}
 use Rattle.step_table.specs.declared.memory.form.Form.{Form}
-use Rattle.step_table.specs.declared.slots.registers.Pointer.{Pointer}
+use Rattle.control_word.specs.declared.handle.Handle.{Handle}
 use Rattle.step_threads.specs.TraceLabels.{On, copies}
 use Rattle.step_threads.specs.Rows.{Got, Told, outside}
 use Rattle.step_threads.specs.declared.programs.act.Act.TheVariants as act
@@ -56,7 +56,7 @@ module _ {V : Type 0} (worth : Form → V) (m i hand : ℕ) (taken : Bool) (t u 
   counted_done h n at None e count =
       inl (
         stayed t.desk u.desk count.1,
-        subst (λ (x : Option Pointer). On (λ y. ◌≡◌ {A = Option (Event V)} None (Some (event.Count (handle_of (state_of t.desk) y) n)))
+        subst (λ (x : Option Handle). On (λ y. ◌≡◌ {A = Option (Event V)} None (Some (event.Count (handle_of (state_of t.desk) y) n)))
             ((n ≡ 0) × (◌≡◌ {A = Option (Event V)} None None)) x)
             (sym (no_pointer m i t h lt at e)) (count.0, refl),
       )
@@ -87,7 +87,7 @@ module _ {V : Type 0} (worth : Form → V) (m i hand : ℕ) (taken : Bool) (t u 
   expired_done w so at None e x =
       inl (
         stayed t.desk u.desk x.1,
-        subst (λ (y : Option Pointer). On (λ z. ◌≡◌ {A = Option (Event V)} None (Some (event.Expired (handle_of (state_of t.desk) z) so)))
+        subst (λ (y : Option Handle). On (λ z. ◌≡◌ {A = Option (Event V)} None (Some (event.Expired (handle_of (state_of t.desk) z) so)))
             ((so ≡ true) × (◌≡◌ {A = Option (Event V)} None None)) y)
             (sym (no_pointer m i t (Weak w) lt at e)) (x.0, refl),
       )
@@ -173,7 +173,7 @@ module _ {V : Type 0} (worth : Form → V) (m i hand : ℕ) (taken : Bool) (t : 
         acts = record {
           done = inl (
             stayed t.desk t.desk refl,
-            subst (λ (x : Option Pointer). On (λ y. ◌≡◌ {A = Option (Event V)} None (Some (event.Read (owner (owned (state_of t.desk) y) y.place) 0)))
+            subst (λ (x : Option Handle). On (λ y. ◌≡◌ {A = Option (Event V)} None (Some (event.Read (owner (owned (state_of t.desk) y) y.place) 0)))
                 (◌≡◌ {A = Option (Event V)} None None) x)
                 (sym none) refl,
           );
@@ -191,7 +191,7 @@ module _ {V : Type 0} (worth : Form → V) (m i hand : ℕ) (taken : Bool) (t : 
         acts = record {
           done = inl (
             stayed t.desk t.desk refl,
-            subst (λ (x : Option Pointer). On (λ y. (false ≡ is_enabled (state_of t.desk) y)
+            subst (λ (x : Option Handle). On (λ y. (false ≡ is_enabled (state_of t.desk) y)
                 × (None ≡ cond false (Some (copies {V = V} (state_of t.desk) k (place_at y.block.0) y)) None))
                 ((false ≡ false) × (◌≡◌ {A = Option (Event V)} None None)) x)
                 (sym none) (refl, refl),
@@ -212,7 +212,7 @@ module _ {V : Type 0} (worth : Form → V) (m i hand : ℕ) (taken : Bool) (t : 
         acts = record {
           done = inl (
             stayed t.desk t.desk refl,
-            subst (λ (x : Option Pointer). On (λ y. (false ≡ is_enabled (state_of t.desk) y)
+            subst (λ (x : Option Handle). On (λ y. (false ≡ is_enabled (state_of t.desk) y)
                 × (None ≡ cond false (Some (copies {V = V} (state_of t.desk) k (place_at y.block.0) y)) None))
                 ((false ≡ false) × (◌≡◌ {A = Option (Event V)} None None)) x)
                 (sym some) (sym off, refl),

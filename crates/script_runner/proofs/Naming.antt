@@ -5,22 +5,33 @@ use Rattle.std.proofs.Common.{subst, ◌∙◌, inl, inr, arith}
 use Rattle.std.proofs.lemmas.List.{length-map, length-set}
 use Rattle.std.proofs.lemmas.Option.{slice_get_within}
 use Rattle.std.specs.Prelude.{replicate, slice_get, slice_set}
-use Rattle.control_block.specs.Desks.{allowance_of}
+use Rattle.control_block.specs.Desks.{DeskNow, allowance_of}
 use Rattle.control_word.specs.declared.model.handle.Kind.TheVariants as kind
 use Rattle.control_word.specs.declared.model.handle.Kind.{Kind}
 use Rattle.handle_table.specs.Calls.{IsBelow}
-use Rattle.handle_table.specs.Tables.{FitsSlots, Slot, TableNow}
+use Rattle.handle_table.specs.Tables.{AllVacant, FitsSlots, Slot, TableNow}
 use Rattle.script_runner.proofs.Arranging.{same_or, set_else, set_here}
-use Rattle.script_runner.proofs.Beginning.{allowance_same, quiet_on, same_quiet}
 use Rattle.script_runner.proofs.Room.{spare_below}
 use Rattle.script_runner.proofs.Seating.{came_in, quietly}
-use Rattle.script_runner.specs.Beginnings.{HasBegun, HasVacantSlots, IsUnmoved}
+use Rattle.script_runner.specs.Beginnings.{HasBegun, IsFitting, IsUnmoved}
 use Rattle.script_runner.specs.Deals.{IsEmptied}
 use Rattle.script_runner.specs.Kinds.{HasKind, IsName, IsVacant, SetsKind, kind_in, slot_kinds}
-use Rattle.script_runner.specs.Seats.{as_slot, shown_slots}
+use Rattle.script_runner.specs.Seats.{IsQuiet, as_slot, shown_slots}
 use Rattle.script_text.specs.Scripts.{HasTextCells}
 use Rattle.step_table.specs.Contents.{slot_by}
 use Rattle.step_table.specs.Registers.{plain}
+
+vacant_at : (ss : List Slot) (i : ℕ) → AllVacant ss → i < length ss → slice_get ss i ≡ Some None
+vacant_at [] i all lt = let no : ⊥ = omega (arith, lt) in absurd no
+vacant_at (s ∷ ss) zero all lt = ap Some all.0
+vacant_at (s ∷ ss) (suc i) all lt = vacant_at ss i all.1 (omega (arith, lt))
+
+quiet_on : (d e f : DeskNow ℕ) → IsQuiet d e → IsQuiet e f → IsQuiet d f
+quiet_on d e f a b = record { shape = b.shape ∙ a.shape; name = b.name ∙ a.name; seen = b.seen ∙ a.seen }
+
+-- the allowance is counted of the history
+pub allowance_same : (d e : DeskNow ℕ) → IsQuiet d e → allowance_of e ≡ allowance_of d
+allowance_same d e q = λ i. allowance_of (record d { shape = q.shape i; name = q.name i; seen = q.seen i })
 
 -- what becomes empty in a vacant slot is only counted, and looks empty to the thread
 pub record IsEmptyAt (i : ℕ) (v u : TableNow ℕ) : Type 0 where
@@ -57,14 +68,14 @@ pub record AreNamed (ks : List Kind) (k : ℕ) (t u : TableNow ℕ) : Type 0 whe
   pub vacant : (i : ℕ) → k ≤ i → i < 36 → slice_get u.slots i ≡ Some None
   pub many : length u.slots ≡ 36
 
-pub none_named : (ks : List Kind) (t : TableNow ℕ) → HasVacantSlots t → AreNamed ks 0 t t
-none_named ks t is =
+pub none_named : (ks : List Kind) (t : TableNow ℕ) → IsFitting t → AreNamed ks 0 t t
+none_named ks t fits =
     record {
-      unmoved = (same_quiet t.desk, refl);
+      unmoved = (record { shape = refl; name = refl; seen = refl }, refl);
       named = λ i q lt e. let no : ⊥ = omega (arith, lt) in absurd no;
       shown = λ i s lt e. let no : ⊥ = omega (arith, lt) in absurd no;
-      vacant = λ i le lt. is.vacant i lt;
-      many = is.many;
+      vacant = λ i le lt. vacant_at t.slots i fits.new.0 (let many = fits.new.1 in omega (arith, lt, many));
+      many = fits.new.1;
     }
 
 some_same : (a b : Slot) → Some a ≡ Some b → a ≡ b
@@ -140,16 +151,14 @@ shown_plain (suc m) (s ∷ ss) le all =
     (λ j. all 0 s (omega arith) refl j ∷ shown_slots m ss)
     ∙ ap (λ l. plain ∷ l) (shown_plain m ss (omega (arith, le)) (λ i r lt e. all (suc i) r (omega (arith, lt)) e))
 
-pub has_begun : (ks : List Kind) (t v u : TableNow ℕ) → length ks ≤ 32 → IsUnmoved t v → t.endings ≡ [] → HasVacantSlots v
-    → HasTextCells t.desk.shape
-    → AreNamed ks (length ks) v u → HasBegun ks (length ks + 1) t u
-has_begun ks t v u few first none room cells is =
+pub has_begun : (ks : List Kind) (t u : TableNow ℕ) → length ks ≤ 32 → IsFitting t → AreNamed ks (length ks) t u
+    → HasBegun ks (length ks + 1) t u
+has_begun ks t u few fits is =
     let long = is.many in
-    let shape = is.unmoved.0.shape ∙ first.0.shape in
-    let allows = allowance_same v.desk u.desk is.unmoved.0 in
-    let most = room.room in
+    let allows = allowance_same t.desk u.desk is.unmoved.0 in
+    let most = fits.room in
     record {
-      unmoved = (quiet_on t.desk v.desk u.desk first.0 is.unmoved.0, is.unmoved.1 ∙ first.1);
+      unmoved = is.unmoved;
       arranged = record {
         last = refl;
         few = omega arith;
@@ -160,11 +169,11 @@ has_begun ks t v u few first none room cells is =
         in_hand = vacant_kind u.slots (length ks + 1) (is.vacant (length ks + 1) (omega arith) (omega (arith, few)));
         rest = λ i lt le. vacant_kind u.slots i (is.vacant i (omega (arith, lt)) (omega (arith, le, long)));
         room = omega (arith, most, allows, long);
-        cells = subst HasTextCells (sym shape) cells;
+        cells = subst HasTextCells (sym is.unmoved.0.shape) fits.cells;
       };
       slots = shown_plain (length ks + 1 + 1) u.slots (omega (arith, few, long)) (λ i s lt e. shown_all i s lt e)
           ∙ ap (λ n. replicate n plain) (let n : length ks + 1 + 1 ≡ length ks + 2 = omega arith in n);
-      settled = is.unmoved.1 ∙ (first.1 ∙ none);
+      settled = is.unmoved.1 ∙ fits.new.2;
     }
   where
     shown_all : (i : ℕ) (s : Slot) → i < length ks + 1 + 1 → slice_get u.slots i ≡ Some s → as_slot s ≡ plain

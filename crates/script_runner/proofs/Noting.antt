@@ -8,7 +8,7 @@ use Rattle.script_runner.specs.Calls.{state_before_event}
 use Rattle.script_runner.specs.Deals.{IsDealt, field_0, thread_slots}
 use Rattle.script_runner.specs.Seats.{Done}
 use Rattle.script_runner.specs.Totals.{objects_asked, refuses}
-use Rattle.script_runner.specs.declared.acts.went.Went.{Went}
+use Rattle.script_runner.specs.declared.acts.act_result.ActResult.{ActResult}
 use Rattle.step_table.specs.Registers.{Slots}
 use Rattle.step_threads.specs.Rows.{Reply, row}
 use Rattle.step_threads.specs.declared.programs.act.Act.{Act}
@@ -22,7 +22,7 @@ row_refuses d e l taken a r (inl x) =
 row_refuses d e l taken a r (inr x) =
     let c = (act_counts field_0 (state_before_event ℕ x.1) d.name l taken a r (Some x.0) x.2).makes in omega (arith, c)
 
-pub dealt_refuses : (hand : ℕ) (t u : TableNow ℕ) (taken : Bool) (a : Act) (x : Went) → IsDealt hand t taken a x u
+pub dealt_refuses : (hand : ℕ) (t u : TableNow ℕ) (taken : Bool) (a : Act) (x : ActResult) → IsDealt hand t taken a x u
     → refuses x.answer ≤ objects_asked a
 dealt_refuses hand t u taken a x (inl is) =
     subst (λ (s : Option Answer). refuses s ≤ objects_asked a) (sym is.says)

@@ -14,7 +14,7 @@ use Rattle.script_runner.specs.EndCalls.{Piled, TakesThread}
 use Rattle.script_runner.specs.Goings.{task}
 use Rattle.script_runner.specs.Logs.{TellsThread, told_line}
 use Rattle.script_runner.specs.Seats.{Acts, IsQuiet, IsToldEnding}
-use Rattle.script_runner.specs.declared.acts.went.Went.{Went}
+use Rattle.script_runner.specs.declared.acts.act_result.ActResult.{ActResult}
 use Rattle.shared_handle.specs.declared.endings.Ending as pile
 use Rattle.step_table.specs.declared.memory.ended.Ended as ended
 use Rattle.step_threads.specs.Frames.{idle, frame_settled}
@@ -69,7 +69,7 @@ acts_clear hand k t u taken a r none busy acts clear todo log =
     (none_piled k u.endings g.0 g.1 clear) (g.2 todo log)
 
 module _ (hand k : ℕ) (t u : TableNow ℕ) (none : t.endings ≡ []) where
-  pub deal_on : (taken : Bool) (a : Act) (x : Went) → IsDealt hand t taken a x u
+  pub deal_on : (taken : Bool) (a : Act) (x : ActResult) → IsDealt hand t taken a x u
       → IsOnward hand k t taken (task k a ∷ []) x.taken (told_line (statement_says k x)) u
   deal_on taken a x (inl y) =
       let r = row a (thread_slots hand t) taken y.reply in

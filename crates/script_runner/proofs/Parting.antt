@@ -12,7 +12,7 @@ use Rattle.script_runner.proofs.Stages.{last_same, some_last}
 use Rattle.script_runner.proofs.TableLaws as law
 use Rattle.script_runner.specs.Deals.{IsActed, IsDealt, IsEmptied, IsTop, field_0, thread_slots}
 use Rattle.script_runner.specs.Seats.{IsQuiet, IsSeated, IsToldEnding, Leaving, shown_slots}
-use Rattle.script_runner.specs.declared.acts.went.Went.{Went}
+use Rattle.script_runner.specs.declared.acts.act_result.ActResult.{ActResult}
 use Rattle.shared_handle.specs.declared.endings.Ending as pile
 use Rattle.shared_handle.specs.declared.pile.Gone.{Gone}
 use Rattle.step_table.specs.Contents.{slot_by}
@@ -28,7 +28,7 @@ use Rattle.control_word.specs.declared.model.handle.Kind.{Kind}
 use Rattle.control_word.specs.declared.place.Block.{Block}
 use Rattle.control_word.specs.declared.place.Place.{Place}
 
-abbrev pub left : Bool → Option Ended → Went
+abbrev pub left : Bool → Option Ended → ActResult
 left taken e = record { taken = taken; answer = None; ended = e }
 
 -- what is told of what an act left to end

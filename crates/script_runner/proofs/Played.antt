@@ -11,7 +11,7 @@ use Rattle.script_runner.specs.Goings.{task}
 use Rattle.script_runner.specs.Logs.{TellsThread, told_line}
 use Rattle.script_runner.specs.Notes.{Notes, PlaysOn, Settles}
 use Rattle.script_runner.specs.Totals.{objects_asked, refuses}
-use Rattle.script_runner.specs.declared.acts.went.Went.{Went}
+use Rattle.script_runner.specs.declared.acts.act_result.ActResult.{ActResult}
 use Rattle.script_runner.specs.declared.workers.log.Log.{Log}
 use Rattle.step_table.specs.declared.memory.ended.Ended.{Ended}
 use Rattle.step_threads.specs.Frames.{frame_settled}
@@ -49,7 +49,7 @@ played_then hand t v u todo rest last w x y a b =
 
 module _ (hand k : ℕ) (t t' v : TableNow ℕ) (same : t' ≡ t) (none : t'.endings ≡ []) where
   -- an act, and what ends by it
-  pub act_played : (u : TableNow ℕ) (a : Act) (x : Went) (w m n y : Log) → IsDealt hand t' w.taken a x v → refuses x.answer ≤ objects_asked a
+  pub act_played : (u : TableNow ℕ) (a : Act) (x : ActResult) (w m n y : Log) → IsDealt hand t' w.taken a x v → refuses x.answer ≤ objects_asked a
       → Notes w m (objects_asked a - refuses x.answer) [] → Notes m n (refuses x.answer) (told_line (statement_says k x))
       → Settles hand k v n u y → n.taken ≡ x.taken → y.taken ≡ n.taken
       → (todo : List Task) → PlaysOn hand t (task k a ∷ todo) w u todo y

@@ -64,10 +64,10 @@ over_bare ks x hand taken t is none owes names = all_bare t.slots each
         go (inr (inr b)) = after i s low at b (split i hand)
 
 -- a worker that came to the end of its tasks played its thread
-pub worked : (kinds : List Kind) (tasks : List Task) (w x : Log) (t v u : TableNow ℕ) → HasBegun kinds (length kinds + 1) t v
+pub worked : (kinds : List Kind) (tasks : List Task) (w x : Log) (t v u : TableNow ℕ) → w.taken ≡ false → HasBegun kinds (length kinds + 1) t v
     → PlaysOn (length kinds + 1) v tasks w u [] x → MayGoOn kinds (length kinds + 1) x.taken u [] → u.desk.shape ≡ t.desk.shape
     → IsWorked kinds tasks w t x u
-worked kinds tasks w x t v u begun g over shape part same fits idle =
+worked kinds tasks w x t v u idle begun g over shape part same =
     let hand = length kinds + 1 in
     record {
       lines = g.lines;

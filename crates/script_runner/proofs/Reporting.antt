@@ -17,13 +17,11 @@ use Rattle.control_word.specs.declared.refusal.Refusal.{Refusal}
 use Rattle.control_word.specs.declared.refusal.Refusal.TheVariants.{NotSole}
 use Rattle.control_word.specs.declared.shape.Shape.{Shape}
 use Rattle.handle_table.proofs.Crews.{any_each}
-use Rattle.handle_table.specs.Parting.{IsNew}
 use Rattle.handle_table.specs.Programs.{WorksIn, any_work}
 use Rattle.handle_table.specs.Staffs.{StaffsOpen}
 use Rattle.handle_table.specs.declared.staff.Share.{Share}
 use Rattle.ownership_ledger.specs.Now.{ShareNow}
 use Rattle.script_runner.proofs.Assigning.{AllShare, Does, all_play, all_share, as_many, same_many, still_share}
-use Rattle.script_runner.proofs.Lending.{all_fit}
 use Rattle.script_runner.proofs.Rooms.{all_added, all_say_few}
 use Rattle.script_runner.proofs.Summing.{all_ended, all_made, sum_ended, sum_made}
 use Rattle.script_runner.proofs.Weaving.{teams_interleave}
@@ -36,7 +34,7 @@ use Rattle.script_runner.specs.declared.workers.assignment.Assignment.{Assignmen
 use Rattle.script_runner.specs.declared.workers.worker.Worker.{Worker}
 use Rattle.script_text.specs.Beginnings.{shape_for}
 use Rattle.script_text.specs.Drafts.{ScriptView}
-use Rattle.script_text.specs.Scripts.{HasTextCells, part_in, program_in}
+use Rattle.script_text.specs.Scripts.{part_in, program_in}
 use Rattle.script_text.specs.Versions.{blocks_in}
 use Rattle.step_threads.specs.Interleavings.{IsSplitOrJoin}
 use Rattle.step_threads.specs.declared.said.Said.{Said}
@@ -122,7 +120,7 @@ module _ {G : Type 0} where
         ap length is ∙ (length-map has (λ (w : Worker G). w.log.share) ∙ workers_left),
       )
 
-  -- the workers were ready for their threads, and had the slots and the allowance that these need
+  -- the workers were ready for their threads
   performed : (script : ScriptView) (domain : DomainNow) (desk : DeskNow ℕ) (shape : Shape) (share : Share) (had has : List (Worker G))
       → shape ≡ domain_shape script → asked_by_all (program_in script.threads) ≤ 65536
       → AllZip (IsReadyFor (asked_by_all (program_in script.threads))) (program_in script.threads) had
@@ -136,16 +134,10 @@ module _ {G : Type 0} where
       let first = s.works.first in
       let ps = program_in script.threads in
       let objects = asked_by_all ps in
-      let slots : share.slots ≡ 36 = ap (λ (k : Share). k.slots) is in
-      let allowance : 36 ≤ share.allowance = subst (λ (k : Share). 36 ≤ k.allowance) (sym is) (omega arith) in
       let all : length had ≡ length script.threads = same_many (IsReadyFor objects) ps had ready ∙ length-map script.threads part_in in
       let many = as_many had st.lent has st.left st.each in
-      let new : AllByRecursion (IsNew 36) st.lent =
-      recursion_from_All (IsNew 36) st.lent (subst (λ n. All (IsNew n) st.lent) slots st.new) in
       let at : first.desk.shape ≡ shape = s.works.begins.shape ∙ s.of in
-      let cells : HasTextCells first.desk.shape = subst HasTextCells (sym at) (omega arith, omega arith) in
-      let fit = all_fit first.desk st.between share.allowance share.blocks st.lent allowance cells st.parts new in
-      let played = all_play objects ps had st.lent has st.left ready fit st.each in
+      let played = all_play objects ps had st.lent has st.left ready st.each in
       let ls = played.lines in
       let legal = subst (λ (k : Shape). IsLegal (opening_of k) desk.seen) (sym at) s.can_close.legal in
       let woven : IsInterleaved field_0 (opening_of shape) desk.seen ps ls =

@@ -8,7 +8,7 @@ use Rattle.script_runner.proofs.Settles.{then_settled}
 use Rattle.script_runner.specs.Deals.{GoesOnWith, IsCompared, IsDealt, IsSettledBy, IsTop, statement_says}
 use Rattle.script_runner.specs.Goings.{task}
 use Rattle.script_runner.specs.Logs.{told_line}
-use Rattle.script_runner.specs.declared.acts.went.Went.{Went}
+use Rattle.script_runner.specs.declared.acts.act_result.ActResult.{ActResult}
 use Rattle.step_table.specs.declared.memory.ended.Ended.{Ended}
 use Rattle.step_threads.specs.declared.programs.act.Act.TheVariants as act
 use Rattle.step_threads.specs.declared.programs.act.Act.{Act}
@@ -44,7 +44,7 @@ three_at xs n x y z e f g =
     two_at xs n x y e f ∙ ap (λ l. x ∷ y ∷ l) (drop_at xs (n + 2) z g ∙ ap (λ k. z ∷ drop k xs) (let q : n + 2 + 1 ≡ n + 3 = omega arith in q))
 
 module _ (hand k : ℕ) (t t' v : TableNow ℕ) (same : t' ≡ t) (none : t'.endings ≡ []) where
-  pub act_settled : (u : TableNow ℕ) (taken : Bool) (a : Act) (x : Went) (log said lines : List Said) (after takes : Bool)
+  pub act_settled : (u : TableNow ℕ) (taken : Bool) (a : Act) (x : ActResult) (log said lines : List Said) (after takes : Bool)
       → IsDealt hand t' taken a x v → after ≡ x.taken → said ≡ log ++ told_line (statement_says k x) → takes ≡ after
       → IsSettledBy hand k after v said u lines
       → (todo : List Task) → GoesOnWith hand t taken (task k a ∷ todo) log u takes todo lines

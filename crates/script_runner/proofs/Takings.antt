@@ -27,7 +27,7 @@ use Rattle.step_table.specs.AtomicSteps.{aliased, as_weak}
 use Rattle.step_table.specs.Registers.{filled, owner_slot, place_in, slot_pointer, slot_value}
 use Rattle.step_table.specs.declared.memory.field.Field.{Field}
 use Rattle.step_table.specs.declared.memory.form.Form.{Form}
-use Rattle.step_table.specs.declared.slots.registers.Pointer.{Pointer}
+use Rattle.control_word.specs.declared.handle.Handle.{Handle}
 use Rattle.step_threads.specs.TraceLabels.{copy, copies}
 use Rattle.step_threads.specs.Rows.{Plain, alias_of}
 use Rattle.step_threads.specs.declared.programs.act.Act.TheVariants as act
@@ -67,7 +67,7 @@ module _ {V : Type 0} (worth : Form → V) (m i hand : ℕ) (taken : Bool) (t u 
       let l = shown_slots m t.slots in
       inl (
         quietly t.desk u.desk _ shares,
-        subst (λ (x : Option Pointer). None ≡ option_map (copy {V = V} (state_of t.desk)) x) (sym (no_pointer m i t (Owner h) lt at e)) refl,
+        subst (λ (x : Option Handle). None ≡ option_map (copy {V = V} (state_of t.desk)) x) (sym (no_pointer m i t (Owner h) lt at e)) refl,
       )
   copied_owner h k at same (Some b) e shares =
       inr (
@@ -82,7 +82,7 @@ module _ {V : Type 0} (worth : Form → V) (m i hand : ℕ) (taken : Bool) (t u 
   copied_weak h at None e shares =
       inl (
         quietly t.desk u.desk _ shares,
-        subst (λ (x : Option Pointer). None ≡ option_map (copy {V = V} (state_of t.desk)) x) (sym (no_pointer m i t (Weak h) lt at e)) refl,
+        subst (λ (x : Option Handle). None ≡ option_map (copy {V = V} (state_of t.desk)) x) (sym (no_pointer m i t (Weak h) lt at e)) refl,
       )
   copied_weak h at (Some b) e shares =
       inr (
@@ -124,7 +124,7 @@ module _ {V : Type 0} (worth : Form → V) (m i hand : ℕ) (taken : Bool) (t u 
   downgraded_done h at None e shares =
       inl (
         quietly t.desk u.desk _ shares,
-        subst (λ (x : Option Pointer). None ≡ option_map (λ (y : Pointer). copies {V = V} (state_of t.desk) kind.Weak y.place y) x)
+        subst (λ (x : Option Handle). None ≡ option_map (λ (y : Handle). copies {V = V} (state_of t.desk) kind.Weak y.place y) x)
             (sym (no_pointer m i t (Owner h) lt at e)) refl,
       )
   downgraded_done h at (Some b) e shares =
@@ -160,7 +160,7 @@ module _ {V : Type 0} (worth : Form → V) (m i hand : ℕ) (taken : Bool) (t u 
       let r = aliased field (place_in (shown_slots m t.slots) j) in
       inl (
         quietly t.desk u.desk _ shares,
-        subst (λ (x : Option Pointer). None ≡ option_map (copies {V = V} (state_of t.desk) kind.Owner r) (owner_slot x))
+        subst (λ (x : Option Handle). None ≡ option_map (copies {V = V} (state_of t.desk) kind.Owner r) (owner_slot x))
             (sym (no_pointer m i t (Owner h) lt at e)) refl,
       )
   aliased_done h j field at (Some b) e shares =

@@ -17,7 +17,7 @@ use Rattle.step_table.specs.AtomicSteps.{aliased, is_enabled, owned}
 use Rattle.step_table.specs.Registers.{Slots, inside, is_full, owner_slot, place_in, slot_pointer, weak_slot}
 use Rattle.step_table.specs.declared.memory.ended.Ended.{Ended}
 use Rattle.step_table.specs.declared.memory.form.Form.{Form}
-use Rattle.step_table.specs.declared.slots.registers.Pointer.{Pointer}
+use Rattle.control_word.specs.declared.handle.Handle.{Handle}
 use Rattle.step_threads.specs.Frames.{hand, is_there, offered, other}
 use Rattle.step_threads.specs.TraceLabels.{IsLeaveEvent, IsMakeEvent, IsLoadEvent, On, IsSwapEvent, Where, copies, copy, leaves_as}
 use Rattle.step_threads.specs.Rows.{Came, Compared, Found, Got, Left, Plain, Reply, Told, asked, may_go, not_given, row, lock_answer, outside, refusal}
@@ -91,19 +91,19 @@ module _ {V : Type 0} where
   pub mild_some : (e : Option (Event V)) (v : Event V) → e ≡ Some v → makes v ≡ 0 → ends v ≡ 0 → KeepsDesks v → IsMild e
   mild_some e v is m n k = subst IsMild (sym is) (record { makes = m; ends = n; keeps = k })
 
-  mild_map : (f : Pointer → Event V) (o : Option Pointer) → ((x : Pointer) → IsMild (Some (f x))) → IsMild (option_map f o)
+  mild_map : (f : Handle → Event V) (o : Option Handle) → ((x : Handle) → IsMild (Some (f x))) → IsMild (option_map f o)
   mild_map f None mild = record { makes = refl; ends = refl; keeps = tt }
   mild_map f (Some x) mild = mild x
 
-  mild_by_map : (e : Option (Event V)) (f : Pointer → Event V) (o : Option Pointer) → e ≡ option_map f o
-      → ((x : Pointer) → IsMild (Some (f x))) → IsMild e
+  mild_by_map : (e : Option (Event V)) (f : Handle → Event V) (o : Option Handle) → e ≡ option_map f o
+      → ((x : Handle) → IsMild (Some (f x))) → IsMild e
   mild_by_map e f o is mild = subst IsMild (sym is) (mild_map f o mild)
 
   mild_unshelve : (b : Block) (got : Bool) → IsMild (cond got (Some (event.Unshelve b)) None)
   mild_unshelve b true = record { makes = refl; ends = refl; keeps = tt }
   mild_unshelve b false = record { makes = refl; ends = refl; keeps = tt }
 
-  mild_copy : (s : State) (k : Kind) (p : Option Place) (x : Pointer) → IsMild (Some (copies {V = V} s k p x))
+  mild_copy : (s : State) (k : Kind) (p : Option Place) (x : Handle) → IsMild (Some (copies {V = V} s k p x))
   mild_copy s Owner p x = record { makes = refl; ends = refl; keeps = tt }
   mild_copy s Weak p x = record { makes = refl; ends = refl; keeps = tt }
 
@@ -119,7 +119,7 @@ module _ {V : Type 0} where
       let x = m.makes in
       record { makes = omega (arith, x, silent, none); ends = m.ends; keeps = m.keeps }
 
-  leaves_counts : (s : State) (a : Act) (o : Option Pointer) (last : Bool) (left : Option Ended) (e : Option (Event V)) → objects_asked a ≡ 0
+  leaves_counts : (s : State) (a : Act) (o : Option Handle) (last : Bool) (left : Option Ended) (e : Option (Event V)) → objects_asked a ≡ 0
       → IsLeaveEvent s o last left e → Counts a e None left
   leaves_counts s a None last left e none l =
       subst (λ x. Counts a x None left) (sym l.2)
@@ -134,12 +134,12 @@ module _ {V : Type 0} where
       go Weak true = record { makes = sym none; ends = refl; keeps = tt }
       go Weak false = record { makes = sym none; ends = refl; keeps = tt }
 
-  mild_on : (e : Option (Event V)) (f : Pointer → Event V) (none : Type 0) (o : Option Pointer) → (none → e ≡ None)
-      → On (λ x. e ≡ Some (f x)) none o → ((x : Pointer) → IsMild (Some (f x))) → IsMild e
+  mild_on : (e : Option (Event V)) (f : Handle → Event V) (none : Type 0) (o : Option Handle) → (none → e ≡ None)
+      → On (λ x. e ≡ Some (f x)) none o → ((x : Handle) → IsMild (Some (f x))) → IsMild e
   mild_on e f none None rest on mild = mild_none e (rest on)
   mild_on e f none (Some x) rest on mild = subst IsMild (sym on) (mild x)
 
-  mild_given : (s : State) (e : Option (Event V)) (got : Bool) (k : Kind) (o : Option Pointer)
+  mild_given : (s : State) (e : Option (Event V)) (got : Bool) (k : Kind) (o : Option Handle)
       → On (λ x. (got ≡ is_enabled s x) × (e ≡ cond got (Some (copies s k (place_at x.block.0) x)) None))
       ((got ≡ false) × (e ≡ None)) o → IsMild e
   mild_given s e got k None on = mild_none e on.1

@@ -48,7 +48,6 @@ module _ {G : Type 0} where
   -- a worker that is at its thread's first act and has noted nothing, with room for all that it may have to
   pub record IsReadyFor (objects : ℕ) (part : Part) (w : Worker G) : Type 0 where
     pub tasks : IsFor part w.kinds.items w.tasks.items
-    pub taken : w.log.taken ≡ false
     pub said : w.log.said.items ≡ []
     pub memory : length w.tasks.items + objects ≤ vec_capacity w.log.said
     pub on : w.log.full ≡ false

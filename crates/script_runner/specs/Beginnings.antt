@@ -1,11 +1,9 @@
 -- What a worker's table has to be, and what it is where a thread begins. All of it is own.
-use Rattle.std.specs.Prelude.{◌≡◌, ℕ, zero, suc, ◌<◌, ◌≤◌, false, List, [], ◌∷◌, length}
-use Rattle.std.specs.Prelude.{None, Some, slice_get}
-use Rattle.control_block.specs.Desks.{allowance_of, endings_of}
-use Rattle.control_block.specs.declared.handles.Held.TheVariants.{Owner, Weak}
+use Rattle.std.specs.Prelude.{◌≡◌, ℕ, ◌≤◌, false, List, [], length}
+use Rattle.control_block.specs.Desks.{allowance_of}
 use Rattle.control_word.specs.declared.model.handle.Kind.{Kind}
 use Rattle.handle_table.specs.Parting.{IsNew}
-use Rattle.handle_table.specs.Tables.{Slot, TableNow}
+use Rattle.handle_table.specs.Tables.{TableNow}
 use Rattle.script_runner.specs.Deals.{thread_slots}
 use Rattle.script_runner.specs.Kinds.{IsArranged, first_stance}
 use Rattle.script_runner.specs.Seats.{IsQuiet}
@@ -16,30 +14,12 @@ use Rattle.step_threads.specs.Interleavings.{no_slots}
 -- texts name
 pub record IsFitting (t : TableNow ℕ) : Type 0 where
   pub new : IsNew 36 t
-  pub none : endings_of t.desk ≡ 0
   pub room : 36 ≤ allowance_of t.desk
   pub cells : HasTextCells t.desk.shape
 
 -- the desk has seen no more, and nothing else is left to end
 abbrev pub IsUnmoved : TableNow ℕ → TableNow ℕ → Type 0
 IsUnmoved t u = IsQuiet t.desk u.desk × (u.endings ≡ t.endings)
-
--- a slot has an owner of nothing; and so have the first k
-abbrev pub HasEmptyOwner : Slot → Type 0
-HasEmptyOwner None = ⊥
-HasEmptyOwner (Some (Owner h)) = h.block ≡ None
-HasEmptyOwner (Some (Weak w)) = ⊥
-
-abbrev pub StartsFilled : ℕ → List Slot → Type 0
-StartsFilled zero ss = Unit {0}
-StartsFilled (suc k) [] = ⊥
-StartsFilled (suc k) (s ∷ ss) = HasEmptyOwner s × StartsFilled k ss
-
--- all slots are vacant, with room for a handle in each
-pub record HasVacantSlots (t : TableNow ℕ) : Type 0 where
-  pub many : length t.slots ≡ 36
-  pub vacant : (i : ℕ) → i < 36 → slice_get t.slots i ≡ Some None
-  pub room : 36 ≤ allowance_of t.desk
 
 -- a worker's table where its thread begins, whose names have these kinds: all of them are empty
 pub record HasBegun (ks : List Kind) (hand : ℕ) (t u : TableNow ℕ) : Type 0 where

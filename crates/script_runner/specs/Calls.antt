@@ -14,7 +14,7 @@ use Rattle.control_block.specs.Desks.{AddsEvent, DeskNow, HasHandle, latest_of, 
 use Rattle.control_block.specs.Rule.{opening_of}
 use Rattle.step_table.specs.declared.memory.field.Field.{Field}
 use Rattle.step_table.specs.declared.memory.form.Form.{Form}
-use Rattle.step_table.specs.declared.slots.registers.Pointer.{Pointer}
+use Rattle.control_word.specs.declared.handle.Handle.{Handle}
 use Rattle.step_table.specs.AtomicSteps.{aliased, remains}
 use Rattle.step_table.specs.Registers.{Slots, place_in, slot_pointer}
 use Rattle.step_threads.specs.declared.programs.act.Act.{Act}
@@ -23,7 +23,7 @@ use Rattle.step_threads.specs.Frames.{other}
 use Rattle.step_threads.specs.TraceLabels.{IsMakeEvent}
 use Rattle.step_threads.specs.Rows.{Reply, Plain, Found, Got, Told, Left}
 
-abbrev pub pointer : Kind → Block → Option Place → Pointer
+abbrev pub pointer : Kind → Block → Option Place → Handle
 pointer k b p = record { kind = k; block = b; place = p }
 
 -- the acts that leave what slot i holds

@@ -13,7 +13,7 @@ use Rattle.step_threads.specs.declared.said.Answer.TheVariants as answer
 use Rattle.script_runner.specs.CellCalls.{ByCompare, ByDiffering}
 use Rattle.script_runner.specs.EndCalls.{Piled, TakesThread}
 use Rattle.script_runner.specs.Seats.{Acts, IsQuiet, IsSeated, shown_slots}
-use Rattle.script_runner.specs.declared.acts.went.Went.{Went}
+use Rattle.script_runner.specs.declared.acts.act_result.ActResult.{ActResult}
 use Rattle.shared_handle.specs.Piles.{AllEnd}
 use Rattle.shared_handle.specs.declared.endings.Ending as pile
 use Rattle.shared_handle.specs.declared.pile.Gone.TheVariants as gone
@@ -47,7 +47,7 @@ IsThird (cell.Member k m) = m < 3
 IsThird _ = Unit {0}
 
 -- an act of the thread's, by a reply of the table
-pub record IsActed (hand : ℕ) (t : TableNow ℕ) (taken : Bool) (a : Act) (x : Went) (u : TableNow ℕ) : Type 0 where
+pub record IsActed (hand : ℕ) (t : TableNow ℕ) (taken : Bool) (a : Act) (x : ActResult) (u : TableNow ℕ) : Type 0 where
   pub busy : idle a (thread_slots hand t) taken ≡ false
   pub reply : Reply
   pub acts : Acts field_0 (hand + 1) t taken a reply u
@@ -56,7 +56,7 @@ pub record IsActed (hand : ℕ) (t : TableNow ℕ) (taken : Bool) (a : Act) (x :
   pub tells : x.ended ≡ (row a (thread_slots hand t) taken reply).ended
 
 -- no act where it comes
-pub record IsPassedOver (hand : ℕ) (t : TableNow ℕ) (taken : Bool) (a : Act) (x : Went)
+pub record IsPassedOver (hand : ℕ) (t : TableNow ℕ) (taken : Bool) (a : Act) (x : ActResult)
     (u : TableNow ℕ) : Type 0 where
   pub free : idle a (thread_slots hand t) taken ≡ true
   pub quiet : IsQuiet t.desk u.desk
@@ -65,7 +65,7 @@ pub record IsPassedOver (hand : ℕ) (t : TableNow ℕ) (taken : Bool) (a : Act)
   pub takes : x.taken ≡ taken_idle a taken
   pub silent : (x.answer ≡ None) × (x.ended ≡ None)
 
-abbrev pub IsDealt : ℕ → TableNow ℕ → Bool → Act → Went → TableNow ℕ → Type 0
+abbrev pub IsDealt : ℕ → TableNow ℕ → Bool → Act → ActResult → TableNow ℕ → Type 0
 IsDealt hand t taken a x u = IsActed hand t taken a x u ⊎ IsPassedOver hand t taken a x u
 
 -- the hand is a slot of the table, full or vacant
@@ -89,7 +89,7 @@ abbrev pub IsEmptied : TableNow ℕ → ℕ → TableNow ℕ → Type 0
 IsEmptied t i u = EmptiesSlot t i u ⊎ EmptiesSlotWeakly t i u
 
 -- what a thread says by an act of statement k
-abbrev pub statement_says : ℕ → Went → Said
+abbrev pub statement_says : ℕ → ActResult → Said
 statement_says k x = record { statement = k; answer = x.answer; ended = x.ended }
 
 -- a comparison of a cell that goes on at once: with what the cell held, or with what is assigned to the name
@@ -133,7 +133,7 @@ GoesOnWith hand t taken todo log u takes rest lines =
     (frame_settled (thread_slots hand u) takes [] rest) lines
 
 -- an object gives no pointer to itself, for this reason
-pub record NotGiven (why : Fault) (x : Went) : Type 0 where
+pub record NotGiven (why : Fault) (x : ActResult) : Type 0 where
   pub refusal : Refusal
   pub is : why ≡ Call refusal
   pub room : refusal ≡ Limit → ⊥

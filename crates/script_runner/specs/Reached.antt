@@ -4,7 +4,7 @@ use Rattle.control_word.specs.declared.model.handle.Kind.{Kind}
 use Rattle.control_word.specs.declared.model.handle.Kind.TheVariants.{Owner}
 use Rattle.handle_table.specs.Tables.{TableNow}
 use Rattle.script_runner.specs.Kinds.{HasKind, slot_kinds}
-use Rattle.script_runner.specs.declared.acts.went.Went.{Went}
+use Rattle.script_runner.specs.declared.acts.act_result.ActResult.{ActResult}
 use Rattle.step_threads.specs.declared.programs.call.CellName.{CellName}
 use Rattle.step_threads.specs.declared.programs.call.CellName.TheVariants as cell
 
@@ -21,5 +21,5 @@ SetsAside hand t u =
     (k : Option Kind) × (slot_kinds u.slots ≡ slice_set (slice_set (slot_kinds t.slots) hand None) (hand - 1) k)
 
 -- what comes of an act that says nothing, with nothing in hand then
-abbrev pub nothing : Went
+abbrev pub nothing : ActResult
 nothing = record { taken = false; answer = None; ended = None }

@@ -1,7 +1,6 @@
 -- What a worker makes of its thread, from its table's first state to its last. All of it is own.
-use Rattle.std.specs.Prelude.{◌≡◌, ℕ, false, List, length}
+use Rattle.std.specs.Prelude.{◌≡◌, ℕ, List, length}
 use Rattle.handle_table.specs.Tables.{TableNow}
-use Rattle.script_runner.specs.Beginnings.{IsFitting}
 use Rattle.script_runner.specs.Deals.{field_0}
 use Rattle.script_runner.specs.Notes.{Notes}
 use Rattle.script_runner.specs.Teams.{PlaysThread}
@@ -24,7 +23,6 @@ pub record HasPlayed (part : Part) (tasks : List Task) (w : Log) (t : TableNow �
   pub plays : PlaysThread field_0 part t u lines
   pub notes : Notes w x (asked_in tasks) lines
 
--- a table that fits a worker is left so
+-- whichever part the tasks are those of
 abbrev pub IsWorked : List Kind → List Task → Log → TableNow ℕ → Log → TableNow ℕ → Type 0
-IsWorked kinds tasks w t x u =
-    (part : Part) → IsFor part kinds tasks → IsFitting t → w.taken ≡ false → HasPlayed part tasks w t x u
+IsWorked kinds tasks w t x u = (part : Part) → IsFor part kinds tasks → HasPlayed part tasks w t x u

@@ -1,4 +1,5 @@
 //! What a worker does for each kind of act.
+pub(crate) mod act_result;
 pub(crate) mod asking;
 pub(crate) mod cells;
 pub(crate) mod comparison;
@@ -6,4 +7,3 @@ pub(crate) mod dealing;
 pub(crate) mod leaving;
 pub(crate) mod making;
 pub(crate) mod taking;
-pub(crate) mod went;

@@ -14,7 +14,6 @@ use crate::workers::assignment::Assignment;
 use crate::workers::worker::{SLOTS, Worker};
 use control_block::desk::Desk;
 use control_block::domain::Domain;
-use control_word::limits::{SCRIPT_SHARED_CELLS, SCRIPT_WEAK_CELLS, WORKER_ALLOWANCE};
 use control_word::{Refusal, Shape};
 use handle_table::run_workers_open;
 use ownership_ledger::{Book, Share};
@@ -23,6 +22,7 @@ use std::alloc::Global;
 use std::sync::Wait;
 use std::thread::Threads;
 use step_core::Said;
+use step_table::limits::{SCRIPT_SHARED_CELLS, SCRIPT_WEAK_CELLS, WORKER_ALLOWANCE};
 
 /// The shape of a script's domain: each thread has the same number of blocks and the same allowance.
 fn shape_of(blocks: u32, threads: u32) -> Shape

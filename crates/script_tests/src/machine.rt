@@ -1,4 +1,5 @@
 //! Worlds, how they begin, and programs that no script is.
+pub(crate) mod limits;
 pub(crate) mod opening;
 pub(crate) mod shelving;
 pub(crate) mod steps;

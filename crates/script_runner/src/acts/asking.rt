@@ -9,7 +9,7 @@ ghost use Rattle.script_runner.specs.Deals.{IsActed};
 ghost use Rattle.script_runner.specs.Kinds.{HasKind};
 ghost use Rattle.script_runner.specs.Seats.{IsSeated};
 
-use crate::acts::went::Went;
+use crate::acts::act_result::ActResult;
 use handle_table::{Fault, HandleTable, Home};
 use step_core::Answer;
 use step_threads::programs::act::Question;
@@ -20,7 +20,7 @@ pub(crate) fn count<H: Home>(
     hand: usize,
     taken: bool,
     name: u8,
-) -> Went
+) -> ActResult
     requires seated { IsSeated (hand + 1) hand table.old }
     requires name { name < hand }
     requires kind { (k : Kind) × HasKind table.old.slots name k }
@@ -29,7 +29,7 @@ pub(crate) fn count<H: Home>(
     ensures same { table.new.slots ≡ table.old.slots }
 {
     match table.use_count(usize::from(name)) {
-        Ok(owners) => Went {
+        Ok(owners) => ActResult {
             taken,
             answer: Some(Answer::Count(owners)),
             ended: None,
@@ -44,7 +44,7 @@ pub(crate) fn expire<H: Home>(
     hand: usize,
     taken: bool,
     name: u8,
-) -> Went
+) -> ActResult
     requires seated { IsSeated (hand + 1) hand table.old }
     requires name { name < hand }
     requires kind { HasKind table.old.slots name Weak }
@@ -53,7 +53,7 @@ pub(crate) fn expire<H: Home>(
     ensures same { table.new.slots ≡ table.old.slots }
 {
     match table.expired(usize::from(name)) {
-        Ok(expired) => Went {
+        Ok(expired) => ActResult {
             taken,
             answer: Some(Answer::Expired(expired)),
             ended: None,
@@ -68,7 +68,7 @@ pub(crate) fn read<H: Home>(
     hand: usize,
     taken: bool,
     name: u8,
-) -> Went
+) -> ActResult
     requires seated { IsSeated (hand + 1) hand table.old }
     requires name { name < hand }
     requires kind { HasKind table.old.slots name Owner }
@@ -77,13 +77,13 @@ pub(crate) fn read<H: Home>(
     ensures same { table.new.slots ≡ table.old.slots }
 {
     match table.read(usize::from(name)) {
-        Ok(field) => Went {
+        Ok(field) => ActResult {
             taken,
             answer: Some(Answer::Read(field)),
             ended: None,
         },
         Err(why) => match why {
-            Fault::Call(why) => Went {
+            Fault::Call(why) => ActResult {
                 taken,
                 answer: Some(Answer::Refused(why)),
                 ended: None,
@@ -99,7 +99,7 @@ pub(crate) fn ask<H: Home>(
     hand: usize,
     taken: bool,
     question: Question,
-) -> Went
+) -> ActResult
     requires seated { IsSeated (hand + 1) hand table.old }
     requires names { AsksBelow hand question }
     requires kinds { HasAsked table.old.slots question }
@@ -115,7 +115,12 @@ pub(crate) fn ask<H: Home>(
 }
 
 /// Where a name points.
-fn place<H: Home>(table: &mut HandleTable<'_, u64, H>, hand: usize, taken: bool, name: u8) -> Went
+fn place<H: Home>(
+    table: &mut HandleTable<'_, u64, H>,
+    hand: usize,
+    taken: bool,
+    name: u8,
+) -> ActResult
     requires seated { IsSeated (hand + 1) hand table.old }
     requires name { name < hand }
     requires kind { HasKind table.old.slots name Owner }
@@ -124,7 +129,7 @@ fn place<H: Home>(table: &mut HandleTable<'_, u64, H>, hand: usize, taken: bool,
     ensures same { table.new.slots ≡ table.old.slots }
 {
     match table.place(usize::from(name)) {
-        Ok(place) => Went {
+        Ok(place) => ActResult {
             taken,
             answer: Some(Answer::Place(place)),
             ended: None,
@@ -140,7 +145,7 @@ fn same<H: Home>(
     taken: bool,
     first: u8,
     second: u8,
-) -> Went
+) -> ActResult
     requires seated { IsSeated (hand + 1) hand table.old }
     requires names { (first < hand) × (second < hand) }
     requires kinds { HasKind table.old.slots first Owner × HasKind table.old.slots second Owner }
@@ -149,7 +154,7 @@ fn same<H: Home>(
     ensures same { table.new.slots ≡ table.old.slots }
 {
     match table.same_place(usize::from(first), usize::from(second)) {
-        Ok(same) => Went {
+        Ok(same) => ActResult {
             taken,
             answer: Some(Answer::Same(same)),
             ended: None,
@@ -165,7 +170,7 @@ fn before<H: Home>(
     taken: bool,
     first: u8,
     second: u8,
-) -> Went
+) -> ActResult
     requires seated { IsSeated (hand + 1) hand table.old }
     requires names { (first < hand) × (second < hand) }
     requires kinds { ((k : Kind) × HasKind table.old.slots first k)
@@ -175,7 +180,7 @@ fn before<H: Home>(
     ensures same { table.new.slots ≡ table.old.slots }
 {
     match table.owner_before(usize::from(first), usize::from(second)) {
-        Ok(before) => Went {
+        Ok(before) => ActResult {
             taken,
             answer: Some(Answer::Before(before)),
             ended: None,

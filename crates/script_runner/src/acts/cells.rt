@@ -12,7 +12,7 @@ ghost use Rattle.script_runner.specs.Kinds.{HasKind, IsVacant, KeepsKinds, Takes
 ghost use Rattle.script_runner.specs.Reached.{IsReachable, SetsAside, nothing};
 ghost use Rattle.script_runner.specs.Seats.{IsHand, IsSeated};
 
-use crate::acts::went::{Went, refused};
+use crate::acts::act_result::{ActResult, refused};
 use control_word::Refusal;
 use handle_table::{Cell, Fault, HandleTable, Home, SharedMember};
 use std::sync::Wait;
@@ -72,7 +72,7 @@ pub(crate) fn offer<H: Home>(
     hand: usize,
     name: u8,
     cell: CellName,
-) -> Went
+) -> ActResult
     requires hand { IsHand (hand + 1) hand table.old }
     requires name { name < hand }
     requires named { IsOfName hand cell }
@@ -87,7 +87,7 @@ pub(crate) fn offer<H: Home>(
         Err(why) => return refused(refusal_of(why)),
     }
     match table.copy(usize::from(name), hand) {
-        Ok(()) => Went {
+        Ok(()) => ActResult {
             taken: true,
             answer: None,
             ended: None,
@@ -102,7 +102,7 @@ pub(crate) fn load<H: Home, R: Wait>(
     table: &mut HandleTable<'_, u64, H>,
     hand: usize,
     cell: CellName,
-) -> Went
+) -> ActResult
     requires hand { IsHand (hand + 1) hand table.old }
     requires named { IsOfName hand cell }
     requires reached { IsReachable table.old cell }
@@ -113,7 +113,7 @@ pub(crate) fn load<H: Home, R: Wait>(
     match table.load(rt, cell_of(cell), hand) {
         Ok(()) => {
             table.stands();
-            Went {
+            ActResult {
                 taken: true,
                 answer: None,
                 ended: None,
@@ -130,7 +130,7 @@ pub(crate) fn exchange<H: Home>(
     taken: bool,
     name: u8,
     cell: CellName,
-) -> Went
+) -> ActResult
     requires seated { IsSeated (hand + 1) hand table.old }
     requires name { name < hand }
     requires named { IsOfName hand cell }
@@ -143,13 +143,13 @@ pub(crate) fn exchange<H: Home>(
     match table.exchange(usize::from(name), cell_of(cell)) {
         Ok(()) => {
             table.stands();
-            Went {
+            ActResult {
                 taken,
                 answer: None,
                 ended: None,
             }
         }
-        Err(why) => Went {
+        Err(why) => ActResult {
             taken,
             answer: Some(Answer::Refused(refusal_of(why))),
             ended: None,
@@ -184,7 +184,7 @@ pub(crate) fn swap<H: Home>(
     hand: usize,
     taken: bool,
     cell: CellName,
-) -> Went
+) -> ActResult
     requires seated { IsSeated (hand + 1) hand table.old }
     requires hand { 0 < hand }
     requires named { IsOfName hand cell }
@@ -197,14 +197,14 @@ pub(crate) fn swap<H: Home>(
     ensures aside { taken ≡ true → SetsAside hand table.old table.new }
 {
     if !taken {
-        return Went {
+        return ActResult {
             taken,
             answer: None,
             ended: None,
         };
     }
     swap_taken(table, hand, cell);
-    Went {
+    ActResult {
         taken: false,
         answer: None,
         ended: None,

@@ -5,22 +5,22 @@ ghost use Rattle.script_runner.specs.Deals.{IsDealt, IsHandOfTable};
 ghost use Rattle.script_runner.specs.Handling.{Asks, Changes, IsAlone, MayDo, MaySettle};
 ghost use Rattle.script_runner.specs.Handling.{StaysArranged};
 
+use crate::acts::act_result::ActResult;
 use crate::acts::asking::{ask, count, expire, read};
 use crate::acts::cells::{exchange, load, offer, swap};
 use crate::acts::leaving::{clear, leave, let_drop, put};
 use crate::acts::making::make_any;
 use crate::acts::taking::{alias, downgrade, from_this, lock, move_out, share, upgrade};
-use crate::acts::went::Went;
 use handle_table::{HandleTable, Home};
 use std::sync::Wait;
 use step_core::Kind;
 use step_threads::programs::act::Act;
 
 /// What is not to be done.
-fn nothing(taken: bool) -> Went
+fn nothing(taken: bool) -> ActResult
     ensures { result ≡ record { taken = taken; answer = None; ended = None } }
 {
-    Went {
+    ActResult {
         taken,
         answer: None,
         ended: None,
@@ -35,7 +35,7 @@ fn carry_out<H: Home, R: Wait>(
     taken: bool,
     kinds: &Vec<Kind>,
     act: Act,
-) -> Went
+) -> ActResult
     requires seen { IsHandOfTable hand table.old taken }
     requires settled { table.old.endings ≡ [] }
     requires below { IsBelow table.old.desk }
@@ -77,7 +77,7 @@ pub(crate) fn deal<H: Home, R: Wait>(
     taken: bool,
     kinds: &Vec<Kind>,
     act: Act,
-) -> Went
+) -> ActResult
     requires settled { table.old.endings ≡ [] }
     requires alone { IsAlone taken act }
     requires suits { MayDo kinds.now.items hand taken table.old act }

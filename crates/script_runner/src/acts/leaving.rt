@@ -12,7 +12,7 @@ ghost use Rattle.script_runner.specs.Kinds.{HasKind, KeepsKinds, SetsKind};
 ghost use Rattle.script_runner.specs.Seats.{IsSeated};
 ghost use Rattle.script_runner.specs.Teams.{HasNoObject};
 
-use crate::acts::went::Went;
+use crate::acts::act_result::ActResult;
 use crate::workers::seats::{empty, is_full, top_of};
 use handle_table::{Fault, HandleTable, Home};
 use step_core::Kind;
@@ -23,7 +23,7 @@ pub(crate) fn put<H: Home>(
     hand: usize,
     taken: bool,
     name: u8,
-) -> Went
+) -> ActResult
     requires seated { IsSeated (hand + 1) hand table.old }
     requires settled { table.old.endings ≡ [] }
     requires name { name < hand }
@@ -36,7 +36,7 @@ pub(crate) fn put<H: Home>(
     ensures idle { taken ≡ false → KeepsKinds table.old table.new }
 {
     if !taken {
-        return Went {
+        return ActResult {
             taken,
             answer: None,
             ended: None,
@@ -48,7 +48,7 @@ pub(crate) fn put<H: Home>(
         Err(_) => unreachable!(),
     }
     let top = top_of(table);
-    Went {
+    ActResult {
         taken: false,
         answer: None,
         ended: if busy { top } else { None },
@@ -62,7 +62,7 @@ pub(crate) fn leave<H: Home>(
     taken: bool,
     kinds: &Vec<Kind>,
     name: u8,
-) -> Went
+) -> ActResult
     requires seated { IsSeated (hand + 1) hand table.old }
     requires settled { table.old.endings ≡ [] }
     requires name { name < hand }
@@ -76,7 +76,7 @@ pub(crate) fn leave<H: Home>(
 {
     empty(table, kinds, usize::from(name));
     let ended = top_of(table);
-    Went {
+    ActResult {
         taken,
         answer: None,
         ended,
@@ -90,7 +90,7 @@ pub(crate) fn clear<H: Home>(
     taken: bool,
     kinds: &Vec<Kind>,
     name: u8,
-) -> Went
+) -> ActResult
     requires seated { IsSeated (hand + 1) hand table.old }
     requires settled { table.old.endings ≡ [] }
     requires name { name < hand }
@@ -104,7 +104,7 @@ pub(crate) fn clear<H: Home>(
     ensures bare { (s : Slot) → slice_get table.new.slots name ≡ Some s → HasNoObject s }
 {
     if !is_full(table, usize::from(name)) {
-        return Went {
+        return ActResult {
             taken,
             answer: None,
             ended: None,
@@ -112,7 +112,7 @@ pub(crate) fn clear<H: Home>(
     }
     empty(table, kinds, usize::from(name));
     let ended = top_of(table);
-    Went {
+    ActResult {
         taken,
         answer: None,
         ended,
@@ -124,7 +124,7 @@ pub(crate) fn let_drop<H: Home>(
     table: &mut HandleTable<'_, u64, H>,
     hand: usize,
     taken: bool,
-) -> Went
+) -> ActResult
     requires seated { IsSeated (hand + 1) hand table.old }
     requires settled { table.old.endings ≡ [] }
     requires other { 0 < hand }
@@ -137,7 +137,7 @@ pub(crate) fn let_drop<H: Home>(
         Ok(_) => {}
         Err(why) => match why {
             Fault::Vacant => {
-                return Went {
+                return ActResult {
                     taken,
                     answer: None,
                     ended: None,
@@ -147,7 +147,7 @@ pub(crate) fn let_drop<H: Home>(
         },
     }
     let top = top_of(table);
-    Went {
+    ActResult {
         taken,
         answer: None,
         ended: if busy { top } else { None },

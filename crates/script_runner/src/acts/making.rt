@@ -9,13 +9,13 @@ ghost use Rattle.script_runner.specs.Kinds.{TakesKind};
 ghost use Rattle.script_runner.specs.Seats.{IsHand};
 ghost use Rattle.script_runner.specs.TableCalls.{null_form};
 
-use crate::acts::went::{Went, refused};
+use crate::acts::act_result::{ActResult, refused};
 use control_word::Refusal;
 use handle_table::{HandleTable, Home};
 use step_table::memory::form::Form;
 
 /// A new object, or there is no vacant block for it.
-fn make<H: Home>(table: &mut HandleTable<'_, u64, H>, hand: usize, form: Form) -> Went
+fn make<H: Home>(table: &mut HandleTable<'_, u64, H>, hand: usize, form: Form) -> ActResult
     requires hand { IsHand (hand + 1) hand table.old }
     requires below { IsBelow table.old.desk }
     requires null { form.null ≡ false }
@@ -23,7 +23,7 @@ fn make<H: Home>(table: &mut HandleTable<'_, u64, H>, hand: usize, form: Form) -
     ensures kinds { TakesKind hand kind.Owner result.taken table.old table.new }
 {
     match table.make_from_stock(hand, form.fields, form.enabled, form.fields[0]) {
-        Ok(()) => Went {
+        Ok(()) => ActResult {
             taken: true,
             answer: None,
             ended: None,
@@ -33,14 +33,14 @@ fn make<H: Home>(table: &mut HandleTable<'_, u64, H>, hand: usize, form: Form) -
 }
 
 /// A new owner of the null pointer, or there is no vacant block for it.
-fn make_null<H: Home>(table: &mut HandleTable<'_, u64, H>, hand: usize) -> Went
+fn make_null<H: Home>(table: &mut HandleTable<'_, u64, H>, hand: usize) -> ActResult
     requires hand { IsHand (hand + 1) hand table.old }
     requires below { IsBelow table.old.desk }
     ensures acts { IsActed hand table.old false (act.Make null_form) result table.new }
     ensures kinds { TakesKind hand kind.Owner result.taken table.old table.new }
 {
     match table.make_null_from_stock(hand, 0) {
-        Ok(()) => Went {
+        Ok(()) => ActResult {
             taken: true,
             answer: None,
             ended: None,
@@ -54,7 +54,7 @@ pub(crate) fn make_any<H: Home>(
     table: &mut HandleTable<'_, u64, H>,
     hand: usize,
     form: Form,
-) -> Went
+) -> ActResult
     requires hand { IsHand (hand + 1) hand table.old }
     requires below { IsBelow table.old.desk }
     requires null { form.null ≡ true → form ≡ null_form }

@@ -13,7 +13,7 @@ ghost use Rattle.script_runner.specs.Deals.{IsActed, NotGiven};
 ghost use Rattle.script_runner.specs.Kinds.{HasKind, TakesKind};
 ghost use Rattle.script_runner.specs.Seats.{IsHand};
 
-use crate::acts::went::{Went, refused};
+use crate::acts::act_result::{ActResult, refused};
 use crate::workers::seats::empty;
 use control_word::{Place, Refusal};
 use handle_table::{Fault, HandleTable, Home};
@@ -21,7 +21,11 @@ use std::sync::Wait;
 use step_core::{Answer, Field, Kind};
 
 /// A copy of what a name holds.
-pub(crate) fn share<H: Home>(table: &mut HandleTable<'_, u64, H>, hand: usize, name: u8) -> Went
+pub(crate) fn share<H: Home>(
+    table: &mut HandleTable<'_, u64, H>,
+    hand: usize,
+    name: u8,
+) -> ActResult
     requires hand { IsHand (hand + 1) hand table.old }
     requires name { name < hand }
     requires below { IsBelow table.old.desk }
@@ -31,7 +35,7 @@ pub(crate) fn share<H: Home>(table: &mut HandleTable<'_, u64, H>, hand: usize, n
         → TakesKind hand k result.taken table.old table.new }
 {
     match table.copy(usize::from(name), hand) {
-        Ok(()) => Went {
+        Ok(()) => ActResult {
             taken: true,
             answer: None,
             ended: None,
@@ -41,7 +45,11 @@ pub(crate) fn share<H: Home>(table: &mut HandleTable<'_, u64, H>, hand: usize, n
 }
 
 /// A weak handle of the object of what a name holds.
-pub(crate) fn downgrade<H: Home>(table: &mut HandleTable<'_, u64, H>, hand: usize, name: u8) -> Went
+pub(crate) fn downgrade<H: Home>(
+    table: &mut HandleTable<'_, u64, H>,
+    hand: usize,
+    name: u8,
+) -> ActResult
     requires hand { IsHand (hand + 1) hand table.old }
     requires name { name < hand }
     requires below { IsBelow table.old.desk }
@@ -50,7 +58,7 @@ pub(crate) fn downgrade<H: Home>(table: &mut HandleTable<'_, u64, H>, hand: usiz
     ensures kinds { TakesKind hand kind.Weak result.taken table.old table.new }
 {
     match table.downgrade(usize::from(name), hand) {
-        Ok(()) => Went {
+        Ok(()) => ActResult {
             taken: true,
             answer: None,
             ended: None,
@@ -65,7 +73,7 @@ pub(crate) fn move_out<H: Home>(
     hand: usize,
     kinds: &Vec<Kind>,
     name: u8,
-) -> Went
+) -> ActResult
     requires hand { IsHand (hand + 1) hand table.old }
     requires name { name < hand }
     requires below { IsBelow table.old.desk }
@@ -80,7 +88,7 @@ pub(crate) fn move_out<H: Home>(
         Err(_) => unreachable!(),
     }
     empty(table, kinds, usize::from(name));
-    Went {
+    ActResult {
         taken: true,
         answer: None,
         ended: None,
@@ -110,7 +118,7 @@ pub(crate) fn alias<H: Home>(
     name: u8,
     of: u8,
     field: Option<Field>,
-) -> Went
+) -> ActResult
     requires hand { IsHand (hand + 1) hand table.old }
     requires name { (name < hand) × (of < hand) }
     requires below { IsBelow table.old.desk }
@@ -123,7 +131,7 @@ pub(crate) fn alias<H: Home>(
         Err(_) => unreachable!(),
     };
     match table.alias(usize::from(name), aliased(place, field), hand) {
-        Ok(()) => Went {
+        Ok(()) => ActResult {
             taken: true,
             answer: None,
             ended: None,
@@ -138,7 +146,7 @@ pub(crate) fn lock<H: Home, R: Wait>(
     table: &mut HandleTable<'_, u64, H>,
     hand: usize,
     name: u8,
-) -> Went
+) -> ActResult
     requires hand { IsHand (hand + 1) hand table.old }
     requires name { name < hand }
     requires below { IsBelow table.old.desk }
@@ -147,7 +155,7 @@ pub(crate) fn lock<H: Home, R: Wait>(
     ensures kinds { TakesKind hand kind.Owner result.taken table.old table.new }
 {
     match table.lock(rt, usize::from(name), hand) {
-        Ok(got) => Went {
+        Ok(got) => ActResult {
             taken: true,
             answer: Some(Answer::Locked(got)),
             ended: None,
@@ -162,7 +170,7 @@ pub(crate) fn upgrade<H: Home, R: Wait>(
     table: &mut HandleTable<'_, u64, H>,
     hand: usize,
     name: u8,
-) -> Went
+) -> ActResult
     requires hand { IsHand (hand + 1) hand table.old }
     requires name { name < hand }
     requires below { IsBelow table.old.desk }
@@ -171,7 +179,7 @@ pub(crate) fn upgrade<H: Home, R: Wait>(
     ensures kinds { TakesKind hand kind.Owner result.taken table.old table.new }
 {
     match table.upgrade(rt, usize::from(name), hand) {
-        Ok(()) => Went {
+        Ok(()) => ActResult {
             taken: true,
             answer: Some(Answer::Upgraded),
             ended: None,
@@ -181,7 +189,7 @@ pub(crate) fn upgrade<H: Home, R: Wait>(
 }
 
 /// What is said where an object gives no pointer to itself.
-fn not_given(why: Fault) -> Went
+fn not_given(why: Fault) -> ActResult
     requires { (r : Refusal) × (why ≡ fault.Call r) × (r ≢ Limit) }
     ensures { NotGiven why result }
 {
@@ -192,7 +200,7 @@ fn not_given(why: Fault) -> Went
 }
 
 /// A pointer from the object that a name owns and points into.
-fn shared_this<H: Home>(table: &mut HandleTable<'_, u64, H>, hand: usize, name: u8) -> Went
+fn shared_this<H: Home>(table: &mut HandleTable<'_, u64, H>, hand: usize, name: u8) -> ActResult
     requires hand { IsHand (hand + 1) hand table.old }
     requires name { name < hand }
     requires below { IsBelow table.old.desk }
@@ -201,7 +209,7 @@ fn shared_this<H: Home>(table: &mut HandleTable<'_, u64, H>, hand: usize, name: 
     ensures kinds { TakesKind hand kind.Owner result.taken table.old table.new }
 {
     match table.shared_from_this(usize::from(name), hand) {
-        Ok(()) => Went {
+        Ok(()) => ActResult {
             taken: true,
             answer: None,
             ended: None,
@@ -211,7 +219,7 @@ fn shared_this<H: Home>(table: &mut HandleTable<'_, u64, H>, hand: usize, name: 
 }
 
 /// And a weak one.
-fn weak_this<H: Home>(table: &mut HandleTable<'_, u64, H>, hand: usize, name: u8) -> Went
+fn weak_this<H: Home>(table: &mut HandleTable<'_, u64, H>, hand: usize, name: u8) -> ActResult
     requires hand { IsHand (hand + 1) hand table.old }
     requires name { name < hand }
     requires below { IsBelow table.old.desk }
@@ -220,7 +228,7 @@ fn weak_this<H: Home>(table: &mut HandleTable<'_, u64, H>, hand: usize, name: u8
     ensures kinds { TakesKind hand kind.Weak result.taken table.old table.new }
 {
     match table.weak_from_this(usize::from(name), hand) {
-        Ok(()) => Went {
+        Ok(()) => ActResult {
             taken: true,
             answer: None,
             ended: None,
@@ -235,7 +243,7 @@ pub(crate) fn from_this<H: Home>(
     hand: usize,
     name: u8,
     which: Kind,
-) -> Went
+) -> ActResult
     requires hand { IsHand (hand + 1) hand table.old }
     requires name { name < hand }
     requires below { IsBelow table.old.desk }

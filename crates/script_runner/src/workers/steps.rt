@@ -9,9 +9,9 @@ ghost use Rattle.script_runner.specs.Handling.{comparison_tasks};
 ghost use Rattle.script_runner.specs.Kinds.{AllSuit, IsArranged, IsVacant, KeepsLimits, Stance};
 ghost use Rattle.script_runner.specs.Notes.{PlaysOn, Settles, SettlesPartly};
 
+use crate::acts::act_result::ActResult;
 use crate::acts::comparison::compare;
 use crate::acts::dealing::deal;
-use crate::acts::went::Went;
 use crate::workers::log::Log;
 use crate::workers::seats::{told_of, top_of};
 use handle_table::{HandleTable, Home};
@@ -90,7 +90,7 @@ impl<'a> Log<'a> {
         ensures book { self.new.share.book ≡ self.old.share.book }
     {
         let went = deal(rt, table, hand, self.taken, kinds, task.act);
-        let Went {
+        let ActResult {
             taken,
             answer,
             ended,

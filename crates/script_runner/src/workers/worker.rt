@@ -14,7 +14,7 @@ use step_core::Kind;
 use step_threads::programs::act::Task;
 
 /// Most names of a thread: the first slots of its worker's table.
-pub(crate) const NAMES: usize = 32;
+const NAMES: usize = 32;
 
 /// All slots of a worker's table: behind the names, one for what is to be dropped and one for what is in hand, and two
 /// that stay vacant, so that its desk always has room for one handle more and for what a member held of an object that
@@ -33,9 +33,12 @@ pub(crate) struct Worker<'a, G> {
 }
 
 impl<'a, R: Threads + Wait + Sync, G: Gate + Sync> Work<u64, R> for Worker<'a, G> {
-    ghost use Rattle.std.specs.Prelude.{◌≡◌};
+    ghost use Rattle.std.specs.Prelude.{◌≡◌, false};
     ghost use Rattle.control_block.specs.Desks.{allowance_of};
+    ghost use Rattle.script_runner.specs.Beginnings.{IsFitting};
     ghost use Rattle.script_runner.specs.Works.{IsWorked};
+
+    ghost needs = { λ w t. IsFitting t × (w.log.taken ≡ false) };
 
     ghost does = { λ w t w' u. (w'.log.share.book ≡ w.log.share.book)
         × (allowance_of u.desk ≡ allowance_of t.desk)
@@ -43,9 +46,7 @@ impl<'a, R: Threads + Wait + Sync, G: Gate + Sync> Work<u64, R> for Worker<'a, G
 
     fn work<H: Home>(&mut self, rt: &R, table: &mut HandleTable<'_, u64, H>) {
         table.stands();
-        if self.log.taken || !begin(table, &self.kinds) {
-            return;
-        }
+        begin(table, &self.kinds);
         play(
             rt,
             table,

@@ -1,13 +1,18 @@
-use Rattle.std.proofs.Common.{◌≡◌, ℕ, ◌/◌, length, refl, sym, ap, ◌∙◌, arith}
+use Rattle.std.proofs.Common.{◌≡◌, ℕ, ◌/◌, length, refl, subst, sym, ap, ◌∙◌, arith}
 use Rattle.std.proofs.lemmas.List.{length-map}
 use Rattle.control_word.specs.Layout.{IsWithinLimits}
 use Rattle.handle_table.specs.declared.staff.Share.{Share}
 use Rattle.script_runner.proofs.Assigning.{all_ready, same_many}
-use Rattle.script_runner.proofs.Lending.{has_shares, only_memory}
+use Rattle.script_runner.proofs.Lending.{all_need, has_shares, only_memory}
 use Rattle.script_runner.proofs.Reporting as reporting
 use Rattle.script_runner.specs.Assignments.{HasAssignment, IsAssignmentFor, asked_by_all}
-use Rattle.script_text.specs.Scripts.{part_in, program_in}
+use Rattle.script_text.specs.Scripts.{HasTextCells, part_in, program_in}
 use Rattle.script_runner.proofs.running.perform.Goals as goal
+
+pub run_workers_open-worked-requires-clause-needs : goal.run_workers_open-worked-requires-clause-needs
+run_workers_open-worked-requires-clause-needs g c κs within =
+    all_need {G = g.row.G.Denot} c.args.book.now.id c.shape_of-shape.result _ c.args.assignments.items c.assign.new.workers.items refl (omega arith)
+    (subst HasTextCells (sym c.shape_of-shape.ensures.shape) (omega arith, omega arith)) c.assign.ensures.each
 
 pub collect-requires-clause-shares : goal.collect-requires-clause-shares
 collect-requires-clause-shares g c =

@@ -9,17 +9,17 @@ use step_core::{Answer, Ended};
 /// What came of an act: whether something is in hand then, what the act answers, and what it tells of an object that
 /// is to end.
 #[derive(Drop)]
-pub(crate) struct Went {
+pub(crate) struct ActResult {
     pub taken: bool,
     pub answer: Option<Answer>,
     pub ended: Option<Ended>,
 }
 
 /// What is said of an act that is refused.
-pub(crate) fn refused(why: Refusal) -> Went
+pub(crate) fn refused(why: Refusal) -> ActResult
     ensures { result ≡ record { taken = false; answer = Some (says.Refused why); ended = None } }
 {
-    Went {
+    ActResult {
         taken: false,
         answer: Some(Answer::Refused(why)),
         ended: None,
