@@ -12,7 +12,7 @@ use Rattle.control_word.proofs.history.Soundness.{Formed, IsBusy, Sound}
 use Rattle.control_word.proofs.lists.Tallies.{tally_append, tally_cons}
 use Rattle.control_word.proofs.words.Funds.{cell_busy, counted_busy, member_busy}
 use Rattle.control_word.specs.declared.packed.counts.Counts.{Counts}
-use Rattle.control_word.specs.declared.model.handle.Handle.{Handle}
+use Rattle.control_word.specs.declared.model.handle.NumberedHandle.{NumberedHandle}
 use Rattle.control_word.specs.declared.model.handle.Kind.{Kind}
 use Rattle.control_word.specs.declared.model.handle.Kind.TheVariants.{Owner, Weak}
 use Rattle.control_word.specs.Handles.{same_kind, same_number}
@@ -22,7 +22,7 @@ use Rattle.control_word.specs.Words.{block_of, blocks_of}
 use Rattle.step_table.specs.declared.cell_steps.cell_step.Cell.{Cell}
 use Rattle.step_table.specs.declared.cell_steps.cell_step.Cell.TheVariants.{Free}
 use Rattle.step_table.specs.Openings.{opening}
-use Rattle.step_table.specs.GhostStates.{Kept, GhostState, model_state}
+use Rattle.step_table.specs.GhostStates.{TableInvariant, GhostState, model_state}
 use Rattle.step_threads.specs.Stocks.{from}
 use Rattle.owner_graph.specs.Rows.{held_on}
 use Rattle.holders.specs.Registers.{AllCounted, AreCounted, all_held, held_by, held_by_block, held_by_free, held_by_members, holding, holdings_in, holds_owner}
@@ -43,13 +43,13 @@ abbrev AtHome : State → ℕ → Option ℕ → Type 0
 AtHome s b x = (o : ℕ) → x ≡ Some o → (blocks_of s o == b) ≡ (s.latest b == o)
 
 -- one cell: its handle is listed on the block just where it is counted for the object there
-one_cell : (k : Kind) (b : ℕ) (s : State) (c : Cell) (h : Handle) → is_of k (holds_owner s.shared c) ≡ same_kind k h.kind
+one_cell : (k : Kind) (b : ℕ) (s : State) (c : Cell) (h : NumberedHandle) → is_of k (holds_owner s.shared c) ≡ same_kind k h.kind
     → AtHome s b h.object → hits k b (held_by s.shared c (block_of (blocks_of s) h.object)) ≡ tally k (s.latest b) (h ∷ [])
 one_cell k b s c h kind home = go h.object home
   where
     go : (x : Option ℕ) → AtHome s b x → hits k b (held_by s.shared c (block_of (blocks_of s) x))
         ≡ length (cond (same_kind k h.kind && same_number (Some (s.latest b)) x) (h ∷ []) [])
-    go None at = sym (ap (length {A = Handle}) (cond-false (same_kind k h.kind && false) (h ∷ []) [] (and_none (same_kind k h.kind))))
+    go None at = sym (ap (length {A = NumberedHandle}) (cond-false (same_kind k h.kind && false) (h ∷ []) [] (and_none (same_kind k h.kind))))
     go (Some o) at =
         one_by (of_kind k) (holding s.shared c (record { 0 = blocks_of s o })) h (same_kind k h.kind) (blocks_of s o == b) kind
         ∙ ap (λ (t : Bool). length (cond (same_kind k h.kind && t) (h ∷ []) [])) (at o refl)
@@ -96,11 +96,11 @@ module _ (z : Opening) (s : State) (fine : Sound z s) (form : Formed s) where
       let p = fine.cleared i 0 (omega arith) c in
       let q = fine.cleared i 1 (omega arith) c in
       let r = fine.cleared i 2 (omega arith) c in
-      ap (λ (h : Handle). tally k o (h ∷ (s.object i).member 1 ∷ (s.object i).member 2 ∷ [])) p
+      ap (λ (h : NumberedHandle). tally k o (h ∷ (s.object i).member 1 ∷ (s.object i).member 2 ∷ [])) p
       ∙ empty_counts k Owner o ((s.object i).member 1 ∷ (s.object i).member 2 ∷ [])
-      ∙ ap (λ (h : Handle). tally k o (h ∷ (s.object i).member 2 ∷ [])) q
+      ∙ ap (λ (h : NumberedHandle). tally k o (h ∷ (s.object i).member 2 ∷ [])) q
       ∙ empty_counts k Owner o ((s.object i).member 2 ∷ [])
-      ∙ ap (λ (h : Handle). tally k o (h ∷ [])) r
+      ∙ ap (λ (h : NumberedHandle). tally k o (h ∷ [])) r
       ∙ empty_counts k Weak o []
 
   abbrev counts_of : ℕ → Counts
@@ -218,7 +218,7 @@ module _ (z : Opening) (s : State) (fine : Sound z s) (form : Formed s) where
       (owners_counted b none, weaks_counted b none))
       (cases_eq n 0)
 
-pub counted : (v : GhostState) → Kept v → (model_state v).hands ≡ []
+pub counted : (v : GhostState) → TableInvariant v → (model_state v).hands ≡ []
     → AllCounted v.extent.shape.blocks (model_state v) (all_held (model_state v) v.extent.shape.blocks)
 counted v kept none =
     let z = opening v.extent in

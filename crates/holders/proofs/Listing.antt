@@ -7,7 +7,7 @@ use Rattle.std.proofs.lemmas.Bool.{cond-true, cond-false}
 use Rattle.std.proofs.lemmas.Grind.{flat_map-append}
 use Rattle.std.proofs.lemmas.List.Elements.{filter-append}
 use Rattle.control_word.proofs.lists.Tallies.{num, tally_append}
-use Rattle.control_word.specs.declared.model.handle.Handle.{Handle}
+use Rattle.control_word.specs.declared.model.handle.NumberedHandle.{NumberedHandle}
 use Rattle.control_word.specs.declared.model.handle.Kind.{Kind}
 use Rattle.control_word.specs.declared.model.handle.Kind.TheVariants.{Owner, Weak}
 use Rattle.control_word.specs.Handles.{same_kind}
@@ -62,7 +62,7 @@ hits_sum k b f a (suc n) =
     let q = hits_sum k b f a n in
     omega (arith, e, p, q)
 
-pub tally_sum : (k : Kind) (o : ℕ) (g : ℕ → List Handle) (n : ℕ) → tally k o (upto n g) ≡ sum_below n (λ i. tally k o (g i))
+pub tally_sum : (k : Kind) (o : ℕ) (g : ℕ → List NumberedHandle) (n : ℕ) → tally k o (upto n g) ≡ sum_below n (λ i. tally k o (g i))
 tally_sum k o g zero = refl
 tally_sum k o g (suc n) = let p = tally_append k o (g n) (upto n g) in let q = tally_sum k o g n in omega (arith, p, q)
 

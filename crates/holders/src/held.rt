@@ -70,7 +70,8 @@ fn add(
     requires among { source cell ≤ world.now.ghost_state.extent.shape.blocks }
     ensures held { OnOk result
         (holdings.new.items ≡ holdings.old.items ++ holdings_in (model_state world.now.ghost_state) cell) }
-    ensures among { OnOk result (AddsAmong world.now.ghost_state.extent.shape.blocks holdings.old.items holdings.new.items) }
+    ensures among { OnOk result
+        (AddsAmong world.now.ghost_state.extent.shape.blocks holdings.old.items holdings.new.items) }
 {
     if let Some(block) = world.target(cell) {
         holdings.push(holding(shared, cell, block))?;
@@ -89,7 +90,8 @@ fn add_free(
     requires cells { cells ≡ (model_state world.now.ghost_state).cells }
     ensures held { OnOk result (holdings.new.items
         ≡ holdings.old.items ++ flat_map (held_by_free (model_state world.now.ghost_state)) (from 0 cells)) }
-    ensures among { OnOk result (AddsAmong world.now.ghost_state.extent.shape.blocks holdings.old.items holdings.new.items) }
+    ensures among { OnOk result
+        (AddsAmong world.now.ghost_state.extent.shape.blocks holdings.old.items holdings.new.items) }
 {
     for number in 0..cells {
         add(world, shared, Cell::Free { number }, holdings)?;
@@ -109,7 +111,8 @@ fn add_members(
     requires block { (1 ≤ number) × (number ≤ world.now.ghost_state.extent.shape.blocks) }
     ensures held { OnOk result (holdings.new.items
         ≡ holdings.old.items ++ held_by_block (model_state world.now.ghost_state) number) }
-    ensures among { OnOk result (AddsAmong world.now.ghost_state.extent.shape.blocks holdings.old.items holdings.new.items) }
+    ensures among { OnOk result
+        (AddsAmong world.now.ghost_state.extent.shape.blocks holdings.old.items holdings.new.items) }
 {
     let block = Block(number);
     if world.census(block).is_none() {
@@ -133,7 +136,8 @@ fn add_blocks(
     requires all { blocks ≡ world.now.ghost_state.extent.shape.blocks }
     ensures held { OnOk result (holdings.new.items
         ≡ holdings.old.items ++ flat_map (held_by_block (model_state world.now.ghost_state)) (from 1 blocks)) }
-    ensures among { OnOk result (AddsAmong world.now.ghost_state.extent.shape.blocks holdings.old.items holdings.new.items) }
+    ensures among { OnOk result
+        (AddsAmong world.now.ghost_state.extent.shape.blocks holdings.old.items holdings.new.items) }
 {
     for before in 0..blocks {
         add_members(world, shared, before + 1, holdings)?;

@@ -12,12 +12,12 @@ ghost use Rattle.leak_report.specs.Left.{AreFound, Leaks, MarksKept};
 
 use crate::knotting::{Circles, find_circles};
 use control_word::Block;
-use control_word::limits::{SCRIPT_SHARED_CELLS, SCRIPT_WEAK_CELLS};
 use holders::holdings;
 use owner_graph::{GraphError, Holding, by_vertex, kept};
 use script_stepper::End;
 use std::alloc::{AllocError, Global};
 use step_core::World;
+use step_table::limits::{SCRIPT_SHARED_CELLS, SCRIPT_WEAK_CELLS};
 
 /// Which blocks are kept, where all owners are in and on blocks of the world.
 fn marks_of(alloc: Global, blocks: u32, holdings: &[Holding]) -> Result<Vec<bool>, AllocError>

@@ -23,12 +23,12 @@ use crate::finding::{Found, leaks};
 use crate::lines::{member_word, put_free};
 use crate::listing::Left;
 use control_word::Block;
-use control_word::limits::SCRIPT_SHARED_CELLS;
 use owner_graph::{Holding, is_tie};
 use script_stepper::End;
 use std::alloc::{AllocError, Global};
 use std::fmt::Write;
 use step_core::World;
+use step_table::limits::SCRIPT_SHARED_CELLS;
 
 /// Adds the fields of an object, with a space between.
 fn put_fields(text: &mut String, fields: &[u64; 4]) -> Result<(), AllocError>
@@ -61,7 +61,8 @@ fn put_block(world: &World, number: u16, found: &Found, text: &mut String) -> Re
     requires knots { number + 1 ≤ length found.now.circles.knots.items }
     requires ties { (block : ℕ) → row_at found.now.circles.tie_rows.items block
         ≡ held_on found.now.circles.ties.items block }
-    ensures { OnOk result (AddsLines text.old text.new (node_lines (state_in (abstraction world.now)) found.now.kept.items
+    ensures { OnOk result (AddsLines text.old text.new
+        (node_lines (state_in (abstraction world.now)) found.now.kept.items
         found.now.circles.knots.items found.now.circles.ties.items number)) }
 {
     let Some(fields) = world.fields(Block(number)) else {
@@ -85,7 +86,8 @@ fn put_blocks(
     requires knots { blocks + 1 ≤ length found.now.circles.knots.items }
     requires ties { (block : ℕ) → row_at found.now.circles.tie_rows.items block
         ≡ held_on found.now.circles.ties.items block }
-    ensures { OnOk result (AddsLines text.old text.new (all_nodes (state_in (abstraction world.now)) found.now.kept.items
+    ensures { OnOk result (AddsLines text.old text.new
+        (all_nodes (state_in (abstraction world.now)) found.now.kept.items
         found.now.circles.knots.items found.now.circles.ties.items blocks)) }
 {
     for before in 0..blocks {

@@ -16,10 +16,10 @@ use crate::circles::put_circles;
 use crate::finding::{Found, leaks};
 use crate::lines::{put_block, put_holders};
 use control_word::Block;
-use control_word::limits::SCRIPT_SHARED_CELLS;
 use script_stepper::{End, put_totals};
 use std::alloc::{AllocError, Global};
 use step_core::World;
+use step_table::limits::SCRIPT_SHARED_CELLS;
 
 /// Adds the lines of a block, where it isn't vacant.
 fn put_left(
@@ -35,7 +35,8 @@ fn put_left(
     requires kept { number + 1 ≤ length found.now.kept.items }
     requires held { row_at found.now.rows.items number ≡ held_on (held_at (abstraction world.now)) number }
     ensures { OnOk result (AddsLines text.old text.new
-        (left_lines shared (held_at (abstraction world.now)) found.now.kept.items (state_in (abstraction world.now)) number)) }
+        (left_lines shared (held_at (abstraction world.now)) found.now.kept.items
+        (state_in (abstraction world.now)) number)) }
 {
     let Some(counts) = world.census(Block(number)) else {
         return Ok(());
@@ -60,7 +61,8 @@ fn put_listing(
     requires kept { blocks + 1 ≤ length found.now.kept.items }
     requires held { (block : ℕ) → row_at found.now.rows.items block ≡ held_on (held_at (abstraction world.now)) block }
     ensures { OnOk result (AddsLines text.old text.new
-        (listing shared (held_at (abstraction world.now)) found.now.kept.items blocks (state_in (abstraction world.now)))) }
+        (listing shared (held_at (abstraction world.now)) found.now.kept.items blocks
+        (state_in (abstraction world.now)))) }
 {
     for before in 0..blocks {
         put_left(world, before + 1, shared, found, text)?;

@@ -11,8 +11,8 @@ use crate::picture::{Left, LeftBlock};
 use crate::sheet::{
     BOX_WIDTH, LEFT, Point, TOP, at, put_box, put_left, put_line, put_title, put_words,
 };
-use control_word::limits::SCRIPT_SHARED_CELLS;
 use std::alloc::{AllocError, Global};
+use step_table::limits::SCRIPT_SHARED_CELLS;
 
 /// Where titles stand.
 const TITLES: u32 = TOP - 30;

@@ -9,7 +9,7 @@ use Rattle.std.proofs.lemmas.List.Elements.{All-append, All-cons, All-head, All-
 use Rattle.step_core.specs.declared.trace.TraceStep.{TraceStep}
 use Rattle.step_core.specs.Runs.{CallsOn, InOrder, IsScheduled, IsStepOf, NamesActor, RunsToEnd}
 use Rattle.step_core.specs.Runs.{Settles, call_under_way, is_owing}
-use Rattle.step_core.specs.Worlds.{WorldState, pending_call_of}
+use Rattle.step_core.specs.Worlds.{WorldState}
 use Rattle.script_text.specs.Traces.{Item}
 use Rattle.script_stepper.proofs.LineLemmas.{flat_map-one}
 use Rattle.script_text.specs.Beginnings.{script_world_state}
@@ -58,9 +58,9 @@ calls_named n k d u (x ∷ xs) u' lt calls =
 
 settles_named : (n d : ℕ) (u : WorldState) (xs : List TraceStep) (u' : WorldState) → d < n → Settles d u xs u'
     → All (IsNamed n) xs
-settles_named n d u xs u' lt s = go (is_owing (pending_call_of u d)) refl
+settles_named n d u xs u' lt s = go (is_owing u d) refl
   where
-    go : (b : Bool) → is_owing (pending_call_of u d) ≡ b → All (IsNamed n) xs
+    go : (b : Bool) → is_owing u d ≡ b → All (IsNamed n) xs
     go true e = calls_named n (call_under_way d u) d u xs u' lt (s.owing e).calls
     go false e =
         subst (λ (ys : List TraceStep). All (IsNamed n) ys) (sym (s.none e).0) (All-nil (IsNamed n))

@@ -2,11 +2,9 @@
 ghost use Rattle.std.specs.Prelude.{◌≡◌, ◌<◌, ◌≤◌, length};
 ghost use Rattle.step_core.specs.Runs.{NamesActor};
 
-use control_word::limits::SCRIPT_SHARED_CELLS;
 use control_word::{Block, Place};
-use step_core::{
-    Act, Answer, Cell, CellName, Kind, Name, PendingCall, Pointer, Said, Stage, World,
-};
+use step_core::{Act, Answer, Cell, CellName, Handle, Kind, Name, PendingCall, Said, Stage, World};
+use step_table::limits::SCRIPT_SHARED_CELLS;
 
 /// A cell that an act wrote or read, and the block of what it wrote.
 #[derive(Clone, Copy)]
@@ -39,7 +37,7 @@ enum AimKind {
     Compares,
 }
 
-fn block_of(pointer: Option<Pointer>) -> Option<Block> {
+fn block_of(pointer: Option<Handle>) -> Option<Block> {
     match pointer {
         Some(pointer) => Some(pointer.block),
         None => None,
@@ -47,7 +45,7 @@ fn block_of(pointer: Option<Pointer>) -> Option<Block> {
 }
 
 /// The block of the object that a pointer owns and points into.
-fn object_of(pointer: Pointer) -> Option<Block> {
+fn object_of(pointer: Handle) -> Option<Block> {
     match (pointer.kind, pointer.place) {
         (Kind::Owner, Some(Place { block, .. })) => {
             if block == pointer.block {

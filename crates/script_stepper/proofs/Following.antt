@@ -1,13 +1,12 @@
 -- Turns follow the statements of all threads.
-use Rattle.std.proofs.Common.{◌≡◌, ℕ, zero, suc, ◌+◌, ◌-◌, ◌<◌, ◌==◌, Bool, true, false, cond, List, [], ◌∷◌, ◌++◌, length}
+use Rattle.std.proofs.Common.{◌≡◌, ℕ, zero, suc, ◌+◌, ◌-◌, ◌<◌, ◌==◌, Bool, false, cond, List, [], ◌∷◌, ◌++◌, length}
 use Rattle.std.proofs.Common.{get_or, set, refl, sym, ap, subst, ◌∙◌, inl, inr, arith}
 use Rattle.std.proofs.Common.{append_assoc, get_or-set_same, get_or-set_other}
-use Rattle.std.specs.Prelude.{◌⊎◌, Option, Some, None}
+use Rattle.std.specs.Prelude.{Option, Some, None}
 use Rattle.std.specs.List.{flat_map}
-use Rattle.std.proofs.lemmas.Bool.{cases_eq, cases_lt, cond-false, cond-true, cond_both}
+use Rattle.std.proofs.lemmas.Bool.{cases_eq, cases_lt, cond-false, cond_both}
 use Rattle.std.proofs.lemmas.Grind.{flat_map-append}
 use Rattle.std.proofs.lemmas.List.{append-nil, get_or_past, set-get_or}
-use Rattle.std.proofs.lemmas.Option.{same_Some}
 use Rattle.control_word.specs.declared.model.event.Event.{Event}
 use Rattle.control_word.specs.declared.model.event.Event.TheVariants as event
 use Rattle.control_word.specs.Handles.{has_object}
@@ -19,18 +18,15 @@ use Rattle.step_table.specs.AtomicSteps.{exact}
 use Rattle.step_table.specs.Registers.{Slots, is_full, slot_pointer}
 use Rattle.step_table.specs.Openings.{opening}
 use Rattle.step_table.specs.GhostStates.{Nothing}
-use Rattle.step_threads.specs.declared.programs.act.Act.TheVariants.{Leave}
 use Rattle.step_threads.specs.declared.programs.act.Task.{Task}
 use Rattle.step_threads.specs.declared.ending.Ending.{Ending}
 use Rattle.step_threads.specs.declared.said.Said.{Said}
 use Rattle.step_threads.specs.Frames.{FrameView, hand}
-use Rattle.step_threads.specs.TraceLabels.{Ahead, AnAct, AnEnd, DoesNext, DoesAhead, TraceLabel, GoesThrough, ahead, ahead_of, lines, onto, put_on, spoken}
+use Rattle.step_threads.specs.TraceLabels.{Ahead, AnEnd, DoesNext, DoesAhead, TraceLabel, GoesThrough, ahead, lines, onto, put_on, spoken}
 use Rattle.step_threads.specs.Endings.{staged}
 use Rattle.step_threads.specs.Entries.{History}
 use Rattle.step_core.proofs.Entries.{acted}
-use Rattle.step_threads.specs.AbstractStates.{AbstractState, next, next_of, nowhere, rest_of, rested_frame, state_in, row_in}
-use Rattle.step_threads.specs.AbstractStates.{frame_of, went}
-use Rattle.step_threads.specs.AbstractStates.{reply_in}
+use Rattle.step_threads.specs.AbstractStates.{AbstractState, frame_of, next, nowhere, reply_in, rest_of, rested_frame, row_in, state_in, went}
 use Rattle.step_threads.specs.Rows.{said_by_row}
 use Rattle.step_threads.specs.Unwinding.{Stop, Wound, history_clears, unwinds_on, stops, unwound}
 use Rattle.step_threads.specs.Steps.{silent}
@@ -40,16 +36,15 @@ use Rattle.script_text.specs.Drafts.{ScriptView}
 use Rattle.script_text.specs.Scripts.{program_in}
 use Rattle.script_text.specs.Beginnings.{script_abstraction, script_shape, script_world_state}
 use Rattle.script_stepper.specs.Followed.{TurnsFollow, spoken_of}
-use Rattle.script_stepper.specs.Running.{Waits}
+use Rattle.script_stepper.specs.Running.{Waits, heard}
 use Rattle.script_text.specs.Traces.{IsTrace, Item, in_order}
-use Rattle.script_stepper.specs.Running.{heard}
 use Rattle.script_stepper.proofs.Plays.{items_told, play, play_from, plays, said, said_from}
 use Rattle.script_stepper.proofs.LineLemmas.{flat_map-one}
 use Rattle.script_stepper.proofs.OneTurn.{play_waits}
 use Rattle.script_stepper.proofs.StepLemmas.{first_rests}
 use Rattle.script_stepper.proofs.TraceLemmas.{over_of, play_done, play_size, plays_extent, said_done, there}
 use Rattle.script_stepper.proofs.Takings.{turns_are}
-use Rattle.script_stepper.proofs.Unwinding.{still}
+use Rattle.script_stepper.proofs.Unwinding.{ahead_next, still}
 
 -- how far threads have come from where they were: the history, where each is, and what they said
 pub record Far (z : Opening) (b : AbstractState) (h : History) (ws : List FrameView) (out : List (ℕ × Said)) : Type 0 where
@@ -188,16 +183,6 @@ module _ (z : Opening) (b : AbstractState) (d : ℕ) (ws : List FrameView) (lt :
       cond_both (is_full (slot_pointer w.slots (hand w.slots))) (still h w) (unwound z d w.slots w.endings h)
       (λ (x : Wound). At x.history (record { slots = x.slots; taken = w.taken; endings = x.endings; todo = w.todo }) out)
       (λ t. at) (λ f. all_ended w.taken w.todo w.slots out f w.endings h at)
-
--- the next act of a thread whose endings wait
-ahead_next : (l : Slots) (es : List Ending) (ts : List Task) (t : Task) → (es ≡ []) ⊎ (is_full (slot_pointer l (hand l)) ≡ true)
-    → next_of l es ts ≡ Some t → ahead_of l es ts ≡ AnAct t (rest_of es ts)
-ahead_next l [] [] t waits e = absurd cc
-ahead_next l [] (y ∷ ts) t waits e = ap (λ (q : Task). AnAct q ts) (same_Some _ _ e)
-ahead_next l (x ∷ es) ts t (inl none) e = absurd cc
-ahead_next l (x ∷ es) ts t (inr full) e =
-    cond-true (is_full (slot_pointer l (hand l))) (AnAct (record { statement = x.statement; act = Leave (hand l) }) ts) (AnEnd x es) full
-    ∙ ap (λ (q : Task). AnAct q ts) (same_Some _ _ e)
 
 -- a turn of thread d that has this to do next
 act_on : (b c : AbstractState) (d : ℕ) (out : List (ℕ × Said)) (t : Task) → d < length c.frame_views → Waits (frame_of c d) → next (frame_of c d) ≡ Some t

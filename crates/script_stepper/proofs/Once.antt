@@ -7,7 +7,7 @@ use Rattle.std.proofs.lemmas.List.Elements.{All-head, All-tail}
 use Rattle.step_threads.specs.declared.said.Stepped.{Stepped}
 use Rattle.step_core.specs.declared.trace.TraceStep.{TraceStep}
 use Rattle.step_core.specs.Runs.{CallsOn, InOrder, IsRun, IsScheduled, IsStepOf, RunsToEnd, Settles, call_under_way, is_calling, is_owing}
-use Rattle.step_core.specs.WorldStates.{IsOver, WorldState, pending_call_of}
+use Rattle.step_core.specs.WorldStates.{IsOver, WorldState}
 use Rattle.step_core.specs.Worlds.{Advances, answer_at, world_state_by, step_of}
 use Rattle.script_text.specs.Grammar.{ended}
 use Rattle.script_stepper.specs.StepRuns.{IsStepText, shown_steps}
@@ -69,9 +69,9 @@ calls c d u a b (x ∷ xs) (y ∷ ys) p over q done =
     (calls c d p.2 a b xs ys p.4 over (subst (λ (m : WorldState). CallsOn c d m ys b) (sym here) q.4) done)
 
 settle : (d : ℕ) (u a b : WorldState) (xs ys : List TraceStep) → Settles d u xs a → Settles d u ys b → Same xs ys a b
-settle d u a b xs ys p q = go (is_owing (pending_call_of u d)) refl
+settle d u a b xs ys p q = go (is_owing u d) refl
   where
-    go : (o : Bool) → is_owing (pending_call_of u d) ≡ o → Same xs ys a b
+    go : (o : Bool) → is_owing u d ≡ o → Same xs ys a b
     go true e = calls (call_under_way d u) d u a b xs ys (p.owing e).calls (p.owing e).done (q.owing e).calls (q.owing e).done
     go false e =
         ((p.none e).0 ∙ sym (q.none e).0, (p.none e).1 ∙ sym (q.none e).1)

@@ -4,7 +4,7 @@ use Rattle.std.proofs.Common.{◌≡◌, ℕ, ◌==◌, ◌&&◌, Bool, true, fa
 use Rattle.std.specs.Prelude.{Option, Some, None, slice_index, slice_set}
 use Rattle.control_word.specs.declared.model.event.Event.{Event}
 use Rattle.control_word.specs.declared.model.event.Event.TheVariants as event
-use Rattle.control_word.specs.declared.model.handle.Handle.{Handle}
+use Rattle.control_word.specs.declared.model.handle.NumberedHandle.{NumberedHandle}
 use Rattle.control_word.specs.declared.model.handle.Kind.{Kind}
 use Rattle.control_word.specs.declared.model.handle.Kind.TheVariants.{Owner, Weak}
 use Rattle.control_word.specs.declared.place.Place.{Place}
@@ -14,7 +14,7 @@ use Rattle.control_word.specs.Histories.{IsLegal, leads}
 use Rattle.control_word.specs.State.{Opening, State, count, weak}
 use Rattle.step_table.specs.declared.memory.ended.Ended.{Ended}
 use Rattle.step_table.specs.declared.memory.form.Form.{Form}
-use Rattle.step_table.specs.declared.slots.registers.Pointer.{Pointer}
+use Rattle.control_word.specs.declared.handle.Handle.{Handle}
 use Rattle.step_table.specs.declared.slots.slot.Slot.{Slot}
 use Rattle.step_table.specs.CellAtomicSteps.{cell_in, kind_in_state}
 use Rattle.step_table.specs.Contents.{slot_of, slots_swapped, named_handle}
@@ -64,11 +64,11 @@ module _ (s : State) (d : ℕ) where
 
   -- ---- a pointer leaves
 
-  last_once : (x : Pointer) (k : Kind) (b c : Bool) → Asks s d (leaves_as {V = Nothing} s k b x) → Right (Some (leaves_as s k c x)) → b ≡ c
+  last_once : (x : Handle) (k : Kind) (b c : Bool) → Asks s d (leaves_as {V = Nothing} s k b x) → Right (Some (leaves_as s k c x)) → b ≡ c
   last_once x Owner b c p q = p.1 ∙ sym q
   last_once x Weak b c p q = p.1 ∙ sym q
 
-  leaves_once : (o : Option Pointer) (b c : Bool) (x y : Option Ended) (e f : Events) → IsLeaveEvent s o b x e → IsLeaveEvent s o c y f
+  leaves_once : (o : Option Handle) (b c : Bool) (x y : Option Ended) (e f : Events) → IsLeaveEvent s o b x e → IsLeaveEvent s o c y f
       → Comes e → Right f → (b ≡ c) × (x ≡ y) × (e ≡ f)
   leaves_once None b c x y e f p q u v = (p.0 ∙ sym q.0, p.1 ∙ sym q.1, p.2 ∙ sym q.2)
   leaves_once (Some z) b c x y e f p q u v =
@@ -78,7 +78,7 @@ module _ (s : State) (d : ℕ) where
         p.0 ∙ ap (λ (t : Bool). Some (leaves_as s z.kind t z)) same ∙ sym q.0,
       )
 
-  leaving_once : (h : Hands) (o : Option Pointer) (b c : Bool) (x y : Option Ended) (e f : Events) → IsLeaveEvent s o b x e
+  leaving_once : (h : Hands) (o : Option Handle) (b c : Bool) (x y : Option Ended) (e f : Events) → IsLeaveEvent s o b x e
       → IsLeaveEvent s o c y f → Comes e → Right f → (leaving h o b x ≡ leaving h o c y) × (e ≡ f)
   leaving_once h o b c x y e f p q u v =
       let r = leaves_once o b c x y e f p q u v in
@@ -86,14 +86,14 @@ module _ (s : State) (d : ℕ) where
 
   -- ---- what is told of a pointer
 
-  counts_once : (o : Option Pointer) (n m : ℕ) (e f : Events) → On (λ x. e ≡ Some (event.Count (handle_of s x) n)) ((n ≡ 0) × (e ≡ None)) o
+  counts_once : (o : Option Handle) (n m : ℕ) (e f : Events) → On (λ x. e ≡ Some (event.Count (handle_of s x) n)) ((n ≡ 0) × (e ≡ None)) o
       → On (λ x. f ≡ Some (event.Count (handle_of s x) m)) ((m ≡ 0) × (f ≡ None)) o → Chosen e → Chosen f → (n ≡ m) × (e ≡ f)
   counts_once None n m e f p q u v = (p.0 ∙ sym q.0, p.1 ∙ sym q.1)
   counts_once (Some x) n m e f p q u v =
       let same : n ≡ m = subst Chosen p u tt ∙ sym (subst Chosen q v tt) in
       (same, p ∙ ap (λ (k : ℕ). Some (event.Count (handle_of s x) k)) same ∙ sym q)
 
-  locks_once : (o : Option Pointer) (b c : Bool) (e f : Events)
+  locks_once : (o : Option Handle) (b c : Bool) (e f : Events)
       → On (λ x. e ≡ Some (event.Lock (weak_of (owned s x) x.place) b)) ((b ≡ false) × (e ≡ None)) o
       → On (λ x. f ≡ Some (event.Lock (weak_of (owned s x) x.place) c)) ((c ≡ false) × (f ≡ None)) o → Comes e → Right f
       → (b ≡ c) × (e ≡ f)
@@ -103,7 +103,7 @@ module _ (s : State) (d : ℕ) where
       let same : b ≡ c = a.1 ∙ sym k in
       (same, p ∙ ap (λ (t : Bool). Some (event.Lock (weak_of (owned s x) x.place) t)) same ∙ sym q)
 
-  expires_once : (o : Option Pointer) (b c : Bool) (e f : Events)
+  expires_once : (o : Option Handle) (b c : Bool) (e f : Events)
       → On (λ x. e ≡ Some (event.Expired (handle_of s x) b)) ((b ≡ true) × (e ≡ None)) o
       → On (λ x. f ≡ Some (event.Expired (handle_of s x) c)) ((c ≡ true) × (f ≡ None)) o → Comes e → Right f → (b ≡ c) × (e ≡ f)
   expires_once None b c e f p q u v = (p.0 ∙ sym q.0, p.1 ∙ sym q.1)
@@ -112,7 +112,7 @@ module _ (s : State) (d : ℕ) where
       let same : b ≡ c = a.1 ∙ sym k in
       (same, p ∙ ap (λ (t : Bool). Some (event.Expired (handle_of s x) t)) same ∙ sym q)
 
-  reads_once : (o : Option Pointer) (z : Answer) (n m : ℕ) (e f : Events)
+  reads_once : (o : Option Handle) (z : Answer) (n m : ℕ) (e f : Events)
       → On (λ x. e ≡ Some (event.Read (owner (owned s x) x.place) n)) (e ≡ None) o
       → On (λ x. f ≡ Some (event.Read (owner (owned s x) x.place) m)) (f ≡ None) o → Comes e → Right f
       → (cond (is_full o) (answer.Read n) z ≡ cond (is_full o) (answer.Read m) z) × (e ≡ f)
@@ -123,7 +123,7 @@ module _ (s : State) (d : ℕ) where
       let same : n ≡ m = a.3 ∙ sym (k a.0 a.1) in
       (ap answer.Read same, p ∙ ap (λ (k : ℕ). Some (event.Read (owner (owned s x) x.place) k)) same ∙ sym q)
 
-  gives_once : (o : Option Pointer) (g : Bool → Pointer → Events) (t : Pointer → Bool) (b c : Bool) (e f : Events)
+  gives_once : (o : Option Handle) (g : Bool → Handle → Events) (t : Handle → Bool) (b c : Bool) (e f : Events)
       → On (λ x. (b ≡ t x) × (e ≡ g b x)) ((b ≡ false) × (e ≡ None)) o
       → On (λ x. (c ≡ t x) × (f ≡ g c x)) ((c ≡ false) × (f ≡ None)) o → (b ≡ c) × (e ≡ f)
   gives_once None g t b c e f p q = (p.0 ∙ sym q.0, p.1 ∙ sym q.1)
@@ -141,7 +141,7 @@ module _ (s : State) (d : ℕ) where
         let k = subst Right q.1 v in
         let same : p.0 ≡ q.0 = a.2 ∙ sym k in (
           ap to (p.2 ∙ ap (slot_of s) same ∙ sym q.2),
-          p.1 ∙ ap (λ (h : Handle). Some
+          p.1 ∙ ap (λ (h : NumberedHandle). Some
               (event.Swap (cell_in s (cell_of_name s l c)) (named_handle s (kind_in_state s (cell_of_name s l c)) (slot_value l i)) h)) same ∙ sym q.1,
         )
 
@@ -153,7 +153,7 @@ module _ (s : State) (d : ℕ) where
         let k = subst Right q.1 v in
         let same : p.0 ≡ q.0 = a.1 ∙ sym k in (
           ap to (p.2 ∙ ap (slot_of s) same ∙ sym q.2),
-          p.1 ∙ ap (λ (h : Handle). Some (event.Load (cell_in s (cell_of_name s l c)) h)) same ∙ sym q.1,
+          p.1 ∙ ap (λ (h : NumberedHandle). Some (event.Load (cell_in s (cell_of_name s l c)) h)) same ∙ sym q.1,
         )
 
   compares_once : (l : Slots) (c : CellName) (k : ℕ) (weak b g : Bool) (x y : Slot) (e f : Events) → IsCompareEvent s l c k weak b x e
@@ -162,16 +162,16 @@ module _ (s : State) (d : ℕ) where
       let a = subst Comes p.1 u in
       let z = subst Right q.1 v in
       let at = cell_of_name s l c in
-      let compared_event : Handle → Bool → Events = λ h t.
+      let compared_event : NumberedHandle → Bool → Events = λ h t.
       Some (event.Compare (cell_in s at) (named_handle s (kind_in_state s at) (slot_value l k))
       (named_handle s (kind_in_state s at) (slot_value l (hand l))) h t weak) in
       let same : p.0 ≡ q.0 = a.3 ∙ sym z in
       let w = subst Chosen p.1 m in
       let r = subst Chosen q.1 n in
-      let yes : b ≡ g = w ∙ ap (λ (h : Handle). equivalent h (named_handle s (kind_in_state s (cell_of_name s l c)) (slot_value l k))) same ∙ sym r in (
+      let yes : b ≡ g = w ∙ ap (λ (h : NumberedHandle). equivalent h (named_handle s (kind_in_state s (cell_of_name s l c)) (slot_value l k))) same ∙ sym r in (
         p.2 ∙ ap (slot_of s) same ∙ sym q.2,
         yes,
-        p.1 ∙ ap (λ (h : Handle). compared_event h b) same ∙ ap (compared_event q.0) yes ∙ sym q.1,
+        p.1 ∙ ap (λ (h : NumberedHandle). compared_event h b) same ∙ ap (compared_event q.0) yes ∙ sym q.1,
       )
 
   -- ---- each act
@@ -253,7 +253,7 @@ module _ (s : State) (d : ℕ) where
     one_reply (Read k) _ q e f m n u v g h = absurd m
     one_reply (FromThis k kind) (Got b) (Got c) e f m n u v g h =
         let r =
-        gives_once (inside (slot_pointer l k)) (λ (y : Bool) (x : Pointer). cond y (Some (copies s kind (place_at x.block.0) x)) None) (is_enabled s)
+        gives_once (inside (slot_pointer l k)) (λ (y : Bool) (x : Handle). cond y (Some (copies s kind (place_at x.block.0) x)) None) (is_enabled s)
         b c e f m n in
         (ap (λ (t : Bool). row (FromThis k kind) l taken (Got t)) r.0, r.1)
     one_reply (FromThis k kind) (Got b) _ e f m n u v g h = absurd n

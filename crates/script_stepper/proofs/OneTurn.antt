@@ -16,7 +16,7 @@ use Rattle.step_table.specs.AtomicSteps.{exact}
 use Rattle.step_table.specs.Openings.{opening}
 use Rattle.step_core.proofs.Entries.{acted}
 use Rattle.step_threads.specs.AbstractStates.{AbstractState, next, nowhere, put_frame, rest_of, rested, state_in, frame_of}
-use Rattle.step_table.specs.GhostStates.{Kept}
+use Rattle.step_table.specs.GhostStates.{TableInvariant}
 use Rattle.step_core.specs.Turns.{Always, TurnIs}
 use Rattle.step_core.specs.Worlds.{CountsAll, NoneLoads, WorldState, TakesWholeTurn, is_loading, abstraction}
 use Rattle.step_core.proofs.turning.Turns.{turn_less}
@@ -107,7 +107,7 @@ turn_plays : (thread : ℕ) (u u' : WorldState) (x : List Item)
     → abstraction u' ≡ play (thread - 1) (abstraction u)
 turn_plays thread u u' x takes = (turn_is thread (abstraction u) (next (frame_of (abstraction u) (thread - 1))) x (abstraction u') takes).1
 
-whole_turn : (thread : ℕ) (u u' : WorldState) (x : Option Said) → AllRest u → thread - 1 < length u.frame_views → Kept u'.ghost_state
+whole_turn : (thread : ℕ) (u u' : WorldState) (x : Option Said) → AllRest u → thread - 1 < length u.frame_views → TableInvariant u'.ghost_state
     → is_some x ≡ is_some (next (frame_of (abstraction u) (thread - 1)))
     → TakesTurn thread (abstraction u) (next (frame_of (abstraction u) (thread - 1))) (heard thread x) (abstraction u')
     → u'.pending_calls ≡ slice_set u.pending_calls (thread - 1) Rest → Turn thread u u' x
@@ -127,14 +127,14 @@ exact_turn d u u' r rests lt t =
     subst (λ (b : AbstractState). TurnIs Always d b r (abstraction u')) (at_rest u d rests lt)
     (turn_less (CountsAll d u (state_in c)) Always (λ h _. inl (none_loads u d rests)) d c (abstraction u') r t.0)
 
-pub acted_turn : (thread : ℕ) (u u' : WorldState) (x : Said) → AllRest u → thread - 1 < length u.frame_views → Kept u'.ghost_state
+pub acted_turn : (thread : ℕ) (u u' : WorldState) (x : Said) → AllRest u → thread - 1 < length u.frame_views → TableInvariant u'.ghost_state
     → TakesWholeTurn (thread - 1) u (Acted x) u' → Turn thread u u' (Some x)
 acted_turn thread u u' x rests lt kept t =
     let q = exact_turn (thread - 1) u u' (Acted x) rests lt t in
     whole_turn thread u u' (Some x) rests lt kept (sym (ap is_some q.1))
     (subst (λ (o : Option Task). TakesTurn thread (abstraction u) o (heard thread (Some x)) (abstraction u')) (sym q.1) (x, q.2, refl)) t.1
 
-pub done_turn : (thread : ℕ) (u u' : WorldState) → AllRest u → thread - 1 < length u.frame_views → Kept u'.ghost_state
+pub done_turn : (thread : ℕ) (u u' : WorldState) → AllRest u → thread - 1 < length u.frame_views → TableInvariant u'.ghost_state
     → TakesWholeTurn (thread - 1) u Done u' → Turn thread u u' None
 done_turn thread u u' rests lt kept t =
     let q = exact_turn (thread - 1) u u' Done rests lt t in

@@ -9,7 +9,7 @@ use Rattle.control_word.specs.declared.model.handle.Kind.TheVariants.{Owner, Wea
 use Rattle.control_word.specs.declared.place.Place.{Place}
 use Rattle.control_word.specs.Histories.{leads}
 use Rattle.control_word.specs.State.{Opening, State}
-use Rattle.step_table.specs.declared.slots.registers.Pointer.{Pointer}
+use Rattle.control_word.specs.declared.handle.Handle.{Handle}
 use Rattle.step_table.specs.AtomicSteps.{exact, field_at, last_as, owned}
 use Rattle.step_table.specs.Registers.{inside, owner_slot, slot_pointer, weak_slot}
 use Rattle.step_table.specs.Openings.{opening}
@@ -44,11 +44,11 @@ module _ (s : State) (d : ℕ) where
   of_map f h None = (tt, tt)
   of_map f h (Some x) = h x
 
-  of_copies : (k : Kind) (p : Option Place) (x : Pointer) → Fine (Some (copies s k p x))
+  of_copies : (k : Kind) (p : Option Place) (x : Handle) → Fine (Some (copies s k p x))
   of_copies Owner p x = (tt, tt)
   of_copies Weak p x = (tt, tt)
 
-  of_leaves : (k : Kind) (x : Pointer) → Fine (Some (leaves_as s k (last_as k s (owned s x)) x))
+  of_leaves : (k : Kind) (x : Handle) → Fine (Some (leaves_as s k (last_as k s (owned s x)) x))
   of_leaves Owner x = (refl, tt)
   of_leaves Weak x = (refl, tt)
 

@@ -14,8 +14,8 @@ use Rattle.step_threads.specs.declared.programs.act.Act.TheVariants.{Read, Ask}
 use Rattle.step_threads.specs.declared.programs.act.Act.TheVariants.{Offer, Swap, Exchange, Load, Compare, Drop, OnShelf}
 use Rattle.step_table.specs.declared.memory.form.Form.{Form}
 use Rattle.step_threads.specs.declared.ending.Ending.{Ending}
-use Rattle.step_table.specs.declared.slots.registers.Pointer.{Pointer}
-use Rattle.step_table.specs.declared.memory.past.AtomicStep.{AtomicStep}
+use Rattle.control_word.specs.declared.handle.Handle.{Handle}
+use Rattle.step_table.specs.declared.memory.ghost_history.AtomicStep.{AtomicStep}
 use Rattle.step_table.specs.GhostStates.{event_added, event_of}
 use Rattle.step_threads.specs.Frames.{Going, going, is_there, locked_pointer, offered, on_going, other}
 use Rattle.step_table.specs.AtomicSteps.{alias, aliased, downgrade, exact, give, is_last, leave, leave_as, lock, read_atomic_step, share, share_as, tell_count}
@@ -50,9 +50,9 @@ same_if true h h' es m e = same 0 h h' es m e
 same_if false h h' es m e = same 0 h h es refl refl
 
 -- an atomic step on what a slot holds, which neither makes an object nor ends one
-same_by : (z : Opening) (d : ℕ) (h : History) (es : List Ending) (f : Pointer → AtomicStep) (x : Option Pointer)
-    → ((p : Pointer) → made_in (event_added d (event_of (leads z h) (f p)) h) ≡ made_in h)
-    → ((p : Pointer) → ended_in (event_added d (event_of (leads z h) (f p)) h) ≡ ended_in h) → Tally 0 h es (does z d h (option_map f x)) es
+same_by : (z : Opening) (d : ℕ) (h : History) (es : List Ending) (f : Handle → AtomicStep) (x : Option Handle)
+    → ((p : Handle) → made_in (event_added d (event_of (leads z h) (f p)) h) ≡ made_in h)
+    → ((p : Handle) → ended_in (event_added d (event_of (leads z h) (f p)) h) ≡ ended_in h) → Tally 0 h es (does z d h (option_map f x)) es
 same_by z d h es f None m e = same 0 h h es refl refl
 same_by z d h es f (Some p) m e = same 0 h (event_added d (event_of (leads z h) (f p)) h) es (m p) (e p)
 
@@ -61,31 +61,31 @@ make_tally : (z : Opening) (d : ℕ) (form : Form) (h : History) (es : List Endi
 make_tally z d form h es None = same 1 h h es refl refl
 make_tally z d form h es (Some b) = record { made = omega arith; last = 0; ended = omega arith; parts = omega arith }
 
-shared_made : (d : ℕ) (h : History) (s : State) (p : Pointer) (k : Kind) → made_in (event_added d (event_of s (share_as k p)) h) ≡ made_in h
+shared_made : (d : ℕ) (h : History) (s : State) (p : Handle) (k : Kind) → made_in (event_added d (event_of s (share_as k p)) h) ≡ made_in h
 shared_made d h s p Owner = refl
 shared_made d h s p Weak = refl
 
-shared_ended : (d : ℕ) (h : History) (s : State) (p : Pointer) (k : Kind) → ended_in (event_added d (event_of s (share_as k p)) h) ≡ ended_in h
+shared_ended : (d : ℕ) (h : History) (s : State) (p : Handle) (k : Kind) → ended_in (event_added d (event_of s (share_as k p)) h) ≡ ended_in h
 shared_ended d h s p Owner = refl
 shared_ended d h s p Weak = refl
 
-given_made : (d : ℕ) (h : History) (s : State) (p : Pointer) (k : Kind) → made_in (event_added d (event_of s (give k p)) h) ≡ made_in h
+given_made : (d : ℕ) (h : History) (s : State) (p : Handle) (k : Kind) → made_in (event_added d (event_of s (give k p)) h) ≡ made_in h
 given_made d h s p Owner = refl
 given_made d h s p Weak = refl
 
-given_ended : (d : ℕ) (h : History) (s : State) (p : Pointer) (k : Kind) → ended_in (event_added d (event_of s (give k p)) h) ≡ ended_in h
+given_ended : (d : ℕ) (h : History) (s : State) (p : Handle) (k : Kind) → ended_in (event_added d (event_of s (give k p)) h) ≡ ended_in h
 given_ended d h s p Owner = refl
 given_ended d h s p Weak = refl
 
 -- a pointer leaves, and its object ends or not
-left_one : (d k : ℕ) (h : History) (es : List Ending) (s : State) (p : Pointer) (kind : Kind) (last : Bool)
+left_one : (d k : ℕ) (h : History) (es : List Ending) (s : State) (p : Handle) (kind : Kind) (last : Bool)
     → Tally 0 h es (event_added d (event_of s (leave_as kind p last)) h) (with_end k (cond last (ending_as kind p) None) es)
 left_one d k h es s p Owner true = record { made = omega arith; last = 1; ended = omega arith; parts = omega arith }
 left_one d k h es s p Owner false = record { made = omega arith; last = 0; ended = omega arith; parts = omega arith }
 left_one d k h es s p Weak true = record { made = omega arith; last = 0; ended = omega arith; parts = omega arith }
 left_one d k h es s p Weak false = record { made = omega arith; last = 0; ended = omega arith; parts = omega arith }
 
-left_tally : (z : Opening) (d k : ℕ) (h : History) (es : List Ending) (x : Option Pointer)
+left_tally : (z : Opening) (d k : ℕ) (h : History) (es : List Ending) (x : Option Handle)
     → Tally 0 h es (does z d h (option_map (leave (leads z h)) x)) (begun_by (leads z h) k es x)
 left_tally z d k h es None = same 0 h h es refl refl
 left_tally z d k h es (Some p) = left_one d k h es (leads z h) p p.kind (is_last (leads z h) p)

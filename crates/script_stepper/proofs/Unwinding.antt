@@ -2,9 +2,10 @@
 use Rattle.std.proofs.Common.{◌≡◌, ℕ, zero, suc, ◌-◌, ◌<◌, ◌≤◌, true, false, List, [], ◌∷◌, inl, inr, length, refl, sym, ◌∙◌}
 use Rattle.std.proofs.Common.{ap, subst, arith, get_or-set_same}
 use Rattle.std.specs.Prelude.{◌⊎◌, Option, Some, None, slice_set}
-use Rattle.std.proofs.lemmas.Bool.{cond_both}
+use Rattle.std.proofs.lemmas.Bool.{cond-true, cond_both}
 use Rattle.std.proofs.lemmas.List.{length-set}
-use Rattle.control_word.specs.declared.model.handle.Handle.{Handle}
+use Rattle.std.proofs.lemmas.Option.{same_Some}
+use Rattle.control_word.specs.declared.model.handle.NumberedHandle.{NumberedHandle}
 use Rattle.control_word.specs.Handles.{has_object}
 use Rattle.control_word.specs.Histories.{leads}
 use Rattle.control_word.specs.State.{Opening, State}
@@ -14,7 +15,10 @@ use Rattle.step_threads.specs.Frames.{FrameView, hand}
 use Rattle.step_table.specs.Registers.{Slots, is_full, plain, pointer_of, slot_pointer}
 use Rattle.step_threads.specs.Entries.{History}
 use Rattle.step_table.specs.Contents.{slot_as, slot_of}
-use Rattle.step_threads.specs.AbstractStates.{rested_frame}
+use Rattle.step_threads.specs.declared.programs.act.Act.TheVariants.{Leave}
+use Rattle.step_threads.specs.declared.programs.act.Task.{Task}
+use Rattle.step_threads.specs.TraceLabels.{AnAct, AnEnd, ahead_of}
+use Rattle.step_threads.specs.AbstractStates.{next_of, rest_of, rested_frame}
 use Rattle.step_threads.specs.Unwinding.{Wound, history_clears, unwinds_on, stops, unwound}
 use Rattle.step_core.specs.Totals.{ended_in, made_in}
 use Rattle.script_stepper.specs.Running.{parts_left}
@@ -27,11 +31,11 @@ abbrev pub IsOut : ℕ → Option (ℕ × Slot) → Type 0
 IsOut n None = Unit {0}
 IsOut n (Some p) = (p.0 < n) × (is_full (pointer_of p.1) ≡ true)
 
-full_as : (s : State) (h : Handle) (o : Option ℕ) → elim (o) [ None ↦ false | Some n ↦ true ] ≡ true → is_full (pointer_of (slot_as s h o)) ≡ true
+full_as : (s : State) (h : NumberedHandle) (o : Option ℕ) → elim (o) [ None ↦ false | Some n ↦ true ] ≡ true → is_full (pointer_of (slot_as s h o)) ≡ true
 full_as s h None e = absurd cc
 full_as s h (Some o) e = refl
 
-full_of : (s : State) (h : Handle) → has_object h ≡ true → is_full (pointer_of (slot_of s h)) ≡ true
+full_of : (s : State) (h : NumberedHandle) → has_object h ≡ true → is_full (pointer_of (slot_of s h)) ≡ true
 full_of s h e = full_as s h h.object e
 
 out_more : (n : ℕ) (o : Option (ℕ × Slot)) → IsOut n o → IsOut (suc n) o
@@ -186,3 +190,13 @@ rested_still z d h w (inl none) =
 rested_still z d h w (inr full) =
     cond_both (is_full (slot_pointer w.slots (hand w.slots))) (still h w) (unwound z d w.slots w.endings h) (λ c. c ≡ still h w)
     (λ _. refl) (λ no. absurd cc)
+
+-- the next act of a thread whose endings wait
+pub ahead_next : (l : Slots) (es : List Ending) (ts : List Task) (t : Task) → (es ≡ []) ⊎ (is_full (slot_pointer l (hand l)) ≡ true)
+    → next_of l es ts ≡ Some t → ahead_of l es ts ≡ AnAct t (rest_of es ts)
+ahead_next l [] [] t waits e = absurd cc
+ahead_next l [] (y ∷ ts) t waits e = ap (λ (q : Task). AnAct q ts) (same_Some _ _ e)
+ahead_next l (x ∷ es) ts t (inl none) e = absurd cc
+ahead_next l (x ∷ es) ts t (inr full) e =
+    cond-true (is_full (slot_pointer l (hand l))) (AnAct (record { statement = x.statement; act = Leave (hand l) }) ts) (AnEnd x es) full
+    ∙ ap (λ (q : Task). AnAct q ts) (same_Some _ _ e)

@@ -4,7 +4,7 @@ use Rattle.std.specs.List.{flat_map}
 use Rattle.script_text.specs.Grammar.{ended}
 use Rattle.step_core.specs.declared.trace.TraceStep.{TraceStep}
 use Rattle.step_table.specs.Openings.{opening}
-use Rattle.step_table.specs.GhostStates.{Kept}
+use Rattle.step_table.specs.GhostStates.{TableInvariant}
 use Rattle.step_threads.specs.Interleavings.{Interleaves, said_on}
 use Rattle.step_threads.specs.Programs.{Part}
 use Rattle.step_core.specs.Following.{Follows, lines_of, no_worth, said_by}
@@ -25,7 +25,7 @@ pub record IsStepRun (turns : List ℕ) (u : WorldState) (steps : List TraceStep
   pub run : IsRun u steps u'
   pub scheduled : IsScheduled turns u steps u'
   pub follows : Follows u steps u'
-  pub kept : Kept u'.ghost_state
+  pub kept : TableInvariant u'.ghost_state
   pub over : IsAtEnd u'
 
 -- the history that these steps lead to is an interleaving of these threads, from their first acts to their ends, each

@@ -54,7 +54,8 @@ pub fn end_of(alloc: Global, script: &[u8], turns: &[u8]) -> Result<End, Fault>
 
     // A script and its turns have one such end only.
     ensures one { (read : ScriptView) (listed : List ℕ) (last other : AbstractState)
-        → IsRunOut listed (script_abstraction read) last → IsRunOut listed (script_abstraction read) other → last ≡ other }
+        → IsRunOut listed (script_abstraction read) last → IsRunOut listed (script_abstraction read) other → last
+        ≡ other }
 {
     let script = parse(alloc, script)?;
     let turns = turns_of(alloc, turns, script.threads() as u8)?;

@@ -7,7 +7,7 @@ ghost use Rattle.script_text.specs.Drafts.{ScriptView};
 ghost use Rattle.script_text.specs.Grammar.{Faulty, IsUnlessMemory, ReadsAs, ended};
 ghost use Rattle.script_text.specs.Scripts.{program_in};
 ghost use Rattle.step_core.specs.Worlds.{abstraction};
-ghost use Rattle.step_table.specs.GhostStates.{Kept};
+ghost use Rattle.step_table.specs.GhostStates.{TableInvariant};
 ghost use Rattle.step_core.specs.Starts.{first_world_state};
 ghost use Rattle.script_text.specs.Beginnings.{script_abstraction, script_shape, script_world_state, shape_for};
 ghost use Rattle.script_stepper.specs.Followed.{TurnsFollow};
@@ -23,11 +23,11 @@ use crate::runs::running::run_turns;
 use crate::runs::steps::steps_text;
 use crate::sink::Sink;
 use crate::turns::turns_of;
-use control_word::limits::{SCRIPT_ALLOWANCE, SCRIPT_SHARED_CELLS, SCRIPT_WEAK_CELLS};
 use control_word::{Refusal, Shape};
 use script_text::{Fault, Script, parse};
 use std::alloc::{AllocError, Global};
 use step_core::World;
+use step_table::limits::{SCRIPT_ALLOWANCE, SCRIPT_SHARED_CELLS, SCRIPT_WEAK_CELLS};
 
 /// How a run takes the numbers of its list.
 #[derive(Clone, Copy)]
@@ -60,7 +60,7 @@ fn world_of(alloc: Global, script: &Script, shape: Shape) -> Result<World, Fault
     requires shape { shape ≡ script_shape script.now }
     requires within { IsWithinLimits shape }
     ensures ok { IfOk result (λ w. w ≡ first_world_state shape (program_in script.now.threads)) }
-    ensures kept { IfOk result (λ w. Kept w.ghost_state) }
+    ensures kept { IfOk result (λ w. TableInvariant w.ghost_state) }
     ensures memory { IfErr result (λ fault. fault ≡ Memory) }
 {
     let Ok(program) = script.program(alloc) else {
@@ -86,7 +86,7 @@ pub struct Start {
 /// How a script's run begins (own). Refused by 1 alone, where a growth was refused.
 pub fn start_of(alloc: Global, script: &Script) -> Result<Start, Fault>
     ensures world_state { IfOk result (λ s. s.world ≡ script_world_state script.now) }
-    ensures kept { IfOk result (λ s. Kept s.world.ghost_state) }
+    ensures kept { IfOk result (λ s. TableInvariant s.world.ghost_state) }
     ensures rests { IfOk result (λ s. AllRest s.world) }
     ensures all { IfOk result (λ s. s.threads ≡ length s.world.frame_views) }
     ensures threads { IfOk result (λ s. length s.world.frame_views ≡ length script.now.threads) }

@@ -14,9 +14,9 @@ use crate::parts::statement::call_of;
 use crate::parts::thread::{Thread, empty_thread};
 use crate::parts::version::{Version, version_of};
 use crate::words::keyword::{Keyword, keyword_of, takes};
-use control_word::limits::SCRIPT_STATEMENTS;
 use std::alloc::Global;
 use std::mem;
+use step_table::limits::SCRIPT_STATEMENTS;
 use text_lines::{LineReader, is_clean, line_content, words_in};
 
 /// The version, the threads before the current one, that one, and how many statements all have.

@@ -2,11 +2,11 @@
 
 use crate::fault::{Cause, Stop};
 use crate::words::word::name_of;
-use control_word::limits::SCRIPT_NAMES;
 use indexmap::IndexMap;
 use std::alloc::{AllocError, Global};
 use std::marker::Model;
 use step_core::{Kind, Name};
+use step_table::limits::SCRIPT_NAMES;
 
 /// How many names a thread has at most.
 const NAMES: usize = SCRIPT_NAMES as usize;

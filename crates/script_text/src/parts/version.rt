@@ -8,7 +8,7 @@ ghost use Rattle.script_text.specs.Versions.{version_at};
 
 use crate::fault::{Cause, Stop};
 use crate::words::word::number_of;
-use control_word::limits::{MOST_ACTORS, SCRIPT_BLOCKS, SCRIPT_THREADS};
+use step_table::limits::{MOST_ACTORS, SCRIPT_BLOCKS, SCRIPT_THREADS};
 
 /// The fewest blocks that a header may name: one for each of the most threads.
 const LEAST_BLOCKS: u64 = 64;

@@ -8,9 +8,9 @@ ghost use Rattle.script_text.specs.Words.{is_name_byte, name_at};
 ghost use Rattle.script_text.specs.Words.{number_at};
 
 use crate::fault::{Cause, Stop};
-use control_word::limits::{NAME_BYTES, SCRIPT_SHARED_CELLS};
 use std::str;
 use step_core::{CellName, Field};
+use step_table::limits::{NAME_BYTES, SCRIPT_SHARED_CELLS};
 
 fn is_name_code(b: u8) -> bool
     ensures { result ≡ is_name_byte b }
