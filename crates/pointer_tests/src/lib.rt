@@ -1,5 +1,5 @@
-//! Tests of pointers, by their public calls alone. A list of calls is what one worker does at its desk; each of its rows
-//! says what a call is to answer, and one that answers something else ends the list with the row's number.
+//! Tests of pointers, by their public calls alone. A list of calls is what one worker does at its desk; each of its
+//! rows says what a call is to answer, and one that answers something else ends the list with the row's number.
 #![tactic(auto)]
 
 #[cfg(test)]

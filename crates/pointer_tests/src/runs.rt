@@ -5,8 +5,8 @@ use std::alloc::Global;
 use std::sync::Wait;
 use std::thread::Threads;
 
-/// What a run tells: the fault of the first worker that has one, how many workers worked, and how many blocks are vacant
-/// then.
+/// What a run tells: the fault of the first worker that has one, how many workers worked, and how many blocks are
+/// vacant then.
 pub(crate) type Told = Result<(Option<Fault>, usize, u32), NotRun>;
 
 fn told(ran: Result<Ran<u64>, NotRun>) -> Told {

@@ -1,5 +1,5 @@
-//! Calls on pointers as data, each with what it answers: a test is a list of them. A desk's pointers lie in slots, owners
-//! in some and weak pointers in others.
+//! Calls on pointers as data, each with what it answers: a test is a list of them. A desk's pointers lie in slots,
+//! owners in some and weak pointers in others.
 
 pub(crate) mod answer;
 mod coming;

@@ -9,9 +9,11 @@ use std::sync::Wait;
 
 mod accesses;
 mod lent;
+mod seat;
 mod taking;
 
 pub(crate) use lent::Lent;
+pub(crate) use seat::{Seat, seated};
 
 /// A domain, by the table that a desk has of it. Whoever works with pointers writes `D: Domain<Value = V>` and calls
 /// none of its methods: a desk does. What a call names by `to` is a vacant slot.

@@ -4,12 +4,13 @@ ghost use Rattle.control_word.specs.Layout.{IsWithinLimits};
 ghost use Rattle.pointers.specs.Programs.{Ends};
 
 use crate::desk::{Desk, linked};
-use crate::domain::{Domain, Lent};
+use crate::domain::{Domain, seated};
 use crate::fault::Fault;
 use crate::fault::call::Call;
+use crate::leader::turn::Turn;
 use crate::program::not_run::NotRun;
 use crate::program::team::{SPARE, Team};
-use crate::program::{Failed, Program, Ran, note};
+use crate::program::{Failed, Program, Ran, Worker, note};
 use crate::shared::Shared;
 use control_block::census::Census;
 use control_word::{Refusal, Shape};
@@ -17,6 +18,8 @@ use handle_table::{self, HandleTable, Home, Manned};
 use std::alloc::Global;
 use std::sync::{Mutex, Wait};
 use std::thread::Threads;
+
+mod turn;
 
 /// A program that its first thread leads: it has a desk of its own, and starts teams one after another.
 pub trait Leader<V: Drop, R: Threads + Wait + Sync>: Program<V, R> {
@@ -49,44 +52,17 @@ struct Lead<'p, P> {
     failed: Mutex<Vec<Failed, Global>>,
 }
 
-/// All slots but those that are kept are vacant, and the pointers that are kept.
-fn regained<'t, D: Domain>(
-    alloc: Global,
-    desk: &'t Desk<D>,
-    kept: &mut Vec<usize, Global>,
-) -> Result<Vec<Shared<'t, D>>, Fault> {
-    let mut pointers = Vec::with_capacity(alloc, kept.len())?;
-    desk.leave_out(kept);
-    for _ in 0..kept.len() {
-        let Some(at) = kept.pop() else {
-            break;
-        };
-        pointers.push(Shared { desk, at })?;
-    }
-    Ok(pointers)
-}
-
-/// The slots of pointers that are kept; where there is no memory for one, it lets go.
-fn put_down<D: Domain>(pointers: Vec<Shared<'_, D>>, kept: &mut Vec<usize, Global>) {
-    for pointer in pointers {
-        if kept.push(pointer.at).is_ok() {
-            pointer.into_slot();
-        }
-    }
-}
-
 impl<'p, V: Drop, R: Threads + Wait + Sync, P: Leader<V, R> + Sync> handle_table::Program<V, R>
     for Lead<'p, P> {
     fn work<H: Home>(&self, rt: &R, number: usize, table: &mut HandleTable<'_, V, H>) {
-        let done = match linked(self.alloc, self.team.slots) {
-            Some(links) => {
-                let desk = Desk::over(Lent::new(table), links);
-                let done = self.leader.work(rt, number, &desk);
-                drop(desk.into_table());
-                done
-            }
-            None => Err(Fault::Memory),
+        let links = linked(self.alloc, self.team.slots);
+        let worker = Worker {
+            rt,
+            program: &*self.leader,
+            number,
+            links,
         };
+        let done = seated(table, worker);
         note(rt, &self.failed, number, done);
     }
 }
@@ -165,22 +141,12 @@ impl<'p, V: Drop, R: Threads + Wait + Sync, P: Leader<V, R> + Sync> handle_table
         table: &mut HandleTable<'_, V, H>,
     ) -> Option<handle_table::Team> {
         self.told(before);
-        let Some(links) = linked(self.alloc, self.slots) else {
-            self.fault = Some(Fault::Memory);
-            return None;
+        let turn = Turn {
+            rt,
+            lead: self,
+            before,
         };
-        let desk = Desk::over(Lent::new(table), links);
-        let next = match regained(self.alloc, &desk, &mut self.kept) {
-            Ok(pointers) => {
-                let mut pointers = pointers;
-                let next = self.leader.lead(rt, before, &desk, &mut pointers);
-                put_down(pointers, &mut self.kept);
-                next
-            }
-            Err(why) => Err(why),
-        };
-        let _ = desk.shelve();
-        drop(desk.into_table());
+        let next = seated(table, turn);
         self.next(rt, next)
     }
 }

@@ -5,7 +5,7 @@ ghost use Rattle.handle_table.specs.declared.program.Manned.{Manned};
 ghost use Rattle.pointers.specs.Programs.{Runs, RunsTeam};
 
 use crate::desk::{Desk, linked};
-use crate::domain::{Domain, Lent};
+use crate::domain::{Domain, Seat, seated};
 use crate::fault::Fault;
 use crate::program::not_run::NotRun;
 use crate::program::team::Team;
@@ -13,6 +13,7 @@ use control_block::census::Census;
 use control_word::{Refusal, Shape};
 use handle_table::{self, HandleTable, Home, Manned};
 use std::alloc::Global;
+use std::cell::Cell;
 use std::sync::{Mutex, Wait};
 use std::thread::Threads;
 
@@ -76,18 +77,45 @@ pub(crate) fn note<R: Wait>(
     }
 }
 
+/// A worker at work, with the links of its desk's slots.
+pub(crate) struct Worker<'w, R, P> {
+    pub rt: &'w R,
+    pub program: &'w P,
+    pub number: usize,
+    pub links: Option<Vec<Cell<usize>, Global>>,
+}
+
+impl<'w, V: Drop, R: Threads + Wait + Sync, P: Program<V, R>> Seat<V> for Worker<'w, R, P> {
+    type Answer = Result<(), Fault>;
+
+    fn sit<D: Domain<Value = V> + Drop>(self, table: D) -> Result<(), Fault> {
+        let Self {
+            rt,
+            program,
+            number,
+            links,
+        } = self;
+        let Some(links) = links else {
+            return Err(Fault::Memory);
+        };
+        let desk = Desk::over(table, links);
+        let done = program.work(rt, number, &desk);
+        drop(desk.into_table());
+        done
+    }
+}
+
 impl<'p, V: Drop, R: Threads + Wait + Sync, P: Program<V, R> + Sync> handle_table::Program<V, R>
     for Seats<'p, P> {
     fn work<H: Home>(&self, rt: &R, number: usize, table: &mut HandleTable<'_, V, H>) {
-        let done = match linked(self.alloc, self.team.slots) {
-            Some(links) => {
-                let desk = Desk::over(Lent::new(table), links);
-                let done = self.program.work(rt, number, &desk);
-                drop(desk.into_table());
-                done
-            }
-            None => Err(Fault::Memory),
+        let links = linked(self.alloc, self.team.slots);
+        let worker = Worker {
+            rt,
+            program: self.program,
+            number,
+            links,
         };
+        let done = seated(table, worker);
         note(rt, &self.failed, number, done);
     }
 }

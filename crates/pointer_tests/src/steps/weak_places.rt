@@ -124,8 +124,8 @@ fn exchange_in<'t, D: Domain<Value = Value>>(
     place?.exchange(new)
 }
 
-/// A compare of a cell with the weak pointer in a slot, where that in another is desired. What the call leaves is in the
-/// slots.
+/// A compare of a cell with the weak pointer in a slot, where that in another is desired. What the call leaves is in
+/// the slots.
 pub(crate) fn compare<R: Wait, D: Domain<Value = Value>>(
     rt: &R,
     hands: &mut Hands<'_, D>,

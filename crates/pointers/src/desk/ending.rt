@@ -51,32 +51,33 @@ impl<D: Domain> Desk<D> {
         }
     }
 
-    /// What is left to end does so, in so many steps at most. The values are dropped while the desk is free.
+    /// What is left to end does so, in so many steps at most.
     #[cold]
     #[inline(never)]
     pub(crate) fn end_some(&self) {
-        for _ in 0..STEPS {
-            if !self.end_step() {
-                break;
-            }
-        }
+        let _over = self.end_within(&mut |value| drop(value));
         self.spare();
     }
 
-    /// One step of what is left to end; whether anything was.
-    fn end_step(&self) -> bool {
-        let round = match self.table.try_borrow_mut() {
-            Ok(mut table) => table.step(),
-            Err(_) => return false,
-        };
-        match round {
-            Round::Settled => false,
-            Round::Cleared(_, _) => true,
-            Round::Ended(value) => {
-                drop(value);
-                true
+    /// What is left to end does so, in so many steps at most, and `take` gets each value while the desk is free.
+    /// Whether no more is to be done: nothing is left, or the desk is within a visit.
+    #[inline(always)]
+    fn end_within<F: FnMut(D::Value)>(&self, take: &mut F) -> bool
+        requires { F.IsAlwaysCallable take.old }
+        ensures { F.IsAlwaysCallable take.new }
+    {
+        for _ in 0..STEPS {
+            let round = match self.table.try_borrow_mut() {
+                Ok(mut table) => table.step(),
+                Err(_) => return true,
+            };
+            match round {
+                Round::Settled => return true,
+                Round::Cleared(_, _) => {}
+                Round::Ended(value) => take(value),
             }
         }
+        false
     }
 
     /// Vacant blocks above the reserve go to the shelf.
@@ -114,12 +115,7 @@ impl<D: Domain> Desk<D> {
     /// What is left to end with this desk does so, in C++ the deleters' calls. A pointer's drop has done it before, but
     /// for what other threads lengthened meanwhile. Within a visit nothing happens.
     pub fn settle<R: Wait>(&self, rt: &R) {
-        for _ in rt.forever() {
-            if !self.end_step() {
-                break;
-            }
-        }
-        self.spare();
+        self.settle_with(rt, |value| drop(value));
     }
 
     /// The same, and `take` gets each value as it comes out.
@@ -128,14 +124,8 @@ impl<D: Domain> Desk<D> {
     {
         let mut take = take;
         for _ in rt.forever() {
-            let round = match self.table.try_borrow_mut() {
-                Ok(mut table) => table.step(),
-                Err(_) => break,
-            };
-            match round {
-                Round::Settled => break,
-                Round::Cleared(_, _) => {}
-                Round::Ended(value) => take(value),
+            if self.end_within(&mut take) {
+                break;
             }
         }
         self.spare();

@@ -34,7 +34,8 @@ impl<D: Domain> Desk<D> {
 
     /// The owner lets go, and the values come out of all that ends by that, in the order in which it did: an object
     /// ends before what its `first` alone owned, and that before what its `next` did. It waits for nobody; what other
-    /// threads lengthen meanwhile may be left. `Memory` where there is none for the values: then the pointer comes back.
+    /// threads lengthen meanwhile may be left. `Memory` where there is none for the values: then the pointer comes
+    /// back.
     pub fn teardown<'t>(
         &'t self,
         alloc: Global,
