@@ -1,6 +1,6 @@
 -- A desk's owner and weak handle, and a hand's.
 use Rattle.std.proofs.Common.{◌≡◌, ◌∙◌, ◌+◌, ◌-◌, ◌≤◌, List, [], ◌∷◌, length, inl, inr, refl, sym, subst}
-use Rattle.control_word.specs.declared.model.handle.Handle.{Handle}
+use Rattle.control_word.specs.declared.model.handle.NumberedHandle.{NumberedHandle}
 use Rattle.control_word.specs.declared.model.handle.Kind.TheVariants.{Owner, Weak}
 use Rattle.control_block.specs.CellCalls.{HoldsHandle, without_handle}
 use Rattle.control_block.specs.Desks.{DeskNow, DomainNow, bag_of}
@@ -19,7 +19,7 @@ module _ {V : Type 0} where
   holds_still d e hs keeps all = record {
     objects = subst (AreIn (listed hs)) (sym keeps.bag) all.objects;
     empty =
-        subst (λ (l : List Handle). length hs - length (listed hs) ≤ e.held - length l) (sym keeps.bag)
+        subst (λ (l : List NumberedHandle). length hs - length (listed hs) ≤ e.held - length l) (sym keeps.bag)
         (subst (λ n. length hs - length (listed hs) ≤ n - length (bag_of d)) (sym keeps.held) all.empty);
   }
 

@@ -2,6 +2,9 @@
 use crate::calls::{Calls, tell_all};
 use crate::domains::out_of_memory;
 use crate::hands::FIELDS;
+use crate::hands::chain::CHAIN;
+use crate::rows::{Label, Row};
+use crate::timing;
 use pointers::{Desk, Domain, Fault, Program, Shared, SharedCell, Team, Weak, run};
 use std::alloc::Global;
 use std::io;
@@ -20,11 +23,14 @@ const BLOCKS: u32 = 8_192;
 
 const CELL: SharedCell = SharedCell(0);
 
-/// An owner of an object that the cell holds too, and a weak pointer to it.
+const PEER: &str = "this runtime, pointers";
+
+/// An owner of an object that the cell holds too, a weak pointer to it, and the only owner of a chain, if there is one.
 #[derive(Drop)]
 struct Own<'t, D: Domain> {
     shared: Shared<'t, D>,
     weak: Weak<'t, D>,
+    chain: Option<Shared<'t, D>>,
 }
 
 impl<'t, D: Domain<Value = ()>> Own<'t, D> {
@@ -32,7 +38,19 @@ impl<'t, D: Domain<Value = ()>> Own<'t, D> {
         let shared = desk.make(FIELDS, ())?;
         let weak = shared.downgrade()?;
         shared.share()?.store(CELL)?;
-        Ok(Own { shared, weak })
+        Ok(Own {
+            shared,
+            weak,
+            chain: None,
+        })
+    }
+
+    /// A new object owns the chain, and is its first.
+    fn lengthen(&mut self) -> Result<(), Fault> {
+        let node = self.shared.desk().make(FIELDS, ())?;
+        node.next().store(self.chain.take())?;
+        self.chain = Some(node);
+        Ok(())
     }
 }
 
@@ -42,7 +60,7 @@ struct Pointers;
 
 impl<'t, D: Domain<Value = ()>> Calls<Own<'t, D>> for Pointers {
     fn peer(&self) -> &'static str {
-        "this runtime, pointers"
+        PEER
     }
 
     #[inline(always)]
@@ -71,6 +89,28 @@ impl<'t, D: Domain<Value = ()>> Calls<Own<'t, D>> for Pointers {
     }
 }
 
+/// A chain ends by the drop of its only owner.
+#[derive(Clone, Copy, Drop)]
+struct DropChain;
+
+impl<'t, D: Domain<Value = ()>> Row<Own<'t, D>> for DropChain {
+    fn once<R: Wait>(&self, _rt: &R, own: &mut Own<'t, D>) -> bool {
+        own.chain.take().is_some()
+    }
+
+    fn prepares(&self) -> bool {
+        true
+    }
+
+    fn prepare<R: Wait>(&self, _rt: &R, own: &mut Own<'t, D>) -> bool {
+        let mut whole = true;
+        for _ in 0..CHAIN {
+            whole &= own.lengthen().is_ok();
+        }
+        whole
+    }
+}
+
 /// All rows, on the desk of the only worker.
 #[derive(Drop)]
 struct Rows;
@@ -84,6 +124,8 @@ impl<R: Clock + CpuClock + Threads + Wait + Sync + Print> Program<(), R> for Row
     ) -> Result<(), Fault> {
         let mut own = Own::new(desk)?;
         tell_all(rt, &Pointers, &mut own)?;
+        let end = Label::of_rounds("end of a chain of 4,095, each", PEER, CHAIN);
+        timing::tell(rt, &DropChain, &mut own, &end)?;
         Ok(())
     }
 }

@@ -61,7 +61,8 @@ impl<V: Drop> Leaves<V> for InRegisters {
     }
 }
 
-/// Handles that lie in fields, as a table's do: each is assigned where another may lie, which leaves then, and is reset.
+/// Handles that lie in fields, as a table's do: each is assigned where another may lie, which leaves then, and is
+/// reset.
 pub(crate) struct InMemory;
 
 impl<V: Drop> Leaves<V> for InMemory {

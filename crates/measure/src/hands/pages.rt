@@ -1,13 +1,15 @@
 //! The rows of objects with a value of 4 KiB, by one thread alone.
-use crate::calls::Make;
-use crate::hands::handles::Handles;
-use crate::hands::leaving::InRegisters;
-use crate::hands::{ALLOWANCE, Hand, Rows, Value, measure_alone};
+ghost use Rattle.control_block.specs.Desks.{Belongs};
+ghost use Rattle.measure.specs.Hands.{KeepsHandles};
+
+use crate::hands::ending::end;
+use crate::hands::{ALLOWANCE, FIELDS, Hand, Rows, Value, measure_alone};
 use crate::rows::{HANDLES, Label, Row};
 use crate::timing;
+use control_block::desk::Desk;
 use control_block::domain::Domain;
 use control_word::Shape;
-use shared_handle::visit;
+use shared_handle::{make, visit};
 use std::alloc::Global;
 use std::io;
 use std::rt::Clock;
@@ -16,6 +18,9 @@ use std::time::CpuClock;
 
 /// A value as long as a page.
 type Page = [u64; 512];
+
+/// How many rounds lie between two looks at the clock.
+const ROUNDS: u32 = 500;
 
 /// A row makes and ends one object at a time, beside the one that it visits.
 const SHAPE: Shape = Shape {
@@ -29,6 +34,39 @@ impl Value for Page {
     #[inline(always)]
     fn new() -> Page {
         [1; 512]
+    }
+}
+
+/// Pages are made and end, one after another: whether none was refused. The loop stands beside the array, whose place
+/// on the stack each call of this function clears first.
+#[tactic(auto, using(shared_handle::proofs::Callers::first_out))]
+fn make_and_end(domain: &Domain<Page>, desk: &mut Desk<Page>) -> bool
+    requires { Belongs desk.old domain.now }
+    ensures { KeepsHandles desk.old desk.new }
+{
+    for _ in 0..ROUNDS {
+        let Ok(owner) = make(domain, desk, FIELDS, false, [1; 512]) else {
+            return false;
+        };
+        end(domain, desk, owner);
+    }
+    true
+}
+
+/// A turn of the row: so many pages.
+#[derive(Drop)]
+struct Make<'a> {
+    domain: &'a Domain<Page>,
+}
+
+impl Row<Hand<Page>> for Make<'_> {
+    ghost use Rattle.measure.specs.Hands.{IsHand};
+
+    ghost is_ready = { λ row on. IsHand row.domain.now on };
+
+    #[tactic(auto, using(crate::proofs::Keeping::still_lent))]
+    fn once<R: Wait>(&self, _rt: &R, on: &mut Hand<Page>) -> bool {
+        make_and_end(self.domain, &mut on.desk)
     }
 }
 
@@ -66,10 +104,9 @@ impl Rows<Page> for Pages {
         domain: &Domain<Page>,
         on: &mut Hand<Page>,
     ) -> io::Result<()> {
-        let calls = &Handles::<Page, InRegisters>::of(domain);
-        let make = Label::of_turns("make + end, value of 4 KiB", HANDLES, 500);
-        timing::tell(rt, &Make { calls }, on, &make)?;
-        let visit = Label::of_turns("visit, value of 4 KiB", HANDLES, 500);
+        let make = Label::of_rounds("make + end, value of 4 KiB", HANDLES, ROUNDS);
+        timing::tell(rt, &Make { domain }, on, &make)?;
+        let visit = Label::of_turns("visit, value of 4 KiB", HANDLES, ROUNDS);
         timing::tell(rt, &Visit { domain }, on, &visit)
     }
 }
