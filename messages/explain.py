@@ -36,8 +36,8 @@ OF_REFUSALS = {
 
 @dataclass
 class Asked:
-    """What the program was asked: the script's name and bytes, the list of turns, the words after `--from` and `--to`, why
-    it could not be read, and what finds the faults of its lines, by their causes."""
+    """What the program was asked: the script's name and bytes, the list of turns, the words after `--from` and `--to`,
+    why it could not be read, and what finds the faults of its lines, by their causes."""
 
     name: str = 'standard input'
     script: bytes = b''
@@ -182,7 +182,7 @@ def bad_version(text, _before):
 
 
 def roles_of(text):
-    """The words of a statement after the first, each with what it shall be, in the order in which they are looked at."""
+    """The words of a statement after the first, each with what it shall be, in the order in which one looks at them."""
     first, *words = words_of(text)
     for shape in SHAPES.get(first.text, []):
         if len(shape) == len(words) and not (shape[-1] == 'null' and words[-1].text != 'null'):
@@ -211,7 +211,8 @@ def is_name(role):
 
 def bad_name(text, _before):
     def hints(word):
-        return [f'a member is loaded first: `load x {word}`, and then `x` is a name'] if CELL(word) and '.' in word else []
+        loaded = f'a member is loaded first: `load x {word}`, and then `x` is a name'
+        return [loaded] if CELL(word) and '.' in word else []
 
     return first_of(text, lambda word, role: is_name(role) and not NAME.fullmatch(word), lambda word: NAMES, hints)
 

@@ -71,7 +71,8 @@ def uncut(output):
     """A line for each knot that no pointer alone cuts."""
     knots = re.split(r'(?m)^cycle ', output.decode('latin-1'))[1:]
     ties = [it.partition('\n')[0] for it in knots if '\ncut ' not in it]
-    return [f'no pointer alone cuts the knot of {it}: circles run through each other, or another knot owns it' for it in ties]
+    why = 'circles run through each other, or another knot owns it'
+    return [f'no pointer alone cuts the knot of {it}: {why}' for it in ties]
 
 
 def passed_on(output):
@@ -113,6 +114,8 @@ def main(program, *words):
         told += uncut(ran.stdout)
     if command in WITHOUT_TURNS and set(TURNS) & set(options):
         told.append(f'{command} takes no turns; step, fine, left and draw do')
+    if command not in COMMANDS and pathlib.Path(command).is_file():
+        told.append(f'{command} is a file, and a command stands before it: step {command}')
     for line in told:
         print(line, file=sys.stderr)
     return ran.returncode if ran.returncode >= 0 else 128 - ran.returncode

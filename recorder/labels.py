@@ -116,8 +116,8 @@ def is_storage(handle):
 
 
 def drop_from_storage(record, counts, leaked):
-    """Where more owners are found than a block counts, those that lie in mere bytes of leaked objects are old ones. What
-    leaks is the same without them. Returns whether there were some."""
+    """Where more owners are found than a block counts, those that lie in mere bytes of leaked objects are old ones.
+    What leaks is the same without them. Returns whether there were some."""
     dropped = False
     for it in counts:
         if it.owners_missing >= 0:

@@ -8,8 +8,8 @@ from pathlib import Path
 
 HERE = Path(__file__).resolve().parent
 SOURCES = HERE / 'library'
-# By its name a program that was linked with an older one takes the one that is loaded already. It brings its own libstdc++,
-# so that programs which have none get none.
+# By its name a program that was linked with an older one takes the one that is loaded already. It brings its own
+# libstdc++, so that programs which have none get none.
 LINKING = ['-shared', '-pthread', '-Wl,-soname,librecorder.so', '-static-libstdc++', '-static-libgcc']
 LINKING += [f'-Wl,--version-script={SOURCES}/exported.map']
 FLAGS = ['-std=c++17', '-O2', '-g1', '-fPIC', '-fvisibility=hidden', '-fno-exceptions', '-pthread']

@@ -86,7 +86,8 @@ def doubt_lines(told):
     if unknown:
         yield f'record: {unknown} kept by owners whose place is not known'
     if record.untyped:
-        yield f'record: {record.untyped} control blocks tell no type and are left out, as they have no RTTI; see --flags'
+        why = 'as they have no RTTI; see --flags'
+        yield f'record: {record.untyped} control blocks tell no type and are left out, {why}'
     if not record.blocks and not any('libstdc++' in path for _, path in record.modules):
         yield 'record: it loads no libstdc++; what it starts is told with --children'
 

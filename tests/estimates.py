@@ -44,6 +44,10 @@ class Plan:
         for it in parts:
             self.left.pop(it, None)
 
+    def kept(self, crate):
+        """Notes that an earlier run did a crate, which says nothing of this run's pace."""
+        self.all -= sum(self.left.pop((crate, part), 0) for part in PARTS)
+
     def stage_done(self, number):
         """Notes that a stage is over that runs once all is proved."""
         self.after.pop(number, None)
@@ -53,10 +57,12 @@ class Plan:
         self.begun[crate, "edits"] = time.monotonic()
 
     def minutes(self):
-        """How many minutes by the clock are left; those of proofs at the pace so far once a tenth is done."""
+        """How many minutes by the clock are left. Those of proofs go at the pace so far, as if a quarter of them had
+        gone at the table's before: what is under way isn't done, so that the first minutes say little."""
         now = time.monotonic()
         going = sum(min(self.left.get(it, 0), (now - since) / 60) for it, since in self.begun.items())
         left = sum(self.left.values()) - going
-        done = self.all - left
-        pace = (now - self.start) / 60 * self.lanes / done if done > self.all / 10 else 1
+        before = self.all / 4
+        spent = (now - self.start) / 60 * self.lanes
+        pace = (spent + before) / (self.all - left + before) if self.all else 1
         return left / self.lanes * pace + sum(self.after.values())
