@@ -107,12 +107,12 @@ module _ {V : Type 0} where
       → ℕ → At V → Type 0
   differed_empty c expected new weak st m n m' = of_cell (λ x. as_differed c expected new weak m x m') n
 
-  -- a fund of the cell was taken, where its word was the one that was found; else nothing changes
+  -- a fund of the cell was taken, where its word was the one that was found; else it is another, and nothing changes
   abbrev pub took : Cell → (NumberedHandle → Event V) → Step (Option V) → At V → ℕ → At V → Type 0
   took c e st m n m' =
       (n ≡ st.first → (x : CellWord) → IsCellWord x → n ≡ cell_bits x
       → Took e (kind_in m.0.shape c) m.0 x m'.0 × (m'.1 ≡ m.1))
-      × (n ≢ st.first → m' ≡ m)
+      × (n ≢ st.first → IsPackedCell n × (m' ≡ m))
 
   -- the cell was swapped
   abbrev pub swapped : Cell → (NumberedHandle → Event V) → Step (Option V) → At V → ℕ → At V → Type 0

@@ -58,7 +58,7 @@ module _ {V : Type 0} where
       (compare_swapped c (λ h. Compare c expected new h true weak') (step slots i found n none) me)
   allows_compare_swap k slots id i found n c expected new weak' x y me owes cell valid is_found shows he is_new full hand more bits =
       allows_exchange k slots id i found n me (compare_swapped c (λ h. Compare c expected new h true weak') (step slots i found n none) me)
-      (λ m q. (λ a. absurd (q a), λ _. refl))
+      (λ s r at q. (λ a. absurd (q a), λ _. refl))
       (λ s r at q.
       let v = me.0 in let z = opening_of k in let t = leads z r.history in let old = cell_of t c in
       let is = opened k s r id v at owes.awake c i cell in let d = decoded k s r id v at owes.awake c i is in

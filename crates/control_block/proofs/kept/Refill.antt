@@ -69,7 +69,7 @@ module _ {V : Type 0} where
 
     pub allows_refill : Allows (Ruled k) slots id me i (λ n. either (n == found) new n) (refilled (step slots i found new none) me)
     allows_refill =
-        allows_exchange k slots id i found new me (refilled (step slots i found new none) me) (λ n q. (λ m. absurd (q m), λ _. refl))
+        allows_exchange k slots id i found new me (refilled (step slots i found new none) me) (λ s r at q. (λ m. absurd (q m), λ _. refl))
         (λ s r at q.
         let v = me.0 in let is = opened k s r id v at owes.awake c i cell in let d = decoded k s r id v at owes.awake c i is in (
           goes_on v,

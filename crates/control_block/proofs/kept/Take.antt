@@ -94,7 +94,9 @@ module _ {V : Type 0} where
         (took c e (step slots i found (found + 17179869184) none) me)
     allows_take =
         allows_exchange k slots id i found (found + 17179869184) me (took c e (step slots i found (found + 17179869184) none) me)
-        (λ n q. (λ m. absurd (q m), λ _. refl))
+        (λ s r at q.
+        let is = opened k s r id me.0 at rests.awake c i cell in let d = decoded k s r id me.0 at rests.awake c i is in
+        (λ m. absurd (q m), λ _. (record { cell = _; valid = d.valid; bits = d.bits }, refl)))
         (λ s r at q.
         let is = opened k s r id me.0 at rests.awake c i cell in let d = decoded k s r id me.0 at rests.awake c i is in
         let t = taking s r at is d q _ refl in (

@@ -52,7 +52,9 @@ module _ {V : Type 0} where
       )
 
   -- a compare-exchange, which changes nothing where the word isn't the expected one
-  pub allows_exchange : (k : Shape) (slots id i old new : ℕ) (me : At V) (T : ℕ → At V → Type 0) → ((n : ℕ) → n ≢ old → T n me)
+  pub allows_exchange : (k : Shape) (slots id i old new : ℕ) (me : At V) (T : ℕ → At V → Type 0)
+      → ((s : Table.State (Option V) (SeatView V)) → Ruled k s → get_elem? s.views id ≡ some me.0 → get_or s.words i 0 ≢ old
+      → T (get_or s.words i 0) me)
       → ((s : Table.State (Option V) (SeatView V)) → Ruled k s → get_elem? s.views id ≡ some me.0 → get_or s.words i 0 ≡ old
       → (w : SeatView V) × Ruled k record { words = set s.words i new; homes = s.homes; views = set s.views id w } × T old (w, me.1))
       → Allows (Ruled k) slots id me i (λ n. either (n == old) new n) T
@@ -73,5 +75,5 @@ module _ {V : Type 0} where
         tt,
         subst (λ b. Ruled k record { words = set s.words i (either b new n); homes = s.homes; views = set s.views id v }) (sym (ne_eqb n old q))
             (unmoved k s id i v r at),
-        miss n q,
+        miss s r at q,
       )) (cases_eq n old)

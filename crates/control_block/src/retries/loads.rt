@@ -1,5 +1,5 @@
 //! The steps of a load of a cell, and of the refill by which it puts back what was taken of the cell's funds.
-ghost use Rattle.std.specs.Prelude.{◌≡◌, ◌<◌, true, false, None, Some, IfSome};
+ghost use Rattle.std.specs.Prelude.{◌≡◌, ◌<◌, true, false, None, Some, IfErr, IfOk, IfSome, OnOk};
 ghost use Rattle.control_word.specs.Packing.{IsCellWord};
 ghost use Rattle.control_word.specs.declared.model.event.Event.TheVariants.{Load};
 ghost use Rattle.control_block.specs.CellRetries.{IsAim, IsCounted, IsOut};
@@ -109,7 +109,7 @@ pub(crate) fn top_up<V, A: CellArgs, R: Wait>(
 }
 
 /// What a cell with an object shows comes out, by a load: a fund is taken and turned into a handle, where the cell
-/// still shows what was seen. Else nothing changes.
+/// still shows what was seen. Else nothing changes, and what the cell shows by then is told.
 #[inline(always)]
 fn take_handle<V, A: CellArgs>(
     table: &Table<V>,
@@ -118,108 +118,100 @@ fn take_handle<V, A: CellArgs>(
     kind: Kind,
     block: Block,
     seen: CellWord,
-) -> bool
+) -> Result<(), CellWord>
     requires aim { IsAim A.cell kind word table.now.table_id seat.old.table_id seat.old.me }
     requires seen { IsCellWord seen × (seen.owned ≡ Some block) × (seen.taken < 256) }
     requires room { HasRoomFor seat.old.me.0 }
     ensures table { seat.new.table_id ≡ seat.old.table_id }
-    ensures loaded { result ≡ true → IsOut (λ h. Load A.cell h) kind seat.old.me.0 seen seat.new.me }
-    ensures missed { result ≡ false → seat.new.me ≡ seat.old.me }
-    ensures count { result ≡ true → IsCounted kind block table.now.table_id }
+    ensures loaded { OnOk result (IsOut (λ h. Load A.cell h) kind seat.old.me.0 seen seat.new.me) }
+    ensures missed { IfErr result (λ x. IsCellWord x × (seat.new.me ≡ seat.old.me)) }
+    ensures count { OnOk result (IsCounted kind block table.now.table_id) }
 {
-    if !cells::take::<V, A>(table, seat, word, seen) {
-        return false;
+    match cells::take::<V, A>(table, seat, word, seen) {
+        Ok(()) => {
+            funds::turn(table, seat, kind, block);
+            Ok(())
+        }
+        Err(found) => Err(found),
     }
-    funds::turn(table, seat, kind, block);
-    true
 }
 
-/// The same, and where many funds of the cell are taken then, they are put back.
-#[inline(always)]
-fn take_out<V, A: CellArgs, R: Wait>(
-    rt: &R,
-    table: &Table<V>,
-    seat: &mut Seat<V>,
-    word: usize,
-    kind: Kind,
-    block: Block,
-    seen: CellWord,
-) -> bool
-    requires aim { IsAim A.cell kind word table.now.table_id seat.old.table_id seat.old.me }
-    requires seen { IsCellWord seen × (seen.owned ≡ Some block) × (seen.taken < 256) }
-    requires room { HasRoomFor seat.old.me.0 }
-    ensures table { seat.new.table_id ≡ seat.old.table_id }
-    ensures loaded { result ≡ true → IsOut (λ h. Load A.cell h) kind seat.old.me.0 seen seat.new.me }
-    ensures missed { result ≡ false → seat.new.me ≡ seat.old.me }
-{
-    if !take_handle::<V, A>(table, seat, word, kind, block, seen) {
-        return false;
-    }
-    top_up::<V, A, R>(rt, table, seat, word, kind, block, seen);
-    true
-}
-
-/// The first try at a load, which waits for nobody: a cell's object comes out as a handle more. None where the cell has
-/// no object, or others change it meanwhile, or the load would leave many of its funds taken: then nothing changes.
+/// The first try at a load, which waits for nobody: a cell's object comes out as a handle more. Else nothing changes,
+/// and what the cell shows is told: it has no object, or others change it meanwhile, or the load would leave many of
+/// its funds taken.
 #[inline(always)]
 fn load_at_once<V, A: CellArgs>(
     table: &Table<V>,
     seat: &mut Seat<V>,
     word: usize,
     kind: Kind,
-) -> Option<CellWord>
+) -> Result<CellWord, CellWord>
     requires aim { IsAim A.cell kind word table.now.table_id seat.old.table_id seat.old.me }
     requires room { HasRoomFor seat.old.me.0 }
     ensures table { seat.new.table_id ≡ seat.old.table_id }
-    ensures loaded { IfSome result (λ x. IsOut (λ h. Load A.cell h) kind seat.old.me.0 x seat.new.me) }
-    ensures missed { result ≡ None → seat.new.me ≡ seat.old.me }
+    ensures loaded { IfOk result (λ x. IsOut (λ h. Load A.cell h) kind seat.old.me.0 x seat.new.me) }
+    ensures missed { IfErr result (λ x. IsCellWord x × (seat.new.me ≡ seat.old.me)) }
 {
     let seen = cells::peek::<V, A>(table, seat, word);
     let Some(block) = seen.owned else {
-        return None;
+        return Err(seen);
     };
     if seen.taken + 1 >= MANY_TAKEN {
-        return None;
+        return Err(seen);
     }
-    if !take_handle::<V, A>(table, seat, word, kind, block, seen) {
-        return None;
+    match take_handle::<V, A>(table, seat, word, kind, block, seen) {
+        Ok(()) => Ok(seen),
+        Err(found) => Err(found),
     }
-    Some(seen)
 }
 
-/// One try at a load: what a cell holds comes out as a handle more. None where others change the cell meanwhile, and
-/// while all its funds are taken: then nothing changes.
+/// The block of a cell that shows an object and has a fund of its left.
+fn with_fund(seen: CellWord) -> Option<Block>
+    ensures { IfSome result (λ b. (seen.owned ≡ Some b) × (seen.taken < 256)) }
+{
+    if u32::from(seen.taken) < CELL_FUNDS {
+        seen.owned
+    } else {
+        None
+    }
+}
+
+/// One try at a load, by what the cell showed last: what it holds comes out as a handle more. Else nothing changes, and
+/// what the cell shows by then is told.
 #[inline(always)]
 fn try_load<V, A: CellArgs, R: Wait>(
     rt: &R,
     table: &Table<V>,
     seat: &mut Seat<V>,
-    pause: &mut Pause,
     word: usize,
     kind: Kind,
-) -> Option<CellWord>
+    seen: CellWord,
+) -> Result<CellWord, CellWord>
     requires aim { IsAim A.cell kind word table.now.table_id seat.old.table_id seat.old.me }
+    requires seen { IsCellWord seen }
     requires room { HasRoomFor seat.old.me.0 }
     ensures table { seat.new.table_id ≡ seat.old.table_id }
-    ensures loaded { IfSome result (λ x. IsOut (λ h. Load A.cell h) kind seat.old.me.0 x seat.new.me) }
-    ensures missed { result ≡ None → seat.new.me ≡ seat.old.me }
+    ensures loaded { IfOk result (λ x. IsOut (λ h. Load A.cell h) kind seat.old.me.0 x seat.new.me) }
+    ensures missed { IfErr result (λ x. IsCellWord x × (seat.new.me ≡ seat.old.me)) }
 {
-    let seen = cells::look::<V, A>(table, seat, word);
-    let Some(block) = seen.owned else {
-        return Some(seen);
+    let Some(block) = with_fund(seen) else {
+        let now = cells::look::<V, A>(table, seat, word);
+        return match now.owned {
+            None => Ok(now),
+            Some(_) => Err(now),
+        };
     };
-    if u32::from(seen.taken) >= CELL_FUNDS {
-        pause.give_way();
-        return None;
+    match take_handle::<V, A>(table, seat, word, kind, block, seen) {
+        Ok(()) => {
+            top_up::<V, A, R>(rt, table, seat, word, kind, block, seen);
+            Ok(seen)
+        }
+        Err(found) => Err(found),
     }
-    if take_out::<V, A, R>(rt, table, seat, word, kind, block, seen) {
-        return Some(seen);
-    }
-    None
 }
 
-/// A load of any cell, which tries again while others change it, and while all its funds are taken: then it yields the
-/// processor after some tries.
+/// A load of any cell, by what it showed last. It tries again while others change the cell, by what the failed step
+/// found there, and while all its funds are taken: then it yields the processor after some tries.
 #[cold]
 #[inline(never)]
 fn load_with_retries<V, A: CellArgs, R: Wait>(
@@ -228,16 +220,23 @@ fn load_with_retries<V, A: CellArgs, R: Wait>(
     seat: &mut Seat<V>,
     word: usize,
     kind: Kind,
+    seen: CellWord,
 ) -> CellWord
     requires aim { IsAim A.cell kind word table.now.table_id seat.old.table_id seat.old.me }
+    requires seen { IsCellWord seen }
     requires room { HasRoomFor seat.old.me.0 }
     ensures table { seat.new.table_id ≡ seat.old.table_id }
     ensures loaded { IsOut (λ h. Load A.cell h) kind seat.old.me.0 result seat.new.me }
 {
+    let mut seen = seen;
     let mut pause = Pause::new();
     for _ in rt.forever() {
-        if let Some(seen) = try_load::<V, A, R>(rt, table, seat, &mut pause, word, kind) {
-            return seen;
+        match try_load::<V, A, R>(rt, table, seat, word, kind, seen) {
+            Ok(loaded) => return loaded,
+            Err(found) => seen = found,
+        }
+        if u32::from(seen.taken) >= CELL_FUNDS {
+            pause.give_way();
         }
     }
     unreachable!()
@@ -258,8 +257,8 @@ pub fn load<V, A: CellArgs, R: Wait>(
     ensures table { seat.new.table_id ≡ seat.old.table_id }
     ensures loaded { IsOut (λ h. Load A.cell h) kind seat.old.me.0 result seat.new.me }
 {
-    if let Some(seen) = load_at_once::<V, A>(table, seat, word, kind) {
-        return seen;
+    match load_at_once::<V, A>(table, seat, word, kind) {
+        Ok(seen) => seen,
+        Err(seen) => load_with_retries::<V, A, R>(rt, table, seat, word, kind, seen),
     }
-    load_with_retries::<V, A, R>(rt, table, seat, word, kind)
 }

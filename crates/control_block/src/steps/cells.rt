@@ -1,6 +1,7 @@
 //! Cells: what `atomic<shared_ptr>` and `atomic<weak_ptr>` are made of. Each word says which handle the cell holds, and
 //! how many of the handle's funds were taken.
 ghost use Rattle.std.specs.Prelude.{◌≡◌, ◌≢◌, ◌⊎◌, ℕ, ◌<◌, true, false, [], Option, None, Some};
+ghost use Rattle.std.specs.Prelude.{IfErr, OnOk};
 ghost use Rattle.control_word.specs.Events.{InHand};
 ghost use Rattle.control_word.specs.Handles.{equivalent, handle};
 ghost use Rattle.control_word.specs.Packing.{IsCellWord};
@@ -79,13 +80,13 @@ pub fn look_differing<V, A: CellArgs>(table: &Table<V>, seat: &mut Seat<V>, word
 
 /// Take a fund, where the cell still shows what was seen: the load of a cell with an object
 /// ([util.smartptr.atomic.shared], [util.smartptr.atomic.weak]). It is under way until its fund is turned into a
-/// handle. Else nothing changes.
+/// handle. Else nothing changes, and what the cell shows at this step is told.
 pub fn take<V, A: CellArgs>(
     table: &Table<V>,
     seat: &mut Seat<V>,
     word: usize,
     seen: CellWord,
-) -> bool
+) -> Result<(), CellWord>
     requires table { seat.old.table_id ≡ table.now.table_id }
     requires rests { Rests seat.old.me }
     requires word { word < table.now.table_id.words }
@@ -94,13 +95,23 @@ pub fn take<V, A: CellArgs>(
     requires room { HasRoomFor seat.old.me.0 }
     ensures seat { (seat.new.table_id ≡ seat.old.table_id) × (seat.new.id ≡ seat.old.id)
         × (seat.new.me.1 ≡ []) }
-    ensures took { result ≡ true
-        → Took (λ h. Load A.cell h) (kind_in seat.old.me.0.shape A.cell) seat.old.me.0 seen seat.new.me.0 }
-    ensures missed { result ≡ false → seat.new.me ≡ seat.old.me }
+    ensures took { OnOk result
+        (Took (λ h. Load A.cell h) (kind_in seat.old.me.0.shape A.cell) seat.old.me.0 seen seat.new.me.0) }
+    ensures missed { IfErr result (λ x. IsCellWord x × (seat.new.me ≡ seat.old.me)) }
 {
     let found = pack(seen);
-    words::compare_exchange::<V, TakesToLoad<A>>(table, seat, word, found, found + ONE_TAKEN)
-        == found
+    let now = words::compare_exchange::<V, TakesToLoad<A>>(
+        table,
+        seat,
+        word,
+        found,
+        found + ONE_TAKEN,
+    );
+    if now == found {
+        Ok(())
+    } else {
+        Err(unpack(now))
+    }
 }
 
 /// Take a fund, where the cell still shows what was seen: a compare that differs, of a cell with an object

@@ -1,10 +1,8 @@
-use Rattle.std.proofs.lemmas.Bool.{cases_eq, eqb-true, eqb-false}
-use Rattle.std.proofs.Common.{⊎_elim, ap, ◌∙◌}
 use Rattle.control_block.proofs.kept.Take.{allows_load}
 use Rattle.control_block.proofs.steps.cells.take.Goals as goal
 
-pub compare_exchange-requires : goal.compare_exchange-requires
-compare_exchange-requires g c =
+pub compare_exchange-now-requires : goal.compare_exchange-now-requires
+compare_exchange-now-requires g c =
     let r = c.requires in let table = c.args.table.now in let seat = c.args.seat.now in let x = r.seen in (
       r.table,
       r.word,
@@ -13,23 +11,3 @@ compare_exchange-requires g c =
             c.pack-found.ensures x.1 x.2 r.room;
       },
     )
-
-pub returns-clause-seat : goal.returns-clause-seat
-returns-clause-seat g c =
-    let r = c.requires in let t = c.compare_exchange.ensures in let n = c.compare_exchange.result in let found = c.pack-found.result in (
-      t.0,
-      t.1,
-      ⊎_elim (λ e. (t.2.0 e c.args.seen r.seen.0 (e ∙ c.pack-found.ensures)).1 ∙ r.rests.none) (λ other. ap (λ m. m.1) (t.2.1 other) ∙ r.rests.none)
-          (cases_eq n found),
-    )
-
-pub returns-clause-took : goal.returns-clause-took
-returns-clause-took g c = λ same.
-    let r = c.requires in let t = c.compare_exchange.ensures in let n = c.compare_exchange.result in let found = c.pack-found.result in
-    let e = eqb-true n found same in
-    (t.2.0 e c.args.seen r.seen.0 (e ∙ c.pack-found.ensures)).0
-
-pub returns-clause-missed : goal.returns-clause-missed
-returns-clause-missed g c = λ other.
-    let r = c.requires in let t = c.compare_exchange.ensures in let n = c.compare_exchange.result in
-    let found = c.pack-found.result in t.2.1 (eqb-false n found other)

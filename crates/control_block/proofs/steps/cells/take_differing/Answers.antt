@@ -20,7 +20,7 @@ returns-clause-seat g c =
     let r = c.requires in let t = c.compare_exchange.ensures in let n = c.compare_exchange.result in let found = c.pack-found.result in (
       t.0,
       t.1,
-      ⊎_elim (λ e. (t.2.0 e c.args.seen r.seen.0 (e ∙ c.pack-found.ensures)).1 ∙ r.rests.none) (λ other. ap (λ m. m.1) (t.2.1 other) ∙ r.rests.none)
+      ⊎_elim (λ e. (t.2.0 e c.args.seen r.seen.0 (e ∙ c.pack-found.ensures)).1 ∙ r.rests.none) (λ other. ap (λ m. m.1) (t.2.1 other).1 ∙ r.rests.none)
           (cases_eq n found),
     )
 
@@ -33,4 +33,4 @@ returns-clause-took g c = λ same.
 pub returns-clause-missed : goal.returns-clause-missed
 returns-clause-missed g c = λ other.
     let r = c.requires in let t = c.compare_exchange.ensures in let n = c.compare_exchange.result in
-    let found = c.pack-found.result in t.2.1 (eqb-false n found other)
+    let found = c.pack-found.result in (t.2.1 (eqb-false n found other)).1
