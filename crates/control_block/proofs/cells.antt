@@ -4,3 +4,4 @@ pub mod CellSites
 pub mod CellTrades
 pub mod CellDesks
 pub mod CellChoices
+pub mod CellOutcomes

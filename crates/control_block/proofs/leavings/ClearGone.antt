@@ -11,6 +11,8 @@ use Rattle.control_block.specs.CellRetries.{CameOut}
 use Rattle.control_block.specs.Clearing.{TakesOut}
 use Rattle.control_block.specs.Desks.{DeskNow, StaysEnding, IsCleared, IsEnding, IsSameDesk, KeepsOtherEndings, bag_of, endings_of, member_in, stock_of}
 use Rattle.control_block.specs.Handles.{IsProper}
+use Rattle.control_block.specs.Leaving.{LetGo}
+use Rattle.control_block.specs.declared.released.Released.{Released}
 use Rattle.control_block.specs.Inside.{IsDesk, IsDeskWith, desk_now}
 use Rattle.control_block.specs.StepKinds.{Ends, HoldingInBlock, known}
 use Rattle.control_block.specs.declared.table.SeatView.{SeatView}
@@ -19,7 +21,7 @@ use Rattle.control_block.proofs.cells.CellDesks.{one, one_few}
 use Rattle.control_block.proofs.cells.CellRetries.{came_holding}
 use Rattle.control_block.proofs.cells.CellTrades.{clear_trades}
 use Rattle.control_block.proofs.leavings.ClearDesks as clear
-use Rattle.control_block.proofs.leavings.GoneDesks.{HasGone, front_out}
+use Rattle.control_block.proofs.leavings.GoneDesks.{Going, HasGone, front_out}
 
 module _ {V : Type 0} where
   -- what is so once a member is empty: s blocks more are vacant, and n objects more end with the desk
@@ -47,12 +49,12 @@ module _ {V : Type 0} (k : Kind) (d f : Inside V) (h : IsDesk d) (b m : ℕ) (en
     shelf_word = d.shelf_word;
   }
 
-  pub mid : IsDeskWith 1 t
+  mid : IsDeskWith 1 t
   mid =
       let few = one_few x.owned in
       clear.desk_out d h b m ends k t x out table 1 refl refl refl refl (omega (arith, h.holding, few)) (omega (arith, h.within))
 
-  pub holds : IfSome x.owned (λ a. HoldingInBlock between k ((known between).latest a.0) x.place a.0)
+  holds : IfSome x.owned (λ a. HoldingInBlock between k ((known between).latest a.0) x.place a.0)
   holds = came_holding (λ y. ClearMember ((known d.seat.me.0).latest b) m y) k d.seat.me.0 between x (empty k)
       (clear_trades V ((known d.seat.me.0).latest b) m k) out
 
@@ -67,6 +69,9 @@ module _ {V : Type 0} (k : Kind) (d f : Inside V) (h : IsDesk d) (b m : ℕ) (en
 
   pub proper_is : IsProper k x.owned x.place
   proper_is = clear.proper_out d h b m ends k t x out table
+
+  pub going : (r : Released V) → LetGo k between x.owned x.place r f.seat.me.0 → f.held ≡ d.held → Going k t f x.owned x.place r
+  going r gone held = record { right = mid; gone = gone; holds = holds; table = refl; held = ap (λ z. z + 1) held }
 
   module _ {s n : ℕ} (gone : HasGone k x.owned x.place s n (desk_now t) (desk_now f)) where
     still : (y : V) → IsEnding (desk_now d) b y → StaysEnding (desk_now t) (desk_now f) b y

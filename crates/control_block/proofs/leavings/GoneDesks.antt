@@ -118,9 +118,16 @@ module _ {V : Type 0} (t f : Inside V) (e : f.seat.me.0 ≡ t.seat.me.0) (table 
             (λ n. t.seat.me.0.shape.blocks ≤ n) (sym capacity) g.room);
       }
 
-module _ {V : Type 0} (k : Kind) (t f : Inside V) (g : IsDeskWith 1 t) (q : Option Block) (p : Option Place) (r : Released V)
-    (gone : LetGo k t.seat.me.0 q p r f.seat.me.0) (holds : IfSome q (λ c. HoldingInBlock t.seat.me.0 k ((known t.seat.me.0).latest c.0) p c.0))
-    (table : f.seat.table_id ≡ t.seat.table_id) (held : f.held + 1 ≡ t.held) where
+module _ {V : Type 0} where
+  -- a handle leaves: the desk t has it on its way, and the desk f has seen it go
+  pub record Going (k : Kind) (t f : Inside V) (q : Option Block) (p : Option Place) (r : Released V) : Type 0 where
+    pub right : IsDeskWith 1 t
+    pub gone : LetGo k t.seat.me.0 q p r f.seat.me.0
+    pub holds : IfSome q (λ c. HoldingInBlock t.seat.me.0 k ((known t.seat.me.0).latest c.0) p c.0)
+    pub table : f.seat.table_id ≡ t.seat.table_id
+    pub held : f.held + 1 ≡ t.held
+
+module _ {V : Type 0} {k : Kind} {t f : Inside V} {q : Option Block} {p : Option Place} {r : Released V} (leaving : Going k t f q p r) where
   abbrev IsIt : Kind → Option Block → Type 0
   IsIt k q = LetGo k t.seat.me.0 q p r f.seat.me.0 × IfSome q (λ c. HoldingInBlock t.seat.me.0 k ((known t.seat.me.0).latest c.0) p c.0)
 
@@ -129,7 +136,7 @@ module _ {V : Type 0} (k : Kind) (t f : Inside V) (g : IsDeskWith 1 t) (q : Opti
   no_value P none = subst (λ (y : Option V). IfSome y P) (sym none) tt
 
   pub only : IsReleasedBy k r
-  only = go k q (gone, holds)
+  only = go k q (leaving.gone, leaving.holds)
     where
       go : (k : Kind) (q : Option Block) → IsIt k q → IsReleasedBy k r
       go Owner None it = ap (λ (y : Released V). y.vacant) it.0.0
@@ -138,74 +145,77 @@ module _ {V : Type 0} (k : Kind) (t f : Inside V) (g : IsDeskWith 1 t) (q : Opti
       go Weak (Some c) it = it.0.1
 
   pub lets_go : Lets k (desk_now t) q p r (desk_now f)
-  lets_go = go k q (gone, holds)
+  lets_go = go k q (leaving.gone, leaving.holds)
     where
       go : (k : Kind) (q : Option Block) → IsIt k q → Lets k (desk_now t) q p r (desk_now f)
       go k None it =
-          let e = it.0.1 in let less : f.held ≡ t.held - 1 = omega arith in
-          (it.0.0, λ i. record { domain = table i; shape = (e i).shape; name = (e i).view.name; seen = (e i).view.seen; held = less i })
+          let e = it.0.1 in let more = leaving.held in let less : f.held ≡ t.held - 1 = omega arith in
+          (it.0.0, λ i. record { domain = leaving.table i; shape = (e i).shape; name = (e i).view.name; seen = (e i).view.seen; held = less i })
       go Owner (Some c) it =
-          (leave.adds_left t f g c p r.value it.0.0 it.1 table, it.0.1, leave.ended_left t f g c p r.value it.0.0 it.1 table it.0.2)
-      go Weak (Some c) it = (weak.adds_left t f g c p r.vacant it.0.0 it.1 table, it.0.1, no_value (IsEnding (desk_now f) c.0) it.0.1)
+          let table = leaving.table in
+          (leave.adds_left t f leaving.right c p r.value it.0.0 it.1 table, it.0.1, leave.ended_left t f leaving.right c p r.value it.0.0 it.1 table it.0.2)
+      go Weak (Some c) it = (weak.adds_left t f leaving.right c p r.vacant it.0.0 it.1 leaving.table, it.0.1, no_value (IsEnding (desk_now f) c.0) it.0.1)
 
   pub has_gone : HasGone k q p (cond r.vacant 1 0) (cond (is_some r.value) 1 0) (desk_now t) (desk_now f)
-  has_gone = go k q (gone, holds)
+  has_gone = go k q (leaving.gone, leaving.holds)
     where
       go : (k : Kind) (q : Option Block) → IsIt k q → HasGone k q p (cond r.vacant 1 0) (cond (is_some r.value) 1 0) (desk_now t) (desk_now f)
       go k None it =
           let one : ◌≡◌ {A = ℕ} (cond r.vacant 1 0) 0 = ap (λ (y : Released V). cond y.vacant 1 0) it.0.0 in
           let two : ◌≡◌ {A = ℕ} (cond (is_some r.value) 1 0) 0 = ap (λ (y : Released V). cond (is_some y.value) 1 0) it.0.0 in
-          let stock = unseen_stock t f it.0.1 table in let count = unseen_count t f it.0.1 table in
+          let stock = unseen_stock t f it.0.1 leaving.table in let count = unseen_count t f it.0.1 leaving.table in
           record {
-            same = unseen_same t f it.0.1 table;
-            still = unseen_still t f it.0.1 table;
+            same = unseen_same t f it.0.1 leaving.table;
+            still = unseen_still t f it.0.1 leaving.table;
             stock = omega arith;
             count = omega arith;
-            bag = unseen_bag t f it.0.1 table;
+            bag = unseen_bag t f it.0.1 leaving.table;
           }
       go Owner (Some c) it =
           let none : ◌≡◌ {A = ℕ} (cond r.vacant 1 0) 0 = ap (λ y. cond y 1 0) it.0.1 in
-          let stock = leave.stock_gone t f g c p r.value it.0.0 it.1 table in
+          let stock = leave.stock_gone t f leaving.right c p r.value it.0.0 it.1 leaving.table in
           record {
-            same = leave.same_left t f g c p r.value it.0.0 it.1 table;
-            still = leave.still_left t f g c p r.value it.0.0 it.1 table;
+            same = leave.same_left t f leaving.right c p r.value it.0.0 it.1 leaving.table;
+            still = leave.still_left t f leaving.right c p r.value it.0.0 it.1 leaving.table;
             stock = omega arith;
-            count = leave.count_left t f g c p r.value it.0.0 it.1 table;
-            bag = leave.bag_left t f g c p r.value it.0.0 it.1 table;
+            count = leave.count_left t f leaving.right c p r.value it.0.0 it.1 leaving.table;
+            bag = leave.bag_left t f leaving.right c p r.value it.0.0 it.1 leaving.table;
           }
       go Weak (Some c) it =
           let none : ◌≡◌ {A = ℕ} (cond (is_some r.value) 1 0) 0 = ap (λ (y : Option V). cond (is_some y) 1 0) it.0.1 in
-          let count = weak.count_left t f g c p r.vacant it.0.0 it.1 table in
+          let count = weak.count_left t f leaving.right c p r.vacant it.0.0 it.1 leaving.table in
           record {
-            same = weak.same_left t f g c p r.vacant it.0.0 it.1 table;
-            still = weak.still_left t f g c p r.vacant it.0.0 it.1 table;
-            stock = weak.stock_gone t f g c p r.vacant it.0.0 it.1 table;
+            same = weak.same_left t f leaving.right c p r.vacant it.0.0 it.1 leaving.table;
+            still = weak.still_left t f leaving.right c p r.vacant it.0.0 it.1 leaving.table;
+            stock = weak.stock_gone t f leaving.right c p r.vacant it.0.0 it.1 leaving.table;
             count = omega arith;
-            bag = weak.bag_left t f g c p r.vacant it.0.0 it.1 table;
+            bag = weak.bag_left t f leaving.right c p r.vacant it.0.0 it.1 leaving.table;
           }
 
   -- a block that becomes vacant has room in the store
   pub room_gone : r.vacant ≡ true → IfSome q (λ _. vec_len t.store < vec_capacity t.store)
-  room_gone is = go k q (gone, holds)
+  room_gone is = go k q (leaving.gone, leaving.holds)
     where
       go : (k : Kind) (q : Option Block) → IsIt k q → IfSome q (λ _. vec_len t.store < vec_capacity t.store)
       go k None it = tt
       go Owner (Some c) it = absurd (true≢false (sym is ∙ it.0.1))
-      go Weak (Some c) it = let s = weak.room_left t f g c p r.vacant it.0.0 it.1 table is in omega (arith, s, t.store.ok)
+      go Weak (Some c) it = let s = weak.room_left t f leaving.right c p r.vacant it.0.0 it.1 leaving.table is in omega (arith, s, t.store.ok)
 
   pub desk_gone : f.seat.me.1 ≡ [] → f.store.items ≡ t.store.items ++ freed q r.vacant → vec_capacity f.store ≡ vec_capacity t.store
       → f.allowance ≡ t.allowance → (n : ℕ) → n ≡ bool_byte (is_some r.value) → f.endings ≡ t.endings + n
       → bag_size (known t.seat.me.0) t.seat.me.0.view.name + 1 ≤ t.held + one q → f.held + min 1 f.endings ≤ f.allowance → IsDesk f
-  desk_gone none items capacity allowance n byte endings room within = go k q (gone, holds) items room
+  desk_gone none items capacity allowance n byte endings room within = go k q (leaving.gone, leaving.holds) items room
     where
       go : (k : Kind) (q : Option Block) → IsIt k q → f.store.items ≡ t.store.items ++ freed q r.vacant
           → bag_size (known t.seat.me.0) t.seat.me.0.view.name + 1 ≤ t.held + one q → IsDesk f
       go k None it items room =
           let no : n ≡ 0 = byte ∙ ap (λ (y : Released V). bool_byte (is_some y.value)) it.0.0 in
-          unseen_desk t f it.0.1 table g none (items ∙ append-nil t.store.items) capacity allowance (omega arith) (omega arith) within
+          let less = leaving.held in
+          unseen_desk t f it.0.1 leaving.table leaving.right none (items ∙ append-nil t.store.items) capacity allowance (omega arith) (omega arith) within
       go Owner (Some c) it items room =
-          leave.desk_left t f g c p r.value it.0.0 it.1 table none (subst (λ y. f.store.items ≡ t.store.items ++ cond y (c ∷ []) []) it.0.1 items)
-          capacity allowance n byte endings held within
+          leave.desk_left t f leaving.right c p r.value it.0.0 it.1 leaving.table none
+          (subst (λ y. f.store.items ≡ t.store.items ++ cond y (c ∷ []) []) it.0.1 items)
+          capacity allowance n byte endings leaving.held within
       go Weak (Some c) it items room =
           let no : n ≡ 0 = byte ∙ ap (λ (y : Option V). bool_byte (is_some y)) it.0.1 in
-          weak.desk_left t f g c p r.vacant it.0.0 it.1 table none items capacity allowance (omega arith) held
+          weak.desk_left t f leaving.right c p r.vacant it.0.0 it.1 leaving.table none items capacity allowance (omega arith) leaving.held

@@ -1,31 +1,27 @@
 -- What a desk has when a handle was stored into a cell, and what the cell held has left, of either kind.
-use Rattle.std.proofs.Common.{◌≡◌, ℕ, ◌+◌, ◌≤◌, [], length, Option, None, refl, sym, ap, subst, ◌∙◌, inl, arith}
+use Rattle.std.proofs.Common.{◌≡◌, ℕ, ◌+◌, ◌≤◌, [], length, Option, refl, ap, ◌∙◌, arith}
 use Rattle.std.specs.Prelude.{IfSome}
 use Rattle.control_word.specs.State.{bag_size}
 use Rattle.control_word.specs.declared.packed.cell.CellWord.{CellWord}
 use Rattle.control_word.specs.declared.model.event.Cell.{Cell}
-use Rattle.control_word.specs.declared.model.event.Event.{Event}
 use Rattle.control_word.specs.declared.model.event.Event.TheVariants.{Swap}
 use Rattle.control_word.specs.declared.model.handle.NumberedHandle.{NumberedHandle}
 use Rattle.control_word.specs.declared.model.handle.Kind.{Kind}
 use Rattle.control_word.specs.declared.place.Block.{Block}
 use Rattle.control_word.specs.declared.place.Place.{Place}
-use Rattle.control_word.specs.declared.model.view.Pending.TheVariants.{Idle}
 use Rattle.control_block.specs.CellCalls.{HoldsHandle, handle_in, without_handle}
 use Rattle.control_block.specs.CellRetries.{CameOut}
 use Rattle.control_block.specs.Desks.{AddsEvent, DeskNow, IsSameDesk, Keeps, KeepsEndings, bag_of, endings_of, stock_of}
 use Rattle.control_block.specs.Handles.{IsProper}
+use Rattle.control_block.specs.Leaving.{LetGo}
+use Rattle.control_block.specs.declared.released.Released.{Released}
 use Rattle.control_block.specs.Inside.{IsDesk, IsDeskWith, desk_now}
-use Rattle.control_block.specs.StepKinds.{Added, HoldingInBlock, known}
+use Rattle.control_block.specs.StepKinds.{HoldingInBlock, known}
 use Rattle.control_block.specs.declared.table.SeatView.{SeatView}
 use Rattle.control_block.specs.declared.desk.Desk.TheInside.{Inside}
-use Rattle.control_block.proofs.cells.CellChoices.{swap_allowances, swap_stores}
-use Rattle.control_block.proofs.cells.CellDesks.{bag_is, event_is, fits, formed_out, got_holding, in_seat, lost_holding, lost_mine, one, one_few, size_is}
-use Rattle.control_block.proofs.cells.CellTrades.{Trades, swap_trades}
-use Rattle.control_block.proofs.desks.DeskBags.{adds_of, calm_swap, keeps_quietly}
-use Rattle.control_block.proofs.desks.DeskSteps.{came, ending_same, quiet_desk}
-use Rattle.control_block.proofs.Passage.{quiet_swap}
-use Rattle.control_block.proofs.leavings.GoneDesks.{HasGone, front_out}
+use Rattle.control_block.proofs.cells.CellDesks.{fits, got_holding, in_seat, one, one_few}
+use Rattle.control_block.proofs.cells.CellOutcomes.{Came, bag_then, desk_then, event_of, is_proper, keeps_else, size_now, swapped}
+use Rattle.control_block.proofs.leavings.GoneDesks.{Going, HasGone, front_out, on_its_way}
 
 module _ {V : Type 0} where
   -- what is so once the handle (b, p) is in the cell: s blocks more are vacant, and n objects more end with the desk
@@ -50,52 +46,37 @@ module _ {V : Type 0} (k : Kind) (d f : Inside V) (h : IsDesk d) (cell : Cell) (
     shelf_word = d.shelf_word;
   }
 
-  abbrev e : NumberedHandle → Event V
-  e y = Swap cell lost y
-
-  abbrev got : NumberedHandle
-  got = in_seat between k x.owned x.place
-
-  trades : Trades e (in_seat d.seat.me.0 k b p)
-  trades = subst (λ z. Trades e z) is (swap_trades V cell lost)
-
-  mine : IfSome b (λ a. HoldingInBlock d.seat.me.0 k ((known d.seat.me.0).latest a.0) p a.0)
-  mine = lost_mine d.seat.me.0 k p b (lost_holding d (desk_now d) k p h refl b has)
-
-  event : Added d.seat.me.0 Idle None (e got) between
-  event = event_is d h between e k x b p trades out mine
-
-  size : bag_size (known between) between.view.name + one b ≡ bag_size (known d.seat.me.0) d.seat.me.0.view.name + one x.owned
-  size = size_is d h between e k x b p trades out mine (inl has)
+  came : Came d between cell (λ y. Swap cell lost y) k x b p
+  came = swapped d h between cell lost k x b p (desk_now d) refl is has out
 
   pub room : bag_size (known between) between.view.name + 1 ≤ d.held + one x.owned
-  room = let s = size in let u = fits d k p b h has in omega arith
+  room = let s = size_now h came in let u = fits d k p b h has in omega arith
 
-  pub mid : IsDeskWith 1 t
+  mid : IsDeskWith 1 t
   mid =
-      let few = one_few x.owned in let r' = room in let w' = h.within in
-      quiet_desk d t (e got) h event table refl (λ q m. swap_stores V cell lost got q m) (λ q m. swap_allowances V cell lost got q m) refl refl
-      (omega arith) (omega arith)
-      (h.ended ∙ sym (ending_same d.seat.me.0 between (e got) (came d.seat.me.0 between Idle None (e got) event) (quiet_swap cell lost got)))
+      let few = one_few x.owned in let more = room in
+      on_its_way t (desk_then t h came table refl refl refl refl (λ size. omega (arith, more, few)) (omega (arith, h.within)))
 
-  pub holds : IfSome x.owned (λ a. HoldingInBlock between k ((known between).latest a.0) x.place a.0)
-  holds = got_holding d h between e k x b p trades out mine
+  holds : IfSome x.owned (λ a. HoldingInBlock between k ((known between).latest a.0) x.place a.0)
+  holds = got_holding d h between (λ y. Swap cell lost y) k x b p came.trade.trades came.out came.mine
 
   kept : Keeps (desk_now d) (desk_now t)
-  kept = keeps_quietly d between (e got) h event t.seat.table_id t.held (desk_now d) refl table (calm_swap cell lost got)
-      (λ q m. swap_stores V cell lost got q m) (λ q m. swap_allowances V cell lost got q m)
+  kept = keeps_else h came (desk_now d) t.seat.table_id t.held refl table
 
   pub swaps : AddsEvent (desk_now d) (Swap cell lost (handle_in (desk_now t) k x.owned x.place)) (desk_now t)
-  swaps = adds_of d (desk_now d) between t.seat.table_id t.held (λ z. e got) refl table event
+  swaps = event_of h came (desk_now d) t.seat.table_id t.held refl table
 
   pub proper_is : IsProper k x.owned x.place
-  proper_is = formed_out d between cell (e got) k x.owned x.place event (λ asks. (asks.0, asks.2))
+  proper_is = is_proper h came
+
+  pub going : (r : Released V) → LetGo k between x.owned x.place r f.seat.me.0 → f.held + 1 ≡ d.held → Going k t f x.owned x.place r
+  going r gone held = record { right = mid; gone = gone; holds = holds; table = refl; held = held }
 
   pub stored : {s n : ℕ} → HasGone k x.owned x.place s n (desk_now t) (desk_now f) → IsStored k b p (desk_now d) s n (desk_now f)
   stored {s} {n} gone =
       let a = kept in let c = gone.same in
       record {
-        bag = gone.bag ∙ (ap (without_handle k x.owned x.place) (bag_is d h between e k x b p trades out mine)
+        bag = gone.bag ∙ (ap (without_handle k x.owned x.place) (bag_then h came (desk_now d) refl)
             ∙ front_out k x.owned x.place (without_handle k b p (bag_of (desk_now d))));
         endings = λ i y was.
             let u = a.endings i y was in let w = gone.still i y u.ends in record { ends = w.ends; members = λ q. w.members q ∙ u.members q };

@@ -1,20 +1,11 @@
-use Rattle.std.proofs.Common.{◌+◌, refl, sym, ap, ◌∙◌, arith, None, inr}
-use Rattle.control_word.specs.declared.model.event.Event.{Event}
+use Rattle.std.proofs.Common.{◌+◌, refl, sym, ap, ◌∙◌, arith, None}
 use Rattle.control_word.specs.declared.model.event.Event.TheVariants.{Load}
-use Rattle.control_word.specs.declared.model.handle.NumberedHandle.{NumberedHandle}
-use Rattle.control_block.specs.CellCalls.{with_handle, word_at}
-use Rattle.control_block.specs.Desks.{bag_of, DeskNow}
-use Rattle.control_block.specs.Inside.{desk_now}
-use Rattle.control_block.proofs.cells.CellDesks.{bag_is, event_is, formed_out, holds_after, in_seat, one, one_few, size_is}
-use Rattle.control_block.proofs.Bags.{seen_as}
-use Rattle.std.proofs.lemmas.List.{length-map}
-use Rattle.control_word.specs.State.{bag}
-use Rattle.control_block.specs.StepKinds.{known}
-use Rattle.control_block.proofs.cells.CellTrades.{load_trades}
+use Rattle.control_block.specs.CellCalls.{word_at}
+use Rattle.control_block.specs.Desks.{DeskNow}
+use Rattle.control_block.proofs.cells.CellDesks.{one, one_few}
+use Rattle.control_block.proofs.cells.CellOutcomes.{Came, bag_then, desk_then, event_of, holds_it, is_proper, keeps_else, loaded, size_now}
 use Rattle.control_block.proofs.cells.CellSites.{aim_of, word_there}
-use Rattle.control_block.proofs.desks.DeskBags.{not_full, adds_of, calm, keeps_quietly, now_of, not_limit, room_left}
-use Rattle.control_block.proofs.Passage.{plain}
-use Rattle.control_block.proofs.desks.DeskSteps.{came, ending_same, quiet_desk}
+use Rattle.control_block.proofs.desks.DeskBags.{not_full, not_limit, room_left}
 use Rattle.control_block.proofs.calls.cells.load.Goals as goal
 
 pub word_of-word-requires : goal.word_of-word-requires
@@ -34,61 +25,32 @@ load-seen-requires-clause-aim g c =
     let i = c.word_of-word.result in
     aim_of d h k i y id z site g.A.CellArgs.cell c.desk.view_is table shape r.cell.0 r.cell.1 c.word_of-word.ensures
 
+module _ (g : _) (c : goal.After-result-1 g) where
+  came : Came c.desk.inside c.load-seen.new.seat.me.0 g.A.CellArgs.cell (λ y. Load g.A.CellArgs.cell y) c.args.cell.kind c.load-seen.result None None
+  came = loaded _ _ _ _ _ c.load-seen.ensures.loaded.out
+
 pub invariant_of-desk : goal.invariant_of-desk
 invariant_of-desk g c =
-    let d = c.desk.inside in let h = c.desk.invariant in let w = c.load-seen.new.seat.me.0 in let x = c.load-seen.result in let k = c.args.cell.kind in
-    let e : NumberedHandle → Event g.row.V.Denot = λ y. Load g.A.CellArgs.cell y in let t = c.load-seen.ensures in
-    let trades = load_trades g.row.V.Denot g.A.CellArgs.cell k in
-    let a = event_is d h w e k x None None trades t.loaded.out tt in let size = size_is d h w e k x None None trades t.loaded.out tt (inr refl) in
-    let ne = (not_full c.desk.inside c.args.desk.now _ c.desk.invariant c.desk.view_is c.if-is_full.ensures refl) in let few = one_few x.owned in
-    quiet_desk d _ (e (in_seat w k x.owned x.place)) h a t.table t.loaded.rests.none (λ y n. refl) (λ y n. refl) refl refl
-    (omega (arith, size, few, h.holding)) (omega (arith, h.within, ne))
-    (let v = d.seat.me.0 in h.ended ∙ sym
-    (ending_same v w (e (in_seat w k x.owned x.place)) (came v w _ _ _ a) (plain (λ y x. refl) (λ y x. refl) (λ y f. refl))))
+    let d = c.desk.inside in let h = c.desk.invariant in let t = c.load-seen.ensures in let few = one_few c.load-seen.result.owned in
+    let ne = not_full d c.args.desk.now _ h c.desk.view_is c.if-is_full.ensures refl in
+    desk_then _ h (came g c) t.table t.loaded.rests.none refl refl refl (λ size. omega (arith, size, few, h.holding)) (omega (arith, h.within, ne))
 
 pub returns-clause-event : goal.returns-clause-event
-returns-clause-event g c =
-    let d = c.desk.inside in let h = c.desk.invariant in let w = c.load-seen.new.seat.me.0 in let x = c.load-seen.result in let k = c.args.cell.kind in
-    let e : NumberedHandle → Event g.row.V.Denot = λ y. Load g.A.CellArgs.cell y in let t = c.load-seen.ensures in
-    let trades = load_trades g.row.V.Denot g.A.CellArgs.cell k in
-    adds_of d c.args.desk.now w _ _ (λ z. e (in_seat w k x.owned x.place)) c.desk.view_is t.table
-    (event_is d h w e k x None None trades t.loaded.out tt)
+returns-clause-event g c = event_of c.desk.invariant (came g c) _ _ _ c.desk.view_is c.load-seen.ensures.table
 
 pub returns-clause-bag : goal.returns-clause-bag
-returns-clause-bag g c =
-    let d = c.desk.inside in let h = c.desk.invariant in let w = c.load-seen.new.seat.me.0 in let x = c.load-seen.result in let k = c.args.cell.kind in
-    let e : NumberedHandle → Event g.row.V.Denot = λ y. Load g.A.CellArgs.cell y in let t = c.load-seen.ensures in
-    let trades = load_trades g.row.V.Denot g.A.CellArgs.cell k in
-    bag_is d h w e k x None None trades t.loaded.out tt ∙ ap (λ z. with_handle k x.owned x.place (bag_of z)) c.desk.view_is
+returns-clause-bag g c = bag_then c.desk.invariant (came g c) _ c.desk.view_is
 
 pub returns-clause-holds : goal.returns-clause-holds
 returns-clause-holds g c =
-    let d = c.desk.inside in let h = c.desk.invariant in let w = c.load-seen.new.seat.me.0 in let x = c.load-seen.result in let k = c.args.cell.kind in
-    let e : NumberedHandle → Event g.row.V.Denot = λ y. Load g.A.CellArgs.cell y in let t = c.load-seen.ensures in
-    let trades = load_trades g.row.V.Denot g.A.CellArgs.cell k in
-    let is = bag_is d h w e k x None None trades t.loaded.out tt in
-    let size = size_is d h w e k x None None trades t.loaded.out tt (inr refl) in
-    let n = length-map (bag (known w) w.view.name) (seen_as (known w)) in
-    holds_after (now_of c.load-seen.new.seat.table_id w (d.held + 1)) k x.owned x.place (bag_of (desk_now d)) is
-    (λ none. let m = ap one none in omega (arith, size, n, m, h.holding))
+    let h = c.desk.invariant in let size = size_now h (came g c) in
+    holds_it h (came g c) c.load-seen.new.seat.table_id (c.desk.inside.held + 1) (λ none. let m = ap one none in omega (arith, size, m, h.holding))
 
 pub invariant_of-result : goal.invariant_of-result
-invariant_of-result g c =
-    let d = c.desk.inside in let h = c.desk.invariant in let w = c.load-seen.new.seat.me.0 in let x = c.load-seen.result in let k = c.args.cell.kind in
-    let e : NumberedHandle → Event g.row.V.Denot = λ y. Load g.A.CellArgs.cell y in let t = c.load-seen.ensures in
-    let trades = load_trades g.row.V.Denot g.A.CellArgs.cell k in
-    record {
-      proper = formed_out d w g.A.CellArgs.cell (e (in_seat w k x.owned x.place)) k x.owned x.place
-          (event_is d h w e k x None None trades t.loaded.out tt) (λ asks. asks);
-    }
+invariant_of-result g c = record { proper = is_proper c.desk.invariant (loaded _ _ g.A.CellArgs.cell _ _ c.load-seen.ensures.loaded.out) }
 
 pub returns-clause-keeps : goal.returns-clause-keeps
-returns-clause-keeps g c =
-    let d = c.desk.inside in let h = c.desk.invariant in let w = c.load-seen.new.seat.me.0 in let x = c.load-seen.result in let k = c.args.cell.kind in
-    let e : NumberedHandle → Event g.row.V.Denot = λ y. Load g.A.CellArgs.cell y in let t = c.load-seen.ensures in
-    let trades = load_trades g.row.V.Denot g.A.CellArgs.cell k in
-    keeps_quietly d w (e (in_seat w k x.owned x.place)) h (event_is d h w e k x None None trades t.loaded.out tt) _ _ c.args.desk.now c.desk.view_is
-    t.table (calm (λ y n. refl) (λ y n. refl) (λ y f. refl)) (λ y n. refl) (λ y n. refl)
+returns-clause-keeps g c = keeps_else c.desk.invariant (came g c) _ _ _ c.desk.view_is c.load-seen.ensures.table
 
 pub returns-then-is_full-clause-limit : goal.returns-then-is_full-clause-limit
 returns-then-is_full-clause-limit g c = (λ _. c.is_full.ensures.0 c.if-is_full.true, λ _. refl)

@@ -16,7 +16,7 @@ use Rattle.control_block.proofs.leavings.ClearGone as clear
 use Rattle.control_block.proofs.leavings.ClearGone.{IsEmptied}
 use Rattle.control_block.proofs.EndingCounts.{few_ending}
 use Rattle.control_block.proofs.leavings.GoneDesks as gone
-use Rattle.control_block.proofs.leavings.GoneDesks.{HasGone}
+use Rattle.control_block.proofs.leavings.GoneDesks.{Going}
 use Rattle.control_block.proofs.desks.OwnCounts.{byte_few}
 use Rattle.control_block.proofs.desks.OwnEndings.{ends_in}
 use Rattle.control_block.proofs.desks.StoreBlocks.{ending_word}
@@ -51,8 +51,7 @@ put_by_out-requires g c =
     record { seat = c.clear-released.new.seat; allowance = d.allowance; held = d.held; endings = d.endings; store = d.store; shelf_word = d.shelf_word } in
     let ends' = ends_in d c.args.desk.now b c.requires.ending.0 c.desk.view_is c.requires.ending.1 in
     record {
-      room = gone.room_gone k (clear.t k d f h b m ends' x u.between u.out same) f (clear.mid k d f h b m ends' x u.between u.out same) x.owned x.place
-          c.clear-released.result.1 u.gone (clear.holds k d f h b m ends' x u.between u.out same) refl refl;
+      room = gone.room_gone (clear.going k d f h b m ends' x u.between u.out same c.clear-released.result.1 u.gone refl);
     }
 
 module _ (g : _) (c : goal.After-content-1 g) where
@@ -91,43 +90,35 @@ module _ (g : _) (c : goal.After-content-1 g) where
   abbrev t : Inside g.row.V.Denot
   t = clear.t k d f c.desk.invariant c.args.block.0 c.args.member ends x o.between o.out table
 
-  has_gone : HasGone k x.owned x.place (cond r.vacant 1 0) (cond (is_some r.value) 1 0) (desk_now t) (desk_now f)
-  has_gone =
-      gone.has_gone k t f (clear.mid k d f c.desk.invariant c.args.block.0 c.args.member ends x o.between o.out table) x.owned x.place r o.gone
-      (clear.holds k d f c.desk.invariant c.args.block.0 c.args.member ends x o.between o.out table) refl refl
+  going : Going k t f x.owned x.place r
+  going = clear.going k d f c.desk.invariant c.args.block.0 c.args.member ends x o.between o.out table r o.gone refl
 
   emptied : IsEmptied c.args.desk.now c.args.block.0 c.args.member (cond r.vacant 1 0) (cond (is_some r.value) 1 0) (desk_now f)
   emptied =
       subst (λ (z : DeskNow g.row.V.Denot). IsEmptied z c.args.block.0 c.args.member (cond r.vacant 1 0) (cond (is_some r.value) 1 0) (desk_now f))
       c.desk.view_is
-      (clear.emptied k d f c.desk.invariant c.args.block.0 c.args.member ends x o.between o.out table has_gone)
+      (clear.emptied k d f c.desk.invariant c.args.block.0 c.args.member ends x o.between o.out table (gone.has_gone going))
 
 pub invariant_of-desk : goal.invariant_of-desk
 invariant_of-desk g c =
     let h = c.desk.invariant in let b = c.args.block.0 in let m = c.args.member in let u = o g c in let e = ends g c in let same = table g c in
-    gone.desk_gone (k g c) (t g c) (f g c) (clear.mid (k g c) (d g c) (f g c) h b m e (x g c) u.between u.out same) (x g c).owned (x g c).place (r g c) u.gone
-    (clear.holds (k g c) (d g c) (f g c) h b m e (x g c) u.between u.out same) refl refl c.clear-released.ensures.seat.2.none
-    c.put_by_out.ensures.items c.put_by_out.ensures.capacity refl
+    gone.desk_gone (going g c) c.clear-released.ensures.seat.2.none c.put_by_out.ensures.items c.put_by_out.ensures.capacity refl
     c.from.result (c.from.ensures ∙ ap bool_byte c.is_some.ensures) refl (clear.room (k g c) (d g c) (f g c) h b m e (x g c) u.between u.out same)
     (clear.within (k g c) (d g c) (f g c) h b m e (x g c) u.between u.out same refl (omega arith) refl)
 
 pub returns-clause-emptied : goal.returns-clause-emptied
 returns-clause-emptied g c =
-    let h = c.desk.invariant in let b = c.args.block.0 in let m = c.args.member in let u = o g c in let e = ends g c in let same = table g c in
-    subst (λ (z : DeskNow g.row.V.Denot). Empties (k g c) z b m (x g c).owned (x g c).place (r g c) (desk_now (f g c))) c.desk.view_is
+    let u = o g c in
+    subst (λ (z : DeskNow g.row.V.Denot). Empties (k g c) z c.args.block.0 c.args.member (x g c).owned (x g c).place (r g c) (desk_now (f g c)))
+    c.desk.view_is
     record {
       between = desk_now (t g c);
-      takes = clear.takes (k g c) (d g c) (f g c) h b m e (x g c) u.between u.out same;
-      lets = gone.lets_go (k g c) (t g c) (f g c) (clear.mid (k g c) (d g c) (f g c) h b m e (x g c) u.between u.out same) (x g c).owned (x g c).place (r g c)
-          u.gone
-          (clear.holds (k g c) (d g c) (f g c) h b m e (x g c) u.between u.out same) refl refl;
+      takes = clear.takes (k g c) (d g c) (f g c) c.desk.invariant c.args.block.0 c.args.member (ends g c) (x g c) u.between u.out (table g c);
+      lets = gone.lets_go (going g c);
     }
 
 pub returns-clause-kind : goal.returns-clause-kind
-returns-clause-kind g c =
-    let h = c.desk.invariant in let b = c.args.block.0 in let m = c.args.member in let u = o g c in let e = ends g c in let same = table g c in
-    gone.only (k g c) (t g c) (f g c) (clear.mid (k g c) (d g c) (f g c) h b m e (x g c) u.between u.out same) (x g c).owned (x g c).place (r g c) u.gone
-    (clear.holds (k g c) (d g c) (f g c) h b m e (x g c) u.between u.out same) refl refl
+returns-clause-kind g c = gone.only (going g c)
 
 pub returns-clause-bag : goal.returns-clause-bag
 returns-clause-bag g c = (emptied g c).bag

@@ -7,9 +7,8 @@ use Rattle.control_word.specs.declared.place.Block.{Block}
 use Rattle.control_word.specs.declared.place.Place.{Place}
 use Rattle.control_block.specs.Clearing.{Lets}
 use Rattle.control_block.specs.Desks.{DeskNow}
-use Rattle.control_block.specs.Inside.{IsDeskWith, desk_now}
-use Rattle.control_block.specs.Leaving.{LetGo}
-use Rattle.control_block.specs.StepKinds.{HoldingInBlock, known}
+use Rattle.control_block.specs.Inside.{desk_now}
+use Rattle.control_block.specs.StepKinds.{known}
 use Rattle.control_block.specs.declared.desk.Desk.TheInside.{Inside}
 use Rattle.control_block.specs.declared.released.Released.{Released}
 use Rattle.control_block.proofs.cells.CellTrades.{slot_low}
@@ -17,7 +16,7 @@ use Rattle.control_block.proofs.desks.DeskBags.{holding_in}
 use Rattle.control_block.proofs.desks.DeskSteps.{holds_some, slot_inside, word_inside}
 use Rattle.control_block.proofs.EndingCounts.{few_ending}
 use Rattle.control_block.proofs.leavings.GoneDesks as gone
-use Rattle.control_block.proofs.leavings.GoneDesks.{HasGone}
+use Rattle.control_block.proofs.leavings.GoneDesks.{Going, HasGone}
 use Rattle.control_block.proofs.desks.OwnCounts.{byte_few}
 use Rattle.control_block.proofs.calls.leaving.leave.Goals as goal
 
@@ -54,8 +53,13 @@ put_by-requires g c =
     let f : Inside g.row.V.Denot =
     record { seat = s.new.seat; allowance = d.allowance; held = d.held - 1; endings = d.endings; store = d.store; shelf_word = d.shelf_word } in
     record {
-      room = gone.room_gone of.kind d f (gone.on_its_way d h) (Some of.block) of.place s.result (s.ensures.event, s.ensures.kind, s.ensures.value) holds
-          s.ensures.seat.0 (omega arith);
+      room = gone.room_gone {k = of.kind} {t = d} {f = f} {q = Some of.block} {p = of.place} {r = s.result} record {
+        right = gone.on_its_way d h;
+        gone = (s.ensures.event, s.ensures.kind, s.ensures.value);
+        holds = holds;
+        table = s.ensures.seat.0;
+        held = omega arith;
+      };
     }
 
 module _ (g : _) (c : goal.After-put_by g) where
@@ -84,37 +88,36 @@ module _ (g : _) (c : goal.After-put_by g) where
     shelf_word = d.shelf_word;
   }
 
-  mid : IsDeskWith 1 d
-  mid = gone.on_its_way d c.desk.invariant
-
-  holds : HoldingInBlock d.seat.me.0 k ((known d.seat.me.0).latest b.0) p b.0
-  holds = holding_in d c.args.desk.now k p b.0 c.desk.invariant c.desk.view_is c.requires.holds
-
-  left : LetGo k d.seat.me.0 (Some b) p r f.seat.me.0
-  left = (c.leave-released.ensures.event, c.leave-released.ensures.kind, c.leave-released.ensures.value)
-
-  table : f.seat.table_id ≡ d.seat.table_id
-  table = c.leave-released.ensures.seat.0
-
   held : f.held + 1 ≡ d.held
-  held = let some' = holds_some d k _ p b.0 c.desk.invariant holds in omega arith
+  held =
+      let holds = holding_in d c.args.desk.now k p b.0 c.desk.invariant c.desk.view_is c.requires.holds in
+      let some' = holds_some d k _ p b.0 c.desk.invariant holds in omega arith
+
+  going : Going k d f (Some b) p r
+  going =
+      record {
+        right = gone.on_its_way d c.desk.invariant;
+        gone = (c.leave-released.ensures.event, c.leave-released.ensures.kind, c.leave-released.ensures.value);
+        holds = holding_in d c.args.desk.now k p b.0 c.desk.invariant c.desk.view_is c.requires.holds;
+        table = c.leave-released.ensures.seat.0;
+        held = held;
+      }
 
   has_gone : HasGone k (Some b) p (cond r.vacant 1 0) (cond (is_some r.value) 1 0) c.args.desk.now (desk_now f)
   has_gone =
       subst (λ (z : DeskNow g.row.V.Denot). HasGone k (Some b) p (cond r.vacant 1 0) (cond (is_some r.value) 1 0) z (desk_now f)) c.desk.view_is
-      (gone.has_gone k d f mid (Some b) p r left holds table held)
+      (gone.has_gone going)
 
 pub invariant_of-desk : goal.invariant_of-desk
 invariant_of-desk g c =
     let h = c.desk.invariant in let less = held g c in let one' = byte_few c.is_some.result in
-    gone.desk_gone (k g c) (d g c) (f g c) (mid g c) (Some (b g c)) (p g c) (r g c) (left g c) (holds g c) (table g c) (held g c)
-    c.leave-released.ensures.seat.2 c.put_by.ensures.items c.put_by.ensures.capacity refl
+    gone.desk_gone (going g c) c.leave-released.ensures.seat.2 c.put_by.ensures.items c.put_by.ensures.capacity refl
     c.from.result (c.from.ensures ∙ ap bool_byte c.is_some.ensures) refl (omega (arith, h.holding)) (omega (arith, h.within, c.from.ensures))
 
 pub returns-clause-left : goal.returns-clause-left
 returns-clause-left g c =
     subst (λ (z : DeskNow g.row.V.Denot). Lets (k g c) z (Some (b g c)) (p g c) (r g c) (desk_now (f g c))) c.desk.view_is
-    (gone.lets_go (k g c) (d g c) (f g c) (mid g c) (Some (b g c)) (p g c) (r g c) (left g c) (holds g c) (table g c) (held g c))
+    (gone.lets_go (going g c))
 
 pub returns-clause-bag : goal.returns-clause-bag
 returns-clause-bag g c = (has_gone g c).bag

@@ -13,7 +13,7 @@ use Rattle.control_word.specs.declared.place.Place.{Place}
 use Rattle.control_block.specs.CellCalls.{HoldsHandle, handle_in, word_at}
 use Rattle.control_block.specs.CellStepKinds.{IsWordOf}
 use Rattle.control_block.specs.Desks.{DeskNow}
-use Rattle.control_block.specs.Inside.{IsDeskWith, desk_now}
+use Rattle.control_block.specs.Inside.{desk_now}
 use Rattle.control_block.specs.Leaving.{OutAndGone}
 use Rattle.control_block.specs.StepKinds.{HoldingInBlock, known}
 use Rattle.control_block.specs.Storing.{Replaces}
@@ -26,6 +26,7 @@ use Rattle.control_block.proofs.desks.OwnCounts.{byte_few}
 use Rattle.control_block.proofs.leavings.StoreGone as store
 use Rattle.control_block.proofs.leavings.StoreGone.{IsStored}
 use Rattle.control_block.proofs.leavings.GoneDesks as gone
+use Rattle.control_block.proofs.leavings.GoneDesks.{Going}
 use Rattle.control_block.proofs.calls.stores.store.Goals as goal
 
 pub word_of-word-requires : goal.word_of-word-requires
@@ -118,9 +119,8 @@ put_by_out-requires g c =
       shelf_word = d.shelf_word;
     } in
     record {
-      room = gone.room_gone k (store.t k d f h g.A.CellArgs.cell g.A.CellArgs.new b p x is' has' u.between u.out same) f
-          (store.mid k d f h g.A.CellArgs.cell g.A.CellArgs.new b p x is' has' u.between u.out same) x.owned x.place c.store-released.result.1 u.gone
-          (store.holds k d f h g.A.CellArgs.cell g.A.CellArgs.new b p x is' has' u.between u.out same) refl (omega arith);
+      room = gone.room_gone (store.going k d f h g.A.CellArgs.cell g.A.CellArgs.new b p x is' has' u.between u.out same c.store-released.result.1 u.gone
+          (omega arith));
     }
 
 module _ (g : _) (c : goal.After-content-1 g) where
@@ -171,25 +171,21 @@ module _ (g : _) (c : goal.After-content-1 g) where
   abbrev t : Inside g.row.V.Denot
   t = store.t k d f c.desk.invariant g.A.CellArgs.cell g.A.CellArgs.new b p x is has o.between o.out table
 
-  mid : IsDeskWith 1 t
-  mid = store.mid k d f c.desk.invariant g.A.CellArgs.cell g.A.CellArgs.new b p x is has o.between o.out table
-
-  holds : IfSome x.owned (λ a. HoldingInBlock o.between k ((known o.between).latest a.0) x.place a.0)
-  holds = store.holds k d f c.desk.invariant g.A.CellArgs.cell g.A.CellArgs.new b p x is has o.between o.out table
+  going : Going k t f x.owned x.place q
+  going = store.going k d f c.desk.invariant g.A.CellArgs.cell g.A.CellArgs.new b p x is has o.between o.out table q o.gone held
 
   stored : IsStored k b p c.args.desk.now (cond q.vacant 1 0) (cond (is_some q.value) 1 0) (desk_now f)
   stored =
       subst (λ (z : DeskNow g.row.V.Denot). IsStored k b p z (cond q.vacant 1 0) (cond (is_some q.value) 1 0) (desk_now f)) c.desk.view_is
       (store.stored k d f c.desk.invariant g.A.CellArgs.cell g.A.CellArgs.new b p x is has o.between o.out table
-      (gone.has_gone k t f mid x.owned x.place q o.gone holds refl held))
+      (gone.has_gone going))
 
   room : bag_size (known o.between) o.between.view.name + 1 ≤ t.held + one x.owned
   room = store.room k d f c.desk.invariant g.A.CellArgs.cell g.A.CellArgs.new b p x is has o.between o.out table
 
 pub invariant_of-desk : goal.invariant_of-desk
 invariant_of-desk g c =
-    gone.desk_gone (k g c) (t g c) (f g c) (mid g c) (x g c).owned (x g c).place (q g c) (o g c).gone (holds g c) refl
-    (held g c) c.store-released.ensures.seat.2.none c.put_by_out.ensures.items c.put_by_out.ensures.capacity refl
+    gone.desk_gone (going g c) c.store-released.ensures.seat.2.none c.put_by_out.ensures.items c.put_by_out.ensures.capacity refl
     c.from.result (c.from.ensures ∙ ap bool_byte c.is_some.ensures) refl (room g c)
     (let h = c.desk.invariant in let some' = held g c in let one' = byte_few c.is_some.result in omega (arith, h.within, c.from.ensures))
 
@@ -201,12 +197,11 @@ returns-clause-stored g c =
       between = desk_now (t g c);
       swaps = store.swaps (k g c) (d g c) (f g c) c.desk.invariant g.A.CellArgs.cell g.A.CellArgs.new (b g c) (p g c) (x g c) (is g c) (has g c) (o g c).between
           (o g c).out (table g c);
-      lets = gone.lets_go (k g c) (t g c) (f g c) (mid g c) (x g c).owned (x g c).place (q g c) (o g c).gone (holds g c) refl (held g c);
+      lets = gone.lets_go (going g c);
     }
 
 pub returns-clause-kind : goal.returns-clause-kind
-returns-clause-kind g c =
-    gone.only (k g c) (t g c) (f g c) (mid g c) (x g c).owned (x g c).place (q g c) (o g c).gone (holds g c) refl (held g c)
+returns-clause-kind g c = gone.only (going g c)
 
 pub returns-clause-bag : goal.returns-clause-bag
 returns-clause-bag g c = (stored g c).bag
