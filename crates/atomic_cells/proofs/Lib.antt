@@ -1,4 +1,1 @@
-pub mod Kept
-pub mod Told
 pub mod Members
-pub mod Stored

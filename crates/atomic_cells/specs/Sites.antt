@@ -11,12 +11,20 @@ use Rattle.control_block.specs.declared.cell_calls.Site.{Site}
 use Rattle.control_block.specs.declared.cell_calls.Site.TheVariants as inner
 use Rattle.shared_handle.specs.Endings.{IsOutside}
 use Rattle.shared_handle.specs.Locks.{HasOwner}
+use Rattle.atomic_cells.specs.declared.at.At.{At}
 use Rattle.atomic_cells.specs.declared.sites.SharedMember.{SharedMember}
 use Rattle.atomic_cells.specs.declared.sites.SharedMember.TheVariants.{First, Next}
 use Rattle.atomic_cells.specs.declared.sites.SharedSite.{SharedSite}
 use Rattle.atomic_cells.specs.declared.sites.SharedSite.TheVariants as shared
 use Rattle.atomic_cells.specs.declared.sites.WeakSite.{WeakSite}
 use Rattle.atomic_cells.specs.declared.sites.WeakSite.TheVariants as weak
+
+-- the types of cells, since antt has no name for an alias
+abbrev pub SharedAt : Type 0
+SharedAt = At SharedSite
+
+abbrev pub WeakAt : Type 0
+WeakAt = At WeakSite
 
 -- the members by their numbers
 abbrev pub number_of_member : SharedMember → ℕ

@@ -2,14 +2,13 @@
 //! any thread loads, stores and exchanges. Stores and exchanges wait for nobody.
 #![tactic(auto)]
 
+mod at;
 mod compared;
+mod compares;
 mod shared_at;
-mod shared_compares;
 mod sites;
 mod weak_at;
-mod weak_compares;
 
+pub use at::{SharedAt, WeakAt};
 pub use compared::Compared;
-pub use shared_at::SharedAt;
 pub use sites::SharedMember;
-pub use weak_at::WeakAt;

@@ -1,11 +1,15 @@
 //! Which cells there are: free ones, and the members of objects.
-ghost use Rattle.std.specs.Prelude.{◌≡◌};
-ghost use Rattle.control_word.specs.declared.model.handle.Kind.TheVariants.{Owner};
+ghost use Rattle.std.specs.Prelude.{◌≡◌, Option};
+ghost use Rattle.control_word.specs.declared.model.event.Cell.{Cell};
+ghost use Rattle.control_word.specs.declared.model.handle.Kind.{Kind};
 ghost use Rattle.control_word.specs.declared.place.Block.{Block};
-ghost use Rattle.atomic_cells.specs.Sites.{IsMember, shared_site};
+ghost use Rattle.control_word.specs.declared.place.Place.{Place};
+ghost use Rattle.control_block.specs.CellCalls.{IsOpenAt, cell_of_site};
+ghost use Rattle.control_block.specs.Desks.{DeskNow};
+ghost use Rattle.atomic_cells.specs.Sites.{IsMember};
 
-use control_block::cell_calls::{CellAt, Site};
-use control_word::model::handle::Kind;
+use control_block::cell_calls::{CellAt, Content};
+use control_block::domain::Domain;
 use control_word::{Block, Refusal};
 use shared_handle::Shared;
 
@@ -18,16 +22,50 @@ pub enum SharedMember {
 
 /// A cell of shared pointers: a free one by its number, or a member of the object in a block.
 #[derive(Clone, Copy, Drop)]
-pub(crate) enum SharedSite {
+pub enum SharedSite {
     Free(u32),
     Of(Block, SharedMember),
 }
 
 /// A cell of weak pointers: a free one by its number, or the member `up` of the object in a block.
 #[derive(Clone, Copy, Drop)]
-pub(crate) enum WeakSite {
+pub enum WeakSite {
     Free(u32),
     Up(Block),
+}
+
+/// Where a cell of one kind of pointers is: what the calls on cells ask of the kind.
+pub trait CellSite: Copy + Drop {
+    /// The pointers that it holds.
+    type Handle;
+
+    ghost kind: { Kind };
+
+    ghost block_of: { Self.Handle → Option Block };
+
+    ghost place_of: { Self.Handle → Option Place };
+
+    /// Whether the cell is open to a desk.
+    ghost is_open: { (V : Type 0) → DeskNow V → Self → Type 0 };
+
+    /// The cell by a desk's history.
+    ghost cell_of: { (V : Type 0) → DeskNow V → Self → Cell };
+
+    fn cell<V: Drop>(self, domain: &Domain<V>) -> CellAt
+        requires open { (d : DeskNow V) × (d.shape ≡ domain.now.shape) × is_open _ d self }
+        ensures kind { result.kind ≡ kind }
+        ensures cell { (d : DeskNow V) → d.shape ≡ domain.now.shape → cell_of_site d result.site ≡ cell_of _ d self }
+        ensures open { (d : DeskNow V) → d.shape ≡ domain.now.shape → is_open _ d self
+            → IsOpenAt d result.site result.kind };
+
+    fn content(handle: &Self::Handle) -> Content
+        ensures { (result.kind ≡ kind) × (result.block ≡ block_of handle.now) × (result.place ≡ place_of handle.now) };
+
+    fn spend(handle: Self::Handle);
+
+    fn of_content(content: Content) -> Self::Handle
+        requires { content.kind ≡ kind }
+        ensures { (block_of result ≡ content.block) × (place_of result ≡ content.place) };
 }
 
 /// The block of the object that the handle owns and points into: `Null` where its place is null, and `Outside` where
@@ -42,18 +80,4 @@ pub(crate) fn block_within(handle: &Shared) -> Result<Block, Refusal>
         return Err(Refusal::Outside);
     }
     Ok(place.block)
-}
-
-pub(crate) fn shared_cell(site: SharedSite) -> CellAt
-    ensures { (result.site ≡ shared_site site) × (result.kind ≡ Owner) }
-{
-    let site = match site {
-        SharedSite::Free(number) => Site::Free(number),
-        SharedSite::Of(block, SharedMember::First) => Site::Member(block, 0),
-        SharedSite::Of(block, SharedMember::Next) => Site::Member(block, 1),
-    };
-    CellAt {
-        site,
-        kind: Kind::Owner,
-    }
 }

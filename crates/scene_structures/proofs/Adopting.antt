@@ -17,8 +17,7 @@ use Rattle.control_block.specs.Desks.{AddsEvent, DeskNow, bag_of, latest_of}
 use Rattle.control_block.specs.declared.handles.Shared.{Shared}
 use Rattle.shared_handle.specs.Calls.{Makes, SharesOwner}
 use Rattle.shared_handle.proofs.Goings.{does_both, does_one}
-use Rattle.atomic_cells.specs.Sites.{IsMember, shared_cell}
-use Rattle.atomic_cells.specs.declared.shared_at.SharedAt.{SharedAt}
+use Rattle.atomic_cells.specs.Sites.{IsMember, SharedAt, shared_cell}
 use Rattle.atomic_cells.specs.declared.sites.SharedMember.TheVariants.{First}
 use Rattle.atomic_cells.specs.declared.sites.SharedSite.TheVariants as site
 use Rattle.scene_structures.specs.Hands.{HasHands, KeepsHeld, KeepsThese, Lists, node_in}

@@ -23,8 +23,7 @@ use Rattle.shared_handle.proofs.Goings.{does_both, does_none, does_one}
 use Rattle.control_block.specs.CellCalls.{HoldsHandle}
 use Rattle.shared_handle.specs.Endings.{IsWithin}
 use Rattle.shared_handle.specs.Piles.{IsParting}
-use Rattle.atomic_cells.specs.Sites.{IsMember, shared_cell}
-use Rattle.atomic_cells.specs.declared.shared_at.SharedAt.{SharedAt}
+use Rattle.atomic_cells.specs.Sites.{IsMember, SharedAt, shared_cell}
 use Rattle.atomic_cells.specs.declared.sites.SharedMember.TheVariants.{First, Next}
 use Rattle.atomic_cells.specs.declared.sites.SharedSite.TheVariants as shared
 use Rattle.scene_structures.specs.Detaches.{CutsOut, HandsSought, HeldSought, IsEnd, IsSought, Meets, ReachesNode, Seeks, Skips}

@@ -11,12 +11,10 @@ use Rattle.control_block.specs.declared.handles.Shared.{Shared}
 use Rattle.shared_handle.proofs.Piles.{carries_kept}
 use Rattle.shared_handle.specs.Piles.{Carries}
 use Rattle.shared_handle.specs.declared.pile.Pile.{Pile}
-use Rattle.atomic_cells.specs.Sites.{IsMember, IsOpenSite, IsOpenWeakly}
-use Rattle.atomic_cells.specs.declared.shared_at.SharedAt.{SharedAt}
+use Rattle.atomic_cells.specs.Sites.{IsMember, IsOpenSite, IsOpenWeakly, SharedAt, WeakAt}
 use Rattle.atomic_cells.specs.declared.sites.SharedMember.{SharedMember}
 use Rattle.atomic_cells.specs.declared.sites.SharedSite.TheVariants as shared
 use Rattle.atomic_cells.specs.declared.sites.WeakSite.TheVariants as weak
-use Rattle.atomic_cells.specs.declared.weak_at.WeakAt.{WeakAt}
 use Rattle.scene_structures.specs.Detaches.{HeldSought}
 use Rattle.scene_structures.specs.Hands.{IsOpenBy, Lists}
 use Rattle.scene_structures.specs.declared.lists.cutting.Sought.{Sought}

@@ -29,9 +29,8 @@ use Rattle.shared_handle.specs.Calls.{LeavesWeakly}
 use Rattle.control_block.specs.CellCalls.{HoldsHandle}
 use Rattle.shared_handle.specs.Locks.{IsOwnerOf, LocksHandle}
 use Rattle.atomic_cells.specs.Cells.{Loads}
-use Rattle.atomic_cells.specs.Sites.{IsMember, weak_cell}
+use Rattle.atomic_cells.specs.Sites.{IsMember, WeakAt, weak_cell}
 use Rattle.atomic_cells.specs.declared.sites.WeakSite.TheVariants as site
-use Rattle.atomic_cells.specs.declared.weak_at.WeakAt.{WeakAt}
 use Rattle.scene_structures.specs.Hands.{node_in}
 use Rattle.scene_structures.specs.Parents.{IsParent, LocksUp, owner_of}
 use Rattle.scene_structures.specs.Puts.{PutsOnly, in_no_cell}

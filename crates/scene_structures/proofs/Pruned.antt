@@ -21,12 +21,10 @@ use Rattle.shared_handle.specs.Calls.{IsExpiry, LeavesWeakly}
 use Rattle.control_block.specs.CellCalls.{HoldsHandle}
 use Rattle.shared_handle.specs.Endings.{IsWithin}
 use Rattle.shared_handle.specs.Piles.{IsParting}
-use Rattle.atomic_cells.specs.Sites.{IsMember, shared_cell, weak_cell}
-use Rattle.atomic_cells.specs.declared.shared_at.SharedAt.{SharedAt}
+use Rattle.atomic_cells.specs.Sites.{IsMember, SharedAt, WeakAt, shared_cell, weak_cell}
 use Rattle.atomic_cells.specs.declared.sites.SharedMember.TheVariants.{Next}
 use Rattle.atomic_cells.specs.declared.sites.SharedSite.TheVariants as shared
 use Rattle.atomic_cells.specs.declared.sites.WeakSite.TheVariants as weak
-use Rattle.atomic_cells.specs.declared.weak_at.WeakAt.{WeakAt}
 use Rattle.scene_structures.specs.Hands.{HasHands, IsOpenBy, KeepsHeld, Lists, SameNode, node_in, stacked}
 use Rattle.scene_structures.specs.Prunes.{AsksExpired, ClearsFront, Finds, PassesNode, Prunes, SameKept}
 use Rattle.scene_structures.proofs.Hands.{holds_first, holds_second, lists_first, most}

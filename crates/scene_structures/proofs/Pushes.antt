@@ -18,8 +18,7 @@ use Rattle.shared_handle.specs.Calls.{SharesOwner, counting}
 use Rattle.atomic_cells.specs.Compares.{GivesBackDesired, bag_compared, came_out, has_swapped}
 use Rattle.atomic_cells.specs.declared.compared.Compared.{Compared}
 use Rattle.atomic_cells.specs.declared.compared.Compared.TheVariants.{Differs, Swapped}
-use Rattle.atomic_cells.specs.Sites.{IsMember, shared_cell}
-use Rattle.atomic_cells.specs.declared.shared_at.SharedAt.{SharedAt}
+use Rattle.atomic_cells.specs.Sites.{IsMember, SharedAt, shared_cell}
 use Rattle.atomic_cells.specs.declared.sites.SharedMember.TheVariants.{Next}
 use Rattle.atomic_cells.specs.declared.sites.SharedSite.TheVariants as site
 use Rattle.control_block.specs.Own.{Does, Goes, KeepsLatest}

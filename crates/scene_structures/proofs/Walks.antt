@@ -26,12 +26,10 @@ use Rattle.shared_handle.proofs.Goings.{weak_does}
 use Rattle.shared_handle.specs.Calls.{LeavesWeakly, counting}
 use Rattle.shared_handle.specs.Locks.{IsOwnerOf, LocksHandle}
 use Rattle.shared_handle.specs.Piles.{FoldsBack, IsParting}
-use Rattle.atomic_cells.specs.Sites.{IsMember, shared_cell, weak_cell}
-use Rattle.atomic_cells.specs.declared.shared_at.SharedAt.{SharedAt}
+use Rattle.atomic_cells.specs.Sites.{IsMember, SharedAt, WeakAt, shared_cell, weak_cell}
 use Rattle.atomic_cells.specs.declared.sites.SharedMember.TheVariants.{Next}
 use Rattle.atomic_cells.specs.declared.sites.SharedSite.TheVariants as shared
 use Rattle.atomic_cells.specs.declared.sites.WeakSite.TheVariants as weak
-use Rattle.atomic_cells.specs.declared.weak_at.WeakAt.{WeakAt}
 use Rattle.scene_structures.specs.Hands.{KeepsHeld, node_in}
 use Rattle.scene_structures.specs.Walks.{HasLooked, IsAsked, IsLooking, SeenNode, TellsField, VisitsNode, Walks, is_look, told_onto}
 use Rattle.scene_structures.proofs.Looks.{owner_within}

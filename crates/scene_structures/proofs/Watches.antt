@@ -21,9 +21,8 @@ use Rattle.shared_handle.proofs.Callers.{first_out}
 use Rattle.shared_handle.proofs.Goings.{does_one, weak_does}
 use Rattle.shared_handle.specs.Calls.{LeavesWeakly, Makes, SharesWeakly, counting, weak_place}
 use Rattle.control_block.specs.CellCalls.{HoldsHandle}
-use Rattle.atomic_cells.specs.Sites.{IsMember, weak_cell}
+use Rattle.atomic_cells.specs.Sites.{IsMember, WeakAt, weak_cell}
 use Rattle.atomic_cells.specs.declared.sites.WeakSite.TheVariants as site
-use Rattle.atomic_cells.specs.declared.weak_at.WeakAt.{WeakAt}
 use Rattle.scene_structures.specs.Hands.{KeepsHeld, Lists, node_in}
 use Rattle.scene_structures.specs.Observers.{Attaches}
 use Rattle.scene_structures.specs.Puts.{PutsOnly, in_no_cell}

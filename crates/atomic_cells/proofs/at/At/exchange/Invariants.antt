@@ -1,7 +1,7 @@
 use Rattle.std.proofs.Common.{false}
 use Rattle.control_word.specs.Handles.{empty}
 use Rattle.control_block.specs.CellCalls.{cell_of_site, handle_in}
-use Rattle.atomic_cells.proofs.weak_at.WeakAt.exchange.Given as goal
+use Rattle.atomic_cells.proofs.at.At.exchange.Given as goal
 
 abbrev pub ghosts-exchange : goal.ghosts-exchange
 ghosts-exchange g a =
