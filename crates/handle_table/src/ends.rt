@@ -1,6 +1,6 @@
 //! Objects that are left to end, one step at a time.
-ghost use Rattle.std.specs.Prelude.{◌≡◌, [], IfErr, IfNone, IfOk, IfSome};
-ghost use Rattle.shared_handle.specs.Piles.{IsRound};
+ghost use Rattle.std.specs.Prelude.{◌≡◌, ◌⊎◌, ◌+◌, [], List, IfErr, IfNone, IfOk, IfSome, MatchOption, length};
+ghost use Rattle.shared_handle.specs.Piles.{AreRounds, CameLast, IsRound, Past, values_of};
 ghost use Rattle.handle_table.specs.Cells.{WhyNoCell};
 ghost use Rattle.handle_table.specs.Ends.{NamesCell, IsToEnd};
 
@@ -40,6 +40,20 @@ impl<'d, V: Drop, H: Home> HandleTable<'d, V, H> {
         ensures slots { self.new.slots ≡ self.old.slots }
     {
         self.pile.round(self.domain, &mut self.desk)
+    }
+
+    /// Rounds of ends, so many at most, until a value comes out (own): `rounds` is how many are left of them. `None`
+    /// where none is left, or nothing to end. It waits for nobody.
+    #[inline(always)]
+    #[tactic(auto, using(shared_handle::proofs::Piles::bears_after))]
+    pub fn next_value(&mut self, rounds: &mut u32) -> Option<V>
+        ensures rounds { (rs : List (Past V)) × AreRounds self.old.desk self.old.endings rs self.new.desk
+            self.new.endings × (length rs + rounds.new ≡ rounds.old)
+            × MatchOption result (values_of rs ≡ []) (λ v. CameLast v rs) }
+        ensures none { IfNone result ((rounds.new ≡ 0) ⊎ (self.new.endings ≡ [])) }
+        ensures slots { self.new.slots ≡ self.old.slots }
+    {
+        self.pile.next_value(self.domain, &mut self.desk, rounds)
     }
 
     /// Whether a cell is there (own), or why no call reaches it. Nothing is touched.

@@ -1,9 +1,9 @@
 //! What a desk asks of what lies below it: a table of numbered slots for handles.
-ghost use Rattle.std.specs.Prelude.{◌≡◌};
+ghost use Rattle.std.specs.Prelude.{◌≡◌, ◌<◌, IfSome};
 
 use control_word::Place;
 use handle_table::{Cell, Fault, Returned};
-use shared_handle::{Gone, Round};
+use shared_handle::Gone;
 use std::alloc::Global;
 use std::sync::Wait;
 
@@ -69,8 +69,9 @@ pub trait Domain {
     /// A handle leaves its slot.
     fn leave(&mut self, at: usize) -> Result<Gone, Fault>;
 
-    /// One step of what is left to end.
-    fn step(&mut self) -> Round<Self::Value>;
+    /// Rounds of what is left to end, so many at most, until a value comes out.
+    fn next_value(&mut self, rounds: &mut u32) -> Option<Self::Value>
+        ensures fewer { IfSome result (λ _. rounds.new < rounds.old) };
 
     /// A copy of what a cell holds comes into a slot; whether that is more than an empty handle.
     fn load_in<R: Wait>(&mut self, rt: &R, cell: Cell, to: usize) -> Result<bool, Fault>;

@@ -210,6 +210,24 @@ module _ {V : Type 0} where
         room = subst (λ k. domain.shape.blocks ≤ k) (sym room) s.room;
       }
 
+  -- an object ended for it, which is in hand then, and that lies on the pile
+  pub stacked_above : (domain : DomainNow) (d e : DeskNow V) (p q : Pile V) (x y z : Ending V) (m : Member) → Stacked domain d p x
+      → IsClearing d x m (Last z) e → KeepsOtherEndings d x.block.0 e → IsBeside x.block.0 (Last z) → y.block ≡ x.block → EndsInHand e y
+      → IsSameDesk d e → q.endings.items ≡ p.endings.items ++ y ∷ [] → vec_capacity q.endings ≡ vec_capacity p.endings
+      → Stacked domain e q z
+  stacked_above domain d e p q x y z m s clears keeps beside same ends desk are room =
+      let xs = p.endings.items in
+      let t = all_last e q.endings.items z
+      (subst (λ l. AllEnd e (l ++ z ∷ [])) (sym are)
+      (below_left e y xs (Last z) (cleared d e x y m (Last z) xs (s.ends, s.apart, s.others) clears keeps beside same ends))) in
+      record {
+        belongs = record { table = desk.domain ∙ s.belongs.table; shape = desk.shape ∙ s.belongs.shape };
+        ends = t.1;
+        apart = t.2;
+        others = t.0;
+        room = subst (λ k. domain.shape.blocks ≤ k) (sym room) s.room;
+      }
+
   pub stacked_elsewhere : (d e : DeskNow V) (x y : Ending V) (m : Member) (left : Left V) (xs ys : List (Ending V))
       → IsClearing d x m left e → KeepsOtherEndings d x.block.0 e → endings_of e ≡ endings_of d + more_ending left → IsBeside x.block.0 left
       → y.block ≡ x.block → EndsInHand e y → ys ≡ piled xs left → KeepsElsewhere d (x ∷ xs) e (y ∷ ys)

@@ -1,11 +1,11 @@
 -- Rounds of a pile, one run of them after another.
-use Rattle.std.proofs.Common.{◌≡◌, ℕ, ◌+◌, ◌-◌, List, [], ◌∷◌, ◌++◌, take, MatchOption, Option, None, Some}
+use Rattle.std.proofs.Common.{◌≡◌, ℕ, ◌+◌, ◌-◌, List, [], ◌∷◌, ◌++◌, take, MatchOption, IfSome, Option, None, Some, length, ◌<◌, arith}
 use Rattle.std.specs.Prelude.{option_to_list}
 use Rattle.std.proofs.lemmas.List.{append-nil}
 use Rattle.std.proofs.Common.{refl, sym, ap, subst, ◌∙◌}
 use Rattle.control_block.specs.Desks.{DeskNow}
 use Rattle.shared_handle.specs.Endings.{IsClearing, with_clear}
-use Rattle.shared_handle.specs.Piles.{AreRounds, IsRound, Past, gone_of, next_member, piled, value_of, values_of}
+use Rattle.shared_handle.specs.Piles.{AreRounds, CameLast, IsRound, Past, gone_of, next_member, piled, value_of, values_of}
 use Rattle.shared_handle.specs.declared.endings.Ending.{Ending}
 use Rattle.shared_handle.specs.declared.endings.Left.{Left}
 use Rattle.shared_handle.specs.declared.endings.Member.{Member}
@@ -37,6 +37,17 @@ module _ {V : Type 0} where
   -- the values of a run go in front
   pub values_after : (vs : List V) (qs rs : List (Past V)) → values_of qs ≡ vs → values_of (qs ++ rs) ≡ vs ++ values_of rs
   values_after vs qs rs are = values_append qs rs ∙ ap (λ l. l ++ values_of rs) are
+
+  pub came_last : (v : V) (rs : List (Past V)) → CameLast v rs → values_of rs ≡ v ∷ []
+  came_last v [] came = absurd came
+  came_last v (r ∷ rs) came = ap (λ (q : Round V). value_of q (values_of rs)) came.0 ∙ ap (λ (vs : List V). v ∷ vs) came.1
+
+  -- with a value fewer rounds are left
+  pub fewer_left : (result : Option V) (rs : List (Past V)) (left most : ℕ) → MatchOption result (values_of rs ≡ []) (λ v. CameLast v rs)
+      → length rs + left ≡ most → IfSome result (λ _. left < most)
+  fewer_left None rs left most came are = tt
+  fewer_left (Some v) [] left most came are = absurd came
+  fewer_left (Some v) (r ∷ rs) left most came are = omega (arith, are)
 
   -- a member of the one in hand is emptied
   pub clears_in_hand : (d e : DeskNow V) (below zs : List (Ending V)) (x y : Ending V) (m : Member) (left : Left V) → next_member x ≡ Some m

@@ -147,6 +147,11 @@ module _ {V : Type 0} where
   values_of [] = []
   values_of (r ∷ rs) = value_of r.round (values_of rs)
 
+  -- this value came out of the last of them, and none of the others
+  abbrev pub CameLast : V → List (Past V) → Type 0
+  CameLast v [] = ⊥
+  CameLast v (r ∷ rs) = (r.round ≡ Ended v) × (values_of rs ≡ [])
+
   -- calls took f to last, one a value, the newest first
   abbrev pub FoldsBack : {F : Type 0} → (F → V → F → Type 0) → F → List V → F → Type 0
   FoldsBack {F} step f [] last = last ≡ f

@@ -30,6 +30,8 @@ pub(crate) enum Call {
     Reset(usize),
     EndNext,
     Round,
+    /// Rounds, so many at most.
+    NextValue(u32),
     Settle,
     Reaches(Cell),
     Load(Cell, usize),
@@ -66,6 +68,8 @@ pub(crate) enum Answer {
     Cleared(u8, Was),
     /// A value that came out, or that was worked on.
     Value(Option<u64>),
+    /// A value that came out in rounds, and how many are left of these.
+    Next(Option<u64>, u32),
 }
 
 /// What is told of a handle that left a member.
@@ -125,6 +129,13 @@ fn ended(round: Round<u64>) -> Answer {
             Answer::Cleared(number, was)
         }
     }
+}
+
+/// Of rounds, so many at most.
+fn next<H: Home>(table: &mut HandleTable<'_, u64, H>, most: u32) -> Answer {
+    let mut rounds = most;
+    let value = table.next_value(&mut rounds);
+    Answer::Next(value, rounds)
 }
 
 /// Of a call that was handed this value.
@@ -240,6 +251,7 @@ fn end<R: Wait, H: Home>(
         Call::Unshelve(count) => Answer::Count(table.unshelve(count)),
         Call::EndNext => Answer::Value(table.end_next()),
         Call::Round => ended(table.round()),
+        Call::NextValue(most) => next(table, most),
         Call::Settle => {
             table.settle(rt);
             Answer::Done

@@ -5,12 +5,12 @@ use crate::desk::{Desk, END, RESERVE};
 use crate::domain::Domain;
 use crate::fault::Fault;
 use crate::fault::call::Call;
-use shared_handle::{Gone, Round};
+use shared_handle::Gone;
 use std::sync::Wait;
 
-/// How many steps of ends a pointer's drop makes at most: four for each object that a domain can have. What other
+/// How many rounds of ends a pointer's drop makes at most: four for each object that a domain can have. What other
 /// threads lengthened meanwhile may be left then, and ends with a later drop or by `settle`.
-const STEPS: u32 = 4 * 65_535;
+const ROUNDS: u32 = 4 * 65_535;
 
 /// How many vacant blocks a desk is left with when it gives some to the shelf.
 const KEPT: u32 = 1;
@@ -51,7 +51,7 @@ impl<D: Domain> Desk<D> {
         }
     }
 
-    /// What is left to end does so, in so many steps at most.
+    /// What is left to end does so, in so many rounds at most.
     #[cold]
     #[inline(never)]
     pub(crate) fn end_some(&self) {
@@ -59,22 +59,22 @@ impl<D: Domain> Desk<D> {
         self.spare();
     }
 
-    /// What is left to end does so, in so many steps at most, and `take` gets each value while the desk is free.
+    /// What is left to end does so, in so many rounds at most, and `take` gets each value while the desk is free.
     /// Whether no more is to be done: nothing is left, or the desk is within a visit.
     #[inline(always)]
     fn end_within<F: FnMut(D::Value)>(&self, take: &mut F) -> bool
         requires { F.IsAlwaysCallable take.old }
         ensures { F.IsAlwaysCallable take.new }
     {
-        for _ in 0..STEPS {
-            let round = match self.table.try_borrow_mut() {
-                Ok(mut table) => table.step(),
+        let mut rounds = ROUNDS;
+        while rounds > 0 {
+            let ended = match self.table.try_borrow_mut() {
+                Ok(mut table) => table.next_value(&mut rounds),
                 Err(_) => return true,
             };
-            match round {
-                Round::Settled => return true,
-                Round::Cleared(_, _) => {}
-                Round::Ended(value) => take(value),
+            match ended {
+                Some(value) => take(value),
+                None => return rounds > 0,
             }
         }
         false

@@ -6,12 +6,11 @@ use crate::domain::accesses::{LentObservers, LentScene, LentStack};
 use crate::domain::taking::{is_some, restock};
 use control_word::Place;
 use handle_table::{Cell, Fault, HandleTable, Home, Returned};
-use shared_handle::{Gone, Round};
+use shared_handle::Gone;
 use std::alloc::Global;
 use std::sync::Wait;
 use table_structures::{ObserverCalls, SceneCalls, StackCalls};
 
-/// A handle table that is lent to a desk.
 pub(crate) struct Lent<'m, 'd, V: Drop, H: Home> {
     table: &'m mut HandleTable<'d, V, H>,
 }
@@ -105,8 +104,9 @@ impl<'m, 'd, V: Drop, H: Home> Domain for Lent<'m, 'd, V, H> {
     }
 
     #[inline(always)]
-    fn step(&mut self) -> Round<V> {
-        self.table.round()
+    #[tactic(auto, using(shared_handle::proofs::Rounds::fewer_left))]
+    fn next_value(&mut self, rounds: &mut u32) -> Option<V> {
+        self.table.next_value(rounds)
     }
 
     #[inline(always)]

@@ -1,9 +1,9 @@
 //! Objects of a pile end, the top first, and what ends for an object before it is finished.
-ghost use Rattle.std.specs.Prelude.{◌≡◌, [], ◌∷◌, ◌++◌, List, IfNone, IfSome, MatchOption};
+ghost use Rattle.std.specs.Prelude.{◌≡◌, ◌⊎◌, ◌+◌, [], ◌∷◌, List, IfNone, IfSome, MatchOption, length};
 ghost use Rattle.control_block.specs.Desks.{IsSameDesk, bag_of};
 ghost use Rattle.control_block.specs.Own.{Does};
 ghost use Rattle.shared_handle.specs.Endings.{with_clear};
-ghost use Rattle.shared_handle.specs.Piles.{AreRounds, Carries, ClearsOnce, EndsTop, IsParting, IsRound};
+ghost use Rattle.shared_handle.specs.Piles.{AreRounds, CameLast, Carries, ClearsOnce, EndsTop, IsParting, IsRound};
 ghost use Rattle.shared_handle.specs.Piles.{KeepsElsewhere, Past, Stacked, is_cleared, next_member, piled, values_of};
 
 use crate::endings::{Ending, Left, Member};
@@ -99,30 +99,35 @@ impl<V: Drop> Pile<V> {
         self.put(left);
     }
 
-    /// Rounds of the object that was on top, which stays in hand meanwhile (own): its members are emptied, up to the
-    /// first for which an object ends, and then it goes back, below that; or it is finished, and its value comes out.
-    // To write it to the pile and read it back in each round took most of a settled object's time.
+    /// Rounds, so many at most, until a value comes out (own): `rounds` is how many are left of them. `None` where none
+    /// is left, or nothing to end. What ends in the desk's hands elsewhere stays as it is. It waits for nobody.
+    // The top stays in hand: to write it to the pile and read it back in each round took most of an object's time.
     #[inline(always)]
-    pub(crate) fn work_off(
+    pub fn next_value(
         &mut self,
         domain: &Domain<V>,
         desk: &mut Desk<V>,
-        ending: Ending<V>,
+        rounds: &mut u32,
     ) -> Option<V>
-        requires stacked { Stacked domain.now desk.old self.old ending }
+        requires carries { Carries domain.now desk.old self.old }
         ensures carries { Carries domain.now desk.new self.new }
         ensures elsewhere { KeepsElsewhere
-            desk.old (self.old.endings.items ++ ending ∷ []) desk.new self.new.endings.items }
-        ensures rounds { (rs : List (Past V)) × AreRounds desk.old
-            (self.old.endings.items ++ ending ∷ []) rs desk.new self.new.endings.items
-            × MatchOption result (values_of rs ≡ []) (λ v. values_of rs ≡ v ∷ []) }
+            desk.old self.old.endings.items desk.new self.new.endings.items }
+        ensures rounds { (rs : List (Past V)) × AreRounds desk.old self.old.endings.items rs desk.new
+            self.new.endings.items × (length rs + rounds.new ≡ rounds.old)
+            × MatchOption result (values_of rs ≡ []) (λ v. CameLast v rs) }
+        ensures none { IfNone result ((rounds.new ≡ 0) ⊎ (self.new.endings.items ≡ [])) }
         ensures parting { Does IsParting desk.old desk.new }
         ensures bag { bag_of desk.new ≡ bag_of desk.old }
         ensures held { desk.new.held ≡ desk.old.held }
         ensures desk { IsSameDesk desk.old desk.new }
     {
-        let mut top = ending;
-        while let Some(member) = top.next_member() {
+        let mut top = self.endings.pop()?;
+        while *rounds > 0 {
+            *rounds -= 1;
+            let Some(member) = top.next_member() else {
+                return Some(top.finish(domain, desk));
+            };
             let left = top.clear_member(domain, desk, member);
             desk.stands();
             match left {
@@ -130,12 +135,13 @@ impl<V: Drop> Pile<V> {
                 Left::Others => {}
                 Left::Last(next) => {
                     self.endings.push_reserved(top);
-                    self.endings.push_reserved(next);
-                    return None;
+                    top = next;
                 }
             }
         }
-        Some(top.finish(domain, desk))
+        desk.stands();
+        self.endings.push_reserved(top);
+        None
     }
 
     /// The object on top ends (own): its members are emptied, what ends for it goes onto the pile, and its value comes

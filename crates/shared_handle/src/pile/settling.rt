@@ -53,12 +53,14 @@ impl<V: Drop> Pile<V> {
         ensures desk { IsSameDesk desk.old desk.new }
     {
         for _ in rt.forever() {
-            let Some(top) = self.endings.pop() else {
-                return;
-            };
-            match self.work_off(domain, desk, top) {
+            let mut rounds = u32::MAX;
+            match self.next_value(domain, desk, &mut rounds) {
                 Some(value) => take(value),
-                None => {}
+                None => {
+                    if rounds > 0 {
+                        return;
+                    }
+                }
             }
         }
         unreachable!()

@@ -53,7 +53,20 @@ const NESTED: [(Call, Answer); 13] = [
     (Call::Round, Answer::Value(None)),
 ];
 
+/// The same by rounds until a value comes out, so many at most.
+const COUNTED: [(Call, Answer); 9] = [
+    (Call::Make(0, [1, 0, 0, 0], false, 1), Answer::Done),
+    (Call::Make(1, [2, 0, 0, 0], false, 2), Answer::Done),
+    (Call::Store(1, FIRST), Answer::WasEmpty),
+    (Call::Reset(0), Answer::WasLast),
+    (Call::NextValue(0), Answer::Next(None, 0)),
+    (Call::NextValue(2), Answer::Next(None, 0)),
+    (Call::NextValue(9), Answer::Next(Some(2), 6)),
+    (Call::NextValue(3), Answer::Next(Some(1), 0)),
+    (Call::NextValue(1), Answer::Next(None, 1)),
+];
+
 #[test]
 fn objects_end_member_by_member(rt: HostRuntime) {
-    hold(&rt, rt.alloc(), &[&TIED, &NESTED]);
+    hold(&rt, rt.alloc(), &[&TIED, &NESTED, &COUNTED]);
 }
