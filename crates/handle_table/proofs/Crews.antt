@@ -5,14 +5,13 @@ use Rattle.control_word.specs.declared.refusal.Refusal.{Refusal}
 use Rattle.control_word.specs.declared.refusal.Refusal.TheVariants.{Memory}
 use Rattle.control_word.specs.declared.shape.Shape.{Shape}
 use Rattle.control_word.specs.Histories.{IsLegal}
-use Rattle.control_block.specs.Census.{CensusNow}
-use Rattle.control_block.specs.Desks.{IsFirstDesk, Belongs, DeskNow, DomainNow, allowance_of, bag_of, endings_of}
+use Rattle.control_block.specs.Desks.{Belongs, DeskNow, DomainNow, allowance_of, bag_of, endings_of}
 use Rattle.control_block.specs.Parting.{SplitsOff}
 use Rattle.control_block.specs.Rule.{opening_of}
 use Rattle.control_block.specs.Standing.{Standing}
 use Rattle.handle_table.proofs.Filling.{total_one}
-use Rattle.handle_table.specs.Parting.{AbsorbsAll, IsNew, IsPartedInto, WhyFewer, WindsUp}
-use Rattle.handle_table.specs.Programs.{ArePartsOf, CanClose, EachWorks, HaveWorked, IsClosed, IsManned, NumberedWork, Runs, any_work, Works, WorksIn, WorksOut}
+use Rattle.handle_table.specs.Parting.{AbsorbsAll, IsNew, IsPartedInto, WhyFewer}
+use Rattle.handle_table.specs.Programs.{ArePartsOf, CanClose, EachWorks, HaveWorked, IsManned, NumberedWork, any_work, Works}
 use Rattle.handle_table.specs.Staffs.{EachDoes}
 use Rattle.handle_table.specs.Tables.{FitsSlots, TableNow}
 use Rattle.handle_table.specs.declared.program.Manned.{Manned}
@@ -87,24 +86,6 @@ module _ {V : Type 0} where
         bare = (nil_from_length (bag_of d) (sym (total_one (bag_of d)) ∙ fits.bag (λ h. 1)), fits.held, none);
       }
 
-  -- the table was wound up after its team's work
-  pub works_out : (did : NumberedWork V) (t u : TableNow V) (team : Team) (manned : Manned) (last : DeskNow V) → Works did t team manned u
-      → WindsUp u last → WorksOut did t team manned last
-  works_out did t u team manned last works winds = record { after = u; works = works; winds_up = winds }
-
-  -- the table was the domain's first one
-  pub works_in : (did : NumberedWork V) (domain : DomainNow) (d : DeskNow V) (t : TableNow V) (team : Team) (manned : Manned) (last : DeskNow V)
-      → IsFirstDesk domain d → t.desk ≡ d
-      → IsNew team.slots t → WorksOut did t team manned last → WorksIn did domain team manned last
-  works_in did domain d t team manned last begins is new out =
-      record { first = t; begins = subst (λ (x : DeskNow V). IsFirstDesk domain x) (sym is) begins; new = new; out = out }
-
-  -- and its desk closed the domain
-  pub runs : (did : NumberedWork V) (domain : DomainNow) (shape : Shape) (team : Team) (manned : Manned) (last : DeskNow V) (c : CensusNow)
-      → domain.shape ≡ shape → WorksIn did domain team manned last → IsClosed last domain.shape c → Runs V did shape team manned c
-  runs did domain shape team manned last c of works is =
-      record { domain = domain; of = of; last = last; works = works; closed = subst (λ (s : Shape). IsClosed last s c) of is }
-
   -- what each worker's part says, by the program and the worker's number
   pub parts_work : {P : Type 0} (did : P → NumberedWork V) (p : P) (n : ℕ) (xs ys : List (Part P)) (ts us : List (TableNow V)) → ArePartsOf p n xs
       → EachDoes (λ (x : Part P) t y u. did x.program.now x.number t u) xs ts ys us → EachWorks (did p) n ts us
@@ -132,10 +113,6 @@ module _ {V : Type 0} where
   any_each n (t ∷ ts) (u ∷ us) many = (tt, any_each (suc n) ts us (omega (arith, many)))
   any_each n [] (u ∷ us) many = absurd (cc many)
   any_each n (t ∷ ts) [] many = absurd (cc many)
-
-  pub each_none : (did : NumberedWork V) (n : ℕ) (ts : List (TableNow V)) → length ts ≡ 0 → EachWorks did n ts ts
-  each_none did n [] none = tt
-  each_none did n (t ∷ ts) none = absurd (cc none)
 
 -- one part more
 pub parts_more : {P : Type 0} (p : P) (n : ℕ) (xs : List (Part P)) (x : Part P) → ArePartsOf p n xs → x.program.now ≡ p → x.number ≡ n + length xs

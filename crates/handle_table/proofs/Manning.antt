@@ -1,5 +1,5 @@
 -- Workers and tables that are put together and taken apart from the ends of their lists, and what each worker did.
-use Rattle.std.proofs.Common.{◌≡◌, ◌⊎◌, inl, inr, ◌↔◌, ℕ, suc, ◌<◌, IfOk, Result, Ok, Err, List, [], ◌∷◌}
+use Rattle.std.proofs.Common.{◌≡◌, inl, inr, ◌↔◌, ℕ, suc, ◌<◌, IfOk, Option, None, IfNone, Result, Ok, Err, List, [], ◌∷◌}
 use Rattle.std.proofs.Common.{◌++◌, length, map, reverse, ap, sym, ◌∙◌, subst, arith, refl}
 use Rattle.std.specs.Prelude.{All, slice_index_or}
 use Rattle.std.specs.List.{AllZip}
@@ -10,11 +10,11 @@ use Rattle.control_word.specs.declared.refusal.Refusal.{Refusal}
 use Rattle.control_word.specs.declared.refusal.Refusal.TheVariants.{Memory, NotSole}
 use Rattle.control_word.specs.declared.refusal.Refusal.TheVariants as refusal
 use Rattle.control_word.specs.declared.shape.Shape.{Shape}
-use Rattle.control_block.specs.Census.{CensusNow}
-use Rattle.control_block.specs.Desks.{Belongs, IsFirstDesk, DeskNow, DomainNow}
-use Rattle.handle_table.specs.Parting.{AbsorbsAll, IsNew, IsPartedInto, IsRefusedPart, WindsUp}
-use Rattle.handle_table.specs.Programs.{CanClose, IsClosed}
-use Rattle.handle_table.specs.Staffs.{WorkerRelation, EachDoes, Shifts, Staffs, StaffsIn, StaffsOpen, StaffsOut}
+use Rattle.control_block.specs.Desks.{Belongs, DeskNow, DomainNow}
+use Rattle.handle_table.specs.Parting.{AbsorbsAll, IsNew, IsPartedInto, IsRefusedPart}
+use Rattle.handle_table.specs.Programs.{CanClose}
+use Rattle.handle_table.specs.Staffs.{WorkerRelation, EachDoes, Staffs, StaffsIn, StaffsOpen, StaffsOrNot}
+use Rattle.handle_table.specs.Openings.{GoesOn}
 use Rattle.handle_table.specs.Tables.{TableNow}
 use Rattle.handle_table.specs.declared.staff.Share.{Share}
 
@@ -124,22 +124,17 @@ module _ {V W : Type 0} (does : WorkerRelation V W) where
         absorbs = subst (λ (y : TableNow V). AbsorbsAll y left u) is absorbs;
       }
 
-module _ {V W : Type 0} (does : WorkerRelation V W) where
-  pub staffs_out : (t u : TableNow V) (share : Share) (had has : List W) (last : DeskNow V) → Staffs does t share had has u → WindsUp u last
-      → StaffsOut does t share had has last
-  staffs_out t u share had has last staffs winds = record { after = u; staffs = staffs; winds_up = winds }
-
-  pub staffs_in : (domain : DomainNow) (d : DeskNow V) (t : TableNow V) (share : Share) (had has : List W) (last : DeskNow V) → IsFirstDesk domain d
-      → t.desk ≡ d → IsNew share.slots t → StaffsOut does t share had has last
-      → StaffsIn does domain share had has last
-  staffs_in domain d t share had has last begins is new out =
-      record { first = t; begins = subst (λ (x : DeskNow V). IsFirstDesk domain x) (sym is) begins; new = new; out = out }
-
-  pub shifts : (domain : DomainNow) (shape : Shape) (share : Share) (had has : List W) (last : DeskNow V) (c : CensusNow) → domain.shape ≡ shape
-      → StaffsIn does domain share had has last → IsClosed last domain.shape c
-      → Shifts V does shape share had has c
-  shifts domain shape share had has last c of works is =
-      record { domain = domain; of = of; last = last; works = works; closed = subst (λ (s : Shape). IsClosed last s c) of is }
+  -- what the workers did where none was refused
+  pub staffs_in : (domain : DomainNow) (share : Share) (had has : List W) (n : ℕ) (refused : Option Refusal) (last : DeskNow V) → refused ≡ None
+      → n ≡ share.slots → GoesOn (λ t u. StaffsOrNot does share had t refused has u) domain n last → StaffsIn does domain share had has last
+  staffs_in domain share had has n refused last is many g =
+      let staffs = subst (λ (o : Option Refusal). IfNone o (Staffs does g.first share had has g.after)) is g.done.0 in
+      record {
+        first = g.first;
+        begins = g.begins;
+        new = subst (λ (k : ℕ). IsNew k g.first) many g.new;
+        out = record { after = g.after; staffs = staffs; winds_up = g.winds_up };
+      }
 
   -- the desk that had all closes its domain, or may
   pub opened : (r : Result (DomainNow × DeskNow V) Refusal) (domain : DomainNow) (shape : Shape) (share : Share) (had has : List W) (last : DeskNow V)
@@ -154,19 +149,7 @@ module _ {V W : Type 0} (does : WorkerRelation V W) where
 pub not_shape : (shape : Shape) (why : Refusal) → why ≡ NotSole → IsWithinLimits shape → why ≡ refusal.Shape ↔ (IsWithinLimits shape → ⊥)
 not_shape shape why is within = (λ e. absurd (cc (is, e)), λ no. absurd (no within))
 
--- a domain that wasn't opened, and a desk that gave no such part
-pub not_opened : (why : Refusal) → (why ≡ refusal.Shape) ⊎ (why ≡ Memory) → (why ≡ refusal.Shape) ⊎ ((why ≡ NotSole) ⊎ IsRefusedPart why)
-not_opened why (inl e) = inl e
-not_opened why (inr e) = inr (inr (inr (inr e)))
-
-pub for_memory : (why : Refusal) → (why ≡ refusal.Shape) ⊎ (why ≡ Memory) → (why ≡ refusal.Shape) ⊎ ((why ≡ NotSole) ⊎ (why ≡ Memory))
-for_memory why (inl e) = inl e
-for_memory why (inr e) = inr (inr e)
-
-pub never_sole : (why : Refusal) → (why ≡ refusal.Shape) ⊎ (why ≡ Memory) → why ≡ NotSole → ⊥
-never_sole why (inl e) is = absurd (cc (e, is))
-never_sole why (inr e) is = absurd (cc (e, is))
-
+-- a desk that gave no such part
 pub part_sole : (why : Refusal) → IsRefusedPart why → why ≡ NotSole → ⊥
 part_sole why (inl e) is = absurd (cc (e, is))
 part_sole why (inr (inl e)) is = absurd (cc (e, is))

@@ -1,5 +1,5 @@
 -- What lies in a slot, by its parts in memory.
-use Rattle.std.proofs.Common.{◌≡◌, ◌<◌, ◌≤◌, ℕ, zero, suc, List, [], ◌∷◌, length, Bool, true, false, Option, None, Some, ap, arith, cond, refl, subst, sym, ◌∙◌}
+use Rattle.std.proofs.Common.{◌≡◌, ◌<◌, ℕ, Bool, true, false, Option, None, Some, ap, arith, cond, refl, subst, sym, ◌∙◌}
 use Rattle.std.proofs.lemmas.Bool.{ne_eqb}
 use Rattle.std.specs.Prelude.{◌||◌, is_some, not}
 use Rattle.std.specs.Coded.{Coded-set, coded_option}
@@ -12,7 +12,7 @@ use Rattle.control_block.specs.Handles.{IsProper, IsProper-prop}
 use Rattle.control_block.specs.declared.handles.Held.{Held}
 use Rattle.control_block.specs.declared.handles.Held.TheVariants.{Owner}
 use Rattle.control_block.specs.declared.handles.Shared.{Shared}
-use Rattle.handle_table.specs.Slots.{IsOther, IsOwned, IsOwnedAt, lies_in, owner_in}
+use Rattle.handle_table.specs.Slots.{IsOther, IsOwned, lies_in, owner_in}
 
 place_set : IsSet (Option Place)
 place_set = Coded-set (coded_option place_type.the_row.coded)
@@ -79,9 +79,3 @@ not_owned m q o none other is =
     let there : o ≡ Some (owner_in is.0 is.1) = subst (λ (k : ℕ). lies_in k q o ≡ Some (owner_in is.0 is.1)) none is.3 in
     let no_number : is.0 ≡ 0 = subst IsOther there other in
     omega (arith, no_number, is.2)
-
--- behind the last slot is none
-pub none_beyond : (ss : List (Option Held)) (i : ℕ) → length ss ≤ i → IsOwnedAt ss i → ⊥
-none_beyond [] i few is = absurd (cc is.3)
-none_beyond (s ∷ ss) zero few is = omega (arith, few)
-none_beyond (s ∷ ss) (suc i) few is = none_beyond ss i (omega (arith, few)) (is.0, is.1, is.2, is.3)

@@ -8,7 +8,7 @@ use Rattle.control_word.specs.declared.place.Block.{Block}
 use Rattle.control_word.specs.declared.place.Place.{Place}
 use Rattle.control_word.specs.declared.refusal.Refusal.{Refusal}
 use Rattle.control_word.specs.declared.refusal.Refusal.TheVariants.{Null, Outside}
-use Rattle.control_block.specs.HandleLists.{with_held, without_held}
+use Rattle.control_block.specs.HandleLists.{without_held}
 use Rattle.control_block.specs.Parting.{JoinsWith, SplitsOff, listed, without_all}
 use Rattle.control_block.specs.declared.handles.Held.{Held}
 use Rattle.shared_handle.specs.Endings.{IsRead}
@@ -18,7 +18,7 @@ use Rattle.control_block.specs.Rule.{opening_of}
 use Rattle.shared_handle.proofs.Piles.{bears_kept}
 use Rattle.shared_handle.specs.Piles.{Bears}
 use Rattle.shared_handle.specs.declared.pile.Pile.{Pile}
-use Rattle.handle_table.proofs.Filling.{fits_exchange, fits_joined, fits_last, fits_less, fits_out, fits_still, fits_vacant}
+use Rattle.handle_table.proofs.Filling.{fits_joined, fits_last, fits_less, fits_out, fits_still, fits_vacant}
 use Rattle.handle_table.specs.Tables.{AllVacant, FitsSlots, IsWhole, Slot, TableNow, on_pile}
 
 module _ {V : Type 0} where
@@ -53,15 +53,6 @@ module _ {V : Type 0} where
       → bag_of e ≡ without_held h (bag_of d) → e.held + 1 ≡ d.held → FitsSlots e new
   fits_left d e ss new i h fits at is bag held =
       subst (FitsSlots e) (sym is) (fits_less d e (set ss i None) h (fits_out d ss i h fits at) bag held)
-
-  -- it was exchanged for another, which left
-  pub fits_stored : (d m e : DeskNow V) (ss new : List Slot) (i : ℕ) (x y : Held) → FitsSlots d ss → slice_get ss i ≡ Some (Some x)
-      → new ≡ set ss i None
-      → bag_of m ≡ with_held y (without_held x (bag_of d)) → m.held ≡ d.held
-      → bag_of e ≡ without_held y (bag_of m) → e.held + 1 ≡ m.held → FitsSlots e new
-  fits_stored d m e ss new i x y fits at is bag held left less =
-      subst (FitsSlots e) (sym is)
-      (fits_less m e (set ss i None) y (fits_exchange d m (set ss i None) x y (fits_out d ss i x fits at) bag held) left less)
 
   -- the last slot went out of them, and what was there is in hand
   pub last_out : (d : DeskNow V) (all rest : List Slot) (x y : Slot) → all ≡ rest ++ x ∷ [] → x ≡ y → FitsSlots d all → FitsSlots d (y ∷ rest)

@@ -11,6 +11,7 @@ pub mod Pairs
 pub mod Parts
 pub mod Visits
 pub mod Parting
+pub mod Openings
 pub mod Programs
 pub mod Leading
 pub mod Staffs

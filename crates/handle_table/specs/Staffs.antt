@@ -1,12 +1,14 @@
 -- What is said of workers that have a state of their own, each with a table (own).
-use Rattle.std.specs.Prelude.{◌≡◌, ℕ, ◌*◌, ◌<◌, ◌≤◌, All, List, [], ◌∷◌, length}
+use Rattle.std.specs.Prelude.{◌≡◌, ℕ, ◌*◌, ◌<◌, ◌≤◌, All, List, [], ◌∷◌, length, Option, IfNone, IfSome}
+use Rattle.control_word.specs.declared.refusal.Refusal.{Refusal}
+use Rattle.control_word.specs.declared.refusal.Refusal.TheVariants.{Memory}
 use Rattle.control_word.specs.declared.shape.Shape.{Shape}
 use Rattle.control_block.specs.Census.{CensusNow}
 use Rattle.control_block.specs.Desks.{Belongs, IsFirstDesk, DeskNow, DomainNow}
 use Rattle.control_block.specs.Desks.{allowance_of, bag_of, endings_of, stock_of}
 use Rattle.control_block.specs.Own.{IsSole}
 use Rattle.control_block.specs.Parting.{free_of}
-use Rattle.handle_table.specs.Parting.{AbsorbsAll, IsNew, IsPartedInto, WindsUp}
+use Rattle.handle_table.specs.Parting.{AbsorbsAll, IsNew, IsPartedInto, IsRefusedPart, WindsUp}
 use Rattle.handle_table.specs.Programs.{CanClose, IsClosed}
 use Rattle.handle_table.specs.Tables.{TableNow}
 use Rattle.handle_table.specs.declared.staff.Share.{Share}
@@ -61,6 +63,12 @@ module _ {V W : Type 0} where
     pub left : List (TableNow V)
     pub each : EachDoes does had lent has left
     pub absorbs : AbsorbsAll (record t { desk = between }) left u
+
+  -- so it is where none was refused its table or its thread; else why, and no worker has changed
+  abbrev pub StaffsOrNot : WorkerRelation V W → Share → List W → TableNow V → Option Refusal → List W → TableNow V → Type 0
+  StaffsOrNot does share had t refused has u = IfNone refused (Staffs does t share had has u)
+      × IfSome refused (λ why. IsRefusedPart why × (has ≡ had))
+      × (CanShare t.desk share (length had) → IfSome refused (λ why. why ≡ Memory))
 
   -- and then all handles left the table, and what was left to end did so
   pub record StaffsOut (does : WorkerRelation V W) (t : TableNow V) (share : Share) (had has : List W)

@@ -81,10 +81,7 @@ fn member_at(slots: &Vec<Slot>, of: usize, member: u32) -> Result<Site, Fault>
     ensures found { IfOk result (λ s. (b : Block) × OwnsInto slots.now.items of b × (s ≡ site.Member b member)) }
     ensures fault { IfErr result (WhyNoObject slots.now.items of) }
 {
-    let owner = match owner_at(slots, of) {
-        Ok(owner) => owner,
-        Err(why) => return Err(why),
-    };
+    let owner = owner_at(slots, of)?;
     let block = block_within(&owner);
     stays(owner);
     match block {

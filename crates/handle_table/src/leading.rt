@@ -1,21 +1,18 @@
 //! A program whose first thread has a table too, and starts teams one after another.
-ghost use Rattle.std.specs.Prelude.{◌≡◌, ◌⊎◌, ◌↔◌, [], length, IfErr, IfNone, IfOk, IfSome, None};
+ghost use Rattle.std.specs.Prelude.{◌≡◌, ◌⊎◌, ◌↔◌, length, IfErr, IfNone, IfOk, IfSome, None};
 ghost use Rattle.control_word.specs.Layout.{IsWithinLimits};
-ghost use Rattle.control_block.specs.Desks.{IsFirstDesk, Belongs, DeskNow, endings_of};
-ghost use Rattle.shared_handle.specs.Piles.{Bears};
-ghost use Rattle.handle_table.specs.Leading.{LeadsDomain, LeadsIn, LeadsOn, LeadsOut, StartsTeam};
-ghost use Rattle.handle_table.specs.Tables.{AllVacant, FitsSlots, on_pile};
+ghost use Rattle.handle_table.specs.Openings.{GoesOn, IsFirstPart};
+ghost use Rattle.handle_table.specs.Leading.{LeadsDomain, LeadsOn, StartsTeam};
 
 use crate::closing::close_bare;
-use crate::opening::{Opened, open_domain};
-use crate::program::{Manned, Program, Team, first_table};
-use crate::slots::slot::Slot;
+use crate::opening::{first_table, open_domain};
+use crate::parting::parts::Part;
+use crate::program::{Manned, Program, Team};
 use crate::table::{HandleTable, Home};
 use control_block::census::Census;
 use control_block::desk::Desk;
 use control_block::domain::Domain;
 use control_word::{Refusal, Shape};
-use shared_handle::{Held, Pile};
 use std::alloc::Global;
 use std::marker::Brand;
 use std::sync::Wait;
@@ -85,43 +82,22 @@ fn lead_on<
     unreachable!()
 }
 
-/// The same, and then all handles leave the leader's table and what is left to end does so.
-fn lead_out<
-    V: Drop + Send,
-    H: Home + Send + Sync,
-    R: Threads + Wait + Sync,
-    P: Leader<V, R> + Sync,
->(rt: &R, alloc: Global, table: HandleTable<'_, V, H>, leader: &mut P) -> Desk<V>
-    ensures here { Belongs result H.domain }
-    ensures none { FitsSlots result [] × (endings_of result ≡ 0) }
-    ensures led { LeadsOut P.leads P.works leader.old table.entry leader.new result }
-{
-    let mut table = table;
-    lead_on(rt, alloc, &mut table, leader);
-    table.into_desk(rt)
-}
-
-/// The same in a domain with its first desk.
+/// The same with a domain's first table, whose desk comes out.
 fn lead_in<V: Drop + Send, H: Home + Send + Sync, R: Threads + Wait + Sync, P: Leader<V, R> + Sync>(
     rt: &R,
     alloc: Global,
     domain: &Domain<V>,
-    desk: Desk<V>,
-    slots: Vec<Slot>,
-    pile: Pile<V>,
+    part: Part<V>,
     leader: &mut P,
 ) -> Desk<V>
     requires home { domain.now ≡ H.domain }
-    requires desk { IsFirstDesk domain.now desk }
-    requires slots { AllVacant slots.items }
-    requires pile { (d : DeskNow V) → Belongs d domain.now → endings_of d ≡ 0 → Bears domain.now d pile }
-    requires empty { on_pile pile ≡ [] }
-    ensures here { Belongs result domain.now }
-    ensures none { FitsSlots result [] × (endings_of result ≡ 0) }
-    ensures led { LeadsIn P.leads P.works domain.now (length slots.items) leader.old leader.new result }
+    requires first { IsFirstPart domain.now part }
+    ensures { GoesOn (λ t u. LeadsOn P.leads P.works leader.old t leader.new u) domain.now
+        (length part.slots.items) result }
 {
-    let table = first_table::<V, H>(domain, desk, slots, pile);
-    lead_out(rt, alloc, table, leader)
+    let mut table = first_table::<V, H>(domain, part);
+    lead_on(rt, alloc, &mut table, leader);
+    table.into_desk(rt)
 }
 
 /// A domain is opened, and the first thread leads with the domain's first table, which has so many slots: between two
@@ -145,12 +121,7 @@ pub fn run_leader<V: Drop + Send, R: Threads + Wait + Sync, P: Leader<V, R> + Sy
         (λ why. (why ≡ Refusal.Shape) ⊎ ((why ≡ Refusal.Memory) ⊎ (why ≡ Refusal.NotSole))) }
     ensures same { IfErr result (λ why. (why ≡ Refusal.NotSole) ⊎ (leader.new ≡ leader.old)) }
 {
-    let Opened {
-        domain,
-        desk,
-        slots,
-        pile,
-    } = open_domain::<V>(alloc, shape, slots)?;
-    let desk = lead_in::<V, Brand, R, P>(rt, alloc, &domain, desk, slots, pile, leader);
+    let (domain, part) = open_domain::<V>(alloc, shape, slots)?;
+    let desk = lead_in::<V, Brand, R, P>(rt, alloc, &domain, part, leader);
     close_bare(domain, desk)
 }

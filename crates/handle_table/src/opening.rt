@@ -1,41 +1,30 @@
 //! A new domain, with what its first table is made of.
-ghost use Rattle.std.specs.Prelude.{◌≡◌, ◌⊎◌, ◌↔◌, [], length, IfErr, IfOk};
+ghost use Rattle.std.specs.Prelude.{◌≡◌, ◌⊎◌, ◌↔◌, length, IfErr, IfOk};
 ghost use Rattle.control_word.specs.Layout.{IsWithinLimits};
-ghost use Rattle.control_block.specs.Desks.{IsFirstDesk, Belongs, DeskNow, endings_of};
-ghost use Rattle.shared_handle.specs.Piles.{Bears};
-ghost use Rattle.handle_table.specs.Tables.{AllVacant, on_pile};
+ghost use Rattle.control_block.specs.Desks.{IsFirstDesk};
+ghost use Rattle.handle_table.specs.Openings.{IsFirstPart};
+ghost use Rattle.handle_table.specs.Parting.{IsNew};
 
 use crate::closing::shut;
-use crate::parting::parts::room_for;
+use crate::parting::parts::{Part, room_for};
 use crate::slots::open_slots;
-use crate::slots::slot::Slot;
-use control_block::desk::Desk;
+use crate::table::{HandleTable, Home};
 use control_block::domain::{Domain, open};
 use control_word::{Refusal, Shape};
-use shared_handle::{Held, Pile};
 use std::alloc::Global;
+use std::marker::PhantomData;
 
-/// A domain, its first desk, vacant slots, and a pile with room for all blocks.
-pub(crate) struct Opened<V: Drop> {
-    pub domain: Domain<V>,
-    pub desk: Desk<V>,
-    pub slots: Vec<Slot, Global>,
-    pub pile: Pile<V>,
-}
-
-/// A domain is opened, with so many slots for its first table. It is refused `Shape` just where the shape is outside
-/// the limits, and `Memory` only where a growth was really refused.
+/// A domain is opened, with what its first table is made of: its desk, so many vacant slots, and a pile with room for
+/// all blocks. It is refused `Shape` just where the shape is outside the limits, and `Memory` only where a growth was
+/// really refused.
 pub(crate) fn open_domain<V: Drop>(
     alloc: Global,
     shape: Shape,
     count: usize,
-) -> Result<Opened<V>, Refusal>
-    ensures of { IfOk result (λ o. o.domain.shape ≡ shape) }
-    ensures begins { IfOk result (λ o. IsFirstDesk o.domain o.desk) }
-    ensures slots { IfOk result (λ o. AllVacant o.slots.items × (length o.slots.items ≡ count)) }
-    ensures pile { IfOk result
-        (λ o. (d : DeskNow V) → Belongs d o.domain → endings_of d ≡ 0 → Bears o.domain d o.pile) }
-    ensures empty { IfOk result (λ o. on_pile o.pile ≡ []) }
+) -> Result<(Domain<V>, Part<V>), Refusal>
+    ensures of { IfOk result (λ r. r.0.shape ≡ shape) }
+    ensures first { IfOk result (λ r. IsFirstPart r.0 r.1) }
+    ensures many { IfOk result (λ r. length r.1.slots.items ≡ count) }
     ensures within { IfOk result (λ _. IsWithinLimits shape) }
     ensures shape { IfErr result (λ why. why ≡ Refusal.Shape ↔ (IsWithinLimits shape → ⊥)) }
     ensures refused { IfErr result (λ why. (why ≡ Refusal.Shape) ⊎ (why ≡ Refusal.Memory)) }
@@ -49,10 +38,25 @@ pub(crate) fn open_domain<V: Drop>(
         }
     };
     open_slots(&mut slots, count);
-    Ok(Opened {
+    Ok((domain, Part { desk, slots, pile }))
+}
+
+/// A domain's first table.
+pub(crate) fn first_table<'d, V: Drop, H: Home>(
+    domain: &'d Domain<V>,
+    part: Part<V>,
+) -> HandleTable<'d, V, H>
+    requires home { domain.now ≡ H.domain }
+    requires first { IsFirstPart domain.now part }
+    ensures begins { IsFirstDesk domain.now result.desk }
+    ensures new { IsNew (length part.slots.items) result }
+{
+    let Part { desk, slots, pile } = part;
+    HandleTable {
         domain,
+        home: PhantomData,
         desk,
         slots,
         pile,
-    })
+    }
 }

@@ -2,25 +2,22 @@
 ghost use Rattle.std.specs.Prelude.{◌≡◌, ◌⊎◌, ◌↔◌, ◌≤◌, [], All};
 ghost use Rattle.std.specs.Prelude.{length, vec_capacity, IfErr, IfOk, IfSome};
 ghost use Rattle.control_word.specs.Layout.{IsWithinLimits};
-ghost use Rattle.control_block.specs.Desks.{IsFirstDesk, Belongs, DeskNow, endings_of};
-ghost use Rattle.shared_handle.specs.Piles.{Bears};
+ghost use Rattle.handle_table.specs.Openings.{GoesOn, IsFirstPart};
 ghost use Rattle.handle_table.specs.Parting.{AbsorbsAll, IsNew, IsPartedInto, WhyFewer};
-ghost use Rattle.handle_table.specs.Programs.{HaveWorked, IsManned, Runs, Works, WorksIn, WorksOut};
-ghost use Rattle.handle_table.specs.Tables.{AllVacant, FitsSlots, on_pile};
+ghost use Rattle.handle_table.specs.Programs.{HaveWorked, IsManned, Runs, Works};
 
 use crate::closing::close_bare;
-use crate::opening::{Opened, open_domain};
-use crate::program::part::{Part, is_memory, parts_of};
-use crate::slots::slot::Slot;
+use crate::opening::{first_table, open_domain};
+use crate::parting::parts::Part;
+use crate::program::part::{is_memory, parts_of};
 use crate::staff::posts::worked;
 use crate::table::{HandleTable, Home};
 use control_block::census::Census;
 use control_block::desk::Desk;
 use control_block::domain::Domain;
 use control_word::{Refusal, Shape};
-use shared_handle::{Held, Pile};
 use std::alloc::Global;
-use std::marker::{Brand, PhantomData};
+use std::marker::Brand;
 use std::sync::Wait;
 use std::thread::Threads;
 
@@ -65,29 +62,6 @@ pub struct Ran<V: Drop> {
     pub census: Census<V>,
     pub workers: usize,
     pub fewer: Option<Refusal>,
-}
-
-/// The table of a domain's first desk.
-pub(crate) fn first_table<'d, V: Drop, H: Home>(
-    domain: &'d Domain<V>,
-    desk: Desk<V>,
-    slots: Vec<Slot>,
-    pile: Pile<V>,
-) -> HandleTable<'d, V, H>
-    requires home { domain.now ≡ H.domain }
-    requires desk { IsFirstDesk domain.now desk }
-    requires slots { AllVacant slots.items }
-    requires pile { (d : DeskNow V) → Belongs d domain.now → endings_of d ≡ 0 → Bears domain.now d pile }
-    ensures desk { result.desk ≡ desk }
-    ensures rest { (result.slots ≡ slots.items) × (result.endings ≡ on_pile pile) }
-{
-    HandleTable {
-        domain,
-        home: PhantomData,
-        desk,
-        slots,
-        pile,
-    }
 }
 
 impl<'d, V: Drop, H: Home> HandleTable<'d, V, H> {
@@ -182,7 +156,7 @@ fn lend_all<
         return none;
     };
     let mut parts = parts;
-    if worked::<V, H, R, Part<'_, P>>(rt, alloc, tables, &mut parts) {
+    if worked::<V, H, R, part::Part<'_, P>>(rt, alloc, tables, &mut parts) {
         Manned { workers, fewer }
     } else {
         none
@@ -211,47 +185,24 @@ impl<'d, V: Drop + Send, H: Home + Send + Sync> HandleTable<'d, V, H> {
     }
 }
 
-/// The workers of a team work, and the desk that has all they leave closes the domain.
-fn run_at<V: Drop + Send, H: Home + Send + Sync, R: Threads + Wait + Sync, P: Program<V, R> + Sync>(
-    rt: &R,
-    alloc: Global,
-    table: HandleTable<'_, V, H>,
-    team: Team,
-    program: &P,
-) -> (Desk<V>, Manned)
-    ensures here { Belongs result.0 H.domain }
-    ensures none { FitsSlots result.0 [] × (endings_of result.0 ≡ 0) }
-    ensures works { WorksOut (P.works program.now) table.entry team result.1 result.0 }
-    ensures manned { IsManned team.workers result.1.workers result.1.fewer }
-{
-    let mut table = table;
-    let manned = table.scope(rt, alloc, team, program);
-    (table.into_desk(rt), manned)
-}
-
-/// The program in a domain with its first desk.
+/// The workers of a team work, lent parts of a domain's first table, and the desk that has all they leave comes out.
 fn run_in<V: Drop + Send, H: Home + Send + Sync, R: Threads + Wait + Sync, P: Program<V, R> + Sync>(
     rt: &R,
     alloc: Global,
     domain: &Domain<V>,
-    desk: Desk<V>,
-    slots: Vec<Slot>,
-    pile: Pile<V>,
+    part: Part<V>,
     team: Team,
     program: &P,
 ) -> (Desk<V>, Manned)
     requires home { domain.now ≡ H.domain }
-    requires desk { IsFirstDesk domain.now desk }
-    requires slots { AllVacant slots.items × (length slots.items ≡ team.slots) }
-    requires pile { (d : DeskNow V) → Belongs d domain.now → endings_of d ≡ 0 → Bears domain.now d pile }
-    requires empty { on_pile pile ≡ [] }
-    ensures here { Belongs result.0 domain.now }
-    ensures none { FitsSlots result.0 [] × (endings_of result.0 ≡ 0) }
-    ensures works { WorksIn (P.works program.now) domain.now team result.1 result.0 }
+    requires first { IsFirstPart domain.now part }
+    ensures works { GoesOn (λ t u. Works (P.works program.now) t team result.1 u) domain.now (length part.slots.items)
+        result.0 }
     ensures manned { IsManned team.workers result.1.workers result.1.fewer }
 {
-    let table = first_table::<V, H>(domain, desk, slots, pile);
-    run_at(rt, alloc, table, team, program)
+    let mut table = first_table::<V, H>(domain, part);
+    let manned = table.scope(rt, alloc, team, program);
+    (table.into_desk(rt), manned)
 }
 
 /// A domain is opened, each worker of the team does its part of the program in a thread with a table of its own, and
@@ -276,15 +227,8 @@ pub fn run<V: Drop + Send, R: Threads + Wait + Sync, P: Program<V, R> + Sync>(
     ensures refused { IfErr result
         (λ why. (why ≡ Refusal.Shape) ⊎ ((why ≡ Refusal.Memory) ⊎ (why ≡ Refusal.NotSole))) }
 {
-    let Opened {
-        domain,
-        desk,
-        slots,
-        pile,
-    } = open_domain::<V>(alloc, shape, team.slots)?;
-    let (desk, manned) = run_in::<V, Brand, R, P>(
-        rt, alloc, &domain, desk, slots, pile, team, program,
-    );
+    let (domain, part) = open_domain::<V>(alloc, shape, team.slots)?;
+    let (desk, manned) = run_in::<V, Brand, R, P>(rt, alloc, &domain, part, team, program);
     let closed = close_bare(domain, desk);
     if is_memory(manned.fewer) {
         return Err(Refusal::Memory);

@@ -213,19 +213,13 @@ pub fn take_owner(slots: &mut Vec<Slot>, at: usize) -> Result<Shared, Fault>
         × (slots.new.items ≡ slice_set slots.old.items at None)) }
     ensures fault { IfErr result (λ why. WhyNoOwner slots.old.items at why × (slots.new.items ≡ slots.old.items)) }
 {
-    match owner_at(slots, at) {
-        Ok(owner) => stays(owner),
-        Err(why) => return Err(why),
-    }
-    match take_handle(slots, at) {
-        Ok(handle) => match handle {
-            Held::Owner(owner) => Ok(owner),
-            Held::Weak(weak) => {
-                weak.into_parts();
-                unreachable!()
-            }
-        },
-        Err(why) => Err(why),
+    stays(owner_at(slots, at)?);
+    match take_handle(slots, at)? {
+        Held::Owner(owner) => Ok(owner),
+        Held::Weak(weak) => {
+            weak.into_parts();
+            unreachable!()
+        }
     }
 }
 

@@ -1,25 +1,22 @@
 //! Workers with a state of their own over a domain of their own, with a table for each.
-ghost use Rattle.std.specs.Prelude.{◌≡◌, ◌⊎◌, ◌↔◌, [], length};
+ghost use Rattle.std.specs.Prelude.{◌≡◌, ◌⊎◌, ◌↔◌, length};
 ghost use Rattle.std.specs.Prelude.{IfErr, IfNone, IfOk, IfSome};
 ghost use Rattle.control_word.specs.Layout.{IsWithinLimits};
-ghost use Rattle.control_block.specs.Desks.{IsFirstDesk, Belongs, DeskNow, endings_of};
-ghost use Rattle.shared_handle.specs.Piles.{Bears};
+ghost use Rattle.handle_table.specs.Openings.{GoesOn, IsFirstPart};
 ghost use Rattle.handle_table.specs.Parting.{IsRefusedPart};
 ghost use Rattle.handle_table.specs.Staffs.{CanShare, HasShares, IsParted, KeepsAllowance, MeetsNeeds, Shifts};
-ghost use Rattle.handle_table.specs.Staffs.{Staffs, StaffsIn, StaffsOpen, StaffsOut};
-ghost use Rattle.handle_table.specs.Tables.{AllVacant, FitsSlots, on_pile};
+ghost use Rattle.handle_table.specs.Staffs.{Staffs, StaffsOpen, StaffsOrNot};
 
 use crate::closing::{close_bare, close_sole, keep_sole};
-use crate::opening::{Opened, open_domain};
-use crate::program::{Crew, Team, first_table};
-use crate::slots::slot::Slot;
+use crate::opening::{first_table, open_domain};
+use crate::parting::parts::Part;
+use crate::program::{Crew, Team};
 use crate::staff::posts::worked;
 use crate::table::{HandleTable, Home};
 use control_block::census::Census;
 use control_block::desk::Desk;
 use control_block::domain::Domain;
 use control_word::{Refusal, Shape};
-use shared_handle::{Held, Pile};
 use std::alloc::Global;
 use std::marker::Brand;
 use std::sync::Wait;
@@ -90,55 +87,24 @@ impl<'d, V: Drop + Send, H: Home + Send + Sync> HandleTable<'d, V, H> {
     }
 }
 
-/// The workers work, and the desk that has all they leave closes the domain.
-fn staff_at<V: Drop + Send, H: Home + Send + Sync, R: Threads + Wait + Sync, W: Work<V, R> + Send>(
-    rt: &R,
-    alloc: Global,
-    table: HandleTable<'_, V, H>,
-    share: Share,
-    workers: &mut Vec<W>,
-) -> (Desk<V>, Option<Refusal>)
-    requires needs { MeetsNeeds W.needs table.desk.shape share workers.old.items }
-    ensures here { Belongs result.0 H.domain }
-    ensures none { FitsSlots result.0 [] × (endings_of result.0 ≡ 0) }
-    ensures works { IfNone result.1
-        (StaffsOut W.does table.entry share workers.old.items workers.new.items result.0) }
-    ensures refused { IfSome result.1 (λ why. IsRefusedPart why × (workers.new.items ≡ workers.old.items)) }
-    ensures shared { CanShare table.entry.desk share (length workers.old.items)
-        → IfSome result.1 (λ why. why ≡ Refusal.Memory) }
-{
-    let mut table = table;
-    let refused = table.staff::<R, W>(rt, alloc, share, workers);
-    (table.into_desk(rt), refused)
-}
-
-/// The same in a domain with its first desk.
+/// The same with a domain's first table, whose desk comes out.
 fn staff_in<V: Drop + Send, H: Home + Send + Sync, R: Threads + Wait + Sync, W: Work<V, R> + Send>(
     rt: &R,
     alloc: Global,
     domain: &Domain<V>,
-    desk: Desk<V>,
-    slots: Vec<Slot>,
-    pile: Pile<V>,
+    part: Part<V>,
     share: Share,
     workers: &mut Vec<W>,
 ) -> (Desk<V>, Option<Refusal>)
     requires home { domain.now ≡ H.domain }
-    requires desk { IsFirstDesk domain.now desk }
-    requires slots { AllVacant slots.items × (length slots.items ≡ share.slots) }
-    requires pile { (d : DeskNow V) → Belongs d domain.now → endings_of d ≡ 0 → Bears domain.now d pile }
-    requires empty { on_pile pile ≡ [] }
+    requires first { IsFirstPart domain.now part }
     requires needs { MeetsNeeds W.needs domain.now.shape share workers.old.items }
-    ensures here { Belongs result.0 domain.now }
-    ensures none { FitsSlots result.0 [] × (endings_of result.0 ≡ 0) }
-    ensures works { IfNone result.1
-        (StaffsIn W.does domain.now share workers.old.items workers.new.items result.0) }
-    ensures refused { IfSome result.1 (λ why. IsRefusedPart why × (workers.new.items ≡ workers.old.items)) }
-    ensures shared { HasShares domain.now.shape share (length workers.old.items)
-        → IfSome result.1 (λ why. why ≡ Refusal.Memory) }
+    ensures { GoesOn (λ t u. StaffsOrNot W.does share workers.old.items t result.1 workers.new.items u)
+        domain.now (length part.slots.items) result.0 }
 {
-    let table = first_table::<V, H>(domain, desk, slots, pile);
-    staff_at::<V, H, R, W>(rt, alloc, table, share, workers)
+    let mut table = first_table::<V, H>(domain, part);
+    let refused = table.staff::<R, W>(rt, alloc, share, workers);
+    (table.into_desk(rt), refused)
 }
 
 /// A domain is opened, each worker does its part in a thread with a table of its own, and the
@@ -178,19 +144,8 @@ pub fn run_workers_open<V: Drop + Send, R: Threads + Wait + Sync, W: Work<V, R> 
     ensures parted { IfErr result
         (λ why. why ≡ Refusal.NotSole → IsParted V W.does shape share workers.old.items workers.new.items) }
 {
-    let opened = match open_domain::<V>(alloc, shape, share.slots) {
-        Ok(opened) => opened,
-        Err(why) => return Err(why),
-    };
-    let Opened {
-        domain,
-        desk,
-        slots,
-        pile,
-    } = opened;
-    let (desk, refused) = staff_in::<V, Brand, R, W>(
-        rt, alloc, &domain, desk, slots, pile, share, workers,
-    );
+    let (domain, part) = open_domain::<V>(alloc, shape, share.slots)?;
+    let (desk, refused) = staff_in::<V, Brand, R, W>(rt, alloc, &domain, part, share, workers);
     match refused {
         None => keep_sole(domain, desk),
         Some(why) => {
@@ -234,11 +189,6 @@ pub fn run_workers<V: Drop + Send, R: Threads + Wait + Sync, W: Work<V, R> + Sen
     ensures parted { IfErr result
         (λ why. why ≡ Refusal.NotSole → IsParted V W.does shape share workers.old.items workers.new.items) }
 {
-    match run_workers_open(rt, alloc, shape, share, workers) {
-        Ok(opened) => {
-            let (domain, desk) = opened;
-            Ok(close_sole(domain, desk))
-        }
-        Err(why) => Err(why),
-    }
+    let (domain, desk) = run_workers_open(rt, alloc, shape, share, workers)?;
+    Ok(close_sole(domain, desk))
 }

@@ -70,10 +70,7 @@ impl<'d, V: Drop, H: Home> HandleTable<'d, V, H> {
         ensures refused { IfErr result (WhyNoHandles self.old.slots a b) }
         ensures same { self.new ≡ self.old }
     {
-        let one = match handle_at(&self.slots, a) {
-            Ok(handle) => handle,
-            Err(why) => return Err(why),
-        };
+        let one = handle_at(&self.slots, a)?;
         let other = match handle_at(&self.slots, b) {
             Ok(handle) => handle,
             Err(why) => {

@@ -47,14 +47,10 @@ impl<'d, V: Drop, H: Home> HandleTable<'d, V, H> {
         ensures there { IfOk result (λ x. (h : Held) × IsAt self.now at h × IsPeeked h x) }
         ensures fault { IfErr result (WhyNoHandle self.now.slots at) }
     {
-        match handle_at(&self.slots, at) {
-            Ok(handle) => {
-                let parts = parts_of(&handle);
-                handle_stays(handle);
-                Ok(parts)
-            }
-            Err(why) => Err(why),
-        }
+        let handle = handle_at(&self.slots, at)?;
+        let parts = parts_of(&handle);
+        handle_stays(handle);
+        Ok(parts)
     }
 
     /// What is so of every table, which a proof may need (own): its desk is of the domain that its type names, and its

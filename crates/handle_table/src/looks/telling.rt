@@ -55,14 +55,10 @@ impl<'d, V: Drop, H: Home> HandleTable<'d, V, H> {
         ensures count { IfOk result (λ n. CountsSlot self.old at n self.new) }
         ensures refused { IfErr result (λ why. WhyNoHandle self.old.slots at why × (self.new ≡ self.old)) }
     {
-        match handle_at(&self.slots, at) {
-            Ok(handle) => {
-                let count = count_of(self.domain, &mut self.desk, &handle);
-                handle_stays(handle);
-                Ok(count)
-            }
-            Err(why) => Err(why),
-        }
+        let handle = handle_at(&self.slots, at)?;
+        let count = count_of(self.domain, &mut self.desk, &handle);
+        handle_stays(handle);
+        Ok(count)
     }
 
     /// `expired` ([util.smartptr.weak.obs]) of a weak handle.
@@ -85,13 +81,9 @@ impl<'d, V: Drop, H: Home> HandleTable<'d, V, H> {
         ensures place { IfOk result (λ place. PointsTo self.now at place) }
         ensures refused { IfErr result (WhyNoOwner self.now.slots at) }
     {
-        match owner_at(&self.slots, at) {
-            Ok(owner) => {
-                let place = owner.place();
-                stays(owner);
-                Ok(place)
-            }
-            Err(why) => Err(why),
-        }
+        let owner = owner_at(&self.slots, at)?;
+        let place = owner.place();
+        stays(owner);
+        Ok(place)
     }
 }

@@ -1,13 +1,11 @@
 //! Handles of a wanted kind, and what a cell sees of a handle.
 ghost use Rattle.std.specs.Prelude.{◌≡◌, slice_get, slice_set, IfErr, IfOk, None, Some};
-ghost use Rattle.control_word.specs.declared.model.handle.Kind.TheVariants as kind;
-ghost use Rattle.handle_table.specs.Calls.{WhyNoOwner, WhyNoWeak};
 ghost use Rattle.handle_table.specs.Cells.{IsShownToCell, WhyNoneOf};
 ghost use Rattle.handle_table.specs.Parts.{IsContent, kind_of_held};
 
 use crate::fault::Fault;
 use crate::slots::slot::Slot;
-use crate::slots::{owner_at, stays, take_handle, weak_at};
+use crate::slots::{owner_at, take_handle, weak_at};
 use control_block::cell_calls::Content;
 use control_block::handles::{Shared, Weak};
 use control_word::model::handle::Kind;
@@ -48,52 +46,14 @@ pub(crate) fn held_of(content: Content) -> Held
     }
 }
 
-/// What a cell sees of the owner in the slot.
-fn owner_content(slots: &Vec<Slot>, at: usize) -> Result<Content, Fault>
-    ensures found { IfOk result (IsShownToCell slots.now.items at kind.Owner) }
-    ensures fault { IfErr result (WhyNoOwner slots.now.items at) }
-{
-    match owner_at(slots, at) {
-        Ok(owner) => {
-            let content = Content {
-                kind: Kind::Owner,
-                block: owner.block(),
-                place: owner.place(),
-            };
-            stays(owner);
-            Ok(content)
-        }
-        Err(why) => Err(why),
-    }
-}
-
-/// And of the weak handle.
-fn weak_content(slots: &Vec<Slot>, at: usize) -> Result<Content, Fault>
-    ensures found { IfOk result (IsShownToCell slots.now.items at kind.Weak) }
-    ensures fault { IfErr result (WhyNoWeak slots.now.items at) }
-{
-    match weak_at(slots, at) {
-        Ok(weak) => {
-            let content = Content {
-                kind: Kind::Weak,
-                block: weak.block(),
-                place: weak.place(),
-            };
-            weak.into_parts();
-            Ok(content)
-        }
-        Err(why) => Err(why),
-    }
-}
-
 /// What a cell sees of the handle in the slot, which is of this kind.
 pub(crate) fn content_at(slots: &Vec<Slot>, at: usize, kind: Kind) -> Result<Content, Fault>
     ensures found { IfOk result (IsShownToCell slots.now.items at kind) }
     ensures fault { IfErr result (WhyNoneOf kind slots.now.items at) }
 {
     match kind {
-        Kind::Owner => owner_content(slots, at),
-        Kind::Weak => weak_content(slots, at),
+        Kind::Owner => Ok(into_content(Held::Owner(owner_at(slots, at)?))),
+        Kind::Weak => Ok(into_content(Held::Weak(weak_at(slots, at)?))),
     }
 }
 
@@ -104,12 +64,6 @@ pub(crate) fn take_kind(slots: &mut Vec<Slot>, at: usize, kind: Kind) -> Result<
     ensures fault { IfErr result
         (λ why. WhyNoneOf kind slots.old.items at why × (slots.new.items ≡ slots.old.items)) }
 {
-    match content_at(slots, at, kind) {
-        Ok(_) => {}
-        Err(why) => return Err(why),
-    }
-    match take_handle(slots, at) {
-        Ok(handle) => Ok(handle),
-        Err(why) => Err(why),
-    }
+    content_at(slots, at, kind)?;
+    take_handle(slots, at)
 }

@@ -1,22 +1,26 @@
 use Rattle.std.proofs.Common.{ℕ, inl, inr, subst}
 use Rattle.std.proofs.lemmas.Result.{IfErr-weaker, IfOk-weaker}
 use Rattle.control_word.specs.declared.shape.Shape.{Shape}
-use Rattle.handle_table.specs.Leading.{LeadsIn}
+use Rattle.handle_table.specs.Parting.{IsNew}
 use Rattle.handle_table.specs.Programs.{IsClosed}
 use Rattle.handle_table.proofs.Manning.{not_shape}
 use Rattle.handle_table.proofs.leading.run_leader.Goals as goal
 
 pub returns-clause-led : goal.returns-clause-led
 returns-clause-led g c =
-    let domain = c.in_ok-domain.field-0.domain in let last = c.lead_in-desk.result in let of = c.in_ok-domain.ensures.of in
+    let o = c.in_ok-domain.ensures in let last = c.lead_in-desk.result in let s = c.lead_in-desk.ensures in
     IfOk-weaker c.close_bare.result _ _
     (λ x is. record {
-      domain = domain;
-      of = of;
+      domain = c.in_ok-domain.domain;
+      of = o.of;
       last = last;
-      led = subst (λ (n : ℕ). LeadsIn g.P.Leader.leads g.P.Program.works domain n c.args.leader.now c.lead_in-desk.new.leader last)
-          c.in_ok-domain.ensures.slots.1 c.lead_in-desk.ensures.led;
-      closed = subst (λ (s : Shape). IsClosed last s x) of is;
+      led = record {
+        first = s.first;
+        begins = s.begins;
+        new = subst (λ (n : ℕ). IsNew n s.first) o.many s.new;
+        out = record { after = s.after; led = s.done; winds_up = s.winds_up };
+      };
+      closed = subst (λ (z : Shape). IsClosed last z x) o.of is;
     }) c.close_bare.ensures.closed
 
 pub returns-clause-shape : goal.returns-clause-shape

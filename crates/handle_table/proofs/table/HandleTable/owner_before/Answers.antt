@@ -7,8 +7,8 @@ pub returns-clause-told : goal.returns-clause-told
 returns-clause-told g c =
     subst (λ (t : TableNow g.row.V.Denot). AreInOrder t c.args.a c.args.b c.are_in_order-before.result) c.self.view_is
     record {
-      one = c.in-Ok.handle;
-      other = c.in-Ok-handle_at.handle;
-      at = (c.in-Ok.ensures.found, c.in-Ok-handle_at.ensures.found);
+      one = c.in_ok-one.one;
+      other = c.in-Ok.handle;
+      at = (c.in_ok-one.ensures.found, c.in-Ok.ensures.found);
       told = c.are_in_order-before.ensures.before;
     }
