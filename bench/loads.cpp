@@ -51,9 +51,13 @@ void load() {
     owners.of.fetch_sub(1);
 }
 
-// Nanoseconds a load, by so many threads for a quarter of a second.
+// Nanoseconds a load, by so many threads for a quarter of a second, and the slowest thread's part of an even share.
+struct Times {
+    double nanoseconds, least_share;
+};
+
 template <bool pauses, bool uses_found>
-double time_of(int threads) {
+Times time_of(int threads) {
     cell.of = one_fund;
     owners.of = 256 * one_fund + 1'000'000;
     std::atomic<bool> over{false};
@@ -73,8 +77,11 @@ double time_of(int threads) {
     over = true;
     for (auto &it : all) it.join();
     std::chrono::duration<double, std::nano> spent = std::chrono::steady_clock::now() - start;
-    return spent.count() * threads / static_cast<double>(std::accumulate(loads.begin(), loads.end(), std::uint64_t{0}));
+    double even = static_cast<double>(std::accumulate(loads.begin(), loads.end(), std::uint64_t{0})) / threads;
+    return {spent.count() / even, static_cast<double>(*std::min_element(loads.begin(), loads.end())) / even};
 }
+
+void print(Times times) { std::printf(" | %.1f (%.0f%%)", times.nanoseconds, 100 * times.least_share); }
 
 }  // namespace
 
@@ -82,8 +89,12 @@ int main() {
     std::puts("threads | look again | use what was found | pause, look again | pause, use what was found");
     for (int threads : {1, 2, 4}) {
         for (int turn = 0; turn < 3; turn++) {
-            std::printf("%d | %.1f | %.1f | %.1f | %.1f\n", threads, time_of<false, false>(threads),
-                        time_of<false, true>(threads), time_of<true, false>(threads), time_of<true, true>(threads));
+            std::printf("%d", threads);
+            print(time_of<false, false>(threads));
+            print(time_of<false, true>(threads));
+            print(time_of<true, false>(threads));
+            print(time_of<true, true>(threads));
+            std::puts("");
         }
     }
 }
