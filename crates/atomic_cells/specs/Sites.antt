@@ -7,8 +7,8 @@ use Rattle.control_word.specs.declared.refusal.Refusal.{Refusal}
 use Rattle.control_word.specs.declared.refusal.Refusal.TheVariants.{Null, Outside}
 use Rattle.control_block.specs.CellCalls.{cell_of_site}
 use Rattle.control_block.specs.Desks.{DeskNow}
-use Rattle.control_block.specs.declared.cell_calls.Site.{Site}
-use Rattle.control_block.specs.declared.cell_calls.Site.TheVariants as inner
+use Rattle.control_word.specs.declared.site.Site.{Site}
+use Rattle.control_word.specs.declared.site.Site.TheVariants as inner
 use Rattle.shared_handle.specs.Endings.{IsOutside}
 use Rattle.shared_handle.specs.Locks.{HasOwner}
 use Rattle.atomic_cells.specs.declared.at.At.{At}

@@ -12,12 +12,12 @@ ghost use Rattle.atomic_cells.specs.declared.sites.SharedSite.TheVariants as sit
 
 use crate::at::{At, SharedAt};
 use crate::sites::{CellSite, SharedMember, SharedSite, block_within};
-use control_block::cell_calls::{CellAt, Content, Site};
+use control_block::cell_calls::{CellAt, Content};
 use control_block::desk::Desk;
 use control_block::domain::Domain;
 use control_block::store_calls;
-use control_word::Refusal;
 use control_word::model::handle::Kind;
+use control_word::{Refusal, Site};
 use shared_handle::{Left, Shared};
 use std::marker::Brand;
 
@@ -37,9 +37,9 @@ impl CellSite for SharedSite {
     #[inline]
     fn cell<V: Drop>(self, _domain: &Domain<V>) -> CellAt {
         let site = match self {
-            SharedSite::Free(number) => Site::Free(number),
-            SharedSite::Of(block, SharedMember::First) => Site::Member(block, 0),
-            SharedSite::Of(block, SharedMember::Next) => Site::Member(block, 1),
+            SharedSite::Free(number) => Site::Free { number },
+            SharedSite::Of(block, SharedMember::First) => Site::Member { block, member: 0 },
+            SharedSite::Of(block, SharedMember::Next) => Site::Member { block, member: 1 },
         };
         CellAt {
             site,

@@ -11,12 +11,12 @@ ghost use Rattle.atomic_cells.specs.declared.sites.WeakSite.TheVariants as site;
 
 use crate::at::{At, WeakAt};
 use crate::sites::{CellSite, WeakSite, block_within};
-use control_block::cell_calls::{CellAt, Content, Site};
+use control_block::cell_calls::{CellAt, Content};
 use control_block::desk::Desk;
 use control_block::domain::Domain;
 use control_block::{handles, store_calls};
-use control_word::Refusal;
 use control_word::model::handle::Kind;
+use control_word::{Refusal, Site};
 use shared_handle::{Left, Shared};
 use std::marker::Brand;
 
@@ -36,8 +36,10 @@ impl CellSite for WeakSite {
     #[inline]
     fn cell<V: Drop>(self, domain: &Domain<V>) -> CellAt {
         let site = match self {
-            WeakSite::Free(number) => Site::Free(domain.shared_cells() + number),
-            WeakSite::Up(block) => Site::Member(block, 2),
+            WeakSite::Free(number) => Site::Free {
+                number: domain.shared_cells() + number,
+            },
+            WeakSite::Up(block) => Site::Member { block, member: 2 },
         };
         CellAt {
             site,

@@ -1,7 +1,7 @@
 -- What the calls on cells say of a desk. A handle goes by its kind, its block, if it has one, and its place.
 use Rattle.std.specs.Prelude.{◌≡◌, ℕ, ◌+◌, ◌<◌, List, ◌∷◌, length, Option, None, Some}
 use Rattle.control_word.specs.Handles.{handle, same_handle}
-use Rattle.control_word.specs.Layout.{cell_place, spot}
+use Rattle.control_word.specs.Layout.{IsSite, cell_place, site_place, spot}
 use Rattle.control_word.specs.State.{kind_of_free, kind_of_member, without}
 use Rattle.control_word.specs.declared.model.event.Cell.{Cell}
 use Rattle.control_word.specs.declared.model.event.Cell.TheVariants.{Free, Member}
@@ -12,8 +12,8 @@ use Rattle.control_word.specs.declared.place.Block.{Block}
 use Rattle.control_word.specs.declared.place.Place.{Place}
 use Rattle.control_word.specs.declared.shape.Shape.{Shape}
 use Rattle.control_block.specs.Desks.{DeskNow, HasHandle, bag_of, latest_of}
-use Rattle.control_block.specs.declared.cell_calls.Site.{Site}
-use Rattle.control_block.specs.declared.cell_calls.Site.TheVariants as site
+use Rattle.control_word.specs.declared.site.Site.{Site}
+use Rattle.control_word.specs.declared.site.Site.TheVariants as site
 
 -- a bag with a handle more, and with one less; an empty handle stands in no bag
 abbrev pub with_handle : Kind → Option Block → Option Place → List NumberedHandle → List NumberedHandle
@@ -32,16 +32,6 @@ object_by latest (Some b) = Some (latest b.0)
 -- free cell n of the shape has handles of this kind (own)
 abbrev pub IsFreeCell : Shape → ℕ → Kind → Type 0
 IsFreeCell z n k = (n < z.shared_cells + z.weak_cells) × (k ≡ kind_of_free z.shared_cells n)
-
--- a member of a block is one of three
-abbrev pub IsSite : Site → Type 0
-IsSite (site.Free n) = Unit {0}
-IsSite (site.Member b m) = (0 < b.0) × (m < 3)
-
--- the word of a cell in a table with so many blocks
-abbrev pub word_at : ℕ → Site → ℕ
-word_at blocks (site.Free n) = cell_place blocks n
-word_at blocks (site.Member b m) = spot b.0 (7 + m)
 
 module _ {V : Type 0} where
   -- the handle in a block is on the object last made there

@@ -3,22 +3,22 @@ use Rattle.std.specs.Prelude.{◌≡◌, ℕ, zero, suc, ◌+◌, ◌%◌, ◌<�
 use Rattle.std.specs.Prelude.{◌∷◌, ◌++◌, length}
 use Rattle.std.specs.Prelude.{slice_index}
 use Rattle.std.specs.List.{filter}
+use Rattle.control_word.specs.Layout.{site_place}
 use Rattle.control_word.specs.Handles.{same_kind}
 use Rattle.control_word.specs.State.{State, count, kind_of_free, kind_of_member, tally, weak}
 use Rattle.control_word.specs.Words.{blocks_of, owned_bits}
 use Rattle.control_word.specs.declared.model.handle.NumberedHandle.{NumberedHandle}
 use Rattle.control_word.specs.declared.model.handle.Kind.{Kind}
 use Rattle.control_word.specs.declared.model.handle.Kind.TheVariants.{Owner, Weak}
-use Rattle.control_block.specs.CellCalls.{word_at}
 use Rattle.control_block.specs.Census.{CensusNow, HasBlock}
 use Rattle.control_block.specs.Desks.{DeskNow, bag_of, latest_of, state_of}
 use Rattle.control_block.specs.declared.cell_calls.CellAt.{CellAt}
-use Rattle.control_block.specs.declared.cell_calls.Site.{Site}
-use Rattle.control_block.specs.declared.cell_calls.Site.TheVariants.{Free, Member}
+use Rattle.control_word.specs.declared.site.Site.{Site}
+use Rattle.control_word.specs.declared.site.Site.TheVariants.{Free, Member}
 
 -- the block of the object that a cell holds a handle on, or 0: as the words have it, and as the state has it
 abbrev pub owned_at : CensusNow → Site → ℕ
-owned_at c x = slice_index c.words (word_at c.blocks x) % 65536
+owned_at c x = slice_index c.words (site_place c.blocks x) % 65536
 
 abbrev pub owned_by : State → NumberedHandle → ℕ
 owned_by s h = owned_bits (blocks_of s) h.object

@@ -2,21 +2,11 @@
 ghost use Rattle.std.specs.Coded.{Coded-set, coded_bool};
 ghost use Rattle.std.specs.Prelude.{◌≡◌, ◌+◌, true};
 ghost use Rattle.control_word.specs.Handles.{same_kind};
-ghost use Rattle.control_block.specs.CellCalls.{IsSite, word_at};
 ghost use Rattle.control_block.specs.Handles.{IsProper, IsProper-prop};
 
 pub use crate::calls::cells::{exchange, load};
 use control_word::model::handle::Kind;
-use control_word::packed::layout::{MEMBERS, block_word, cell_word};
-use control_word::{Block, Place};
-
-/// Where a cell is: a free one by its number among all free cells, the shared ones first, or a member (0 first, 1 next,
-/// 2 up) of the object in a block.
-#[derive(Clone, Copy, Drop)]
-pub enum Site {
-    Free(u32),
-    Member(Block, u32),
-}
+use control_word::{Block, Place, Site};
 
 /// A cell, and the kind of its handles.
 #[derive(Clone, Copy, Drop)]
@@ -42,15 +32,4 @@ pub struct Offer {
     pub expected: Content,
     pub new: Content,
     pub ghost alike: { same_kind expected.kind new.kind ≡ true } by { Coded-set coded_bool _ true },
-}
-
-/// Where a cell's word lies.
-pub(crate) fn word_of(blocks: u32, site: Site) -> usize
-    requires { IsSite site }
-    ensures { result ≡ word_at blocks site }
-{
-    match site {
-        Site::Free(number) => cell_word(blocks, number),
-        Site::Member(block, member) => block_word(block, MEMBERS + member as usize),
-    }
 }

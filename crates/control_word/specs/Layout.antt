@@ -1,6 +1,8 @@
 -- Where words lie in a table, and how large it may be (own).
 use Rattle.std.specs.Prelude.{◌≡◌, ℕ, ◌+◌, ◌-◌, ◌*◌, ◌^◌, ◌%◌, ◌<◌, ◌≤◌}
 use Rattle.control_word.specs.declared.shape.Shape.{Shape}
+use Rattle.control_word.specs.declared.site.Site.{Site}
+use Rattle.control_word.specs.declared.site.Site.TheVariants as site
 
 -- word k of block b
 abbrev pub spot : ℕ → ℕ → ℕ
@@ -9,6 +11,16 @@ spot b k = 16 * (b - 1) + k
 -- free cell c of a table with so many blocks
 abbrev pub cell_place : ℕ → ℕ → ℕ
 cell_place blocks c = 16 * blocks + 8 * c
+
+-- a member's block is from 1 on, and there are three members
+abbrev pub IsSite : Site → Type 0
+IsSite (site.Free n) = Unit {0}
+IsSite (site.Member b m) = (0 < b.0) × (m < 3)
+
+-- the word of a cell in a table with so many blocks
+abbrev pub site_place : ℕ → Site → ℕ
+site_place blocks (site.Free n) = cell_place blocks n
+site_place blocks (site.Member b m) = spot b.0 (7 + m)
 
 -- shelf word j of a table with so many blocks and free cells
 abbrev pub shelf_place : ℕ → ℕ → ℕ → ℕ

@@ -8,6 +8,7 @@ pub mod packed;
 pub mod place;
 pub mod refusal;
 pub mod shape;
+pub mod site;
 
 pub use handle::Handle;
 pub use packed::cell::CellWord;
@@ -15,3 +16,4 @@ pub use packed::counts::{Count, Counts};
 pub use place::{Block, Place};
 pub use refusal::{Refusal, Refused};
 pub use shape::Shape;
+pub use site::Site;

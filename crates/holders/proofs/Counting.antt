@@ -19,8 +19,8 @@ use Rattle.control_word.specs.Handles.{same_kind, same_number}
 use Rattle.control_word.specs.State.{Held, Opening, State, common, count, handles, in_cells, kind_of_member, members, tally, upto, weak}
 use Rattle.control_word.specs.State.{weak_number}
 use Rattle.control_word.specs.Words.{block_of, blocks_of}
-use Rattle.step_table.specs.declared.cell_steps.cell_step.Cell.{Cell}
-use Rattle.step_table.specs.declared.cell_steps.cell_step.Cell.TheVariants.{Free}
+use Rattle.control_word.specs.declared.site.Site.{Site}
+use Rattle.control_word.specs.declared.site.Site.TheVariants.{Free}
 use Rattle.step_table.specs.Openings.{opening}
 use Rattle.step_table.specs.GhostStates.{TableInvariant, GhostState, model_state}
 use Rattle.step_threads.specs.Stocks.{from}
@@ -43,7 +43,7 @@ abbrev AtHome : State → ℕ → Option ℕ → Type 0
 AtHome s b x = (o : ℕ) → x ≡ Some o → (blocks_of s o == b) ≡ (s.latest b == o)
 
 -- one cell: its handle is listed on the block just where it is counted for the object there
-one_cell : (k : Kind) (b : ℕ) (s : State) (c : Cell) (h : NumberedHandle) → is_of k (holds_owner s.shared c) ≡ same_kind k h.kind
+one_cell : (k : Kind) (b : ℕ) (s : State) (c : Site) (h : NumberedHandle) → is_of k (holds_owner s.shared c) ≡ same_kind k h.kind
     → AtHome s b h.object → hits k b (held_by s.shared c (block_of (blocks_of s) h.object)) ≡ tally k (s.latest b) (h ∷ [])
 one_cell k b s c h kind home = go h.object home
   where

@@ -6,8 +6,8 @@ use Rattle.control_word.specs.declared.packed.counts.Counts.{Counts}
 use Rattle.control_word.specs.declared.place.Block.{Block}
 use Rattle.control_word.specs.declared.shape.Shape.{Shape}
 use Rattle.control_word.specs.State.{State}
-use Rattle.step_table.specs.declared.cell_steps.cell_step.Cell.{Cell}
-use Rattle.step_table.specs.declared.cell_steps.cell_step.Cell.TheVariants.{Free, Member}
+use Rattle.control_word.specs.declared.site.Site.{Site}
+use Rattle.control_word.specs.declared.site.Site.TheVariants.{Free, Member}
 use Rattle.step_table.specs.Cells.{target_of}
 use Rattle.step_threads.specs.Stocks.{from}
 use Rattle.step_core.specs.Totals.{census_of}
@@ -20,33 +20,33 @@ abbrev pub free_cells : Shape → ℕ
 free_cells shape = shape.shared_cells + shape.weak_cells
 
 -- the cell holds an owner; the first so many free cells do
-abbrev pub holds_owner : ℕ → Cell → Bool
+abbrev pub holds_owner : ℕ → Site → Bool
 holds_owner shared (Free n) = nat_lt n shared
 holds_owner shared (Member b m) = nat_lt m 2
 
 -- the block in whose object the cell is; 0, which is no block, stands for the free cells
-abbrev pub source : Cell → ℕ
+abbrev pub source : Site → ℕ
 source (Free n) = 0
 source (Member b m) = b.0
 
 -- which of the cells there it is
-abbrev pub slot : Cell → ℕ
+abbrev pub slot : Site → ℕ
 slot (Free n) = n
 slot (Member b m) = m
 
 -- a handle in a cell, on a block
-abbrev pub holding : ℕ → Cell → Block → Holding
+abbrev pub holding : ℕ → Site → Block → Holding
 holding shared c b = record { from = source c; to = b.0; slot = slot c; label = 0; is_owner = holds_owner shared c }
 
 -- what a cell holds, where it holds something
-abbrev pub held_by : ℕ → Cell → Option Block → List Holding
+abbrev pub held_by : ℕ → Site → Option Block → List Holding
 held_by shared c None = []
 held_by shared c (Some b) = holding shared c b ∷ []
 
-abbrev pub holdings_in : State → Cell → List Holding
+abbrev pub holdings_in : State → Site → List Holding
 holdings_in s c = held_by s.shared c (target_of s c)
 
-abbrev pub member : ℕ → ℕ → Cell
+abbrev pub member : ℕ → ℕ → Site
 member b m = Member (record { 0 = b }) m
 
 -- what the members of an object hold: first, next and up. A vacant block has none

@@ -12,41 +12,41 @@ ghost use Rattle.owner_graph.specs.Owners.{IsAmong};
 use control_word::Block;
 use owner_graph::Holding;
 use std::alloc::{AllocError, Global};
-use step_core::{Cell, World};
+use step_core::{Site, World};
 
 /// Whether a cell holds an owner: one of the first free cells, of which so many are shared, or `first` or `next` of an
 /// object.
-fn holds_owner(shared: u32, cell: Cell) -> bool
+fn holds_owner(shared: u32, cell: Site) -> bool
     ensures { result ≡ holds_owner shared cell }
 {
     match cell {
-        Cell::Free { number } => number < shared,
-        Cell::Member { member, .. } => member < 2,
+        Site::Free { number } => number < shared,
+        Site::Member { member, .. } => member < 2,
     }
 }
 
 /// The block in whose object a cell is; 0 for a free one.
-fn source(cell: Cell) -> u32
+fn source(cell: Site) -> u32
     ensures { result ≡ source cell }
 {
     match cell {
-        Cell::Free { .. } => 0,
-        Cell::Member { block, .. } => u32::from(block.0),
+        Site::Free { .. } => 0,
+        Site::Member { block, .. } => u32::from(block.0),
     }
 }
 
 /// Which of the cells there it is.
-fn slot(cell: Cell) -> u32
+fn slot(cell: Site) -> u32
     ensures { result ≡ slot cell }
 {
     match cell {
-        Cell::Free { number } => number,
-        Cell::Member { member, .. } => u32::from(member),
+        Site::Free { number } => number,
+        Site::Member { member, .. } => u32::from(member),
     }
 }
 
 /// A handle in a cell, on a block.
-fn holding(shared: u32, cell: Cell, block: Block) -> Holding
+fn holding(shared: u32, cell: Site, block: Block) -> Holding
     ensures { result ≡ holding shared cell block }
 {
     Holding {
@@ -62,7 +62,7 @@ fn holding(shared: u32, cell: Cell, block: Block) -> Holding
 fn add(
     world: &World,
     shared: u32,
-    cell: Cell,
+    cell: Site,
     holdings: &mut Vec<Holding>,
 ) -> Result<(), AllocError>
     requires shared { shared ≡ (model_state world.now.ghost_state).shared }
@@ -94,7 +94,7 @@ fn add_free(
         (AddsAmong world.now.ghost_state.extent.shape.blocks holdings.old.items holdings.new.items) }
 {
     for number in 0..cells {
-        add(world, shared, Cell::Free { number }, holdings)?;
+        add(world, shared, Site::Free { number }, holdings)?;
     }
     Ok(())
 }
@@ -118,9 +118,9 @@ fn add_members(
     if world.census(block).is_none() {
         return Ok(());
     }
-    add(world, shared, Cell::Member { block, member: 0 }, holdings)?;
-    add(world, shared, Cell::Member { block, member: 1 }, holdings)?;
-    add(world, shared, Cell::Member { block, member: 2 }, holdings)?;
+    add(world, shared, Site::Member { block, member: 0 }, holdings)?;
+    add(world, shared, Site::Member { block, member: 1 }, holdings)?;
+    add(world, shared, Site::Member { block, member: 2 }, holdings)?;
     Ok(())
 }
 

@@ -3,9 +3,8 @@
 
 use crate::picture::{Change, Row, Touch};
 use crate::sheet::LANE;
-use control_word::Counts;
+use control_word::{Counts, Site};
 use std::alloc::{AllocError, Global};
-use step_table::cell_steps::cell_step::Cell;
 
 /// What is in a block's lane: its last counts, and where they began to be drawn as they are.
 #[derive(Clone, Copy)]
@@ -26,7 +25,7 @@ pub(crate) struct Lanes {
 fn add_cell(cells: &mut Vec<u32>, row: &Row) -> Result<(), AllocError> {
     if let Some(
         Touch {
-            cell: Cell::Free { number },
+            cell: Site::Free { number },
             ..
         },
     ) = &row.touch
@@ -110,13 +109,13 @@ impl Lanes {
     }
 
     /// The lane of a cell: a free one's own, and for a member that of the object's block.
-    pub(crate) fn place_of(&self, cell: Cell) -> u32 {
+    pub(crate) fn place_of(&self, cell: Site) -> u32 {
         match cell {
-            Cell::Free { number } => match self.cells.iter().position(|it| *it == number) {
+            Site::Free { number } => match self.cells.iter().position(|it| *it == number) {
                 Some(index) => self.cell_lane(index),
                 None => self.left,
             },
-            Cell::Member { block, .. } => self.block_place(block.0),
+            Site::Member { block, .. } => self.block_place(block.0),
         }
     }
 

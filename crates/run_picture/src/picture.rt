@@ -1,7 +1,6 @@
 //! What a picture shows.
 
-use control_word::Counts;
-use step_table::cell_steps::cell_step::Cell;
+use control_word::{Counts, Site};
 
 /// What a block's counts are from an act on: its owners and weak pointers; none where it is vacant.
 #[derive(Clone, Copy)]
@@ -13,7 +12,7 @@ pub struct Change {
 /// A cell that an act wrote or read, and what is said of that.
 #[derive(Drop)]
 pub struct Touch {
-    pub cell: Cell,
+    pub cell: Site,
     pub writes: bool,
     pub shown: String,
 }

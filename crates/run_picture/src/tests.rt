@@ -1,11 +1,10 @@
 //! A picture with each kind of what it shows.
 
 use crate::{Change, Left, LeftBlock, Picture, Row, Touch, draw};
-use control_word::{Block, Counts};
+use control_word::{Block, Counts, Site};
 use std::alloc::{AllocError, Global};
-use step_table::cell_steps::cell_step::Cell;
 
-fn row(alloc: Global, number: u32, cell: Cell, counts: Option<Counts>) -> Result<Row, AllocError> {
+fn row(alloc: Global, number: u32, cell: Site, counts: Option<Counts>) -> Result<Row, AllocError> {
     let change = Change { block: 1, counts };
     Ok(Row {
         number,
@@ -27,8 +26,8 @@ fn picture(alloc: Global) -> Result<Picture, AllocError> {
         owners: 2,
         weaks: 1,
     });
-    let free = row(alloc, 7, Cell::Free { number: 0 }, counts)?;
-    let member = Cell::Member {
+    let free = row(alloc, 7, Site::Free { number: 0 }, counts)?;
+    let member = Site::Member {
         block: Block(1),
         member: 0,
     };

@@ -13,7 +13,7 @@ use script_stepper::put_lines;
 use script_text::member_text;
 use std::alloc::{AllocError, Global};
 use std::fmt::Write;
-use step_core::{Cell, Said, World};
+use step_core::{Said, Site, World};
 
 /// Where acts come from: a script's statements by threads, run in a world of so many threads and
 /// blocks.
@@ -136,7 +136,7 @@ fn changes_of(
 /// or `empty`.
 fn touch_text(alloc: Global, aimed: Aimed) -> Result<String, AllocError> {
     let mut shown = String::new(alloc);
-    if let Cell::Member { member, .. } = aimed.cell {
+    if let Site::Member { member, .. } = aimed.cell {
         shown.push_str(member_text(member))?;
         shown.push_str(" ")?;
     }

@@ -3,13 +3,13 @@ ghost use Rattle.std.specs.Prelude.{◌≡◌, ◌<◌, ◌≤◌, length};
 ghost use Rattle.step_core.specs.Runs.{NamesActor};
 
 use control_word::{Block, Place};
-use step_core::{Act, Answer, Cell, CellName, Handle, Kind, Name, PendingCall, Said, Stage, World};
+use step_core::{Act, Answer, CellName, Handle, Kind, Name, PendingCall, Said, Site, Stage, World};
 use step_table::limits::SCRIPT_SHARED_CELLS;
 
 /// A cell that an act wrote or read, and the block of what it wrote.
 #[derive(Clone, Copy)]
 pub(crate) struct Aimed {
-    pub cell: Cell,
+    pub cell: Site,
     pub writes: bool,
     pub block: Option<Block>,
 }
@@ -25,7 +25,7 @@ pub(crate) struct TraceLabel {
 /// The cell of an act, and the blocks of what it would put there.
 #[derive(Clone, Copy)]
 struct Aim {
-    cell: Cell,
+    cell: Site,
     kind: AimKind,
     given: Option<Block>,
 }
@@ -59,20 +59,20 @@ fn object_of(pointer: Handle) -> Option<Block> {
 }
 
 /// The cell that a thread names so; none where it is a member of an object that isn't there.
-fn cell_of(world: &World, thread: u8, cell: CellName) -> Option<Cell>
+fn cell_of(world: &World, thread: u8, cell: CellName) -> Option<Site>
     requires { NamesActor (length world.now.frame_views) thread }
 {
     match cell {
-        CellName::Shared(number) => Some(Cell::Free {
+        CellName::Shared(number) => Some(Site::Free {
             number: u32::from(number),
         }),
-        CellName::Weak(number) => Some(Cell::Free {
+        CellName::Weak(number) => Some(Site::Free {
             number: u32::from(number).saturating_add(SCRIPT_SHARED_CELLS),
         }),
         CellName::Member { name, member } => {
             let pointer = world.held(thread, name)?;
             let block = object_of(pointer)?;
-            Some(Cell::Member { block, member })
+            Some(Site::Member { block, member })
         }
     }
 }

@@ -8,8 +8,8 @@ use Rattle.control_block.proofs.CellWords.{shared_led}
 use Rattle.control_block.specs.CellCalls.{cell_of_site as desk_cell, handle_in}
 use Rattle.control_block.specs.Desks.{latest_of, state_of, AddsEvent, DeskNow, HasHandle}
 use Rattle.control_block.specs.Rule.{opening_of}
-use Rattle.control_block.specs.declared.cell_calls.Site.TheVariants as site
-use Rattle.control_block.specs.declared.cell_calls.Site.{Site}
+use Rattle.control_word.specs.declared.site.Site.TheVariants as site
+use Rattle.control_word.specs.declared.site.Site.{Site}
 use Rattle.control_block.specs.declared.handles.Held.TheVariants.{Owner}
 use Rattle.control_word.proofs.history.Kept.{block_kept}
 use Rattle.control_word.proofs.history.Legal.{sound}

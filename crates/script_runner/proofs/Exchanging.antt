@@ -5,7 +5,7 @@ use Rattle.std.proofs.lemmas.List.{length-set, set-set}
 use Rattle.std.specs.Prelude.{option_map, slice_get, slice_set}
 use Rattle.control_block.specs.CellCalls.{cell_of_site as desk_cell, handle_in}
 use Rattle.control_block.specs.Desks.{state_of, AddsEvent, DeskNow, HasHandle}
-use Rattle.control_block.specs.declared.cell_calls.Site.{Site}
+use Rattle.control_word.specs.declared.site.Site.{Site}
 use Rattle.control_block.specs.declared.handles.Held.TheVariants.{Owner, Weak}
 use Rattle.control_block.specs.declared.handles.Held.{Held}
 use Rattle.control_word.specs.Events.{after}

@@ -1,7 +1,7 @@
 -- Acts on cells, as a worker does them.
 use Rattle.std.proofs.Common.{◌≡◌, ℕ, ◌<◌, ◌+◌, Bool, true, false, cond, List, Some, None, refl, sym, ap}
 use Rattle.std.specs.Prelude.{slice_get}
-use Rattle.control_block.specs.declared.cell_calls.Site.{Site}
+use Rattle.control_word.specs.declared.site.Site.{Site}
 use Rattle.control_block.specs.declared.handles.Held.{Held}
 use Rattle.control_word.specs.declared.refusal.Refusal.{Refusal}
 use Rattle.control_word.specs.declared.shape.Shape.{Shape}

@@ -9,8 +9,7 @@ ghost use Rattle.step_core.specs.Totals.{IsAtEnd, census_of, counts_in, ended_in
 use crate::world::World;
 use control_word::packed::counts::unpack_count;
 use control_word::packed::layout::{FIELDS, OWNERS, WEAKS};
-use control_word::{Block, Counts};
-use step_table::cell_steps::cell_step::Cell;
+use control_word::{Block, Counts, Site};
 
 impl World {
     /// How many owners and weak handles the object in a block has ([util.smartptr.shared.obs], and own); none where the
@@ -62,7 +61,7 @@ impl World {
 
     /// The block of the object that the handle in a cell is on; none where it is on none (own). Condition: the cell is
     /// free, or a member of what is in a block that isn't vacant.
-    pub fn target(&self, cell: Cell) -> Option<Block>
+    pub fn target(&self, cell: Site) -> Option<Block>
         requires { IsCellInUse self.now.ghost_state cell }
         ensures target { result ≡ target_of (model_state self.now.ghost_state) cell }
         ensures within { IfSome result (λ b. (0 < b.0) × (b.0 ≤ self.now.ghost_state.extent.shape.blocks)) }

@@ -11,8 +11,7 @@ mod told;
 mod trace;
 mod world;
 
-pub use control_word::Handle;
-pub use step_table::cell_steps::cell_step::Cell;
+pub use control_word::{Handle, Site};
 pub use step_table::cell_steps::refill::Stage;
 pub use step_table::memory::ended::Ended;
 pub use step_table::memory::field::Field;

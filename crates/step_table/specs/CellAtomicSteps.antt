@@ -14,12 +14,12 @@ use Rattle.control_word.specs.declared.model.view.Pending.{Pending}
 use Rattle.control_word.specs.declared.model.view.Pending.TheVariants.{Idle, Paying}
 use Rattle.control_word.specs.Events.{kind_of}
 use Rattle.control_word.specs.Handles.{handle}
-use Rattle.control_word.specs.Layout.{cell_place, spot}
+use Rattle.control_word.specs.Layout.{cell_place, site_place, spot}
 use Rattle.control_word.specs.Packing.{cell_bits}
 use Rattle.control_word.specs.State.{State, kind_of_member}
 use Rattle.control_word.specs.Words.{slot}
-use Rattle.step_table.specs.declared.cell_steps.cell_step.Cell.{Cell}
-use Rattle.step_table.specs.declared.cell_steps.cell_step.Cell.TheVariants.{Free, Member}
+use Rattle.control_word.specs.declared.site.Site.{Site}
+use Rattle.control_word.specs.declared.site.Site.TheVariants.{Free, Member}
 use Rattle.step_table.specs.declared.cell_steps.cell_step.CellStep.{CellStep}
 use Rattle.step_table.specs.declared.cell_steps.cell_step.CellStep.TheVariants.{Look, Bring, GiveBack, Take, Turn}
 use Rattle.step_table.specs.declared.cell_steps.cell_step.CellStep.TheVariants.{Refill, Swap}
@@ -27,17 +27,12 @@ use Rattle.step_table.specs.declared.cell_steps.cell_step.CellStep.TheVariants.{
 use Rattle.step_table.specs.declared.cell_steps.cell_step.Compared.{Compared}
 
 -- the cell as histories name it: a member by its object
-abbrev pub cell_in : State → Cell → Named
+abbrev pub cell_in : State → Site → Named
 cell_in s (Free n) = named.Free n
 cell_in s (Member b m) = named.Member (s.latest b.0) m
 
--- where its word lies, in a table of so many blocks
-abbrev pub word_of : ℕ → Cell → ℕ
-word_of blocks (Free n) = cell_place blocks n
-word_of blocks (Member b m) = spot b.0 (7 + m)
-
 -- the kind of the handles in it
-abbrev pub kind_in_state : State → Cell → Kind
+abbrev pub kind_in_state : State → Site → Kind
 kind_in_state s c = kind_of s (cell_in s c)
 
 -- the object in a block, if there is a block
@@ -49,7 +44,7 @@ object_at s (Some b) = Some (s.latest b.0)
 abbrev pub handle_as : State → Kind → CellWord → NumberedHandle
 handle_as s k x = handle k (object_at s x.owned) x.place
 
-abbrev pub handle_told : State → Cell → CellWord → NumberedHandle
+abbrev pub handle_told : State → Site → CellWord → NumberedHandle
 handle_told s c x = handle_as s (kind_in_state s c) x
 
 module _ {V : Type 0} where
@@ -59,7 +54,7 @@ module _ {V : Type 0} where
   owing_funds s k (Some b) p funds loads = Paying k (s.latest b.0) p (spot b.0 (slot k)) funds loads
 
   -- what a cell held was loaded, or compared and found to differ
-  abbrev pub looked : State → Cell → CellWord → Option Compared → Event V
+  abbrev pub looked : State → Site → CellWord → Option Compared → Event V
   looked s c x None = event.Load (cell_in s c) (handle_told s c x)
   looked s c x (Some y) = event.Compare (cell_in s c) (handle_told s c y.expected) (handle_told s c y.new)
       (handle_told s c x) false y.weak
@@ -97,9 +92,10 @@ cell_words blocks w (Bring k b p f) =
     slice_set w (spot b.0 (slot k)) (slice_index w (spot b.0 (slot k)) + 4294967296 * f)
 cell_words blocks w (GiveBack k b f) =
     slice_set w (spot b.0 (slot k)) (slice_index w (spot b.0 (slot k)) - 4294967296 * f)
-cell_words blocks w (Take c x y) = slice_set w (word_of blocks c) (slice_index w (word_of blocks c) + 17179869184)
+cell_words blocks w (Take c x y) = slice_set w (site_place blocks c) (slice_index w (site_place blocks c) + 17179869184)
 cell_words blocks w (Turn k b) = slice_set w (spot b.0 (slot k)) (slice_index w (spot b.0 (slot k)) - 4294967295)
-cell_words blocks w (Refill c t) = slice_set w (word_of blocks c) (slice_index w (word_of blocks c) - 17179869184 * t)
-cell_words blocks w (Swap c new x) = slice_set w (word_of blocks c) (cell_bits new)
-cell_words blocks w (CompareSwap c x y) = slice_set w (word_of blocks c) (cell_bits y.new)
+cell_words blocks w (Refill c t) =
+    slice_set w (site_place blocks c) (slice_index w (site_place blocks c) - 17179869184 * t)
+cell_words blocks w (Swap c new x) = slice_set w (site_place blocks c) (cell_bits new)
+cell_words blocks w (CompareSwap c x y) = slice_set w (site_place blocks c) (cell_bits y.new)
 cell_words blocks w (TakeOut b m x) = slice_set w (spot b.0 (7 + m)) 0

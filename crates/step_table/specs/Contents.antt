@@ -15,7 +15,7 @@ use Rattle.control_word.specs.Events.{cell_of}
 use Rattle.control_word.specs.Handles.{equivalent, handle, same_kind, same_place}
 use Rattle.control_word.specs.State.{State}
 use Rattle.control_word.specs.Words.{blocks_of, shown}
-use Rattle.step_table.specs.declared.cell_steps.cell_step.Cell.{Cell}
+use Rattle.control_word.specs.declared.site.Site.{Site}
 use Rattle.step_table.specs.declared.cell_steps.cell_step.Compared.{Compared}
 use Rattle.step_table.specs.declared.cell_steps.comparing.Comparing.{Comparing}
 use Rattle.step_table.specs.declared.slots.slot.Slot.{Slot}
@@ -27,7 +27,7 @@ use Rattle.step_table.specs.Registers.{Slots, place_of, plain, slot_pointer, slo
 use Rattle.step_table.specs.GhostStates.{Nothing, GhostState, model_state}
 
 -- the handle in a cell
-abbrev pub held_in : State → Cell → NumberedHandle
+abbrev pub held_in : State → Site → NumberedHandle
 held_in s c = cell_of s (cell_in s c)
 
 -- a slot's value as histories name it; one without an object is of the kind of the cell that it is compared with or
@@ -63,7 +63,7 @@ is_of Weak (Empty p) = is_null p
 is_of k (Full x) = same_kind x.kind k
 
 -- what a cell holds, and how many of its funds were taken
-abbrev pub seen : GhostState → Cell → CellWord
+abbrev pub seen : GhostState → Site → CellWord
 seen v c = shown (blocks_of (model_state v)) (held_in (model_state v) c) (word_of_cell v c / 17179869184)
 
 -- the block of what a slot's value owns or shares
@@ -118,13 +118,13 @@ pub record CanCompare (k : Kind) (slots : Slots) (y : Comparing) : Type 0 where
   pub kinds : (is_of k (slot_value slots y.expected) ≡ true) × (is_of k (slot_value slots y.new) ≡ true)
 
 -- what steps on a cell tell, by what the cell holds and slots have
-abbrev pub load_of : State → Cell → Event Nothing
+abbrev pub load_of : State → Site → Event Nothing
 load_of s c = event.Load (cell_in s c) (held_in s c)
 
-abbrev pub swap_of : State → Cell → Slot → Event Nothing
+abbrev pub swap_of : State → Site → Slot → Event Nothing
 swap_of s c x = event.Swap (cell_in s c) (named_handle s (kind_in_state s c) x) (held_in s c)
 
-abbrev pub compare_of : State → Cell → Slot → Slot → Bool → Event Nothing
+abbrev pub compare_of : State → Site → Slot → Slot → Bool → Event Nothing
 compare_of s c expected new weak =
     let h = named_handle s (kind_in_state s c) expected in
     event.Compare (cell_in s c) h (named_handle s (kind_in_state s c) new) (held_in s c)

@@ -6,7 +6,7 @@ use Rattle.control_word.specs.declared.place.Block.{Block}
 use Rattle.control_word.specs.declared.model.view.Pending.TheVariants.{Idle}
 use Rattle.control_word.specs.Packing.{IsCellWord}
 use Rattle.control_word.specs.State.{Has, held}
-use Rattle.step_table.specs.declared.cell_steps.cell_step.Cell.{Cell}
+use Rattle.control_word.specs.declared.site.Site.{Site}
 use Rattle.step_table.specs.declared.cell_steps.refill.Stage.{Stage}
 use Rattle.step_table.specs.declared.cell_steps.refill.Stage.TheVariants.{Turning, Checking, Lacking, Refilling}
 use Rattle.step_table.specs.declared.cell_steps.refill.Stage.TheVariants.{Failing}
@@ -36,7 +36,7 @@ StageFits d Refilling k b x v = pending v d ≡ owing_funds (model_state v) k (S
 StageFits d Failing k b x v = pending v d ≡ owing_funds (model_state v) k (Some b) x.place x.taken 0
 
 -- the value has an object, the cell is open, and the desk has what it loaded
-pub record RefillFits (d : ℕ) (stage : Stage) (c : Cell) (x : CellWord) (v : GhostState) : Type 0 where
+pub record RefillFits (d : ℕ) (stage : Stage) (c : Site) (x : CellWord) (v : GhostState) : Type 0 where
   pub valid : IsCellWord x
   pub block : Block
   pub owned : x.owned ≡ Some block

@@ -6,7 +6,7 @@ use Rattle.std.specs.Prelude.{Option, Some, None, is_some, option_map, All}
 use Rattle.control_word.specs.declared.packed.cell.CellWord.{CellWord}
 use Rattle.control_word.specs.declared.model.view.Pending.TheVariants.{Idle}
 use Rattle.control_word.specs.Packing.{IsCellWord}
-use Rattle.step_table.specs.declared.cell_steps.cell_step.Cell.{Cell}
+use Rattle.control_word.specs.declared.site.Site.{Site}
 use Rattle.step_table.specs.declared.cell_steps.cell_step.CellStep.TheVariants.{Look}
 use Rattle.step_table.specs.declared.cell_steps.cell_step.Compared.{Compared}
 use Rattle.step_table.specs.declared.memory.ghost_history.AtomicStep.{AtomicStep}
@@ -120,7 +120,7 @@ module _ (d : ℕ) (t : Thread) (v : GhostState) (begins : BeginsAct d t v) wher
       (fits_pending_call d t v Rest (Saw x) fits rests (λ b. refl) (λ b. refl) (is_idle, valid) (lt, seen, none)))
 
   -- it fits after a look that was the whole of its act
-  pub looked_on : (c : Cell) (y : Option Compared) (x : CellWord) (c' : Frame) (w : GhostState) → TableInvariant v → w
+  pub looked_on : (c : Site) (y : Option Compared) (x : CellWord) (c' : Frame) (w : GhostState) → TableInvariant v → w
       ≡ ghost_after_step v d (OnCell (Look c x y))
       → HasGoneOn d t.frame c' w → FitsThread d (Rested t c') w
   looked_on c y x c' w kept is on =
@@ -163,7 +163,7 @@ module _ (d : ℕ) (t : Thread) (v : GhostState) (begins : BeginsAct d t v) wher
   -- the first look of a compare
   module _ (k : ℕ) (c : CellName) (weak : Bool) (act : (task_at t.frame).act ≡ Compare k c weak) (x : CellWord)
       (shows : x ≡ seen v (cell_of_name (model_state v) t.frame.registers.slots.items c)) where
-    abbrev place : Cell
+    abbrev place : Site
     place = cell_of_name (model_state v) t.frame.registers.slots.items c
 
     abbrev wanted : Compared
@@ -256,7 +256,7 @@ module _ (d : ℕ) (t : Thread) (v : GhostState) (begins : BeginsAct d t v) wher
         }
 
     -- it looks at a cell that shows this
-    module _ (c : Cell) (y : Option Compared) (x : CellWord)
+    module _ (c : Site) (y : Option Compared) (x : CellWord)
         (is : first v d (frame_view t.frame) number (rest t.frame) a ≡ step_of_look v d (frame_view t.frame) number (rest t.frame) a c y x)
         (waiting : waits_on v (frame_view t.frame) a ≡ is_spent x) where
       spent_not : is_some x.owned ≡ false → is_spent x ≡ false

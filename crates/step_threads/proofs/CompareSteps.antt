@@ -8,7 +8,7 @@ use Rattle.step_threads.specs.declared.programs.act.Act.{Act}
 use Rattle.step_threads.specs.declared.programs.act.Act.TheVariants.{Compare}
 use Rattle.step_threads.specs.declared.programs.act.Task.{Task}
 use Rattle.step_threads.specs.declared.programs.call.CellName.{CellName}
-use Rattle.step_table.specs.declared.cell_steps.cell_step.Cell.{Cell}
+use Rattle.control_word.specs.declared.site.Site.{Site}
 use Rattle.step_table.specs.declared.cell_steps.cell_step.CellStep.TheVariants.{CompareSwap, Take}
 use Rattle.step_table.specs.declared.cell_steps.cell_step.Compared.{Compared}
 use Rattle.step_threads.specs.declared.pending_call.PendingCall.{PendingCall}
@@ -77,7 +77,7 @@ module _ (d : ℕ) (t : Thread) (v : GhostState) (k : ℕ) (c : CellName) (weak 
   abbrev slots : Slots
   slots = t.frame.registers.slots.items
 
-  abbrev place : Cell
+  abbrev place : Site
   place = cell_of_name (model_state v) slots c
 
   abbrev wanted : Compared

@@ -12,7 +12,7 @@ use Rattle.step_threads.specs.declared.frame.Frame.{Frame}
 use Rattle.step_threads.specs.declared.ending.Ending.{Ending}
 use Rattle.step_threads.specs.declared.pending_call.PendingCall.{PendingCall}
 use Rattle.step_threads.specs.declared.pending_call.PendingCall.TheVariants.{Clearing}
-use Rattle.step_table.specs.declared.cell_steps.cell_step.Cell.TheVariants.{Member}
+use Rattle.control_word.specs.declared.site.Site.TheVariants.{Member}
 use Rattle.step_table.specs.declared.cell_steps.cell_step.CellStep.TheVariants.{TakeOut}
 use Rattle.step_table.specs.declared.slots.registers.Registers.{Registers}
 use Rattle.control_word.specs.declared.handle.Handle.{Handle}

@@ -7,7 +7,7 @@ use Rattle.control_word.specs.declared.place.Block.{Block}
 use Rattle.control_word.specs.Packing.{cell_bits}
 use Rattle.step_threads.specs.declared.programs.act.Act.{Act}
 use Rattle.step_threads.specs.declared.programs.act.Task.{Task}
-use Rattle.step_table.specs.declared.cell_steps.cell_step.Cell.{Cell}
+use Rattle.control_word.specs.declared.site.Site.{Site}
 use Rattle.step_table.specs.declared.cell_steps.cell_step.CellStep.TheVariants.{Take}
 use Rattle.step_table.specs.declared.cell_steps.cell_step.Compared.{Compared}
 use Rattle.step_threads.specs.declared.pending_call.PendingCall.{PendingCall}
@@ -27,7 +27,7 @@ use Rattle.step_threads.specs.Threads.{HasStepped}
 use Rattle.step_threads.proofs.Steps.{stepped_as}
 
 -- the next step of a thread that took a fund of a cell
-pub refilled : (d : ℕ) (t : Thread) (v : GhostState) (stage : Stage) (c : Cell) (x : CellWord) (k : ℕ) (b : Block) (r : Stepped) (t' : Thread) (v' : GhostState)
+pub refilled : (d : ℕ) (t : Thread) (v : GhostState) (stage : Stage) (c : Site) (x : CellWord) (k : ℕ) (b : Block) (r : Stepped) (t' : Thread) (v' : GhostState)
     → t.pending_call ≡ Refill stage c x k → x.owned ≡ Some b
     → let y = refills_on v (frame_view t.frame) stage c x k b in
     r ≡ stepped v (Some y) → v' ≡ ghost_after v d y.atomic_step → frame_view t'.frame ≡ y.frame_view → t'.pending_call ≡ y.pending_call → HasStepped d t v r t'
@@ -37,7 +37,7 @@ refilled d t v stage c x k b r t' v' pending_call owned =
     stepped_as d t v (refills_on v w stage c x k b) r t' v' (ap (λ (h : PendingCall). waits v h w) pending_call)
     (ap (λ (h : PendingCall). step_at v d h w) pending_call ∙ ap (λ (o : Option Block). option_map (refills_on v w stage c x k) o) owned)
 
-module _ (v : GhostState) (d : ℕ) (w : FrameView) (k : ℕ) (ts : List Task) (a : Act) (c : Cell) (y : Option Compared) (x : CellWord) where
+module _ (v : GhostState) (d : ℕ) (w : FrameView) (k : ℕ) (ts : List Task) (a : Act) (c : Site) (y : Option Compared) (x : CellWord) where
   -- what a fund is taken of shows the same still, or not
   pub takes_it : (word_of_cell v c == cell_bits x) ≡ true
       → takes v d w k ts a c y x ≡ step_of_act v d w k ts a (Some (OnCell (Take c x y))) (Refill Turning c (more_taken x) k)

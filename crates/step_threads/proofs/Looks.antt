@@ -5,7 +5,7 @@ use Rattle.std.specs.Prelude.{Option, Some, None, is_some}
 use Rattle.control_word.specs.declared.packed.cell.CellWord.{CellWord}
 use Rattle.control_word.specs.declared.place.Block.{Block}
 use Rattle.control_word.specs.Packing.{IsCellWord}
-use Rattle.step_table.specs.declared.cell_steps.cell_step.Cell.{Cell}
+use Rattle.control_word.specs.declared.site.Site.{Site}
 use Rattle.step_table.specs.declared.cell_steps.cell_step.CellStep.TheVariants.{Look}
 use Rattle.step_table.specs.declared.cell_steps.cell_step.Compared.{Compared}
 use Rattle.step_table.specs.declared.memory.ghost_history.AtomicStep.TheVariants.{OnCell}
@@ -13,7 +13,7 @@ use Rattle.step_table.specs.GhostStates.{GhostState, ghost_after_step, model_sta
 use Rattle.step_threads.specs.Threads.{IsLoaded}
 
 -- a look moves no block
-pub same_looked : (v : GhostState) (d : ℕ) (c : Cell) (x : CellWord) (y : Option Compared)
+pub same_looked : (v : GhostState) (d : ℕ) (c : Site) (x : CellWord) (y : Option Compared)
     → (model_state (ghost_after_step v d (OnCell (Look c x y)))).stores ≡ (model_state v).stores
 same_looked v d c x None = refl
 same_looked v d c x (Some y) = refl

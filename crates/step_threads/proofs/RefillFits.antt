@@ -3,7 +3,7 @@ use Rattle.std.proofs.Common.{◌≡◌, ℕ, Bool, true, false, cond, refl, sym
 use Rattle.std.specs.Prelude.{Some}
 use Rattle.control_word.specs.declared.packed.cell.CellWord.{CellWord}
 use Rattle.control_word.specs.declared.place.Block.{Block}
-use Rattle.step_table.specs.declared.cell_steps.cell_step.Cell.{Cell}
+use Rattle.control_word.specs.declared.site.Site.{Site}
 use Rattle.step_table.specs.declared.cell_steps.cell_step.CellStep.TheVariants.{Turn, Bring, GiveBack, Refill as Refills}
 use Rattle.step_threads.specs.declared.pending_call.PendingCall.{PendingCall}
 use Rattle.step_threads.specs.declared.pending_call.PendingCall.TheVariants.{Rest, Refill}
@@ -20,7 +20,7 @@ use Rattle.step_threads.proofs.StoreFits.{pending_call_here}
 use Rattle.step_threads.proofs.Threads.{own_pending}
 use Rattle.step_table.proofs.contained.Refilling.{brings_funds, gives_back, misses_cell, turns_fund}
 
-pub refill_here : (d : ℕ) (t : Thread) (v : GhostState) (stage : Stage) (c : Cell) (x : CellWord) (k : ℕ) → FitsThread d t v → t.pending_call ≡ Refill stage c x
+pub refill_here : (d : ℕ) (t : Thread) (v : GhostState) (stage : Stage) (c : Site) (x : CellWord) (k : ℕ) → FitsThread d t v → t.pending_call ≡ Refill stage c x
     k
     → RefillFits d stage c x v
 refill_here d t v stage c x k fits e = pending_call_here d t v (Refill stage c x k) fits e
@@ -33,7 +33,7 @@ pub fits_as : (d : ℕ) (t : Thread) (h h' : PendingCall) (w w' : GhostState) �
 fits_as d t h h' w w' e is fits = subst (λ (q : PendingCall). FitsThread d (At t q) w') (sym e)
     (subst (λ (u : GhostState). FitsThread d (At t h) u) (sym is) fits)
 
-module _ (d : ℕ) (t : Thread) (v : GhostState) (c : Cell) (x : CellWord) (k : ℕ) (fits : FitsThread d t v) where
+module _ (d : ℕ) (t : Thread) (v : GhostState) (c : Site) (x : CellWord) (k : ℕ) (fits : FitsThread d t v) where
   -- the fund is turned
   pub fits_turned : (b : Block) → TableInvariant v → t.pending_call ≡ Refill Turning c x k
       → FitsThread d (At t (cond (is_low x) (Refill Checking c x k) Rest)) (ghost_after_step v d (OnCell (Turn (kind_in_state (model_state v) c) b)))

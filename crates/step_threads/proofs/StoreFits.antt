@@ -14,8 +14,8 @@ use Rattle.control_word.specs.State.{same_stored, stored}
 use Rattle.step_threads.specs.declared.programs.act.Act.{Act}
 use Rattle.step_threads.specs.declared.programs.act.Act.TheVariants.{Swap, Exchange, Drop}
 use Rattle.step_threads.specs.declared.programs.call.CellName.{CellName}
-use Rattle.step_table.specs.declared.cell_steps.cell_step.Cell.{Cell}
-use Rattle.step_table.specs.declared.cell_steps.cell_step.Cell.TheVariants.{Free, Member}
+use Rattle.control_word.specs.declared.site.Site.{Site}
+use Rattle.control_word.specs.declared.site.Site.TheVariants.{Free, Member}
 use Rattle.step_table.specs.declared.cell_steps.cell_step.CellStep.TheVariants as cell_step
 use Rattle.step_threads.specs.declared.frame.Frame.{Frame}
 use Rattle.step_threads.specs.declared.pending_call.PendingCall.{PendingCall}
@@ -100,7 +100,7 @@ drop_empty c lt ready act =
     subst (MayComeNext (other c.registers.slots.items) c.taken) act (ready_head c lt ready).0 in b
 
 -- a swap moves no block
-same_stores : (v : GhostState) (d : ℕ) (c : Cell) (new x : CellWord)
+same_stores : (v : GhostState) (d : ℕ) (c : Site) (new x : CellWord)
     → (model_state (ghost_after_step v d (OnCell (cell_step.Swap c new x)))).stores ≡ (model_state v).stores
 same_stores v d (Free n) new x = refl
 same_stores v d (Member b m) new x = refl

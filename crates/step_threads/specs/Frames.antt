@@ -16,8 +16,8 @@ use Rattle.step_threads.specs.declared.programs.act.Question.TheVariants as ques
 use Rattle.step_threads.specs.declared.programs.act.Task.{Task}
 use Rattle.step_threads.specs.declared.programs.call.CellName.{CellName}
 use Rattle.step_threads.specs.declared.programs.call.CellName.TheVariants as cell
-use Rattle.step_table.specs.declared.cell_steps.cell_step.Cell.{Cell}
-use Rattle.step_table.specs.declared.cell_steps.cell_step.Cell.TheVariants.{Free, Member}
+use Rattle.control_word.specs.declared.site.Site.{Site}
+use Rattle.control_word.specs.declared.site.Site.TheVariants.{Free, Member}
 use Rattle.step_threads.specs.declared.frame.Frame.{Frame}
 use Rattle.step_table.specs.declared.cell_steps.comparing.Comparing.{Comparing}
 use Rattle.step_table.specs.Contents.{is_of}
@@ -50,7 +50,7 @@ abbrev pub block_at : Slots → ℕ → Block
 block_at slots k = on (λ (x : Handle). x.block) (record { 0 = 0 }) (inside (slot_pointer slots k))
 
 -- the cell in the table: the weak ones stand behind the shared ones
-abbrev pub cell_of_name : State → Slots → CellName → Cell
+abbrev pub cell_of_name : State → Slots → CellName → Site
 cell_of_name s slots (cell.Shared n) = Free n
 cell_of_name s slots (cell.Weak n) = Free (s.shared + n)
 cell_of_name s slots (cell.Member k m) = Member (block_at slots k.0) m

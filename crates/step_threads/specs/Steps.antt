@@ -23,8 +23,8 @@ use Rattle.step_threads.specs.declared.said.Said.{Said}
 use Rattle.step_threads.specs.Programs.{kind_at}
 use Rattle.step_threads.specs.Frames.{FrameView, cell_of_name, hand, frame_settled}
 use Rattle.control_word.specs.Packing.{cell_bits}
-use Rattle.step_table.specs.declared.cell_steps.cell_step.Cell.{Cell}
-use Rattle.step_table.specs.declared.cell_steps.cell_step.Cell.TheVariants.{Member}
+use Rattle.control_word.specs.declared.site.Site.{Site}
+use Rattle.control_word.specs.declared.site.Site.TheVariants.{Member}
 use Rattle.step_table.specs.declared.cell_steps.cell_step.Compared.{Compared}
 use Rattle.step_table.specs.declared.cell_steps.refill.Stage.{Stage}
 use Rattle.step_table.specs.declared.cell_steps.refill.Stage.TheVariants.{Turning, Checking, Lacking, Refilling}
@@ -135,7 +135,7 @@ sends v d w k ts a c i = on (brings w k) (step_of_swap v d w k ts a c i) (slot_p
 
 -- a cell was looked at: it is tried next with what it was seen to hold, which has an object. Where all of its funds
 -- were taken nothing is done, and without an object that is the whole of it
-abbrev pub step_of_look : GhostState → ℕ → FrameView → ℕ → List Task → Act → Cell
+abbrev pub step_of_look : GhostState → ℕ → FrameView → ℕ → List Task → Act → Site
     → Option Compared → CellWord → Step
 step_of_look v d w k ts a c y x =
     cond (is_spent x) (within w k None Rest)
@@ -143,7 +143,7 @@ step_of_look v d w k ts a c y x =
     (step_of_act v d w k ts a (Some (atomic_step.OnCell (cell_step.Look c x y))) Rest))
 
 -- a fund of a cell is taken, where it shows the same still; else the act begins again
-abbrev pub takes : GhostState → ℕ → FrameView → ℕ → List Task → Act → Cell
+abbrev pub takes : GhostState → ℕ → FrameView → ℕ → List Task → Act → Site
     → Option Compared → CellWord → Step
 takes v d w k ts a c y x =
     cond (word_of_cell v c == cell_bits x)
@@ -152,7 +152,7 @@ takes v d w k ts a c y x =
 
 -- a compare looks at its cell: one that holds what is expected is tried next, and one that differs is as one that is
 -- loaded
-abbrev pub step_of_compare : GhostState → ℕ → FrameView → ℕ → List Task → Act → Cell → Compared
+abbrev pub step_of_compare : GhostState → ℕ → FrameView → ℕ → List Task → Act → Site → Compared
     → CellWord → Step
 step_of_compare v d w k ts a c y x =
     cond (same_value x y.expected) (within w k None (Saw x)) (step_of_look v d w k ts a c (Some y) x)
@@ -164,7 +164,7 @@ missed k (Some x) = Returning x.kind x.block 256 k
 
 -- a cell that holds what is expected is swapped, where it shows the same still; else what was brought is given back,
 -- and the act begins again
-abbrev pub matches : GhostState → ℕ → FrameView → ℕ → List Task → Act → Cell → Compared → CellWord → Step
+abbrev pub matches : GhostState → ℕ → FrameView → ℕ → List Task → Act → Site → Compared → CellWord → Step
 matches v d w k ts a c y x =
     cond (word_of_cell v c == cell_bits x)
     (step_of_act v d w k ts a (Some (atomic_step.OnCell (cell_step.CompareSwap c x y)))
@@ -176,7 +176,7 @@ abbrev pub fetches : FrameView → ℕ → CellWord → Handle → Step
 fetches w k x p = within w k (Some (atomic_step.OnCell (cell_step.Bring p.kind p.block p.place 256))) (Matched x)
 
 -- a compare goes on that has seen this
-abbrev pub settles : GhostState → ℕ → FrameView → ℕ → List Task → Act → Cell → Compared → CellWord → Step
+abbrev pub settles : GhostState → ℕ → FrameView → ℕ → List Task → Act → Site → Compared → CellWord → Step
 settles v d w k ts a c y x =
     cond (same_value x y.expected)
     (on (fetches w k x) (matches v d w k ts a c y x) (slot_pointer w.slots (hand w.slots)))
@@ -185,7 +185,7 @@ settles v d w k ts a c y x =
 -- the next step of a thread that took a fund of a cell, whose value had an object in this block. The fund becomes a
 -- handle. Where many were taken, as many are brought while the cell holds the value, and put in their place; where the
 -- cell shows something else by then they are given back, and it is looked at again
-abbrev pub refills_on : GhostState → FrameView → Stage → Cell → CellWord → ℕ → Block → Step
+abbrev pub refills_on : GhostState → FrameView → Stage → Site → CellWord → ℕ → Block → Step
 refills_on v w Turning c x k b =
     within w k (Some (atomic_step.OnCell (cell_step.Turn (kind_in_state (model_state v) c) b)))
     (cond (is_low x) (Refill Checking c x k) Rest)

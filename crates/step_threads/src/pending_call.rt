@@ -2,8 +2,7 @@
 
 use control_word::model::handle::Kind;
 use control_word::place::Block;
-use control_word::{CellWord, Handle};
-use step_table::cell_steps::cell_step::Cell;
+use control_word::{CellWord, Handle, Site};
 use step_table::cell_steps::refill::Stage;
 
 /// What a thread has begun and not ended.
@@ -46,7 +45,7 @@ pub enum PendingCall {
     /// taken are put back.
     Refill {
         stage: Stage,
-        cell: Cell,
+        cell: Site,
         found: CellWord,
         statement: u32,
     },

@@ -1,18 +1,18 @@
 -- Where the cell of a call is.
 use Rattle.std.proofs.Common.{◌≡◌, ℕ, ◌+◌, ◌<◌, refl, sym, ap, subst, ◌∙◌, arith}
 use Rattle.atomic_table.specs.Seated.{TableId}
-use Rattle.control_word.specs.Layout.{cell_place}
+use Rattle.control_word.specs.Layout.{IsSite, cell_place, site_place}
 use Rattle.control_word.specs.declared.model.event.Cell.{Cell}
 use Rattle.control_word.specs.declared.model.handle.Kind.{Kind}
 use Rattle.control_word.specs.declared.model.handle.Kind.TheVariants.{Owner}
 use Rattle.control_word.specs.declared.shape.Shape.{Shape}
-use Rattle.control_block.specs.CellCalls.{IsOpenAt, IsSite, cell_of_site, word_at}
+use Rattle.control_block.specs.CellCalls.{IsOpenAt, cell_of_site}
 use Rattle.control_block.specs.CellStepKinds.{IsCellAt, kind_in}
 use Rattle.control_block.specs.CellRetries.{IsAim}
 use Rattle.control_block.specs.Desks.{DeskNow}
 use Rattle.control_block.specs.Inside.{IsDesk, IsSized, desk_now}
-use Rattle.control_block.specs.declared.cell_calls.Site.{Site}
-use Rattle.control_block.specs.declared.cell_calls.Site.TheVariants.{Free, Member}
+use Rattle.control_word.specs.declared.site.Site.{Site}
+use Rattle.control_word.specs.declared.site.Site.TheVariants.{Free, Member}
 use Rattle.control_block.specs.declared.desk.Desk.TheInside.{Inside}
 use Rattle.control_block.proofs.desks.DeskBags.{holding_in}
 use Rattle.control_block.proofs.desks.DeskSteps.{word_inside}
@@ -20,7 +20,7 @@ use Rattle.control_block.proofs.desks.DeskSteps.{word_inside}
 module _ {V : Type 0} where
   module _ (d : Inside V) (h : IsDesk d) (k : Kind) (i : ℕ) where
     own_word : (id : TableId) (z : Shape) (s : Site) → d.seat.table_id ≡ id → d.seat.me.0.shape ≡ z → IsOpenAt (desk_now d) s k
-        → i ≡ word_at z.blocks s
+        → i ≡ site_place z.blocks s
         → IsSite s × (i < id.words)
     own_word id z (Free n) table shape cell at =
         let words = ap (λ (y : TableId). y.words) (sym table) ∙ h.sized.words in let blocks = ap (λ (y : Shape). y.blocks) shape in let low = cell.0 in
@@ -30,7 +30,7 @@ module _ {V : Type 0} where
         let w = word_inside d id Owner _ t.0 b.0 (7 + m) h table (holding_in d (desk_now d) Owner t.0 b.0 h refl t.1) (omega arith) in
         ((w.0, lt), subst (λ j. j < id.words) (sym at) w.1)
 
-    own_cell : (z : Shape) (s : Site) → d.seat.me.0.shape ≡ z → IsOpenAt (desk_now d) s k → i ≡ word_at z.blocks s
+    own_cell : (z : Shape) (s : Site) → d.seat.me.0.shape ≡ z → IsOpenAt (desk_now d) s k → i ≡ site_place z.blocks s
         → IsCellAt d.seat.me.0 (cell_of_site (desk_now d) s) i × (k ≡ kind_in d.seat.me.0.shape (cell_of_site (desk_now d) s))
     own_cell z (Free n) shape cell at = ((cell.0, at ∙ ap (λ (y : Shape). cell_place y.blocks n) (sym shape)), cell.1)
     own_cell z (Member b m) shape cell at =
@@ -38,20 +38,20 @@ module _ {V : Type 0} where
 
     -- the word of a cell that is open to the desk is one of the table's, and of the cell
     pub word_there : (y : DeskNow V) (id : TableId) (z : Shape) (s : Site) → desk_now d ≡ y → d.seat.table_id ≡ id → d.seat.me.0.shape ≡ z
-        → IsOpenAt y s k → i ≡ word_at z.blocks s → IsSite s × (i < id.words)
+        → IsOpenAt y s k → i ≡ site_place z.blocks s → IsSite s × (i < id.words)
     word_there y id z s is table shape cell at =
         own_word id z s table shape (subst (λ (u : DeskNow V). IsOpenAt u s k) (sym is) cell) at
 
     pub cell_there : (y : DeskNow V) (z : Shape) (s : Site) (c : Cell) → desk_now d ≡ y → d.seat.me.0.shape ≡ z → IsOpenAt y s k
         → c ≡ cell_of_site y s
-        → i ≡ word_at z.blocks s → IsCellAt d.seat.me.0 c i × (k ≡ kind_in d.seat.me.0.shape c)
+        → i ≡ site_place z.blocks s → IsCellAt d.seat.me.0 c i × (k ≡ kind_in d.seat.me.0.shape c)
     cell_there y z s c is shape cell named at =
         subst (λ (x : Cell). IsCellAt d.seat.me.0 x i × (k ≡ kind_in d.seat.me.0.shape x)) (ap (λ (u : DeskNow V). cell_of_site u s) is ∙ sym named)
         (own_cell z s shape (subst (λ (u : DeskNow V). IsOpenAt u s k) (sym is) cell) at)
 
     -- and so a call on it may begin
     pub aim_of : (y : DeskNow V) (id : TableId) (z : Shape) (s : Site) (c : Cell) → desk_now d ≡ y → d.seat.table_id ≡ id → d.seat.me.0.shape ≡ z
-        → IsOpenAt y s k → c ≡ cell_of_site y s → i ≡ word_at z.blocks s → IsAim c k i id d.seat.table_id d.seat.me
+        → IsOpenAt y s k → c ≡ cell_of_site y s → i ≡ site_place z.blocks s → IsAim c k i id d.seat.table_id d.seat.me
     aim_of y id z s c is table shape cell named at =
         let there = cell_there y z s c is shape cell named at in
         record {

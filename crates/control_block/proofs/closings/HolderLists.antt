@@ -1,9 +1,9 @@
 -- The cells that hold an object, one after another.
 use Rattle.std.proofs.Common.{◌≡◌, ◌≢◌, ℕ, suc, ◌+◌, ◌%◌, ◌==◌, List, [], ◌∷◌, ◌++◌, refl, sym, ap, ◌∙◌, arith}
+use Rattle.control_word.specs.Layout.{site_place}
 use Rattle.std.proofs.Common.{eq-eqb, ne_eqb}
 use Rattle.std.proofs.lemmas.Bool.{cond-true, cond-false}
 use Rattle.std.specs.Prelude.{slice_index}
-use Rattle.control_block.specs.CellCalls.{word_at}
 use Rattle.control_block.specs.Census.{CensusNow}
 use Rattle.control_block.specs.Holders.{block_holders, free_cell, free_holders, if_holds, member_holders, owned_at}
 use Rattle.control_block.specs.declared.cell_calls.CellAt.{CellAt}
@@ -17,13 +17,13 @@ join [] y z = refl
 join (u ∷ us) y z = ap (λ l. u ∷ l) (join us y z)
 
 module _ (c : CensusNow) (b : ℕ) where
-  pub one_more : (x : CellAt) (w : ℕ) (old next : List CellAt) → w ≡ slice_index c.words (word_at c.blocks x.site)
+  pub one_more : (x : CellAt) (w : ℕ) (old next : List CellAt) → w ≡ slice_index c.words (site_place c.blocks x.site)
       → w % 65536 ≡ b → next ≡ old ++ x ∷ [] → next ≡ old ++ if_holds c b x
   one_more x w old next word is e =
       let t : owned_at c x.site ≡ b = ap (λ n. n % 65536) (sym word) ∙ is in
       e ∙ ap (λ l. old ++ l) (sym (cond-true (owned_at c x.site == b) (x ∷ []) [] (eq-eqb (owned_at c x.site) b t)))
 
-  pub none_more : (x : CellAt) (w : ℕ) (old : List CellAt) → w ≡ slice_index c.words (word_at c.blocks x.site)
+  pub none_more : (x : CellAt) (w : ℕ) (old : List CellAt) → w ≡ slice_index c.words (site_place c.blocks x.site)
       → w % 65536 ≢ b → old ≡ old ++ if_holds c b x
   none_more x w old word isnt =
       let t : owned_at c x.site ≢ b = λ e. isnt (ap (λ n. n % 65536) word ∙ e) in

@@ -5,12 +5,13 @@ ghost use Rattle.control_block.specs.Desks.{Belongs, AddsEvent, Keeps, allowance
 ghost use Rattle.control_block.specs.CellCalls.{HoldsHandle, IsOpenAt, cell_of_site, handle_in, with_handle};
 ghost use Rattle.control_block.specs.CellCalls.{without_handle};
 
-use crate::cell_calls::{CellAt, Content, Site, word_of};
+use crate::cell_calls::{CellAt, Content};
 use crate::desk::Desk;
 use crate::domain::Domain;
 use crate::retries;
 use crate::step_kinds::cells::CellArgs;
-use control_word::{CellWord, Refusal};
+use control_word::packed::layout::site_word;
+use control_word::{CellWord, Refusal, Site};
 use std::sync::Wait;
 
 /// A copy of what a cell holds ([util.smartptr.atomic.shared], [util.smartptr.atomic.weak]). It is refused `Limit` just
@@ -38,7 +39,7 @@ pub fn load<V: Drop, A: CellArgs, R: Wait>(
         return Err(Refusal::Limit);
     }
     let table = &domain.table.shared;
-    let word = word_of(domain.shape.blocks, cell.site);
+    let word = site_word(domain.shape.blocks, cell.site);
     desk.held += 1; // here, since each locked instruction that follows waits for what was stored before it
     let seen = retries::loads::load::<V, A, R>(rt, table, &mut desk.seat, word, cell.kind);
     Ok(Content {
@@ -72,7 +73,7 @@ pub fn exchange<V: Drop, A: CellArgs>(
 {
     let table = &domain.table.shared;
     let seat = &mut desk.seat;
-    let word = word_of(domain.shape.blocks, site);
+    let word = site_word(domain.shape.blocks, site);
     let full = CellWord {
         owned: new.block,
         place: new.place,

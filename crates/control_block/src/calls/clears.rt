@@ -24,7 +24,7 @@ pub fn clear<V: Drop>(
     domain: &Domain<V>,
     desk: &mut Desk<V>,
     block: Block,
-    member: u32,
+    member: u8,
     kind: Kind,
 ) -> (Content, Released<V>)
     requires domain { Belongs desk.old domain.now }

@@ -6,12 +6,13 @@ ghost use Rattle.control_block.specs.CellCalls.{HoldsHandle, IsOpenAt, cell_of_s
 ghost use Rattle.control_block.specs.CellCalls.{without_handle};
 ghost use Rattle.control_block.specs.Desks.{AddsEvent, Keeps, allowance_of, bag_of, held_of};
 
-use crate::cell_calls::{Content, Offer, Site, word_of};
+use crate::cell_calls::{Content, Offer};
 use crate::desk::Desk;
 use crate::domain::Domain;
 use crate::retries;
 use crate::step_kinds::cells::CellArgs;
-use control_word::{CellWord, Refusal};
+use control_word::packed::layout::site_word;
+use control_word::{CellWord, Refusal, Site};
 use std::sync::Wait;
 
 /// Where what a cell holds is equivalent to what is expected, the new handle goes in, and what the cell held comes out:
@@ -46,7 +47,7 @@ pub fn compare<V: Drop, A: CellArgs, R: Wait>(
         return Err(Refusal::Limit);
     }
     let table = &domain.table.shared;
-    let word = word_of(domain.shape.blocks, site);
+    let word = site_word(domain.shape.blocks, site);
     let there = CellWord {
         owned: offer.expected.block,
         place: offer.expected.place,

@@ -8,13 +8,14 @@ ghost use Rattle.control_block.specs.Leaving.{IsReleasedBy};
 ghost use Rattle.control_block.specs.Storing.{Replaces};
 
 use crate::calls::put_by_out;
-use crate::cell_calls::{Content, Site, word_of};
+use crate::cell_calls::Content;
 use crate::desk::Desk;
 use crate::domain::Domain;
 use crate::released::Released;
 use crate::retries;
 use crate::step_kinds::cells::CellArgs;
-use control_word::CellWord;
+use control_word::packed::layout::site_word;
+use control_word::{CellWord, Site};
 
 /// A handle that the desk has goes into a cell, and what the cell held leaves ([util.smartptr.atomic.shared],
 /// [util.smartptr.atomic.weak]). Where that was an object's last owner, its value is released, and it ends in the
@@ -41,7 +42,7 @@ pub fn store<V: Drop, A: CellArgs>(
 {
     desk.held -= 1; // here, since each locked instruction that follows waits for what was stored before it
     let table = &domain.table.shared;
-    let word = word_of(domain.shape.blocks, site);
+    let word = site_word(domain.shape.blocks, site);
     let full = CellWord {
         owned: new.block,
         place: new.place,

@@ -7,11 +7,12 @@ ghost use Rattle.control_block.specs.Holders.{IsCellOf, block_holders, free_cell
 ghost use Rattle.control_block.specs.Holders.{if_holds};
 ghost use Rattle.control_block.specs.Holders.{many_of, member_holders};
 
-use crate::cell_calls::{CellAt, Site, word_of};
+use crate::cell_calls::CellAt;
 use crate::census::Census;
 use control_word::model::handle::Kind;
 use control_word::packed::cell::OWNED_MASK;
-use control_word::{Block, Counts, Refusal};
+use control_word::packed::layout::site_word;
+use control_word::{Block, Counts, Refusal, Site};
 use std::alloc::{AllocError, Global};
 
 /// Who holds an object: the cells with a handle on it, and how many more handles it has, which are in no cell.
@@ -89,7 +90,7 @@ impl<V: Drop> Census<V> {
     fn free(&self, number: u32) -> CellAt
         ensures { result ≡ free_cell self.now number }
     {
-        let site = Site::Free(number);
+        let site = Site::Free { number };
         let kind = if number < self.shape.shared_cells {
             Kind::Owner
         } else {
@@ -103,7 +104,7 @@ impl<V: Drop> Census<V> {
         requires { IsCellOf self.now cell.site }
         ensures { OnOk result (cells.new.items ≡ cells.old.items ++ if_holds self.now block.0 cell) }
     {
-        let word = self.closed.word(word_of(self.shape.blocks, cell.site));
+        let word = self.closed.word(site_word(self.shape.blocks, cell.site));
         if word & OWNED_MASK == u64::from(block.0) {
             cells.push(cell)?;
         }
@@ -132,12 +133,21 @@ impl<V: Drop> Census<V> {
         ensures { OnOk result (cells.new.items ≡ cells.old.items ++ block_holders self.now block.0 of.0) }
     {
         let kind = Kind::Owner;
-        let site = Site::Member(of, 0);
+        let site = Site::Member {
+            block: of,
+            member: 0,
+        };
         self.add(CellAt { site, kind }, block, cells)?;
-        let site = Site::Member(of, 1);
+        let site = Site::Member {
+            block: of,
+            member: 1,
+        };
         self.add(CellAt { site, kind }, block, cells)?;
         let kind = Kind::Weak;
-        let site = Site::Member(of, 2);
+        let site = Site::Member {
+            block: of,
+            member: 2,
+        };
         self.add(CellAt { site, kind }, block, cells)
     }
 

@@ -31,7 +31,7 @@ const EMPTY: CellWord = CellWord {
 
 /// Look: whether a member of an object that ends in the desk's hands holds nothing (own). Then this look clears it;
 /// else nothing changes.
-fn is_empty<V, M: StepArgs>(table: &Table<V>, seat: &mut Seat<V>, block: Block, member: u32) -> bool
+fn is_empty<V, M: StepArgs>(table: &Table<V>, seat: &mut Seat<V>, block: Block, member: u8) -> bool
     requires table { seat.old.table_id ≡ table.now.table_id }
     requires rests { Rests seat.old.me }
     requires word { (0 < block.0) × (member < 3) × (M.word ≡ member)
@@ -52,7 +52,7 @@ fn swap_out<V, M: StepArgs>(
     table: &Table<V>,
     seat: &mut Seat<V>,
     block: Block,
-    member: u32,
+    member: u8,
 ) -> CellWord
     requires table { seat.old.table_id ≡ table.now.table_id }
     requires rests { Rests seat.old.me }
@@ -80,7 +80,7 @@ pub fn clear<V: Drop, M: StepArgs>(
     table: &Table<V>,
     seat: &mut Seat<V>,
     block: Block,
-    member: u32,
+    member: u8,
     kind: Kind,
 ) -> (CellWord, Released<V>)
     requires table { (seat.old.table_id ≡ table.now.table_id) × IsSized seat.old.table_id seat.old.me.0.shape }

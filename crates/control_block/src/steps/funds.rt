@@ -13,19 +13,7 @@ use crate::table::{Seat, Table};
 use control_word::Block;
 use control_word::model::handle::Kind;
 use control_word::packed::counts::{FUND_TURNED, ONE_FUND};
-use control_word::packed::layout::{OWNERS, WEAKS, block_word};
-
-/// Where handles of this kind on the block's object are counted.
-#[inline]
-fn count_word(block: Block, kind: Kind) -> usize
-    requires { 0 < block.0 }
-    ensures { result ≡ spot block.0 (slot kind) }
-{
-    match kind {
-        Kind::Owner => block_word(block, OWNERS),
-        Kind::Weak => block_word(block, WEAKS),
-    }
-}
+use control_word::packed::layout::count_word;
 
 /// Bring: up to 256 funds are put on the count of a handle that the desk holds (own). The call is half done until they
 /// are in a cell or given back. The desk has seen no more.

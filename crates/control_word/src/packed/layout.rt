@@ -11,11 +11,14 @@
 //! A vacant block has 0 in its counts and members; its flags and fields may be anything. Bit
 //! `b % 64` of shelf word `b / 64` is 1 while block `b` is on the shelf.
 ghost use Rattle.std.specs.Prelude.{◌≡◌, ◌<◌};
-ghost use Rattle.control_word.specs.Layout.{WordsLieApart, bit_of, cell_place, shelf_place};
-ghost use Rattle.control_word.specs.Layout.{spot, table_size};
+ghost use Rattle.control_word.specs.Layout.{IsSite, WordsLieApart, bit_of, cell_place, shelf_place};
+ghost use Rattle.control_word.specs.Layout.{site_place, spot, table_size};
+ghost use Rattle.control_word.specs.Words.{slot};
 
+use crate::model::handle::Kind;
 use crate::place::Block;
 use crate::shape::Shape;
+use crate::site::Site;
 
 /// Words from a block to the next: ten used and six that stay 0, so that a count never shares a
 /// cache line with another block.
@@ -62,12 +65,37 @@ pub fn block_word(block: Block, word: usize) -> usize
     BLOCK_STRIDE * (usize::from(block.0) - 1) + word
 }
 
+/// Where handles of this kind on the block's object are counted (own). Condition: blocks are from 1 on.
+#[inline]
+pub fn count_word(block: Block, kind: Kind) -> usize
+    requires { 0 < block.0 }
+    ensures { result ≡ spot block.0 (slot kind) }
+{
+    match kind {
+        Kind::Owner => block_word(block, OWNERS),
+        Kind::Weak => block_word(block, WEAKS),
+    }
+}
+
 /// Where a free cell lies (own), by its number from 0, in a table of so many blocks.
 #[inline]
 pub fn cell_word(blocks: u32, cell: u32) -> usize
     ensures { result ≡ cell_place blocks cell }
 {
     BLOCK_STRIDE * blocks as usize + CELL_STRIDE * cell as usize
+}
+
+/// Where a cell's word lies (own), in a table of so many blocks. Conditions: a member's block is from 1 on, its number
+/// below 3.
+#[inline]
+pub fn site_word(blocks: u32, site: Site) -> usize
+    requires { IsSite site }
+    ensures { result ≡ site_place blocks site }
+{
+    match site {
+        Site::Free { number } => cell_word(blocks, number),
+        Site::Member { block, member } => block_word(block, MEMBERS + usize::from(member)),
+    }
 }
 
 /// Where a shelf word lies (own), by its number from 0, in a table of so many blocks and free

@@ -15,7 +15,7 @@ use control_word::model::handle::Kind;
 impl<V: Drop> Ending<V> {
     // A shared member is emptied; which one is cleared by then is noted by the caller.
     #[inline(always)]
-    fn clear_shared(&self, domain: &Domain<V>, desk: &mut Desk<V>, member: u32) -> Left<V>
+    fn clear_shared(&self, domain: &Domain<V>, desk: &mut Desk<V>, member: u8) -> Left<V>
         requires domain { Belongs desk.old domain.now }
         requires ends { EndsInHand desk.old self.now }
         requires member { member < 2 }

@@ -9,7 +9,7 @@ use Rattle.control_word.specs.declared.model.handle.NumberedHandle.{NumberedHand
 use Rattle.control_word.specs.Handles.{empty}
 use Rattle.control_word.specs.Histories.{entry}
 use Rattle.control_word.specs.State.{kind_of_member, weak}
-use Rattle.step_table.specs.declared.cell_steps.cell_step.Cell.TheVariants.{Member}
+use Rattle.control_word.specs.declared.site.Site.TheVariants.{Member}
 use Rattle.step_table.specs.declared.memory.ghost_history.AtomicStep.TheVariants as atomic_step
 use Rattle.step_table.specs.Cells.{word_of_cell}
 use Rattle.step_table.specs.Contents.{slot_of}

@@ -6,7 +6,7 @@ use Rattle.control_word.specs.declared.packed.cell.CellWord.{CellWord}
 use Rattle.control_word.specs.declared.model.handle.Kind.{Kind}
 use Rattle.control_word.specs.declared.place.Block.{Block}
 use Rattle.control_word.specs.Packing.{cell_bits}
-use Rattle.step_table.specs.declared.cell_steps.cell_step.Cell.{Cell}
+use Rattle.control_word.specs.declared.site.Site.{Site}
 use Rattle.step_table.specs.declared.cell_steps.cell_step.CellStep.TheVariants as cell_step
 use Rattle.step_table.specs.declared.cell_steps.cell_step.Compared.{Compared}
 use Rattle.control_word.specs.declared.handle.Handle.{Handle}
@@ -66,7 +66,7 @@ module _ (v : GhostState) (d : ℕ) (w : FrameView) (k : ℕ) (ts : List Task) w
   goes_said a None = λ t. absurd (false≢true t)
   goes_said a (Some g) = sends_said a g.0 g.1 (slot_pointer w.slots g.1)
 
-  sees_said : (a : Act) (c : Cell) (y : Option Compared) (x : CellWord) → IsSilent (step_of_look v d w k ts a c y x)
+  sees_said : (a : Act) (c : Site) (y : Option Compared) (x : CellWord) → IsSilent (step_of_look v d w k ts a c y x)
   sees_said a c y x =
       let look = step_of_act v d w k ts a (Some (atomic_step.OnCell (cell_step.Look c x y))) Rest in
       cond_both (is_spent x) (within w k None Rest) (cond (is_some x.owned) (within w k None (Saw x)) look) IsSilent (λ e t. refl)
@@ -105,7 +105,7 @@ module _ (v : GhostState) (d : ℕ) (w : FrameView) (k : ℕ) (ts : List Task) w
   first_said (OnShelf x) = λ t. absurd (false≢true t)
 
 -- nor does one that turns a fund or puts funds back
-pub refills_said : (v : GhostState) (w : FrameView) (stage : Stage) (c : Cell) (x : CellWord) (k : ℕ) (b : Block)
+pub refills_said : (v : GhostState) (w : FrameView) (stage : Stage) (c : Site) (x : CellWord) (k : ℕ) (b : Block)
     → (refills_on v w stage c x k b).said ≡ silent k
 refills_said v w Turning c x k b = refl
 refills_said v w Checking c x k b = refl

@@ -14,7 +14,7 @@ use Rattle.step_threads.specs.declared.programs.act.Act.TheVariants.{Offer, Swap
 use Rattle.step_threads.specs.declared.programs.act.Task.{Task}
 use Rattle.step_threads.specs.declared.programs.call.CellName.{CellName}
 use Rattle.step_threads.specs.declared.pending_call.PendingCall.TheVariants.{Rest, Saw, Matched, Refill}
-use Rattle.step_table.specs.declared.cell_steps.cell_step.Cell.{Cell}
+use Rattle.control_word.specs.declared.site.Site.{Site}
 use Rattle.step_table.specs.declared.cell_steps.cell_step.CellStep.TheVariants as cell_step
 use Rattle.control_word.specs.declared.handle.Handle.{Handle}
 use Rattle.step_table.specs.declared.memory.ghost_history.AtomicStep.TheVariants as atomic_step
@@ -40,7 +40,7 @@ use Rattle.step_core.proofs.watching.Blocks.{IsThere, bring_off, slot_there}
 use Rattle.step_core.proofs.watching.Cells.{block_there}
 
 -- funds that are brought leave the cell's word
-brought_cell : (v : GhostState) (d : ℕ) (k : Kind) (b : Block) (p : Option Place) (f : ℕ) (c : Cell) → TableInvariant v → IsOpenTo v d c → IsThere v b
+brought_cell : (v : GhostState) (d : ℕ) (k : Kind) (b : Block) (p : Option Place) (f : ℕ) (c : Site) → TableInvariant v → IsOpenTo v d c → IsThere v b
     → word_of_cell (ghost_after v d (Some (atomic_step.OnCell (cell_step.Bring k b p f)))) c ≡ word_of_cell v c
 brought_cell v d k b p f c kept way is = bring_off v d k b p f is c (somewhere v c kept (kept_cell v d c kept way))
 
@@ -161,7 +161,7 @@ module _ (v : GhostState) (d : ℕ) (w : FrameView) (kept : TableInvariant v) (s
   swapping_less x (t ∷ ts) none is held = swap_less t ts x t.act none is refl held
 
   -- a fund is turned, and others are put back
-  pub refill_less : (s : Stage) (c : Cell) (x : CellWord) (k : ℕ) (o : Option Block) → x.owned ≡ o → RefillFits d s c x v
+  pub refill_less : (s : Stage) (c : Site) (x : CellWord) (k : ℕ) (o : Option Block) → x.owned ≡ o → RefillFits d s c x v
       → IsLess v d (Refill s c x k) w (option_map (refills_on v w s c x k) o)
   refill_less s c x k None e fits = absurd (some_none (sym fits.owned ∙ e))
     where

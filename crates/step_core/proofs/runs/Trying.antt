@@ -11,7 +11,7 @@ use Rattle.step_threads.specs.declared.programs.act.Act.{Act}
 use Rattle.step_threads.specs.declared.programs.act.Task.{Task}
 use Rattle.step_threads.specs.declared.pending_call.PendingCall.{PendingCall}
 use Rattle.step_threads.specs.declared.pending_call.PendingCall.TheVariants.{Rest, Saw, Matched, Refill}
-use Rattle.step_table.specs.declared.cell_steps.cell_step.Cell.{Cell}
+use Rattle.control_word.specs.declared.site.Site.{Site}
 use Rattle.step_table.specs.declared.cell_steps.cell_step.CellStep.TheVariants as cell_step
 use Rattle.step_table.specs.declared.cell_steps.cell_step.Compared.{Compared}
 use Rattle.control_word.specs.declared.handle.Handle.{Handle}
@@ -38,7 +38,7 @@ use Rattle.step_core.proofs.telling.Leaves.{leaves_by}
 use Rattle.step_core.proofs.telling.Walking.{went_still}
 
 -- what a cell shows is what was seen of it
-pub shows_seen : (v : GhostState) (d : ℕ) (c : Cell) → TableInvariant v → d < v.extent.actors → IsOpenTo v d c → (word_of_cell v c == cell_bits (seen v c))
+pub shows_seen : (v : GhostState) (d : ℕ) (c : Site) → TableInvariant v → d < v.extent.actors → IsOpenTo v d c → (word_of_cell v c == cell_bits (seen v c))
     ≡ true
 shows_seen v d c kept seat way = eq-eqb _ _ (seen_found v d c kept seat way).shows.bits
 
@@ -60,17 +60,17 @@ module _ (v : GhostState) (d k : ℕ) (w : FrameView) (t : Task) (ts : List Task
       let j : weight t.act ≡ 7 = ap weight same ∙ heavy in
       omega (arith, l, j)
 
-  shown : (x : CellWord) (c : Cell) → shows_on v w.slots x a ≡ (word_of_cell v c == cell_bits x)
+  shown : (x : CellWord) (c : Site) → shows_on v w.slots x a ≡ (word_of_cell v c == cell_bits x)
       → shows_next v w.slots x w.todo ≡ (word_of_cell v c == cell_bits x)
   shown x c e = ap (shows_next v w.slots x) is ∙ ap (shows_on v w.slots x) same ∙ e
 
   -- a cell is looked at, and what it shows is tried next
-  tries_next : (c : Cell) (x : CellWord) → shows_on v w.slots x a ≡ (word_of_cell v c == cell_bits x) → (word_of_cell v c == cell_bits x) ≡ true
+  tries_next : (c : Site) (x : CellWord) → shows_on v w.slots x a ≡ (word_of_cell v c == cell_bits x) → (word_of_cell v c == cell_bits x) ≡ true
       → IsLess v d Rest w (Some (within w k None (Saw x)))
   tries_next c x on_act shows =
       let s = alone_saw v w x true (shown x c on_act ∙ shows) in record { own = omega (arith, s); most = omega arith }
 
-  pub sees_less : (c : Cell) (y : Option Compared) (x : CellWord) → is_spent x ≡ false → shows_on v w.slots x a ≡ (word_of_cell v c == cell_bits x)
+  pub sees_less : (c : Site) (y : Option Compared) (x : CellWord) → is_spent x ≡ false → shows_on v w.slots x a ≡ (word_of_cell v c == cell_bits x)
       → (word_of_cell v c == cell_bits x) ≡ true → IsLess v d Rest w (Some (step_of_look v d w k ts a c y x))
   sees_less c y x left on_act shows =
       cond_both (is_spent x) (within w k None Rest)
@@ -80,7 +80,7 @@ module _ (v : GhostState) (d k : ℕ) (w : FrameView) (t : Task) (ts : List Task
       (λ (s : Step). IsLess v d Rest w (Some s)) (λ e. tries_next c x on_act shows)
       (λ e. plain_less v d k Rest w t ts a (Some (atomic_step.OnCell (cell_step.Look c x y))) refl stays none is (omega arith) (omega arith)))
 
-  pub compares_less : (c : Cell) (y : Compared) (x : CellWord) → (not (same_value x y.expected) && is_spent x) ≡ false
+  pub compares_less : (c : Site) (y : Compared) (x : CellWord) → (not (same_value x y.expected) && is_spent x) ≡ false
       → shows_on v w.slots x a ≡ (word_of_cell v c == cell_bits x) → (word_of_cell v c == cell_bits x) ≡ true
       → IsLess v d Rest w (Some (step_of_compare v d w k ts a c y x))
   compares_less c y x left on_act shows =
@@ -89,7 +89,7 @@ module _ (v : GhostState) (d k : ℕ) (w : FrameView) (t : Task) (ts : List Task
       (λ e. sees_less c (Some y) x (ap (λ (b : Bool). not b && is_spent x) (sym e) ∙ left) on_act shows)
 
   -- a fund is taken, where the cell shows the same still
-  pub takes_less : (c : Cell) (y : Option Compared) (x : CellWord) → shows_on v w.slots x a ≡ (word_of_cell v c == cell_bits x)
+  pub takes_less : (c : Site) (y : Option Compared) (x : CellWord) → shows_on v w.slots x a ≡ (word_of_cell v c == cell_bits x)
       → IsLess v d (Saw x) w (Some (takes v d w k ts a c y x))
   takes_less c y x on_act =
       let done = step_of_act v d w k ts a (Some (atomic_step.OnCell (cell_step.Take c x y))) (Refill Turning c (more_taken x) k) in
@@ -102,7 +102,7 @@ module _ (v : GhostState) (d k : ℕ) (w : FrameView) (t : Task) (ts : List Task
       (λ e. let s = alone_saw v w x false (shown x c on_act ∙ e) in record { own = omega (arith, s); most = omega arith })
 
   -- the cell is swapped, where it shows the same still
-  matches_less : (h : PendingCall) (c : Cell) (y : Compared) (x : CellWord) → is_prepared h ≡ false → spare h ≡ 15
+  matches_less : (h : PendingCall) (c : Site) (y : Compared) (x : CellWord) → is_prepared h ≡ false → spare h ≡ 15
       → ((word_of_cell v c == cell_bits x) ≡ true → 10 ≤ alone v w h) → ((word_of_cell v c == cell_bits x) ≡ false → 17 ≤ alone v w h)
       → IsLess v d h w (Some (matches v d w k ts a c y x))
   matches_less h c y x unmade keeps hits misses =
@@ -126,7 +126,7 @@ module _ (v : GhostState) (d k : ℕ) (w : FrameView) (t : Task) (ts : List Task
       record { own = omega (arith, b, high); most = omega (arith, f, keeps) })
 
   -- what is to go in has its funds brought first, and what the cell showed is shown still
-  fetches_less : (c : Cell) (y : Compared) (x : CellWord) → shows_on v w.slots x a ≡ (word_of_cell v c == cell_bits x)
+  fetches_less : (c : Site) (y : Compared) (x : CellWord) → shows_on v w.slots x a ≡ (word_of_cell v c == cell_bits x)
       → ((p : Handle) → slot_pointer w.slots (hand w.slots) ≡ Some p
       → shows_next (ghost_after v d (fetches w k x p).atomic_step) w.slots x w.todo ≡ shows_next v w.slots x w.todo)
       → (o : Option Handle) → slot_pointer w.slots (hand w.slots) ≡ o → IsLess v d (Saw x) w (Some (on (fetches w k x) (matches v d w k ts a c y x) o))
@@ -147,7 +147,7 @@ module _ (v : GhostState) (d k : ℕ) (w : FrameView) (t : Task) (ts : List Task
           let a = alone_saw v w x false other in let b = alone_matched next w x false (keeps p e ∙ other) in
           record { own = omega (arith, a, b); most = omega arith }
 
-  pub settles_less : (c : Cell) (y : Compared) (x : CellWord) → shows_on v w.slots x a ≡ (word_of_cell v c == cell_bits x)
+  pub settles_less : (c : Site) (y : Compared) (x : CellWord) → shows_on v w.slots x a ≡ (word_of_cell v c == cell_bits x)
       → ((p : Handle) → slot_pointer w.slots (hand w.slots) ≡ Some p
       → shows_next (ghost_after v d (fetches w k x p).atomic_step) w.slots x w.todo ≡ shows_next v w.slots x w.todo)
       → IsLess v d (Saw x) w (Some (settles v d w k ts a c y x))
@@ -156,7 +156,7 @@ module _ (v : GhostState) (d k : ℕ) (w : FrameView) (t : Task) (ts : List Task
       (takes v d w k ts a c (Some y) x) (λ (s : Step). IsLess v d (Saw x) w (Some s))
       (λ e. fetches_less c y x on_act keeps (slot_pointer w.slots (hand w.slots)) refl) (λ e. takes_less c (Some y) x on_act)
 
-  pub matched_less : (c : Cell) (y : Compared) (x : CellWord) → shows_on v w.slots x a ≡ (word_of_cell v c == cell_bits x)
+  pub matched_less : (c : Site) (y : Compared) (x : CellWord) → shows_on v w.slots x a ≡ (word_of_cell v c == cell_bits x)
       → IsLess v d (Matched x) w (Some (matches v d w k ts a c y x))
   matched_less c y x on_act =
       matches_less (Matched x) c y x refl refl
@@ -164,7 +164,7 @@ module _ (v : GhostState) (d k : ℕ) (w : FrameView) (t : Task) (ts : List Task
       (λ s. let z = alone_matched v w x false (shown x c on_act ∙ s) in omega (arith, z))
 
 -- a refill goes on
-module _ (v : GhostState) (d : ℕ) (w : FrameView) (c : Cell) (x : CellWord) (k : ℕ) (b : Block) where
+module _ (v : GhostState) (d : ℕ) (w : FrameView) (c : Site) (x : CellWord) (k : ℕ) (b : Block) where
   pub refills_less : (s : Stage)
       → (word_of_cell v c == cell_bits (seen v c)) ≡ true
       → (word_of_cell (ghost_after v d (refills_on v w Lacking c x k b).atomic_step) c ≡ word_of_cell v c)

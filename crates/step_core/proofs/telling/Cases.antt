@@ -7,7 +7,7 @@ use Rattle.control_word.specs.declared.model.handle.Kind.{Kind}
 use Rattle.control_word.specs.declared.place.Block.{Block}
 use Rattle.control_word.specs.declared.place.Place.{Place}
 use Rattle.control_word.specs.Packing.{cell_bits}
-use Rattle.step_table.specs.declared.cell_steps.cell_step.Cell.{Cell}
+use Rattle.control_word.specs.declared.site.Site.{Site}
 use Rattle.step_table.specs.declared.cell_steps.cell_step.CellStep.TheVariants as cell_step
 use Rattle.step_table.specs.declared.cell_steps.cell_step.Compared.{Compared}
 use Rattle.control_word.specs.declared.handle.Handle.{Handle}
@@ -35,21 +35,21 @@ use Rattle.step_threads.specs.Steps.{Step, step_of_act, step_of_compare, fetches
 
 -- steps of a thread that rests or is within an act, so that nothing is done; that look at a cell, take a fund of it, or
 -- swap it; and those on funds
-pub record IsEach (v : GhostState) (d : ℕ) (w : FrameView) (k : ℕ) (ts : List Task) (a : Act) (c : Cell) (P : Step → Type 0) : Type 0 where
+pub record IsEach (v : GhostState) (d : ℕ) (w : FrameView) (k : ℕ) (ts : List Task) (a : Act) (c : Site) (P : Step → Type 0) : Type 0 where
   pub quiet : (h : PendingCall) → P (within w k None h)
   pub look : (x : CellWord) (y : Option Compared) → P (step_of_act v d w k ts a (Some (atomic_step.OnCell (cell_step.Look c x y))) Rest)
   pub take : (x : CellWord) (y : Option Compared) (h : PendingCall) → P (step_of_act v d w k ts a (Some (atomic_step.OnCell (cell_step.Take c x y))) h)
   pub swap : (x : CellWord) (y : Compared) (h : PendingCall) → P (step_of_act v d w k ts a (Some (atomic_step.OnCell (cell_step.CompareSwap c x y))) h)
   pub bring : (x : CellWord) (p : Handle) → P (fetches w k x p)
 
-pub each_sees : (v : GhostState) (d : ℕ) (w : FrameView) (k : ℕ) (ts : List Task) (a : Act) (c : Cell) (P : Step → Type 0) → IsEach v d w k ts a c P
+pub each_sees : (v : GhostState) (d : ℕ) (w : FrameView) (k : ℕ) (ts : List Task) (a : Act) (c : Site) (P : Step → Type 0) → IsEach v d w k ts a c P
     → (y : Option Compared) (x : CellWord) → P (step_of_look v d w k ts a c y x)
 each_sees v d w k ts a c P each y x =
     let look = step_of_act v d w k ts a (Some (atomic_step.OnCell (cell_step.Look c x y))) Rest in
     cond_both (is_spent x) (within w k None Rest) (cond (is_some x.owned) (within w k None (Saw x)) look) P (λ e. each.quiet Rest)
     (λ e. cond_both (is_some x.owned) (within w k None (Saw x)) look P (λ f. each.quiet (Saw x)) (λ f. each.look x y))
 
-pub each_compares : (v : GhostState) (d : ℕ) (w : FrameView) (k : ℕ) (ts : List Task) (a : Act) (c : Cell) (P : Step → Type 0) → IsEach v d w k ts a c P
+pub each_compares : (v : GhostState) (d : ℕ) (w : FrameView) (k : ℕ) (ts : List Task) (a : Act) (c : Site) (P : Step → Type 0) → IsEach v d w k ts a c P
     → (y : Compared) (x : CellWord) → P (step_of_compare v d w k ts a c y x)
 each_compares v d w k ts a c P each y x =
     cond_both (same_value x y.expected) (within w k None (Saw x)) (step_of_look v d w k ts a c (Some y) x) P (λ e. each.quiet (Saw x))
@@ -64,14 +64,14 @@ each_load v d w k ts c P each refused =
     cond_both (is_there w.slots c) (step_of_look v d w k ts (Load c) x None (seen v x)) (step_of_act v d w k ts (Load c) None Rest) P
     (λ e. each_sees v d w k ts (Load c) x P each None (seen v x)) (λ e. refused)
 
-each_takes : (v : GhostState) (d : ℕ) (w : FrameView) (k : ℕ) (ts : List Task) (a : Act) (c : Cell) (P : Step → Type 0) → IsEach v d w k ts a c P
+each_takes : (v : GhostState) (d : ℕ) (w : FrameView) (k : ℕ) (ts : List Task) (a : Act) (c : Site) (P : Step → Type 0) → IsEach v d w k ts a c P
     → (y : Option Compared) (x : CellWord) → P (takes v d w k ts a c y x)
 each_takes v d w k ts a c P each y x =
     cond_both (word_of_cell v c == cell_bits x)
     (step_of_act v d w k ts a (Some (atomic_step.OnCell (cell_step.Take c x y))) (Refill Turning c (more_taken x) k)) (within w k None Rest) P
     (λ e. each.take x y (Refill Turning c (more_taken x) k)) (λ e. each.quiet Rest)
 
-each_matches : (v : GhostState) (d : ℕ) (w : FrameView) (k : ℕ) (ts : List Task) (a : Act) (c : Cell) (P : Step → Type 0) → IsEach v d w k ts a c P
+each_matches : (v : GhostState) (d : ℕ) (w : FrameView) (k : ℕ) (ts : List Task) (a : Act) (c : Site) (P : Step → Type 0) → IsEach v d w k ts a c P
     → (y : Compared) (x : CellWord) → P (matches v d w k ts a c y x)
 each_matches v d w k ts a c P each y x =
     let h = gives_back (kind_in_state (model_state v) c) k x x.owned in
@@ -79,7 +79,7 @@ each_matches v d w k ts a c P each y x =
     cond_both (word_of_cell v c == cell_bits x) (step_of_act v d w k ts a (Some (atomic_step.OnCell (cell_step.CompareSwap c x y))) h) (within w k None m) P
     (λ e. each.swap x y h) (λ e. each.quiet m)
 
-each_settles : (v : GhostState) (d : ℕ) (w : FrameView) (k : ℕ) (ts : List Task) (a : Act) (c : Cell) (P : Step → Type 0) → IsEach v d w k ts a c P
+each_settles : (v : GhostState) (d : ℕ) (w : FrameView) (k : ℕ) (ts : List Task) (a : Act) (c : Site) (P : Step → Type 0) → IsEach v d w k ts a c P
     → (y : Compared) (x : CellWord) → P (settles v d w k ts a c y x)
 each_settles v d w k ts a c P each y x =
     cond_both (same_value x y.expected) (on (fetches w k x) (matches v d w k ts a c y x) (slot_pointer w.slots (hand w.slots)))
@@ -164,9 +164,9 @@ pub record IsEachRefill (v : GhostState) (w : FrameView) (k : ℕ) (P : Step →
   pub turn : (kind : Kind) (b : Block) (h : PendingCall) → P (within w k (Some (atomic_step.OnCell (cell_step.Turn kind b))) h)
   pub bring : (kind : Kind) (b : Block) (p : Option Place) (n : ℕ) (h : PendingCall) → P (within w k (Some (atomic_step.OnCell (cell_step.Bring kind b p n))) h)
   pub back : (kind : Kind) (b : Block) (n : ℕ) (h : PendingCall) → P (within w k (Some (atomic_step.OnCell (cell_step.GiveBack kind b n))) h)
-  pub refill : (c : Cell) (n : ℕ) (h : PendingCall) → P (within w k (Some (atomic_step.OnCell (cell_step.Refill c n))) h)
+  pub refill : (c : Site) (n : ℕ) (h : PendingCall) → P (within w k (Some (atomic_step.OnCell (cell_step.Refill c n))) h)
 
-refill_stage : (v : GhostState) (w : FrameView) (k : ℕ) (P : Step → Type 0) → IsEachRefill v w k P → (c : Cell) (x : CellWord) (b : Block) (stage : Stage)
+refill_stage : (v : GhostState) (w : FrameView) (k : ℕ) (P : Step → Type 0) → IsEachRefill v w k P → (c : Site) (x : CellWord) (b : Block) (stage : Stage)
     → P (refills_on v w stage c x k b)
 refill_stage v w k P each c x b Turning = each.turn (kind_in_state (model_state v) c) b (cond (is_low x) (Refill Checking c x k) Rest)
 refill_stage v w k P each c x b Checking = each.quiet (cond (is_drained x (seen v c)) (Refill Lacking c (seen v c) k) Rest)
@@ -177,6 +177,6 @@ refill_stage v w k P each c x b Refilling =
 refill_stage v w k P each c x b Failing = each.back (kind_in_state (model_state v) c) b x.taken (Refill Checking c x k)
 
 pub each_refill : (v : GhostState) (w : FrameView) (k : ℕ) (P : Option Step → Type 0) → P None → IsEachRefill v w k (λ (x : Step). P (Some x))
-    → (stage : Stage) (c : Cell) (x : CellWord) (o : Option Block) → P (option_map (refills_on v w stage c x k) o)
+    → (stage : Stage) (c : Site) (x : CellWord) (o : Option Block) → P (option_map (refills_on v w stage c x k) o)
 each_refill v w k P none each stage c x None = none
 each_refill v w k P none each stage c x (Some b) = refill_stage v w k (λ (s : Step). P (Some s)) each c x b stage

@@ -17,7 +17,7 @@ use Rattle.step_threads.specs.declared.ending.Ending.{Ending}
 use Rattle.step_core.specs.Bounds.{frame_steps}
 use Rattle.step_threads.specs.Frames.{Going, FrameView, cell_of_name, comparing, going, hand, locked_pointer, offered, on_going, other, frame_settled}
 use Rattle.step_threads.specs.Endings.{staged}
-use Rattle.step_table.specs.declared.cell_steps.cell_step.Cell.TheVariants.{Member}
+use Rattle.control_word.specs.declared.site.Site.TheVariants.{Member}
 use Rattle.step_table.specs.Cells.{word_of_cell}
 use Rattle.step_table.specs.Contents.{compared_in, seen}
 use Rattle.step_table.specs.Registers.{inside, is_full, owner_slot, place_in, slot_pointer}

@@ -2,7 +2,7 @@
 use Rattle.std.proofs.Common.{◌≡◌, ℕ, ◌+◌, ◌≤◌, Bool, false, cond, List, [], ◌∷◌, refl, ap, ◌∙◌, arith}
 use Rattle.std.specs.Prelude.{Option, Some, None, is_some}
 use Rattle.control_word.specs.declared.packed.cell.CellWord.{CellWord}
-use Rattle.step_table.specs.declared.cell_steps.cell_step.Cell.{Cell}
+use Rattle.control_word.specs.declared.site.Site.{Site}
 use Rattle.step_table.specs.declared.cell_steps.cell_step.CellStep.TheVariants as cell_step
 use Rattle.step_table.specs.declared.cell_steps.cell_step.Compared.{Compared}
 use Rattle.step_table.specs.declared.memory.ended.Ended.{Ended}
@@ -27,7 +27,7 @@ use Rattle.step_core.proofs.telling.Leaves.{ends_by, leaves_by, none_ends}
 use Rattle.step_core.proofs.telling.Walking.{went_plain}
 
 -- an act by which nothing leaves, and no object ends
-each_counted : (v : GhostState) (d k : ℕ) (h : PendingCall) (w : FrameView) (t : Task) (ts : List Task) (a : Act) (c : Cell) → is_prepared h ≡ false
+each_counted : (v : GhostState) (d k : ℕ) (h : PendingCall) (w : FrameView) (t : Task) (ts : List Task) (a : Act) (c : Site) → is_prepared h ≡ false
     → w.endings ≡ [] → w.todo ≡ t ∷ ts → leaves_by w.slots a ≡ None
     → IsEach v d w k ts a c (λ (x : Step). IsCounted v d h w (Some x))
 each_counted v d k h w t ts a c e none is stays =
@@ -62,7 +62,7 @@ load_one v d k w t ts c none is =
     (each_counted v d k Rest w t ts (Load c) (cell_of_name (model_state v) w.slots c) refl none is refl)
     (quiet v d k Rest Rest w (went (model_state v) d w k ts (Load c)) _ (omega (arith, l)))
 
-pub compares_one : (v : GhostState) (d k : ℕ) (w : FrameView) (t : Task) (ts : List Task) (a : Act) (c : Cell) (y : Compared) (x : CellWord)
+pub compares_one : (v : GhostState) (d k : ℕ) (w : FrameView) (t : Task) (ts : List Task) (a : Act) (c : Site) (y : Compared) (x : CellWord)
     → w.endings ≡ [] → w.todo ≡ t ∷ ts → leaves_by w.slots a ≡ None
     → IsCounted v d Rest w (Some (step_of_compare v d w k ts a c y x))
 compares_one v d k w t ts a c y x none is stays =
@@ -92,7 +92,7 @@ counted_match v d w x ts none is =
     each_matched v d w (λ (o : Option Step). IsCounted v d (Matched x) w o) x ts (none_counted v d (Matched x) w)
     (λ t us e. act_counted v d (Matched x) w t us refl none (is ∙ e))
 
-pub counted_refill : (v : GhostState) (d : ℕ) (stage : Stage) (c : Cell) (x : CellWord) (k : ℕ) (w : FrameView)
+pub counted_refill : (v : GhostState) (d : ℕ) (stage : Stage) (c : Site) (x : CellWord) (k : ℕ) (w : FrameView)
     → IsCounted v d (Refill stage c x k) w (step_at v d (Refill stage c x k) w)
 counted_refill v d stage c x k w =
     let h = Refill stage c x k in

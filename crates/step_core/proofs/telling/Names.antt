@@ -13,8 +13,8 @@ use Rattle.step_threads.specs.declared.ending.Ending.{Ending}
 use Rattle.step_threads.specs.declared.pending_call.PendingCall.{PendingCall}
 use Rattle.step_threads.specs.declared.pending_call.PendingCall.TheVariants.{Rest, Making, Locking, Giving, Brought, Saw, Matched, Refill, Returning, Clearing}
 use Rattle.control_word.specs.declared.packed.cell.CellWord.{CellWord}
-use Rattle.step_table.specs.declared.cell_steps.cell_step.Cell.{Cell}
-use Rattle.step_table.specs.declared.cell_steps.cell_step.Cell.TheVariants.{Member}
+use Rattle.control_word.specs.declared.site.Site.{Site}
+use Rattle.control_word.specs.declared.site.Site.TheVariants.{Member}
 use Rattle.step_table.specs.declared.memory.form.Form.{Form}
 use Rattle.control_word.specs.declared.handle.Handle.{Handle}
 use Rattle.step_table.specs.declared.memory.ghost_history.AtomicStep.TheVariants as atomic_step
@@ -42,7 +42,7 @@ use Rattle.step_core.proofs.telling.Tidying.{any_tidy, hand_tidy, left_tidy, mak
 
 -- the first step of an act leaves the frame as it is, is the act, or is refused
 module _ (v : GhostState) (d k : ℕ) (w : FrameView) (ts : List Task) (P : FrameView → Type 0) (same : P w) where
-  each_cell : (a : Act) (c : Cell) → P (went (model_state v) d w k ts a) → IsEach v d w k ts a c (λ (x : Step). P x.frame_view)
+  each_cell : (a : Act) (c : Site) → P (went (model_state v) d w k ts a) → IsEach v d w k ts a c (λ (x : Step). P x.frame_view)
   each_cell a c done =
       record {
         quiet = λ h. same;

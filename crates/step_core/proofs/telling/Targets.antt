@@ -8,15 +8,15 @@ use Rattle.control_word.proofs.words.Funds.{cell_busy, member_busy}
 use Rattle.control_word.specs.declared.place.Block.{Block}
 use Rattle.control_word.specs.Events.{cell_of}
 use Rattle.control_word.specs.Words.{block_of, blocks_of}
-use Rattle.step_table.specs.declared.cell_steps.cell_step.Cell.{Cell}
-use Rattle.step_table.specs.declared.cell_steps.cell_step.Cell.TheVariants.{Free, Member}
+use Rattle.control_word.specs.declared.site.Site.{Site}
+use Rattle.control_word.specs.declared.site.Site.TheVariants.{Free, Member}
 use Rattle.step_table.specs.CellAtomicSteps.{cell_in}
 use Rattle.step_table.specs.Cells.{IsCellInUse, target_of}
 use Rattle.step_table.specs.Openings.{opening}
 use Rattle.step_table.specs.GhostStates.{TableInvariant, GhostState, model_state}
 use Rattle.step_core.specs.Worlds.{WorldState}
 
-busy : (v : GhostState) (c : Cell) → TableInvariant v → IsCellInUse v c → (o : ℕ) → (cell_of (model_state v) (cell_in (model_state v) c)).object ≡ Some o
+busy : (v : GhostState) (c : Site) → TableInvariant v → IsCellInUse v c → (o : ℕ) → (cell_of (model_state v) (cell_in (model_state v) c)).object ≡ Some o
     → IsBusy (model_state v) o
 busy v (Free n) kept is o e =
     cell_busy (opening v.extent) (model_state v) (sound (opening v.extent) v.history kept.stands.legal) n o is e
@@ -29,7 +29,7 @@ busy v (Member b m) kept is o e =
 abbrev IsInside : GhostState → Block → Type 0
 IsInside v b = (0 < b.0) × (b.0 ≤ v.extent.shape.blocks)
 
-inside : (v : GhostState) (c : Cell) → TableInvariant v → IsCellInUse v c → (o : Option ℕ) → (cell_of (model_state v) (cell_in (model_state v) c)).object ≡ o
+inside : (v : GhostState) (c : Site) → TableInvariant v → IsCellInUse v c → (o : Option ℕ) → (cell_of (model_state v) (cell_in (model_state v) c)).object ≡ o
     → IfSome (block_of (blocks_of (model_state v)) o) (IsInside v)
 inside v c kept is None e = tt
 inside v c kept is (Some o) e =
@@ -37,10 +37,10 @@ inside v c kept is (Some o) e =
     let p = (fine.placed o (busy v c kept is o e)).1 in
     let l = p.0 in (omega (arith, l), p.1)
 
-pub target_inside : (v : GhostState) (c : Cell) → TableInvariant v → IsCellInUse v c → IfSome (target_of (model_state v) c) (IsInside v)
+pub target_inside : (v : GhostState) (c : Site) → TableInvariant v → IsCellInUse v c → IfSome (target_of (model_state v) c) (IsInside v)
 target_inside v c kept is = inside v c kept is (cell_of (model_state v) (cell_in (model_state v) c)).object refl
 
-pub target_now : (u : WorldState) (v : GhostState) (c : Cell) (r : Option Block) → TableInvariant v → v ≡ u.ghost_state → r ≡ target_of (model_state v) c
+pub target_now : (u : WorldState) (v : GhostState) (c : Site) (r : Option Block) → TableInvariant v → v ≡ u.ghost_state → r ≡ target_of (model_state v) c
     → IsCellInUse u.ghost_state c
     → IfSome r (λ b. (0 < b.0) × (b.0 ≤ u.ghost_state.extent.shape.blocks))
 target_now u v c r kept same is there =

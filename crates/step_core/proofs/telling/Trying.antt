@@ -2,7 +2,7 @@
 use Rattle.std.proofs.Common.{◌≡◌, ℕ, List, refl}
 use Rattle.std.specs.Prelude.{Option, Some, None}
 use Rattle.control_word.specs.declared.packed.cell.CellWord.{CellWord}
-use Rattle.step_table.specs.declared.cell_steps.cell_step.Cell.{Cell}
+use Rattle.control_word.specs.declared.site.Site.{Site}
 use Rattle.step_table.specs.declared.cell_steps.cell_step.CellStep.TheVariants as cell_step
 use Rattle.step_table.specs.declared.cell_steps.cell_step.Compared.{Compared}
 use Rattle.step_table.specs.declared.memory.ghost_history.AtomicStep.TheVariants as atomic_step
@@ -22,12 +22,12 @@ use Rattle.step_core.proofs.telling.Cases.{IsEach, IsEachAct, each_compares, eac
 use Rattle.step_core.proofs.telling.Leaves.{leaves_by}
 use Rattle.step_core.proofs.telling.Still.{Lists, Right, fills_alike, plain, plain_alike, same, within}
 
-still_looked : (v : GhostState) (d : ℕ) (c : Cell) (x : CellWord) (y : Option Compared)
+still_looked : (v : GhostState) (d : ℕ) (c : Site) (x : CellWord) (y : Option Compared)
     → (model_state (ghost_after v d (Some (atomic_step.OnCell (cell_step.Look c x y))))).object ≡ (model_state v).object
 still_looked v d c x None = refl
 still_looked v d c x (Some y) = refl
 
-still_taken : (v : GhostState) (d : ℕ) (c : Cell) (x : CellWord) (y : Option Compared)
+still_taken : (v : GhostState) (d : ℕ) (c : Site) (x : CellWord) (y : Option Compared)
     → (model_state (ghost_after v d (Some (atomic_step.OnCell (cell_step.Take c x y))))).object ≡ (model_state v).object
 still_taken v d c x None = refl
 still_taken v d c x (Some y) = refl
@@ -79,7 +79,7 @@ matched_on v d x w f at all ts =
     each_matched v d w (λ (o : Option Step). Right v d w f o) x ts (same v d w f None refl refl at all)
     (λ t us e. act_right v d t.statement w us f at all)
 
-pub refill_on : (v : GhostState) (d : ℕ) (stage : Stage) (c : Cell) (x : CellWord) (k : ℕ) (w : FrameView) (f : Lists) → f d ≡ w.endings
+pub refill_on : (v : GhostState) (d : ℕ) (stage : Stage) (c : Site) (x : CellWord) (k : ℕ) (w : FrameView) (f : Lists) → f d ≡ w.endings
     → AllEndInThreads (model_state v) f
     → Right v d w f (step_at v d (Refill stage c x k) w)
 refill_on v d stage c x k w f at all =

@@ -4,7 +4,7 @@ use Rattle.std.specs.Prelude.{Option, Some, None, is_some}
 use Rattle.std.proofs.lemmas.Bool.{and_parts, cond_both, false≢true}
 use Rattle.control_word.specs.declared.packed.cell.CellWord.{CellWord}
 use Rattle.control_word.specs.declared.model.event.Event.{Event}
-use Rattle.step_table.specs.declared.cell_steps.cell_step.Cell.{Cell}
+use Rattle.control_word.specs.declared.site.Site.{Site}
 use Rattle.step_table.specs.declared.cell_steps.cell_step.CellStep.TheVariants.{Look}
 use Rattle.step_table.specs.declared.cell_steps.cell_step.Compared.{Compared}
 use Rattle.step_table.specs.declared.memory.ghost_history.AtomicStep.{AtomicStep}
@@ -150,7 +150,7 @@ found_now d u c a can is there =
     seen_found u.ghost_state d (cell_of_name (model_state u.ghost_state) (frame_of (abstraction u) d).slots c) can.kept can.seat (cell_now d u c a can is there)
 
 -- what a look does: all funds were taken, there is an object, or there is none
-sees_so : (d : ℕ) (u : WorldState) (k : ℕ) (ts : List Task) (a : Act) (c : Cell) (y : Option Compared) (x : CellWord) → is_spent x ≡ false
+sees_so : (d : ℕ) (u : WorldState) (k : ℕ) (ts : List Task) (a : Act) (c : Site) (y : Option Compared) (x : CellWord) → is_spent x ≡ false
     → let w = frame_of (abstraction u) d in
     Acts d u k ts a (step_of_act u.ghost_state d w k ts a (Some (OnCell (Look c x y))) Rest)
     → is_acting (step_of_look u.ghost_state d w k ts a c y x).pending_call ≡ false → Acts d u k ts a (step_of_look u.ghost_state d w k ts a c y x)
@@ -162,7 +162,7 @@ sees_so d u k ts a c y x spent so =
     (λ f. cond_both (is_some x.owned) (within w k None (Saw x)) look (λ (s : Step). is_acting s.pending_call ≡ false → Acts d u k ts a s)
     (λ t q. absurd (false≢true (sym q))) (λ f q. so))
 
-sees_same : (d : ℕ) (u : WorldState) (k : ℕ) (ts : List Task) (a : Act) (c : Cell) (y : Option Compared) (x : CellWord)
+sees_same : (d : ℕ) (u : WorldState) (k : ℕ) (ts : List Task) (a : Act) (c : Site) (y : Option Compared) (x : CellWord)
     → let s = step_of_look u.ghost_state d (frame_of (abstraction u) d) k ts a c y x in is_acting s.pending_call ≡ true → abstraction
     (world_state_by d u (Some s)) ≡ abstraction u
 sees_same d u k ts a c y x =

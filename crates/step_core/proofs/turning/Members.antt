@@ -9,7 +9,7 @@ use Rattle.control_word.specs.Handles.{empty, has_object}
 use Rattle.control_word.specs.Packing.{cell_bits}
 use Rattle.control_word.specs.State.{ending, kind_of_member}
 use Rattle.control_word.specs.Words.{block_of, blocks_of, shown}
-use Rattle.step_table.specs.declared.cell_steps.cell_step.Cell.TheVariants.{Member}
+use Rattle.control_word.specs.declared.site.Site.TheVariants.{Member}
 use Rattle.step_table.specs.CellAtomicSteps.{cell_in, handle_as}
 use Rattle.step_table.specs.Cells.{word_of_cell}
 use Rattle.step_table.specs.Contents.{held_in, seen}

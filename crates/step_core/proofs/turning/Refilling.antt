@@ -6,7 +6,7 @@ use Rattle.control_word.specs.declared.packed.cell.CellWord.{CellWord}
 use Rattle.control_word.specs.declared.model.handle.Kind.{Kind}
 use Rattle.control_word.specs.declared.place.Block.{Block}
 use Rattle.control_word.specs.Packing.{cell_bits}
-use Rattle.step_table.specs.declared.cell_steps.cell_step.Cell.{Cell}
+use Rattle.control_word.specs.declared.site.Site.{Site}
 use Rattle.step_table.specs.declared.cell_steps.cell_step.CellStep.TheVariants as cell_step
 use Rattle.step_table.specs.declared.memory.ghost_history.AtomicStep.TheVariants.{OnCell}
 use Rattle.step_table.specs.declared.cell_steps.refill.Stage.{Stage}
@@ -32,7 +32,7 @@ pub record Pays (d : ℕ) (v : GhostState) (w : FrameView) (x : Step) : Type 0 w
 pub returns_so : (d : ℕ) (v : GhostState) (w : FrameView) (kind : Kind) (b : Block) (f k : ℕ) → Pays d v w (returns w kind b f k)
 returns_so d v w kind b f k = record { frame_view = refl; history = refl; extent = refl; pending_call = refl }
 
-pub refills_so : (d : ℕ) (v : GhostState) (w : FrameView) (stage : Stage) (c : Cell) (x : CellWord) (k : ℕ) (b : Block)
+pub refills_so : (d : ℕ) (v : GhostState) (w : FrameView) (stage : Stage) (c : Site) (x : CellWord) (k : ℕ) (b : Block)
     → Pays d v w (refills_on v w stage c x k b)
 refills_so d v w Turning c x k b =
     record {

@@ -19,7 +19,7 @@ use Rattle.step_threads.specs.NextSteps.{at_rest, emptied, step_at, ghost_after}
 use Rattle.step_threads.specs.Steps.{Step, empties, ends_on, refills_on, returns}
 use Rattle.step_threads.specs.Threads.{IsClearingMember}
 use Rattle.control_word.specs.declared.packed.cell.CellWord.{CellWord}
-use Rattle.step_table.specs.declared.cell_steps.cell_step.Cell.{Cell}
+use Rattle.control_word.specs.declared.site.Site.{Site}
 use Rattle.step_table.specs.declared.cell_steps.refill.Stage.{Stage}
 use Rattle.step_table.specs.Refills.{RefillFits}
 use Rattle.step_table.specs.GhostStates.{GhostState}
@@ -93,7 +93,7 @@ stepped_back d u kind b f k e begun =
     (returns_so d u.ghost_state w kind b f k) begun
 
 -- a fund is turned, and others are put back
-stepped_refill : (d : ℕ) (u : WorldState) (stage : Stage) (c : Cell) (x : CellWord) (k : ℕ) → pending_call_of u d ≡ Refill stage c x k → HasBegun d u
+stepped_refill : (d : ℕ) (u : WorldState) (stage : Stage) (c : Site) (x : CellWord) (k : ℕ) → pending_call_of u d ≡ Refill stage c x k → HasBegun d u
     → Onward d u (world_state_by d u (step_of d u))
 stepped_refill d u stage c x k e begun =
     let w = frame_of (abstraction u) d in

@@ -5,7 +5,7 @@ use Rattle.std.specs.Prelude.{Option, Some, None, is_some}
 use Rattle.std.proofs.lemmas.Bool.{cond_both, false≢true}
 use Rattle.control_word.specs.declared.packed.cell.CellWord.{CellWord}
 use Rattle.control_word.specs.Packing.{cell_bits}
-use Rattle.step_table.specs.declared.cell_steps.cell_step.Cell.{Cell}
+use Rattle.control_word.specs.declared.site.Site.{Site}
 use Rattle.step_table.specs.declared.cell_steps.cell_step.CellStep.TheVariants.{CompareSwap, Look, Take}
 use Rattle.step_table.specs.declared.cell_steps.cell_step.Compared.{Compared}
 use Rattle.control_word.specs.declared.handle.Handle.{Handle}
@@ -71,7 +71,7 @@ Outcome d u k ts a x = Done d u k ts a x ⊎ Tried d u.ghost_state (frame_of (ab
 abbrev pub Next : ℕ → WorldState → ℕ → List Task → Act → Option Step → Type 0
 Next d u k ts a o = (x : Step) × (o ≡ Some x) × Outcome d u k ts a x × ((i : ℕ) → a ≡ Count i → ⊥)
 
-module _ (d : ℕ) (u : WorldState) (k : ℕ) (ts : List Task) (a : Act) (c : Cell) (x : CellWord)
+module _ (d : ℕ) (u : WorldState) (k : ℕ) (ts : List Task) (a : Act) (c : Site) (x : CellWord)
     (looking : is_looking (frame_of (abstraction u) d).slots a ≡ true) where
   -- a step on the way that leaves the table as it is
   on_way : (h : PendingCall) → is_on (frame_of (abstraction u) d).slots a h ≡ true

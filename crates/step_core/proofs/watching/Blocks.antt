@@ -9,16 +9,15 @@ use Rattle.control_word.specs.declared.model.handle.Kind.{Kind}
 use Rattle.control_word.specs.declared.model.handle.Kind.TheVariants.{Owner, Weak}
 use Rattle.control_word.specs.declared.place.Block.{Block}
 use Rattle.control_word.specs.declared.place.Place.{Place}
-use Rattle.control_word.specs.Layout.{spot}
+use Rattle.control_word.specs.Layout.{IsSite, site_place, spot}
 use Rattle.control_word.specs.State.{Has, InShape, Stored, stored}
 use Rattle.control_word.specs.Words.{slot as slot_of_kind}
-use Rattle.step_table.specs.declared.cell_steps.cell_step.Cell.{Cell}
+use Rattle.control_word.specs.declared.site.Site.{Site}
 use Rattle.step_table.specs.declared.cell_steps.cell_step.CellStep.TheVariants as cell_step
 use Rattle.control_word.specs.declared.handle.Handle.{Handle}
 use Rattle.step_table.specs.declared.memory.ghost_history.AtomicStep.{AtomicStep}
 use Rattle.step_table.specs.declared.memory.ghost_history.AtomicStep.TheVariants as atomic_step
-use Rattle.step_table.specs.CellAtomicSteps.{word_of}
-use Rattle.step_table.specs.Cells.{IsSomewhere, word_of_cell}
+use Rattle.step_table.specs.Cells.{word_of_cell}
 use Rattle.step_table.specs.Contents.{is_of}
 use Rattle.step_table.specs.AtomicSteps.{alias, downgrade, give, is_expired, leave_as, lock, share_as}
 use Rattle.step_table.specs.Registers.{HoldsBag, Slots, inside, owner_as, owner_slot, plain, pointer_of, slot_pointer, slot_value, weak_as, weak_slot}
@@ -36,7 +35,7 @@ use Rattle.step_core.proofs.watching.Words.{block_off}
 
 -- the atomic step leaves the words of cells
 abbrev pub StaysOff : GhostState → ℕ → Option AtomicStep → Type 0
-StaysOff v d x = (c : Cell) → IsSomewhere c → slice_index (ghost_after v d x).words (word_of v.extent.shape.blocks c) ≡ word_of_cell v c
+StaysOff v d x = (c : Site) → IsSite c → slice_index (ghost_after v d x).words (site_place v.extent.shape.blocks c) ≡ word_of_cell v c
 
 abbrev pub IsThere : GhostState → Block → Type 0
 IsThere v b = InShape (opening v.extent) b.0
@@ -147,7 +146,7 @@ module _ (v : GhostState) (d : ℕ) where
   lock_off x is c valid = go (not (is_expired (model_state v) x))
     where
       go : (b : Bool) → slice_index (cond b (slice_set v.words (spot x.block.0 0) (suc (slice_index v.words (spot x.block.0 0)))) v.words)
-          (word_of v.extent.shape.blocks c) ≡ word_of_cell v c
+          (site_place v.extent.shape.blocks c) ≡ word_of_cell v c
       go true = block_off v x.block.0 0 (suc (slice_index v.words (spot x.block.0 0))) is (omega arith) c valid
       go false = refl
 

@@ -1,5 +1,6 @@
 -- Steps on cells: where half of a cell's funds or more are taken, threads count that put them back.
 use Rattle.step_table.specs.declared.memory.shelf.ShelfStep.{ShelfStep}
+use Rattle.control_word.specs.Layout.{IsSite, site_place}
 use Rattle.control_word.specs.Words.{shelf_spot}
 use Rattle.step_table.specs.Openings.{opening}
 use Rattle.std.proofs.Common.{◌≡◌, ◌≢◌, ℕ, suc, ◌+◌, ◌-◌, ◌*◌, ◌<◌, ◌≤◌, ◌==◌, Bool, true, false, cond, List, length}
@@ -14,15 +15,15 @@ use Rattle.control_word.specs.declared.shape.Shape.{Shape}
 use Rattle.control_word.specs.Packing.{IsCellWord, cell_bits}
 use Rattle.step_threads.specs.declared.pending_call.PendingCall.{PendingCall}
 use Rattle.step_threads.specs.declared.pending_call.PendingCall.TheVariants.{Rest, Saw, Refill}
-use Rattle.step_table.specs.declared.cell_steps.cell_step.Cell.{Cell}
-use Rattle.step_table.specs.declared.cell_steps.cell_step.Cell.TheVariants.{Free, Member}
+use Rattle.control_word.specs.declared.site.Site.{Site}
+use Rattle.control_word.specs.declared.site.Site.TheVariants.{Free, Member}
 use Rattle.step_table.specs.declared.cell_steps.cell_step.CellStep.TheVariants as cell_step
 use Rattle.step_table.specs.declared.memory.ghost_history.AtomicStep.{AtomicStep}
 use Rattle.step_table.specs.declared.memory.ghost_history.AtomicStep.TheVariants as atomic_step
 use Rattle.step_table.specs.declared.cell_steps.refill.Stage.{Stage}
 use Rattle.step_table.specs.declared.cell_steps.refill.Stage.TheVariants.{Turning, Checking, Lacking, Refilling, Failing}
-use Rattle.step_table.specs.CellAtomicSteps.{kind_in_state, word_of}
-use Rattle.step_table.specs.Cells.{IsSomewhere, word_of_cell}
+use Rattle.step_table.specs.CellAtomicSteps.{kind_in_state}
+use Rattle.step_table.specs.Cells.{word_of_cell}
 use Rattle.step_table.specs.Contents.{same_value, seen}
 use Rattle.step_table.specs.Refills.{RefillFits, is_drained, is_low, more_taken}
 use Rattle.step_table.specs.GhostStates.{TableInvariant, GhostState, model_state}
@@ -36,11 +37,11 @@ use Rattle.step_core.proofs.watching.Blocks.{IsThere, StaysOff, bring_off, give_
 use Rattle.step_core.proofs.watching.Words.{Watch, bit, flag, more_told, same_told, taken_told}
 
 -- a cell of the shape has a place
-pub somewhere : (z : Shape) (c : Cell) → IsCellOfShape z c → IsSomewhere c
+pub somewhere : (z : Shape) (c : Site) → IsCellOfShape z c → IsSite c
 somewhere z (Free n) is = tt
 somewhere z (Member b m) is = (is.0, is.2)
 
-in_words : (v : GhostState) (c : Cell) → TableInvariant v → IsCellOfShape v.extent.shape c → word_of v.extent.shape.blocks c < length v.words
+in_words : (v : GhostState) (c : Site) → TableInvariant v → IsCellOfShape v.extent.shape c → site_place v.extent.shape.blocks c < length v.words
 in_words v (Free n) kept lt = let s = kept.stands.shows.sized in omega (arith, s, lt)
 in_words v (Member b m) kept is =
     let s = kept.stands.shows.sized in
@@ -50,7 +51,7 @@ in_words v (Member b m) kept is =
     omega (arith, s, from, high, few)
 
 -- a word of the shelf is none of a cell
-shelf_apart : (v : GhostState) (c : Cell) (b : ℕ) → IsCellOfShape v.extent.shape c → word_of v.extent.shape.blocks c ≢ shelf_spot (opening v.extent) b
+shelf_apart : (v : GhostState) (c : Site) (b : ℕ) → IsCellOfShape v.extent.shape c → site_place v.extent.shape.blocks c ≢ shelf_spot (opening v.extent) b
 shelf_apart v (Free n) b is e = omega (arith, is, e)
 shelf_apart v (Member a m) b is e =
     let from = is.0 in
@@ -58,16 +59,16 @@ shelf_apart v (Member a m) b is e =
     let few = is.2 in
     omega (arith, from, high, few, e)
 
-pub shelf_off : (v : GhostState) (d : ℕ) (x : ShelfStep) (b : Block) (c : Cell) → IsCellOfShape v.extent.shape c
-    → slice_index (ghost_after v d (Some (atomic_step.OnShelf b x))).words (word_of v.extent.shape.blocks c) ≡ word_of_cell v c
+pub shelf_off : (v : GhostState) (d : ℕ) (x : ShelfStep) (b : Block) (c : Site) → IsCellOfShape v.extent.shape c
+    → slice_index (ghost_after v d (Some (atomic_step.OnShelf b x))).words (site_place v.extent.shape.blocks c) ≡ word_of_cell v c
 shelf_off v d x b c is =
-    get_or-set_other v.words (shelf_spot (opening v.extent) b.0) (word_of v.extent.shape.blocks c) _ 0 (shelf_apart v c b.0 is)
+    get_or-set_other v.words (shelf_spot (opening v.extent) b.0) (site_place v.extent.shape.blocks c) _ 0 (shelf_apart v c b.0 is)
 
 -- one word is another, or none is: so it is for each cell of the shape
 abbrev pub WatchesWord : GhostState → PendingCall → List ℕ → PendingCall → Type 0
 WatchesWord v h words g =
     let z = v.extent.shape in
-    (c : Cell) → IsCellOfShape z c → Watch z.blocks (word_of z.blocks c) (word_of_cell v c) (slice_index words (word_of z.blocks c)) h g
+    (c : Site) → IsCellOfShape z c → Watch z.blocks (site_place z.blocks c) (word_of_cell v c) (slice_index words (site_place z.blocks c)) h g
 
 abbrev pub Watches : GhostState → ℕ → PendingCall → Option AtomicStep → PendingCall → Type 0
 Watches v d h x g = WatchesWord v h (ghost_after v d x).words g
@@ -78,27 +79,27 @@ IsQuiet v h = (p a : ℕ) → bit v.extent.shape.blocks p a h ≡ 0
 
 pub still : (v : GhostState) (d : ℕ) (h : PendingCall) (x : Option AtomicStep) (g : PendingCall) → IsQuiet v h → StaysOff v d x → Watches v d h x g
 still v d h x g quiet off c is =
-    inl (off c (somewhere v.extent.shape c is), (let q = quiet (word_of v.extent.shape.blocks c) (word_of_cell v c) in omega (arith, q)))
+    inl (off c (somewhere v.extent.shape c is), (let q = quiet (site_place v.extent.shape.blocks c) (word_of_cell v c) in omega (arith, q)))
 
 -- the thread has the same funds to put back
-pub going_on : (v : GhostState) (d : ℕ) (s r : Stage) (c : Cell) (y : CellWord) (k : ℕ) (x : Option AtomicStep) → StaysOff v d x
+pub going_on : (v : GhostState) (d : ℕ) (s r : Stage) (c : Site) (y : CellWord) (k : ℕ) (x : Option AtomicStep) → StaysOff v d x
     → Watches v d (Refill s c y k) x (Refill r c y k)
 going_on v d s r c y k x off e is = inl (off e (somewhere v.extent.shape e is), omega arith)
 
-elsewhere : (v : GhostState) (s : Stage) (c : Cell) (x : CellWord) (k p a : ℕ) → p ≢ word_of v.extent.shape.blocks c
+elsewhere : (v : GhostState) (s : Stage) (c : Site) (x : CellWord) (k p a : ℕ) → p ≢ site_place v.extent.shape.blocks c
     → bit v.extent.shape.blocks p a (Refill s c x k) ≡ 0
 elsewhere v s c x k p a ne =
-    ap (λ (t : Bool). cond (t && is_low x && content (cell_bits x) == content a) 1 0) (ne_eqb (word_of v.extent.shape.blocks c) p (λ e. ne (sym e)))
+    ap (λ (t : Bool). cond (t && is_low x && content (cell_bits x) == content a) 1 0) (ne_eqb (site_place v.extent.shape.blocks c) p (λ e. ne (sym e)))
 
 -- one cell's word is another
-module _ (v : GhostState) (c : Cell) (word : ℕ) (h g : PendingCall) (kept : TableInvariant v)
-    (here : Watch v.extent.shape.blocks (word_of v.extent.shape.blocks c) (word_of_cell v c) word h g)
-    (else : (p a : ℕ) → p ≢ word_of v.extent.shape.blocks c → bit v.extent.shape.blocks p a h ≡ 0) where
-  pub changed : WatchesWord v h (slice_set v.words (word_of v.extent.shape.blocks c) word) g
+module _ (v : GhostState) (c : Site) (word : ℕ) (h g : PendingCall) (kept : TableInvariant v)
+    (here : Watch v.extent.shape.blocks (site_place v.extent.shape.blocks c) (word_of_cell v c) word h g)
+    (else : (p a : ℕ) → p ≢ site_place v.extent.shape.blocks c → bit v.extent.shape.blocks p a h ≡ 0) where
+  pub changed : WatchesWord v h (slice_set v.words (site_place v.extent.shape.blocks c) word) g
   changed e is =
       let z = v.extent.shape in
-      let p = word_of z.blocks e in
-      let q = word_of z.blocks c in
+      let p = site_place z.blocks e in
+      let q = site_place z.blocks c in
       let size : p < length v.words = in_words v e kept is in
       ⊎_elim
       (λ (t : p ≡ q).
@@ -110,14 +111,14 @@ module _ (v : GhostState) (c : Cell) (word : ℕ) (h g : PendingCall) (kept : Ta
       inl (get_or-set_other v.words q p word 0 ne, (let o = else p (word_of_cell v e) ne in omega (arith, o)))) (cases_eq p q)
 
 -- a value goes into the cell, of which no fund was taken
-pub put_in : (v : GhostState) (d : ℕ) (c : Cell) (x : CellWord) (h g : PendingCall) → TableInvariant v → IsQuiet v h → IsCellWord x → x.taken ≡ 0
-    → WatchesWord v h (slice_set v.words (word_of v.extent.shape.blocks c) (cell_bits x)) g
+pub put_in : (v : GhostState) (d : ℕ) (c : Site) (x : CellWord) (h g : PendingCall) → TableInvariant v → IsQuiet v h → IsCellWord x → x.taken ≡ 0
+    → WatchesWord v h (slice_set v.words (site_place v.extent.shape.blocks c) (cell_bits x)) g
 put_in v d c x h g kept quiet valid none =
     changed v c (cell_bits x) h g kept (inr (inl (let t = taken_told x valid in omega (arith, t, none)))) (λ p a ne. quiet p a)
 
 -- a fund is taken
-pub taken : (v : GhostState) (c : Cell) (x : CellWord) (k : ℕ) → TableInvariant v → IsCellWord x → word_of_cell v c ≡ cell_bits x
-    → WatchesWord v (Saw x) (slice_set v.words (word_of v.extent.shape.blocks c) (word_of_cell v c + 17179869184)) (Refill Turning c (more_taken x) k)
+pub taken : (v : GhostState) (c : Site) (x : CellWord) (k : ℕ) → TableInvariant v → IsCellWord x → word_of_cell v c ≡ cell_bits x
+    → WatchesWord v (Saw x) (slice_set v.words (site_place v.extent.shape.blocks c) (word_of_cell v c + 17179869184)) (Refill Turning c (more_taken x) k)
 taken v c x k kept valid shows =
     changed v c (word_of_cell v c + 17179869184) (Saw x) (Refill Turning c (more_taken x) k) kept (go (is_low (more_taken x)) refl) (λ p a ne. refl)
   where
@@ -125,14 +126,14 @@ taken v c x k kept valid shows =
     blocks = v.extent.shape.blocks
 
     go : (b : Bool) → is_low (more_taken x) ≡ b
-        → Watch blocks (word_of blocks c) (word_of_cell v c) (word_of_cell v c + 17179869184) (Saw x) (Refill Turning c (more_taken x) k)
+        → Watch blocks (site_place blocks c) (word_of_cell v c) (word_of_cell v c + 17179869184) (Saw x) (Refill Turning c (more_taken x) k)
     go true low =
         let same : cell_bits (more_taken x) ≡ word_of_cell v c + 17179869184 = more_told x ∙ ap (λ (n : ℕ). n + 17179869184) (sym shows) in
         inr (inr (
           refl,
           refl,
           ap (λ (t : Bool). cond t 1 0)
-              (and_from _ _ (and_from _ _ (eq-eqb (word_of blocks c) (word_of blocks c) refl) low)
+              (and_from _ _ (and_from _ _ (eq-eqb (site_place blocks c) (site_place blocks c) refl) low)
               (eq-eqb (content (cell_bits (more_taken x))) (content (word_of_cell v c + 17179869184)) (ap content same))),
         ))
     go false high =
@@ -149,19 +150,19 @@ last_false true = refl
 last_false false = refl
 
 -- few funds are none to put back
-few_quiet : (v : GhostState) (s : Stage) (c : Cell) (x : CellWord) (k : ℕ) → is_low x ≡ false → IsQuiet v (Refill s c x k)
+few_quiet : (v : GhostState) (s : Stage) (c : Site) (x : CellWord) (k : ℕ) → is_low x ≡ false → IsQuiet v (Refill s c x k)
 few_quiet v s c x k few p a =
-    ap (λ (t : Bool). cond (word_of v.extent.shape.blocks c == p && t && content (cell_bits x) == content a) 1 0) few
-    ∙ ap (λ (t : Bool). cond t 1 0) (middle_false (word_of v.extent.shape.blocks c == p) (content (cell_bits x) == content a))
+    ap (λ (t : Bool). cond (site_place v.extent.shape.blocks c == p && t && content (cell_bits x) == content a) 1 0) few
+    ∙ ap (λ (t : Bool). cond t 1 0) (middle_false (site_place v.extent.shape.blocks c == p) (content (cell_bits x) == content a))
 
 -- the block of what is put back is one of the table
-pub block_there : (v : GhostState) (d : ℕ) (s : Stage) (c : Cell) (x : CellWord) → TableInvariant v → RefillFits d s c x v → (b : Block)
+pub block_there : (v : GhostState) (d : ℕ) (s : Stage) (c : Site) (x : CellWord) → TableInvariant v → RefillFits d s c x v → (b : Block)
     → x.owned ≡ Some b → IsThere v b
 block_there v d s c x kept fits b own =
     subst (IsThere v) (same_Some _ _ (sym fits.owned ∙ own))
     (there v fits.block kept (handle_busy v d (kind_in_state (model_state v) c) fits.block x.place kept fits.has)).1
 
-module _ (v : GhostState) (d : ℕ) (c : Cell) (x : CellWord) (k : ℕ) (w : FrameView) (kept : TableInvariant v) (seat : d < v.extent.actors) where
+module _ (v : GhostState) (d : ℕ) (c : Site) (x : CellWord) (k : ℕ) (w : FrameView) (kept : TableInvariant v) (seat : d < v.extent.actors) where
   -- the cell is looked at
   checked : RefillFits d Checking c x v → Watches v d (Refill Checking c x k) None (cond (is_drained x (seen v c)) (Refill Lacking c (seen v c) k) Rest)
   checked fits other is = ⊎_elim (λ (e : p ≡ q). at_cell e (is_drained x y) refl) away (cases_eq p q)
@@ -170,10 +171,10 @@ module _ (v : GhostState) (d : ℕ) (c : Cell) (x : CellWord) (k : ℕ) (w : Fra
       blocks = v.extent.shape.blocks
 
       p : ℕ
-      p = word_of blocks other
+      p = site_place blocks other
 
       q : ℕ
-      q = word_of blocks c
+      q = site_place blocks c
 
       y : CellWord
       y = seen v c

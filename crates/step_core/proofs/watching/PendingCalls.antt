@@ -20,8 +20,8 @@ use Rattle.step_threads.specs.declared.programs.act.Task.{Task}
 use Rattle.step_threads.specs.declared.ending.Ending.{Ending}
 use Rattle.step_threads.specs.declared.pending_call.PendingCall.{PendingCall}
 use Rattle.step_threads.specs.declared.pending_call.PendingCall.TheVariants.{Rest, Making, Locking, Giving, Brought, Saw, Matched, Refill, Returning, Clearing}
-use Rattle.step_table.specs.declared.cell_steps.cell_step.Cell.{Cell}
-use Rattle.step_table.specs.declared.cell_steps.cell_step.Cell.TheVariants.{Member}
+use Rattle.control_word.specs.declared.site.Site.{Site}
+use Rattle.control_word.specs.declared.site.Site.TheVariants.{Member}
 use Rattle.step_table.specs.declared.cell_steps.cell_step.CellStep.TheVariants as cell_step
 use Rattle.control_word.specs.declared.handle.Handle.{Handle}
 use Rattle.step_table.specs.declared.memory.ghost_history.AtomicStep.TheVariants as atomic_step
@@ -146,7 +146,7 @@ module _ (v : GhostState) (d : ℕ) (w : FrameView) (kept : TableInvariant v) (s
       (kept.stands.team.seated d (view_in v.views d) r.seated r.awake).fits in
       (there v b kept (handle_busy v (me (point v d)) kind b p kept fine.0)).1
 
-  refill_watch : (s : Stage) (c : Cell) (x : CellWord) (k : ℕ) (o : Option Block) → x.owned ≡ o → FundsAreHeld d v (Refill s c x k)
+  refill_watch : (s : Stage) (c : Site) (x : CellWord) (k : ℕ) (o : Option Block) → x.owned ≡ o → FundsAreHeld d v (Refill s c x k)
       → IsWatch v d (Refill s c x k) (option_map (refills_on v w s c x k) o)
   refill_watch s c x k None e out = tt
   refill_watch s c x k (Some b) e out = refilled v d c x k w kept seat s out b e

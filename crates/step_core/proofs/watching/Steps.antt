@@ -21,7 +21,7 @@ use Rattle.step_threads.specs.declared.programs.act.Task.{Task}
 use Rattle.step_threads.specs.declared.programs.call.CellName.{CellName}
 use Rattle.step_threads.specs.declared.pending_call.PendingCall.{PendingCall}
 use Rattle.step_threads.specs.declared.pending_call.PendingCall.TheVariants.{Rest, Making, Locking, Giving, Brought, Saw, Matched, Refill}
-use Rattle.step_table.specs.declared.cell_steps.cell_step.Cell.{Cell}
+use Rattle.control_word.specs.declared.site.Site.{Site}
 use Rattle.step_table.specs.declared.cell_steps.cell_step.CellStep.TheVariants as cell_step
 use Rattle.step_table.specs.declared.cell_steps.cell_step.Compared.{Compared}
 use Rattle.control_word.specs.declared.handle.Handle.{Handle}
@@ -157,7 +157,7 @@ module _ (v : GhostState) (d : ℕ) (w : FrameView) (kept : TableInvariant v) (s
   sent_watch k ts a (Some x) = swaps_watch Brought k ts a x.0 x.1 (λ p q. refl)
 
   -- a cell is looked at
-  sees_watch : (k : ℕ) (ts : List Task) (a : Act) (c : Cell) (y : Option Compared) (x : CellWord)
+  sees_watch : (k : ℕ) (ts : List Task) (a : Act) (c : Site) (y : Option Compared) (x : CellWord)
       → IsWatch v d Rest (Some (step_of_look v d w k ts a c y x))
   sees_watch k ts a c y x =
       let quiet : IsQuiet v Rest = λ p q. refl in
@@ -168,13 +168,13 @@ module _ (v : GhostState) (d : ℕ) (w : FrameView) (kept : TableInvariant v) (s
       (λ (s : Step). IsWatch v d Rest (Some s)) (λ t. still v d Rest None (Saw x) quiet (λ n valid. refl))
       (λ t. still v d Rest (Some (atomic_step.OnCell (cell_step.Look c x y))) Rest quiet (λ n valid. refl)))
 
-  compares_watch : (k : ℕ) (ts : List Task) (a : Act) (c : Cell) (y : Compared) (x : CellWord)
+  compares_watch : (k : ℕ) (ts : List Task) (a : Act) (c : Site) (y : Compared) (x : CellWord)
       → IsWatch v d Rest (Some (step_of_compare v d w k ts a c y x))
   compares_watch k ts a c y x =
       cond_both (same_value x y.expected) (within w k None (Saw x)) (step_of_look v d w k ts a c (Some y) x) (λ (s : Step). IsWatch v d Rest (Some s))
       (λ t. still v d Rest None (Saw x) (λ p q. refl) (λ n valid. refl)) (λ t. sees_watch k ts a c (Some y) x)
 
-  pub takes_watch : (k : ℕ) (ts : List Task) (a : Act) (c : Cell) (y : Option Compared) (x : CellWord) → IsCellWord x
+  pub takes_watch : (k : ℕ) (ts : List Task) (a : Act) (c : Site) (y : Option Compared) (x : CellWord) → IsCellWord x
       → IsWatch v d (Saw x) (Some (takes v d w k ts a c y x))
   takes_watch k ts a c y x valid =
       cond_both (word_of_cell v c == cell_bits x)
@@ -182,7 +182,7 @@ module _ (v : GhostState) (d : ℕ) (w : FrameView) (kept : TableInvariant v) (s
       (λ (s : Step). IsWatch v d (Saw x) (Some s)) (λ t. taken v c x k kept valid (eqb-true _ _ t))
       (λ t. still v d (Saw x) None Rest (λ p q. refl) (λ n valid. refl))
 
-  pub matches_watch : (h : PendingCall) (k : ℕ) (ts : List Task) (a : Act) (c : Cell) (i : ℕ) (weak : Bool) (x : CellWord) → IsQuiet v h
+  pub matches_watch : (h : PendingCall) (k : ℕ) (ts : List Task) (a : Act) (c : Site) (i : ℕ) (weak : Bool) (x : CellWord) → IsQuiet v h
       → IsWatch v d h (Some (matches v d w k ts a c (compared_in w.slots (comparing w.slots i weak)) x))
   matches_watch h k ts a c i weak x quiet =
       let y = compared_in w.slots (comparing w.slots i weak) in
@@ -193,7 +193,7 @@ module _ (v : GhostState) (d : ℕ) (w : FrameView) (kept : TableInvariant v) (s
       (word_valid d w.slots v (hand w.slots) kept holds) refl)
       (λ t. still v d h None (missed k (slot_pointer w.slots (hand w.slots))) quiet (λ n valid. refl))
 
-  fetched_watch : (k : ℕ) (ts : List Task) (a : Act) (c : Cell) (i : ℕ) (weak : Bool) (x : CellWord) (o : Option Handle)
+  fetched_watch : (k : ℕ) (ts : List Task) (a : Act) (c : Site) (i : ℕ) (weak : Bool) (x : CellWord) (o : Option Handle)
       → slot_pointer w.slots (hand w.slots) ≡ o
       → IsWatch v d (Saw x) (Some (on (fetches w k x) (matches v d w k ts a c (compared_in w.slots (comparing w.slots i weak)) x) o))
   fetched_watch k ts a c i weak x None e = matches_watch (Saw x) k ts a c i weak x (λ p q. refl)
@@ -201,7 +201,7 @@ module _ (v : GhostState) (d : ℕ) (w : FrameView) (kept : TableInvariant v) (s
       still v d (Saw x) (Some (atomic_step.OnCell (cell_step.Bring y.kind y.block y.place 256))) (Matched x) (λ p q. refl)
       (bring_off v d y.kind y.block y.place 256 (in_slot (hand w.slots) y e))
 
-  pub settles_watch : (k : ℕ) (ts : List Task) (a : Act) (c : Cell) (i : ℕ) (weak : Bool) (x : CellWord) → IsCellWord x
+  pub settles_watch : (k : ℕ) (ts : List Task) (a : Act) (c : Site) (i : ℕ) (weak : Bool) (x : CellWord) → IsCellWord x
       → IsWatch v d (Saw x) (Some (settles v d w k ts a c (compared_in w.slots (comparing w.slots i weak)) x))
   settles_watch k ts a c i weak x valid =
       let y = compared_in w.slots (comparing w.slots i weak) in

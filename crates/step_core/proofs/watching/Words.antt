@@ -13,15 +13,14 @@ use Rattle.control_word.specs.declared.packed.cell.CellWord.{CellWord}
 use Rattle.control_word.specs.declared.place.Block.{Block}
 use Rattle.control_word.specs.declared.place.Place.{Place}
 use Rattle.control_word.specs.Handles.{same_place}
-use Rattle.control_word.specs.Layout.{spot}
+use Rattle.control_word.specs.Layout.{IsSite, site_place, spot}
 use Rattle.control_word.specs.Packing.{IsCellWord, block_number, cell_bits, place_block, place_field}
 use Rattle.control_word.specs.State.{InShape}
 use Rattle.step_threads.specs.declared.pending_call.PendingCall.{PendingCall}
 use Rattle.step_threads.specs.declared.pending_call.PendingCall.TheVariants.{Rest, Making, Locking, Giving, Brought, Saw, Matched, Refill, Returning, Clearing}
-use Rattle.step_table.specs.declared.cell_steps.cell_step.Cell.{Cell}
-use Rattle.step_table.specs.declared.cell_steps.cell_step.Cell.TheVariants.{Free, Member}
-use Rattle.step_table.specs.CellAtomicSteps.{word_of}
-use Rattle.step_table.specs.Cells.{IsSomewhere, word_of_cell}
+use Rattle.control_word.specs.declared.site.Site.{Site}
+use Rattle.control_word.specs.declared.site.Site.TheVariants.{Free, Member}
+use Rattle.step_table.specs.Cells.{word_of_cell}
 use Rattle.step_table.specs.Contents.{same_block, same_value}
 use Rattle.step_table.specs.Openings.{opening}
 use Rattle.step_table.specs.Refills.{is_low, more_taken}
@@ -61,7 +60,7 @@ watching_same blocks place a b e (Giving i kind x) = refl
 watching_same blocks place a b e Brought = refl
 watching_same blocks place a b e (Saw x) = refl
 watching_same blocks place a b e (Matched x) = refl
-watching_same blocks place a b e (Refill stage c x k) = ap (λ (n : ℕ). word_of blocks c == place && is_low x && content (cell_bits x) == n) e
+watching_same blocks place a b e (Refill stage c x k) = ap (λ (n : ℕ). site_place blocks c == place && is_low x && content (cell_bits x) == n) e
 watching_same blocks place a b e (Returning kind c funds k) = refl
 watching_same blocks place a b e Clearing = refl
 
@@ -105,14 +104,14 @@ watch blocks place a b d h g l lt at w was = ⊎_elim same (λ r. ⊎_elim (λ f
         omega (arith, was, e, c, o, z, m, n)
 
 -- the first seven words of a block are none of a cell: its members are behind them
-pub spot_off : (v : GhostState) (b j : ℕ) (c : Cell) → InShape (opening v.extent) b → j < 7 → IsSomewhere c → word_of v.extent.shape.blocks c ≢ spot b j
+pub spot_off : (v : GhostState) (b j : ℕ) (c : Site) → InShape (opening v.extent) b → j < 7 → IsSite c → site_place v.extent.shape.blocks c ≢ spot b j
 spot_off v b j (Free n) is lt there e = let low = is.0 in let high = is.1 in omega (arith, low, high, lt, e)
 spot_off v b j (Member a m) is lt there e =
     let low = is.0 in let from = there.0 in let few = there.1 in omega (arith, low, lt, from, few, e)
 
-pub block_off : (v : GhostState) (b j word : ℕ) → InShape (opening v.extent) b → j < 7 → (c : Cell) → IsSomewhere c
-    → slice_index (slice_set v.words (spot b j) word) (word_of v.extent.shape.blocks c) ≡ word_of_cell v c
-block_off v b j word is lt c there = get_or-set_other v.words (spot b j) (word_of v.extent.shape.blocks c) word 0 (spot_off v b j c is lt there)
+pub block_off : (v : GhostState) (b j word : ℕ) → InShape (opening v.extent) b → j < 7 → (c : Site) → IsSite c
+    → slice_index (slice_set v.words (spot b j) word) (site_place v.extent.shape.blocks c) ≡ word_of_cell v c
+block_off v b j word is lt c there = get_or-set_other v.words (spot b j) (site_place v.extent.shape.blocks c) word 0 (spot_off v b j c is lt there)
 
 -- what a cell's word tells, in numbers
 pub taken_told : (x : CellWord) → IsCellWord x → cell_bits x / 17179869184 ≡ x.taken

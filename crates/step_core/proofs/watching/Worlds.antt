@@ -16,11 +16,11 @@ use Rattle.step_threads.specs.declared.programs.call.CellName.TheVariants as cel
 use Rattle.step_threads.specs.declared.ending.Ending.{Ending}
 use Rattle.step_threads.specs.declared.pending_call.PendingCall.{PendingCall}
 use Rattle.step_threads.specs.declared.pending_call.PendingCall.TheVariants.{Rest, Making, Locking, Giving, Brought, Saw, Matched, Refill, Returning, Clearing}
-use Rattle.step_table.specs.declared.cell_steps.cell_step.Cell.{Cell}
-use Rattle.step_table.specs.declared.cell_steps.cell_step.Cell.TheVariants.{Member}
+use Rattle.control_word.specs.Layout.{site_place}
+use Rattle.control_word.specs.declared.site.Site.{Site}
+use Rattle.control_word.specs.declared.site.Site.TheVariants.{Member}
 use Rattle.control_word.specs.declared.handle.Handle.{Handle}
 use Rattle.step_table.specs.declared.memory.ghost_history.AtomicStep.{AtomicStep}
-use Rattle.step_table.specs.CellAtomicSteps.{word_of}
 use Rattle.step_table.specs.Cells.{word_of_cell}
 use Rattle.step_table.specs.Contents.{as_word, is_of, is_spent, same_value, seen}
 use Rattle.step_table.specs.AtomicSteps.{on}
@@ -43,8 +43,8 @@ use Rattle.step_core.proofs.watching.Words.{watch}
 
 by_atomic_step : (v : GhostState) (d : ℕ) (h g : PendingCall) (x : Option AtomicStep) (l : List PendingCall) → d < length l → get_or l d Rest ≡ h
     → Watches v d h x g → IsWatched v l → IsWatched (ghost_after v d x) (set l d g)
-by_atomic_step v d h g None l lt at w was c is = watch v.extent.shape.blocks (word_of v.extent.shape.blocks c) _ _ d h g l lt at (w c is) (was c is)
-by_atomic_step v d h g (Some x) l lt at w was c is = watch v.extent.shape.blocks (word_of v.extent.shape.blocks c) _ _ d h g l lt at (w c is) (was c is)
+by_atomic_step v d h g None l lt at w was c is = watch v.extent.shape.blocks (site_place v.extent.shape.blocks c) _ _ d h g l lt at (w c is) (was c is)
+by_atomic_step v d h g (Some x) l lt at w was c is = watch v.extent.shape.blocks (site_place v.extent.shape.blocks c) _ _ d h g l lt at (w c is) (was c is)
 
 -- after a step of a thread few funds of each cell are taken, or they are to be put back
 pub watched_step : (d : ℕ) (u : WorldState) → TableInvariant u.ghost_state → TableInvariant (ghost_by u.ghost_state d (step_of d u)) → HasBegun d u
@@ -89,11 +89,11 @@ compared_there slots taken k c is =
 
 module _ (v : GhostState) (l : List PendingCall) (few : length l ≤ 64) (was : IsWatched v l) where
   -- of no cell all funds are taken
-  not_spent : (c : Cell) → IsCellOfShape v.extent.shape c → is_spent (seen v c) ≡ false
+  not_spent : (c : Site) → IsCellOfShape v.extent.shape c → is_spent (seen v c) ≡ false
   not_spent c is =
       let z = v.extent.shape in
       let a = was c is in
-      let m = filter_few (is_watching z.blocks (word_of z.blocks c) (word_of_cell v c)) l in
+      let m = filter_few (is_watching z.blocks (site_place z.blocks c) (word_of_cell v c)) l in
       let ne : (word_of_cell v c / 17179869184 == 256) ≡ false = ne_eqb _ 256 (λ e. omega (arith, a, m, few, e)) in
       ap (λ (t : Bool). is_some (seen v c).owned && t) ne ∙ last_false (is_some (seen v c).owned)
 
@@ -158,4 +158,4 @@ unwatched d u begun few was =
 
 -- a world begins with no funds taken
 pub watched_start : (v : GhostState) (l : List PendingCall) → ((i : ℕ) → slice_index v.words i ≡ 0) → IsWatched v l
-watched_start v l zero c is = let z = zero (word_of v.extent.shape.blocks c) in omega (arith, z)
+watched_start v l zero c is = let z = zero (site_place v.extent.shape.blocks c) in omega (arith, z)

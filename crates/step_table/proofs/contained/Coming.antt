@@ -10,8 +10,8 @@ use Rattle.control_word.specs.Handles.{IsPointer, handle}
 use Rattle.control_word.specs.Packing.{IsCellWord, IsPlace, cell_bits}
 use Rattle.control_word.specs.State.{ending, kind_of_member}
 use Rattle.control_word.specs.Words.{blocks_of, shown}
-use Rattle.step_table.specs.declared.cell_steps.cell_step.Cell.{Cell}
-use Rattle.step_table.specs.declared.cell_steps.cell_step.Cell.TheVariants.{Member}
+use Rattle.control_word.specs.declared.site.Site.{Site}
+use Rattle.control_word.specs.declared.site.Site.TheVariants.{Member}
 use Rattle.step_table.specs.declared.cell_steps.cell_step.CellStep.TheVariants.{Look, Take, TakeOut}
 use Rattle.step_table.specs.declared.cell_steps.cell_step.Compared.{Compared}
 use Rattle.step_table.specs.declared.memory.ghost_history.AtomicStep.TheVariants.{OnCell}
@@ -45,7 +45,7 @@ holds_got d slots v w i k x holds hands latest fine lt e = go x.owned hands
     go None q = holds_look d (set slots i (slot_by k None x.place)) v w q latest (holds_empty d slots v i x.place holds lt e fine)
     go (Some b) q = holds_more d slots v w i (record { kind = k; block = b; place = x.place }) holds q latest fine lt e
 
-module _ (d : ℕ) (slots : Slots) (v : GhostState) (i : ℕ) (c : Cell) (x : CellWord) (holds : HoldsBag d slots v) (found : Found v c x)
+module _ (d : ℕ) (slots : Slots) (v : GhostState) (i : ℕ) (c : Site) (x : CellWord) (holds : HoldsBag d slots v) (found : Found v c x)
     (lt : i < length slots) (e : slot_pointer slots i ≡ None) where
   came : (w : GhostState) → (model_state w).hands ≡ (gets d (handle_as (model_state v) (kind_in_state (model_state v) c) x) (model_state v)).hands
       → (model_state w).latest ≡ (model_state v).latest → HoldsBag d (set slots i (slot_of (model_state v) (held_in (model_state v) c))) w
@@ -88,11 +88,11 @@ holds_taken_bare d slots v b m x holds none =
     (ap (λ (o : Option Block). (gets d (handle (kind_of_member m) (object_at (model_state v) o) x.place) (model_state v)).hands) none) refl holds
 
 -- what a word that was found tells, of a cell that is open and of a member of an ending object
-pub open_found : (v : GhostState) (d : ℕ) (c : Cell) (x : CellWord) → TableInvariant v → d < v.extent.actors → IsOpenTo v d c → IsCellWord x
+pub open_found : (v : GhostState) (d : ℕ) (c : Site) (x : CellWord) → TableInvariant v → d < v.extent.actors → IsOpenTo v d c → IsCellWord x
     → word_of_cell v c ≡ cell_bits x → Found v c x
 open_found v d c x kept lt way valid bits = found_in v d c x kept lt (kept_cell v d c kept way) valid bits
 
-pub open_shown : (v : GhostState) (d : ℕ) (c : Cell) (x : CellWord) → TableInvariant v → d < v.extent.actors → IsOpenTo v d c → ShowsCell v c x → Found v c x
+pub open_shown : (v : GhostState) (d : ℕ) (c : Site) (x : CellWord) → TableInvariant v → d < v.extent.actors → IsOpenTo v d c → ShowsCell v c x → Found v c x
 open_shown v d c x kept lt way shows = open_found v d c x kept lt way shows.valid shows.bits
 
 pub member_found : (v : GhostState) (d : ℕ) (b : Block) (m : ℕ) (x : CellWord) → TableInvariant v → d < v.extent.actors
@@ -100,13 +100,13 @@ pub member_found : (v : GhostState) (d : ℕ) (b : Block) (m : ℕ) (x : CellWor
 member_found v d b m x kept lt end few shows = found_in v d (Member b m) x kept lt (few, ending_busy v d b end) shows.valid shows.bits
 
 -- the slot that the code makes of it
-pub comes : (v : GhostState) (d : ℕ) (c : Cell) (x : CellWord) (k : Kind) (y : Slot) → Found v c x → k ≡ kind_in_state (model_state v) c
+pub comes : (v : GhostState) (d : ℕ) (c : Site) (x : CellWord) (k : Kind) (y : Slot) → Found v c x → k ≡ kind_in_state (model_state v) c
     → y ≡ slot_in k x
     → y ≡ slot_of (model_state v) (held_in (model_state v) c)
 comes v d c x k y found kind is = is ∙ ap (λ (q : Kind). slot_in q x) kind ∙ shows_slot v d c x found
 
 -- a cell shows what it holds
-pub seen_found : (v : GhostState) (d : ℕ) (c : Cell) → TableInvariant v → d < v.extent.actors → IsOpenTo v d c → Found v c (seen v c)
+pub seen_found : (v : GhostState) (d : ℕ) (c : Site) → TableInvariant v → d < v.extent.actors → IsOpenTo v d c → Found v c (seen v c)
 seen_found v d c kept lt way =
     let is = kept_cell v d c kept way in
     let code = decoded v d (cell_in (model_state v) c) kept lt is in

@@ -5,7 +5,7 @@ use Rattle.std.specs.Prelude.{◌||◌, is_some}
 use Rattle.std.proofs.lemmas.List.{set-set}
 use Rattle.control_word.specs.declared.packed.cell.CellWord.{CellWord}
 use Rattle.control_word.specs.Handles.{equivalent}
-use Rattle.step_table.specs.declared.cell_steps.cell_step.Cell.{Cell}
+use Rattle.control_word.specs.declared.site.Site.{Site}
 use Rattle.step_table.specs.declared.cell_steps.cell_step.CellStep.TheVariants.{Look, Take}
 use Rattle.step_table.specs.declared.cell_steps.cell_step.Compared.{Compared}
 use Rattle.step_table.specs.declared.cell_steps.comparing.Comparing.{Comparing}
@@ -34,7 +34,7 @@ done_if true b x y e f = cc
 done_if false true x y e f = cc
 done_if false false x y e f = refl
 
-module _ (d : ℕ) (slots : Slots) (v : GhostState) (c : Cell) (x : CellWord) (y : Comparing) (q : Compared) (kept : TableInvariant v)
+module _ (d : ℕ) (slots : Slots) (v : GhostState) (c : Site) (x : CellWord) (y : Comparing) (q : Compared) (kept : TableInvariant v)
     (holds : HoldsBag d slots v)
     (is : q ≡ compared_in slots y) where
   -- the word that was found tells what is expected, or not
@@ -53,7 +53,7 @@ module _ (d : ℕ) (slots : Slots) (v : GhostState) (c : Cell) (x : CellWord) (y
       ∙ ap (λ (p : Compared). cond (is_some x.owned || same_value x (as_word (slot_value slots y.expected))) v
       (ghost_after_step v d (OnCell (Look c x (Some p))))) is
 
-module _ (d : ℕ) (slots : Slots) (v : GhostState) (i j : ℕ) (c : Cell) (x : CellWord) (y : Compared) (holds : HoldsBag d slots v) (found : Found v c x)
+module _ (d : ℕ) (slots : Slots) (v : GhostState) (i j : ℕ) (c : Site) (x : CellWord) (y : Compared) (holds : HoldsBag d slots v) (found : Found v c x)
     (li : i < length slots) (lj : j < length slots) (apart : i ≢ j) (e : slot_pointer slots j ≡ None) where
   -- the new value is aside, and its slot is empty
   abbrev aside : Slots

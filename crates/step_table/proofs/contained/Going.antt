@@ -13,7 +13,7 @@ use Rattle.control_word.specs.declared.place.Block.{Block}
 use Rattle.control_word.specs.Events.{swaps}
 use Rattle.control_word.specs.Handles.{handle, has_object}
 use Rattle.control_word.specs.State.{Held, State, held, same_held, without}
-use Rattle.step_table.specs.declared.cell_steps.cell_step.Cell.{Cell}
+use Rattle.control_word.specs.declared.site.Site.{Site}
 use Rattle.step_table.specs.declared.cell_steps.cell_step.CellStep.TheVariants.{CompareSwap, Swap}
 use Rattle.step_table.specs.declared.cell_steps.cell_step.Compared.{Compared}
 use Rattle.control_word.specs.declared.handle.Handle.{Handle}
@@ -95,7 +95,7 @@ pub swap_latest : (d : ℕ) (c : Named) (new old : NumberedHandle) (s : State) �
 swap_latest d (named.Free n) new old s = refl
 swap_latest d (named.Member o m) new old s = refl
 
-module _ (d : ℕ) (slots : Slots) (v : GhostState) (i j : ℕ) (c : Cell) (x : CellWord) (holds : HoldsBag d slots v) (found : Found v c x)
+module _ (d : ℕ) (slots : Slots) (v : GhostState) (i j : ℕ) (c : Site) (x : CellWord) (holds : HoldsBag d slots v) (found : Found v c x)
     (is : is_of (kind_in_state (model_state v) c) (slot_value slots i) ≡ true) (li : i < length slots) (lj : j < length slots)
     (e : slot_pointer (set slots i plain) j ≡ None) where
   -- the value of slot i went, and what the cell held came into slot j
@@ -119,7 +119,7 @@ module _ (d : ℕ) (slots : Slots) (v : GhostState) (i j : ℕ) (c : Cell) (x : 
       (holds_got d (set slots i plain) l.ghost_state w j k x l.holds at (latest ∙ swap_latest d n new old s ∙ sym l.latest) (pointer_valid x found.shows.valid)
       (let t = length-set slots i plain in omega (arith, t, lj)) e)
 
-module _ (d : ℕ) (slots : Slots) (v : GhostState) (i : ℕ) (c : Cell) (x : CellWord) (holds : HoldsBag d slots v) (found : Found v c x)
+module _ (d : ℕ) (slots : Slots) (v : GhostState) (i : ℕ) (c : Site) (x : CellWord) (holds : HoldsBag d slots v) (found : Found v c x)
     (is : is_of (kind_in_state (model_state v) c) (slot_value slots i) ≡ true) (li : i < length slots) where
   -- into the same slot
   pub holds_exchanged : HoldsBag d (set slots i (slot_of (model_state v) (held_in (model_state v) c)))

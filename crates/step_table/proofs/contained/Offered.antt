@@ -4,7 +4,7 @@ use Rattle.control_word.specs.declared.packed.cell.CellWord.{CellWord}
 use Rattle.control_word.specs.declared.model.handle.Kind.{Kind}
 use Rattle.control_word.specs.Packing.{IsCellWord}
 use Rattle.control_word.specs.State.{State, bag_size}
-use Rattle.step_table.specs.declared.cell_steps.cell_step.Cell.{Cell}
+use Rattle.control_word.specs.declared.site.Site.{Site}
 use Rattle.step_table.specs.declared.slots.slot.Slot.{Slot}
 use Rattle.step_table.specs.declared.slots.slot.Slot.TheVariants.{Empty, Full}
 use Rattle.step_table.specs.CellAtomicSteps.{kind_in_state, owing_funds}
@@ -19,7 +19,7 @@ owing_word : (s : State) (k : Kind) (a : Slot) (n : ℕ) → is_of k a ≡ true 
 owing_word s k (Empty p) n is = refl
 owing_word s k (Full x) n is = ap (λ (q : Kind). owing_funds s q (Some x.block) x.place n 0) (kind_is k x is)
 
-module _ (d : ℕ) (slots : Slots) (v : GhostState) (i : ℕ) (c : Cell) (w : CellWord) (kept : TableInvariant v) (holds : HoldsBag d slots v)
+module _ (d : ℕ) (slots : Slots) (v : GhostState) (i : ℕ) (c : Site) (w : CellWord) (kept : TableInvariant v) (holds : HoldsBag d slots v)
     (is : is_of (kind_in_state (model_state v) c) (slot_value slots i) ≡ true) (e : w ≡ as_word (slot_value slots i)) where
   pub goes_valid : IsCellWord w × (w.taken ≡ 0)
   goes_valid = (subst IsCellWord (sym e) (word_valid d slots v i kept holds), ap (λ (x : CellWord). x.taken) e)

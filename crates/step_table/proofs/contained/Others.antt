@@ -18,8 +18,8 @@ use Rattle.control_word.specs.State.{Has, State, held}
 use Rattle.control_word.specs.Steps.{me}
 use Rattle.control_word.specs.Views.{Fits}
 use Rattle.control_word.specs.Words.{slot}
-use Rattle.step_table.specs.declared.cell_steps.cell_step.Cell.{Cell}
-use Rattle.step_table.specs.declared.cell_steps.cell_step.Cell.TheVariants.{Free, Member}
+use Rattle.control_word.specs.declared.site.Site.{Site}
+use Rattle.control_word.specs.declared.site.Site.TheVariants.{Free, Member}
 use Rattle.step_table.specs.declared.memory.ghost_history.AtomicStep.{AtomicStep}
 use Rattle.step_table.specs.declared.cell_steps.refill.Stage.{Stage}
 use Rattle.step_table.specs.declared.cell_steps.refill.Stage.TheVariants.{Turning, Checking, Lacking, Refilling, Failing}
@@ -89,7 +89,7 @@ module _ (d e : ℕ) (v : GhostState) (x : AtomicStep) (n : e ≢ d) (kept : Tab
   brought_others (Empty p) funds lt is = same_pending v e d x n ∙ is
   brought_others (Full y) funds lt is = funds_others y.kind (Some y.block) y.place funds 0 lt is
 
-  pub open_others : (c : Cell) → IsOpenTo v d c → IsOpenTo (ghost_after_step v e x) d c
+  pub open_others : (c : Site) → IsOpenTo v d c → IsOpenTo (ghost_after_step v e x) d c
   open_others (Free m) way =
       let a = cells_led (opening v.extent) v.history in let b = cells_led (opening v.extent) (ghost_after_step v e x).history in omega (arith, a, b, way)
   open_others (Member b m) way =
@@ -114,7 +114,7 @@ module _ (d e : ℕ) (v : GhostState) (x : AtomicStep) (n : e ≢ d) (kept : Tab
   stage_others Refilling k b y lt is = funds_others k (Some b) y.place y.taken 0 lt is
   stage_others Failing k b y lt is = funds_others k (Some b) y.place y.taken 0 lt is
 
-  pub refill_others : (stage : Stage) (c : Cell) (y : CellWord) → d < v.extent.actors → RefillFits d stage c y v
+  pub refill_others : (stage : Stage) (c : Site) (y : CellWord) → d < v.extent.actors → RefillFits d stage c y v
       → RefillFits d stage c y (ghost_after_step v e x)
   refill_others stage c y lt fits =
       let k = sym (kind_stays v (ghost_after_step v e x) c refl) in

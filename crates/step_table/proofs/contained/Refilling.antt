@@ -18,8 +18,8 @@ use Rattle.control_word.specs.Packing.{IsCellWord}
 use Rattle.control_word.specs.State.{Has, Held, State, held, kind_of_member}
 use Rattle.control_word.specs.Views.{used_up}
 use Rattle.control_word.specs.Words.{slot}
-use Rattle.step_table.specs.declared.cell_steps.cell_step.Cell.{Cell}
-use Rattle.step_table.specs.declared.cell_steps.cell_step.Cell.TheVariants.{Free, Member}
+use Rattle.control_word.specs.declared.site.Site.{Site}
+use Rattle.control_word.specs.declared.site.Site.TheVariants.{Free, Member}
 use Rattle.step_table.specs.declared.cell_steps.cell_step.CellStep.{CellStep}
 use Rattle.step_table.specs.declared.cell_steps.cell_step.CellStep.TheVariants.{Look, Bring, GiveBack, Take, Turn, Refill, Swap, CompareSwap, TakeOut}
 use Rattle.step_table.specs.declared.cell_steps.cell_step.Compared.{Compared}
@@ -52,7 +52,7 @@ same_owing : (s t : State) (k : Kind) (o : Option Block) (p : Option Place) (f l
 same_owing s t k None p f l latest = refl
 same_owing s t k (Some b) p f l latest = ap (λ (g : ℕ → ℕ). Paying k (g b.0) p (spot b.0 (slot k)) f l) (sym latest)
 
-owing_at : (v w : GhostState) (c : Cell) (o : Option Block) (p : Option Place) (f l : ℕ) → w.extent ≡ v.extent
+owing_at : (v w : GhostState) (c : Site) (o : Option Block) (p : Option Place) (f l : ℕ) → w.extent ≡ v.extent
     → (model_state w).latest ≡ (model_state v).latest
     → ◌≡◌ {A = Pending Nothing} (owing_funds (model_state v) (kind_in_state (model_state v) c) o p f l)
     (owing_funds (model_state w) (kind_in_state (model_state w) c) o p f l)
@@ -80,7 +80,7 @@ owes_after v d x kept lt =
     go (TakeOut b m x) = same_owing (model_state v) (model_state (ghost_after_step v d (OnCell (TakeOut b m x)))) (kind_of_member m) x.owned x.place
         (256 - x.taken) 0 refl
 
-kind_got : (s : State) (d : ℕ) (h : NumberedHandle) (c : Cell) → kind_in_state (gets d h s) c ≡ kind_in_state s c
+kind_got : (s : State) (d : ℕ) (h : NumberedHandle) (c : Site) → kind_in_state (gets d h s) c ≡ kind_in_state s c
 kind_got s d h (Free n) = refl
 kind_got s d h (Member b m) = refl
 
@@ -91,7 +91,7 @@ has_got s d k o p b is =
     subst (λ (q : Option Block). Has (held d (handle k (object_at s (Some b)) p)) (gets d (handle k (object_at s q) p) s).hands) (sym is) (inl refl)
 
 -- one more handle in the bag shuts no cell
-open_got : (s : State) (d : ℕ) (h : NumberedHandle) (c : Cell) → IsOpen s d (cell_in s c) → IsOpen (gets d h s) d (cell_in (gets d h s) c)
+open_got : (s : State) (d : ℕ) (h : NumberedHandle) (c : Site) → IsOpen s d (cell_in s c) → IsOpen (gets d h s) d (cell_in (gets d h s) c)
 open_got s d h (Free n) way = way
 open_got s d h (Member b m) way =
     let y = way.1.0 in let hold = way.1.1 in (
@@ -109,7 +109,7 @@ open_got s d h (Member b m) way =
 
 module _ (d : ℕ) (v : GhostState) (kept : TableInvariant v) (lt : d < v.extent.actors) where
   -- a fund is taken
-  pub begins_refill : (c : Cell) (x : CellWord) (y : Option Compared) (b : Block) → IsOpenTo v d c → IsCellWord x → x.owned ≡ Some b → x.taken < 256
+  pub begins_refill : (c : Site) (x : CellWord) (y : Option Compared) (b : Block) → IsOpenTo v d c → IsCellWord x → x.owned ≡ Some b → x.taken < 256
       → RefillFits d Turning c (more_taken x) (ghost_after_step v d (OnCell (Take c x y)))
   begins_refill c x y b way valid some few = go y
     where
@@ -134,7 +134,7 @@ module _ (d : ℕ) (v : GhostState) (kept : TableInvariant v) (lt : d < v.extent
       go (Some q) = got (ghost_after_step v d (OnCell (Take c x (Some q)))) refl refl (owes_after v d (Take c x (Some q)) kept lt)
 
   -- the fund is turned
-  pub turns_fund : (c : Cell) (x : CellWord) (b : Block) → RefillFits d Turning c x v
+  pub turns_fund : (c : Site) (x : CellWord) (b : Block) → RefillFits d Turning c x v
       → RefillFits d Checking c x (ghost_after_step v d (OnCell (Turn (kind_in_state (model_state v) c) b)))
   turns_fund c x b fits =
       record {
@@ -147,7 +147,7 @@ module _ (d : ℕ) (v : GhostState) (kept : TableInvariant v) (lt : d < v.extent
       }
 
   -- as many funds are brought as were taken
-  pub brings_funds : (c : Cell) (x : CellWord) (b : Block) → RefillFits d Lacking c x v → x.owned ≡ Some b
+  pub brings_funds : (c : Site) (x : CellWord) (b : Block) → RefillFits d Lacking c x v → x.owned ≡ Some b
       → RefillFits d Refilling c x (ghost_after_step v d (OnCell (Bring (kind_in_state (model_state v) c) b x.place x.taken)))
   brings_funds c x b fits some =
       record {
@@ -161,7 +161,7 @@ module _ (d : ℕ) (v : GhostState) (kept : TableInvariant v) (lt : d < v.extent
       }
 
   -- the funds are given back
-  pub gives_back : (c : Cell) (x : CellWord) (b : Block) → RefillFits d Failing c x v
+  pub gives_back : (c : Site) (x : CellWord) (b : Block) → RefillFits d Failing c x v
       → RefillFits d Checking c x (ghost_after_step v d (OnCell (GiveBack (kind_in_state (model_state v) c) b x.taken)))
   gives_back c x b fits =
       record {
@@ -175,5 +175,5 @@ module _ (d : ℕ) (v : GhostState) (kept : TableInvariant v) (lt : d < v.extent
 
 module _ (d : ℕ) (v : GhostState) where
   -- the cell shows something else
-  pub misses_cell : (c : Cell) (x : CellWord) → RefillFits d Refilling c x v → RefillFits d Failing c x v
+  pub misses_cell : (c : Site) (x : CellWord) → RefillFits d Refilling c x v → RefillFits d Failing c x v
   misses_cell c x fits = record { valid = fits.valid; block = fits.block; owned = fits.owned; opens = fits.opens; has = fits.has; pays = fits.pays }

@@ -5,7 +5,7 @@ use Rattle.control_word.specs.declared.model.event.Event.{Event}
 use Rattle.control_word.specs.declared.model.event.Event.TheVariants as event
 use Rattle.control_word.specs.declared.model.handle.NumberedHandle.{NumberedHandle}
 use Rattle.control_word.specs.Handles.{equivalent}
-use Rattle.step_table.specs.declared.cell_steps.cell_step.Cell.{Cell}
+use Rattle.control_word.specs.declared.site.Site.{Site}
 use Rattle.step_table.specs.declared.cell_steps.cell_step.CellStep.TheVariants.{CompareSwap, Look, Swap, Take}
 use Rattle.step_table.specs.declared.cell_steps.comparing.Comparing.{Comparing}
 use Rattle.step_table.specs.declared.memory.ghost_history.AtomicStep.TheVariants.{OnCell}
@@ -17,7 +17,7 @@ use Rattle.step_table.specs.GhostStates.{TableInvariant, Nothing, GhostState, ev
 use Rattle.step_table.proofs.contained.Told.{alike_told, word_told}
 use Rattle.step_table.proofs.tables.Shown.{Found}
 
-module _ (v : GhostState) (c : Cell) (x : CellWord) (found : Found v c x) where
+module _ (v : GhostState) (c : Site) (x : CellWord) (found : Found v c x) where
   pub take_tells : ◌≡◌ {A = Option (Event Nothing)} (event_of (model_state v) (OnCell (Take c x None))) (Some (load_of (model_state v) c))
   take_tells = ap (λ (h : NumberedHandle). Some (event.Load (cell_in (model_state v) c) h)) found.shows.holds
 

@@ -25,8 +25,8 @@ use Rattle.control_word.specs.Histories.{leads}
 use Rattle.control_word.specs.Packing.{IsBlock, IsCellWord, IsPlace, block_number, cell_bits, place_block, place_field}
 use Rattle.control_word.specs.State.{Has, Opening, State, held, kind_of_free}
 use Rattle.control_word.specs.Words.{block_of, blocks_of}
-use Rattle.step_table.specs.declared.cell_steps.cell_step.Cell.{Cell}
-use Rattle.step_table.specs.declared.cell_steps.cell_step.Cell.TheVariants as at
+use Rattle.control_word.specs.declared.site.Site.{Site}
+use Rattle.control_word.specs.declared.site.Site.TheVariants as at
 use Rattle.step_table.specs.declared.memory.extent.Extent.{Extent}
 use Rattle.control_word.specs.declared.handle.Handle.{Handle}
 use Rattle.step_table.specs.declared.slots.slot.Slot.{Slot}
@@ -70,7 +70,7 @@ slot_told : (s : State) (k : Kind) (o : Option Block) (p : Option Place) → ((b
 slot_told s k None p is = refl
 slot_told s k (Some b) p is = ap (λ (n : ℕ). Full (record { kind = k; block = record { 0 = n }; place = p })) (is b refl)
 
-module _ (v : GhostState) (d : ℕ) (c : Cell) (x : CellWord) (found : Found v c x) where
+module _ (v : GhostState) (d : ℕ) (c : Site) (x : CellWord) (found : Found v c x) where
   -- what a cell shows is what was seen
   pub shows_seen : x ≡ seen v c
   shows_seen =
@@ -123,7 +123,7 @@ same_object v (Some a) (Some b) kept busy =
     ∙ ap (blocks_of (model_state v)) e ∙ (there v b kept (busy b refl)).0)) ∙ sym (ne_eqb a.0 b.0 n)) (cases_eq a.0 b.0)
 
 -- values are equivalent where they are the same, if the object of one of them is there
-pub alike : (v : GhostState) (c : Cell) (x y : CellWord) → TableInvariant v → ((b : Block) → y.owned ≡ Some b → IsBusy (model_state v) (object_of_block v b))
+pub alike : (v : GhostState) (c : Site) (x y : CellWord) → TableInvariant v → ((b : Block) → y.owned ≡ Some b → IsBusy (model_state v) (object_of_block v b))
     → equivalent (handle_told (model_state v) c x) (handle_told (model_state v) c y) ≡ same_value x y
 alike v c x y kept busy = ap (λ (t : Bool). t && same_place x.place y.place) (same_object v x.owned y.owned kept busy)
 
@@ -158,7 +158,7 @@ module _ (d : ℕ) (slots : Slots) (v : GhostState) (i : ℕ) (kept : TableInvar
       at_place (Some p) is = let a = is.0 in let b = is.1 in let f = is.2 in ((omega (arith, a), b), omega (arith, f))
 
   -- the desk has it in hand
-  pub in_hand : (c : Cell) → is_of (kind_in_state (model_state v) c) (slot_value slots i) ≡ true → HasInHand v d c (as_word (slot_value slots i))
+  pub in_hand : (c : Site) → is_of (kind_in_state (model_state v) c) (slot_value slots i) ≡ true → HasInHand v d c (as_word (slot_value slots i))
   in_hand c is = go (kind_in_state (model_state v) c) (slot_value slots i) refl (holds.formed i) is
     where
       bare : (k : Kind) (p : Option Place) → IsPointer p → is_of k (Empty p) ≡ true → IsFormed (handle k None p)
@@ -180,14 +180,14 @@ module _ (d : ℕ) (slots : Slots) (v : GhostState) (i : ℕ) (kept : TableInvar
       )
 
   -- what is compared is told by words
-  pub alike_told : (c : Cell) (x : CellWord) → is_of (kind_in_state (model_state v) c) (slot_value slots i) ≡ true
+  pub alike_told : (c : Site) (x : CellWord) → is_of (kind_in_state (model_state v) c) (slot_value slots i) ≡ true
       → same_value x (as_word (slot_value slots i)) ≡ equivalent (handle_told (model_state v) c x)
       (named_handle (model_state v) (kind_in_state (model_state v) c) (slot_value slots i))
   alike_told c x is =
       sym (alike v c x (as_word (slot_value slots i)) kept slot_busy)
       ∙ ap (equivalent (handle_told (model_state v) c x)) (word_told (model_state v) (kind_in_state (model_state v) c) (slot_value slots i) is)
 
-  pub alike_seen : (c : Cell) (x : CellWord) → Found v c x → is_of (kind_in_state (model_state v) c) (slot_value slots i) ≡ true
+  pub alike_seen : (c : Site) (x : CellWord) → Found v c x → is_of (kind_in_state (model_state v) c) (slot_value slots i) ≡ true
       → same_value (seen v c) (as_word (slot_value slots i)) ≡ equivalent (held_in (model_state v) c)
       (named_handle (model_state v) (kind_in_state (model_state v) c) (slot_value slots i))
   alike_seen c x found is =
@@ -227,7 +227,7 @@ pub shared_is : (v : GhostState) → (model_state v).shared ≡ v.extent.shape.s
 shared_is v = shared_led (opening v.extent) v.history
 
 -- so a cell is of the same kind after any atomic step
-pub kind_stays : (v w : GhostState) (c : Cell) → w.extent ≡ v.extent → kind_in_state (model_state w) c ≡ kind_in_state (model_state v) c
+pub kind_stays : (v w : GhostState) (c : Site) → w.extent ≡ v.extent → kind_in_state (model_state w) c ≡ kind_in_state (model_state v) c
 kind_stays v w (at.Free n) same =
     ap (λ (i : ℕ). kind_of_free i n) (shared_is w ∙ ap (λ (x : Extent). x.shape.shared_cells) same ∙ sym (shared_is v))
 kind_stays v w (at.Member b m) same = refl

@@ -18,7 +18,7 @@ use Rattle.control_word.specs.Layout.{spot}
 use Rattle.control_word.specs.Packing.{IsCellWord, cell_bits}
 use Rattle.control_word.specs.Views.{Stands, sees_as}
 use Rattle.control_word.specs.Words.{blocks_of, counts_at, packed, slot}
-use Rattle.step_table.specs.declared.cell_steps.cell_step.Cell.{Cell}
+use Rattle.control_word.specs.declared.site.Site.{Site}
 use Rattle.step_table.specs.declared.cell_steps.cell_step.CellStep.TheVariants.{Look, Refill}
 use Rattle.step_table.specs.declared.cell_steps.cell_step.Compared.{Compared}
 use Rattle.control_word.specs.declared.model.event.Entry.{Entry}
@@ -36,7 +36,7 @@ use Rattle.step_table.proofs.tables.Places.{event_by, named as own}
 use Rattle.step_table.proofs.tables.Shown.{cell_there, found_in, kept_cell}
 use Rattle.step_table.proofs.tables.Standing.{kept_after, point, ready, ghost_as}
 
-pub kept_look : (v : GhostState) (d : ℕ) (c : Cell) (x : CellWord) → TableInvariant v → d < v.extent.actors → pending v d ≡ Idle → IsOpenTo v d c
+pub kept_look : (v : GhostState) (d : ℕ) (c : Site) (x : CellWord) → TableInvariant v → d < v.extent.actors → pending v d ≡ Idle → IsOpenTo v d c
     → ShowsCell v c x
     → is_some x.owned ≡ false → TableInvariant (ghost_after_step v d (OnCell (Look c x None)))
 kept_look v d c x kept lt idle way shows none = go x.owned refl
@@ -59,7 +59,7 @@ kept_look v d c x kept lt idle way shows none = go x.owned refl
         (entry d (event.Load n y) ∷ v.history)) (sym told)
         (event_by v d v.words Idle (event.Load n (handle k None x.place)) kept lt law))
 
-pub kept_refill : (v : GhostState) (d : ℕ) (c : Cell) (x : CellWord) (p : Option Place) → TableInvariant v → d < v.extent.actors → IsOpenTo v d c
+pub kept_refill : (v : GhostState) (d : ℕ) (c : Site) (x : CellWord) (p : Option Place) → TableInvariant v → d < v.extent.actors → IsOpenTo v d c
     → x.owned ≢ None → IsCellWord x → word_of_cell v c ≡ cell_bits x
     → pending v d ≡ owing_funds (model_state v) (kind_in_state (model_state v) c) x.owned p x.taken 0
     → TableInvariant (ghost_after_step v d (OnCell (Refill c x.taken)))
@@ -92,7 +92,7 @@ kept_refill v d c x p kept lt way some valid bits owes = go x.owned refl
 pub refilled : (x : CellWord) (n w : ℕ) → n ≡ cell_bits (record x { taken = 0 }) → w ≡ cell_bits x → n ≡ w - 17179869184 * x.taken
 refilled x n w e f = omega (arith, e, f)
 
-pub kept_look_differing : (v : GhostState) (d : ℕ) (c : Cell) (x : CellWord) (y : Compared) → TableInvariant v → d < v.extent.actors
+pub kept_look_differing : (v : GhostState) (d : ℕ) (c : Site) (x : CellWord) (y : Compared) → TableInvariant v → d < v.extent.actors
     → pending v d ≡ Idle → IsOpenTo v d c
     → HasInHand v d c y.expected → HasInHand v d c y.new → ShowsCell v c x → x.owned ≡ None
     → equivalent (handle_told (model_state v) c x) (handle_told (model_state v) c y.expected) ≡ false

@@ -24,36 +24,36 @@ use Rattle.control_word.specs.Events.{cell_of}
 use Rattle.control_word.specs.Handles.{handle}
 use Rattle.control_word.specs.Histories.{entry}
 use Rattle.control_word.specs.Packing.{IsCellWord, IsPackedCell, block_number, cell_bits, place_block, place_field}
-use Rattle.control_word.specs.Layout.{spot}
+use Rattle.control_word.specs.Layout.{IsSite, site_place, spot}
 use Rattle.control_word.specs.Steps.{Adds, me, purse}
 use Rattle.control_word.specs.Views.{Stands, sees_as}
 use Rattle.control_word.specs.Words.{blocks_of, packed, shown, slot}
-use Rattle.step_table.specs.declared.cell_steps.cell_step.Cell.{Cell}
-use Rattle.step_table.specs.declared.cell_steps.cell_step.Cell.TheVariants.{Free, Member}
-use Rattle.step_table.specs.CellAtomicSteps.{cell_in, handle_as, kind_in_state, owing_funds, word_of}
-use Rattle.step_table.specs.Cells.{IsOpenTo, IsSomewhere, ShowsCell, word_of_cell}
+use Rattle.control_word.specs.declared.site.Site.{Site}
+use Rattle.control_word.specs.declared.site.Site.TheVariants.{Free, Member}
+use Rattle.step_table.specs.CellAtomicSteps.{cell_in, handle_as, kind_in_state, owing_funds}
+use Rattle.step_table.specs.Cells.{IsOpenTo, ShowsCell, word_of_cell}
 use Rattle.step_table.specs.Openings.{opening}
 use Rattle.step_table.specs.GhostStates.{TableInvariant, Nothing, GhostState, object_of_block, pending, model_state, view_in}
 use Rattle.step_table.proofs.tables.Cells.{at_cell, decoded}
 use Rattle.step_table.proofs.tables.Places.{event_by, there}
 use Rattle.step_table.proofs.tables.Standing.{point, ready}
 
-pub kept_cell : (v : GhostState) (d : ℕ) (c : Cell) → TableInvariant v → IsOpenTo v d c → IsKept (model_state v) (cell_in (model_state v) c)
+pub kept_cell : (v : GhostState) (d : ℕ) (c : Site) → TableInvariant v → IsOpenTo v d c → IsKept (model_state v) (cell_in (model_state v) c)
 kept_cell v d c kept shut =
     open_kept (opening v.extent) (model_state v) d (cell_in (model_state v) c) (sound (opening v.extent) v.history kept.stands.legal) shut
 
 -- where a cell's word lies
-pub cell_there : (v : GhostState) (c : Cell) → TableInvariant v → IsKept (model_state v) (cell_in (model_state v) c)
-    → at_cell v (cell_in (model_state v) c) ≡ word_of v.extent.shape.blocks c
+pub cell_there : (v : GhostState) (c : Site) → TableInvariant v → IsKept (model_state v) (cell_in (model_state v) c)
+    → at_cell v (cell_in (model_state v) c) ≡ site_place v.extent.shape.blocks c
 cell_there v (Free n) kept is = refl
 cell_there v (Member b m) kept is = ap (λ (i : ℕ). spot i (7 + m)) (there v b kept is.1).0
 
-pub somewhere : (v : GhostState) (c : Cell) → TableInvariant v → IsKept (model_state v) (cell_in (model_state v) c) → IsSomewhere c
+pub somewhere : (v : GhostState) (c : Site) → TableInvariant v → IsKept (model_state v) (cell_in (model_state v) c) → IsSite c
 somewhere v (Free n) kept is = tt
 somewhere v (Member b m) kept is = ((there v b kept is.1).1.0, is.0)
 
-pub word_inside : (v : GhostState) (d : ℕ) (c : Cell) → TableInvariant v → d < v.extent.actors → IsKept (model_state v) (cell_in (model_state v) c)
-    → word_of v.extent.shape.blocks c < length v.words
+pub word_inside : (v : GhostState) (d : ℕ) (c : Site) → TableInvariant v → d < v.extent.actors → IsKept (model_state v) (cell_in (model_state v) c)
+    → site_place v.extent.shape.blocks c < length v.words
 word_inside v d c kept lt is =
     let r = ready v d (pending v d) kept lt refl in
     subst (λ (i : ℕ). i < length v.words) (cell_there v c kept is)
@@ -109,7 +109,7 @@ shown_there v k (Some o) p t last b e =
     same_number q = ap (λ (x : Block). x.0) (same_Some _ _ q)
 
 -- the value that a word tells, and what is owed for it when it comes out
-pub record Found (v : GhostState) (c : Cell) (x : CellWord) : Type 0 where
+pub record Found (v : GhostState) (c : Site) (x : CellWord) : Type 0 where
   pub shows : ShowsCell v c x
   pub bits : get_or v.words (at_cell v (cell_in (model_state v) c)) 0 ≡ packed (blocks_of (model_state v))
       (cell_of (model_state v) (cell_in (model_state v) c)) + 17179869184 * x.taken
@@ -117,7 +117,7 @@ pub record Found (v : GhostState) (c : Cell) (x : CellWord) : Type 0 where
       (owing_funds (model_state v) (kind_in_state (model_state v) c) x.owned x.place f 0)
   pub there : (b : Block) → x.owned ≡ Some b → blocks_of (model_state v) (object_of_block v b) ≡ b.0
 
-pub found_in : (v : GhostState) (d : ℕ) (c : Cell) (x : CellWord) → TableInvariant v → d < v.extent.actors → IsKept (model_state v) (cell_in (model_state v) c)
+pub found_in : (v : GhostState) (d : ℕ) (c : Site) (x : CellWord) → TableInvariant v → d < v.extent.actors → IsKept (model_state v) (cell_in (model_state v) c)
     → IsCellWord x
     → word_of_cell v c ≡ cell_bits x → Found v c x
 found_in v d c x kept lt is valid bits =
@@ -162,7 +162,7 @@ adds_by v d i j n m e f p q kept lt at to is owed adds =
     (set v.views d (sees_as (view_in v.views d) p (entry (me (point v d)) e ∷ v.history))) (entry (me (point v d)) e ∷ v.history)) at adds))))
 
 -- the word of a cell can be unpacked
-pub cell_packed : (v : GhostState) (d : ℕ) (c : Cell) (n : ℕ) → TableInvariant v → d < v.extent.actors → IsKept (model_state v) (cell_in (model_state v) c)
+pub cell_packed : (v : GhostState) (d : ℕ) (c : Site) (n : ℕ) → TableInvariant v → d < v.extent.actors → IsKept (model_state v) (cell_in (model_state v) c)
     → n ≡ word_of_cell v c
     → IsPackedCell n
 cell_packed v d c n kept lt is e =

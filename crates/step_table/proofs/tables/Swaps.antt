@@ -25,17 +25,17 @@ use Rattle.control_word.specs.declared.model.view.Pending.{Pending}
 use Rattle.control_word.specs.declared.model.view.Pending.TheVariants.{Idle, Paying}
 use Rattle.control_word.specs.Events.{InHand, IsOpen, cell_of, changes, clears, gets, loses, swaps}
 use Rattle.control_word.specs.Handles.{empty, equivalent, handle, has_object}
-use Rattle.control_word.specs.Layout.{spot}
+use Rattle.control_word.specs.Layout.{site_place, spot}
 use Rattle.control_word.specs.Packing.{IsCellWord, cell_bits}
 use Rattle.control_word.specs.State.{Has, HasRoom, Held, State, bag_size, ending, held, kind_of_member, put, same_held}
 use Rattle.control_word.specs.Steps.{purse}
 use Rattle.control_word.specs.Words.{blocks_of, counts_at, packed, slot}
-use Rattle.step_table.specs.declared.cell_steps.cell_step.Cell.{Cell}
-use Rattle.step_table.specs.declared.cell_steps.cell_step.Cell.TheVariants.{Member}
+use Rattle.control_word.specs.declared.site.Site.{Site}
+use Rattle.control_word.specs.declared.site.Site.TheVariants.{Member}
 use Rattle.step_table.specs.declared.cell_steps.cell_step.CellStep.TheVariants.{CompareSwap, Swap, Take, TakeOut}
 use Rattle.step_table.specs.declared.cell_steps.cell_step.Compared.{Compared}
 use Rattle.step_table.specs.declared.memory.ghost_history.AtomicStep.TheVariants.{OnCell}
-use Rattle.step_table.specs.CellAtomicSteps.{cell_in, handle_told, kind_in_state, object_at, owing_funds, word_of}
+use Rattle.step_table.specs.CellAtomicSteps.{cell_in, handle_told, kind_in_state, object_at, owing_funds}
 use Rattle.step_table.specs.Cells.{HasInHand, IsOpenTo, ShowsCell, word_of_cell}
 use Rattle.step_table.specs.Openings.{opening}
 use Rattle.step_table.specs.GhostStates.{TableInvariant, Nothing, GhostState, ghost_after_step, object_of_block, pending, model_state}
@@ -101,7 +101,7 @@ swap_room v d c k o p old kept hand more = go c
     go (named.Member i m) =
         let l = less o hand more in let g = gets_most (loses d (handle k (object_at (model_state v) o) p) (model_state v)) d old in omega (arith, l, g)
 
-pub kept_swap : (v : GhostState) (d : ℕ) (c : Cell) (new x : CellWord) → TableInvariant v → d < v.extent.actors → IsOpenTo v d c → new.taken ≡ 0
+pub kept_swap : (v : GhostState) (d : ℕ) (c : Site) (new x : CellWord) → TableInvariant v → d < v.extent.actors → IsOpenTo v d c → new.taken ≡ 0
     → HasInHand v d c new → pending v d ≡ owing_funds (model_state v) (kind_in_state (model_state v) c) new.owned new.place 256 0
     → (new.owned ≡ None → bag_size (model_state v) d < (model_state v).allowance d) → ShowsCell v c x
     → TableInvariant (ghost_after_step v d (OnCell (Swap c new x)))
@@ -119,7 +119,7 @@ kept_swap v d c new x kept lt way full hand owes more shows =
     (subst (λ (n : ℕ). HasRoom (swaps n e h (cell_of s e) s) n) (sym m) (swap_room v d e k new.owned new.place (cell_of s e) kept hand more)) x.taken
     f.bits in
     kept_after v d (OnCell (Swap c new x)) kept lt
-    (adds_by v d _ (word_of v.extent.shape.blocks c) _ (cell_bits new) _ _ _ _ kept lt (cell_there v c kept is)
+    (adds_by v d _ (site_place v.extent.shape.blocks c) _ (cell_bits new) _ _ _ _ kept lt (cell_there v c kept is)
     (hand_packed v d k new.owned new.place kept hand ∙ ap (λ (t : ℕ). cell_bits (record { owned = new.owned; place = new.place; taken = t })) (sym full))
     (ap (event.Swap e h) (sym shows.holds)) (f.owed (256 - x.taken)) law)
 
@@ -131,7 +131,7 @@ left_over x valid few =
     let o = owned_fits x.owned valid.owned in let b = block_fits x.place valid.place in let f = field_fits x.place valid.place in omega (arith, o, b, f, few)
 
 -- a load under way, of a cell that told this value
-load_owing : (v : GhostState) (c : Cell) (x : CellWord) (b : Block) (f : Found v c x) → x.owned ≡ Some b
+load_owing : (v : GhostState) (c : Site) (x : CellWord) (b : Block) (f : Found v c x) → x.owned ≡ Some b
     → ◌≡◌ {A = Pending Nothing}
     (Paying (kind_in_state (model_state v) c) (object_of_block v b) x.place (counts_at (blocks_of (model_state v)) (kind_in_state (model_state v) c)
     (object_of_block v b)) 1 1)
@@ -142,7 +142,7 @@ load_owing v c x b f e =
     ap (λ (i : ℕ). Paying k (object_of_block v b) x.place (spot i (slot k)) 1 1) t ∙ ap
     (λ (q : Option Block). owing_funds (model_state v) k q x.place 1 1) (sym e)
 
-pub kept_take : (v : GhostState) (d : ℕ) (c : Cell) (x : CellWord) → TableInvariant v → d < v.extent.actors → pending v d ≡ Idle → IsOpenTo v d c
+pub kept_take : (v : GhostState) (d : ℕ) (c : Site) (x : CellWord) → TableInvariant v → d < v.extent.actors → pending v d ≡ Idle → IsOpenTo v d c
     → x.owned ≢ None → x.taken < 256 → bag_size (model_state v) d < (model_state v).allowance d → IsCellWord x → word_of_cell v c ≡ cell_bits x
     → TableInvariant (ghost_after_step v d (OnCell (Take c x None)))
 kept_take v d c x kept lt idle way some few room valid bits = go x.owned refl
@@ -167,10 +167,10 @@ kept_take v d c x kept lt idle way some few room valid bits = go x.owned refl
         (subst (λ (i : ℕ). get_or v.words i 0 < 4398046511104) (sym there) (subst (λ (i : ℕ). i < 4398046511104) (sym bits) (left_over x valid few)))).0
         (subst (λ (i : ℕ). IsOpen s i n) (sym m) way) in
         kept_after v d (OnCell (Take c x None)) kept lt
-        (adds_by v d _ (word_of v.extent.shape.blocks c) _ (word_of_cell v c + 17179869184) _ _ _ _ kept lt there
+        (adds_by v d _ (site_place v.extent.shape.blocks c) _ (word_of_cell v c + 17179869184) _ _ _ _ kept lt there
         (ap (λ (i : ℕ). get_or v.words i 0 + 17179869184) there) (ap (event.Load n) (sym told)) owed law)
 
-pub kept_compare : (v : GhostState) (d : ℕ) (c : Cell) (x : CellWord) (y : Compared) → TableInvariant v → d < v.extent.actors → IsOpenTo v d c → y.new.taken ≡ 0
+pub kept_compare : (v : GhostState) (d : ℕ) (c : Site) (x : CellWord) (y : Compared) → TableInvariant v → d < v.extent.actors → IsOpenTo v d c → y.new.taken ≡ 0
     → equivalent (handle_told (model_state v) c x) (handle_told (model_state v) c y.expected) ≡ true → HasInHand v d c y.expected
     → HasInHand v d c y.new → pending v d ≡ owing_funds (model_state v) (kind_in_state (model_state v) c) y.new.owned y.new.place 256 0
     → (y.new.owned ≡ None → bag_size (model_state v) d < (model_state v).allowance d) → IsCellWord x → word_of_cell v c ≡ cell_bits x
@@ -196,7 +196,7 @@ kept_compare v d c x y kept lt way full alike wanted hand owes more valid bits =
     (subst (λ (n : ℕ). HasRoom (swaps n e h (cell_of s e) s) n) (sym m) (swap_room v d e k y.new.owned y.new.place (cell_of s e) kept hand more)) x.taken
     f.bits in
     kept_after v d (OnCell (CompareSwap c x y)) kept lt
-    (adds_by v d _ (word_of v.extent.shape.blocks c) _ (cell_bits y.new) _ _ _ _ kept lt (cell_there v c kept is)
+    (adds_by v d _ (site_place v.extent.shape.blocks c) _ (cell_bits y.new) _ _ _ _ kept lt (cell_there v c kept is)
     (hand_packed v d k y.new.owned y.new.place kept hand ∙ ap
     (λ (t : ℕ). cell_bits (record { owned = y.new.owned; place = y.new.place; taken = t })) (sym full))
     (ap (λ (q : NumberedHandle). event.Compare e w h q true y.weak) (sym f.shows.holds)) (f.owed (256 - x.taken)) law)
@@ -226,7 +226,7 @@ kept_take_out v d b m x kept lt idle end few room shows =
     (adds_by v d _ (spot b.0 (7 + m)) _ 0 _ _ _ _ kept lt (cell_there v c kept is) refl (ap (event.ClearMember o m) (sym shows.holds))
     (f.owed (256 - x.taken)) law)
 
-pub kept_take_differing : (v : GhostState) (d : ℕ) (c : Cell) (x : CellWord) (y : Compared) → TableInvariant v → d < v.extent.actors → pending v d ≡ Idle
+pub kept_take_differing : (v : GhostState) (d : ℕ) (c : Site) (x : CellWord) (y : Compared) → TableInvariant v → d < v.extent.actors → pending v d ≡ Idle
     → IsOpenTo v d c → x.owned ≢ None → x.taken < 256
     → equivalent (handle_told (model_state v) c x) (handle_told (model_state v) c y.expected) ≡ false
     → HasInHand v d c y.expected → HasInHand v d c y.new → bag_size (model_state v) d < (model_state v).allowance d → IsCellWord x
@@ -261,6 +261,6 @@ kept_take_differing v d c x y kept lt idle way some few other wanted hand room v
           inl (sym differs),
         ) in
         kept_after v d (OnCell (Take c x (Some y))) kept lt
-        (adds_by v d _ (word_of v.extent.shape.blocks c) _ (word_of_cell v c + 17179869184) _ _ _ _ kept lt there
+        (adds_by v d _ (site_place v.extent.shape.blocks c) _ (word_of_cell v c + 17179869184) _ _ _ _ kept lt there
         (ap (λ (i : ℕ). get_or v.words i 0 + 17179869184) there) (ap (λ (q : NumberedHandle). event.Compare n w h q false y.weak) (sym told))
         (load_owing v c x b f e) law)

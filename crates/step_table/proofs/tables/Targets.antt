@@ -5,14 +5,14 @@ use Rattle.control_word.specs.declared.model.handle.NumberedHandle.{NumberedHand
 use Rattle.control_word.specs.declared.place.Block.{Block}
 use Rattle.control_word.specs.Words.{block_of, blocks_of}
 use Rattle.control_word.proofs.words.Banks.{IsKept}
-use Rattle.step_table.specs.declared.cell_steps.cell_step.Cell.{Cell}
-use Rattle.step_table.specs.declared.cell_steps.cell_step.Cell.TheVariants.{Free, Member}
+use Rattle.control_word.specs.declared.site.Site.{Site}
+use Rattle.control_word.specs.declared.site.Site.TheVariants.{Free, Member}
 use Rattle.step_table.specs.CellAtomicSteps.{cell_in, object_at}
 use Rattle.step_table.specs.Cells.{IsCellInUse, target_of}
 use Rattle.step_table.specs.GhostStates.{TableInvariant, GhostState, object_of_block, model_state}
 use Rattle.step_table.proofs.tables.Shown.{Found}
 
-pub kept_there : (v : GhostState) (c : Cell) → IsCellInUse v c → IsKept (model_state v) (cell_in (model_state v) c)
+pub kept_there : (v : GhostState) (c : Site) → IsCellInUse v c → IsKept (model_state v) (cell_in (model_state v) c)
 kept_there v (Free n) is = is
 kept_there v (Member b m) is = is
 
@@ -24,7 +24,7 @@ target_told : (v : GhostState) (o : Option Block) → ((b : Block) → o ≡ Som
 target_told v None there = refl
 target_told v (Some b) there = ap (λ n. Some (record { 0 = n })) (there b refl)
 
-pub target_found : (v : GhostState) (c : Cell) (x : CellWord) → Found v c x → x.owned ≡ target_of (model_state v) c
+pub target_found : (v : GhostState) (c : Site) (x : CellWord) → Found v c x → x.owned ≡ target_of (model_state v) c
 target_found v c x found =
     sym (target_told v x.owned found.there)
     ∙ ap (λ (h : NumberedHandle). block_of (blocks_of (model_state v)) h.object) found.shows.holds

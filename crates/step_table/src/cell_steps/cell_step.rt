@@ -1,15 +1,8 @@
 //! What one atomic step did to a cell, or to the funds of a count.
 
-use control_word::CellWord;
 use control_word::model::handle::Kind;
 use control_word::place::{Block, Place};
-
-/// A cell: free-standing, by its number from 0, or a member of the object in a block (0 first, 1 next, 2 up).
-#[derive(Clone, Copy)]
-pub enum Cell {
-    Free { number: u32 },
-    Member { block: Block, member: u8 },
-}
+use control_word::{CellWord, Site};
 
 /// What a compare expects a cell to hold, and what it wants to put there. The weak one may differ on an equivalent
 /// value.
@@ -25,7 +18,7 @@ pub struct Compared {
 pub enum CellStep {
     /// A cell without an object was looked at: a load, or a compare that differs.
     Look {
-        cell: Cell,
+        cell: Site,
         found: CellWord,
         compared: Option<Compared>,
     },
@@ -44,7 +37,7 @@ pub enum CellStep {
     },
     /// One more fund of a cell's was taken: a load, or a compare that differs.
     Take {
-        cell: Cell,
+        cell: Site,
         found: CellWord,
         compared: Option<Compared>,
     },
@@ -55,18 +48,18 @@ pub enum CellStep {
     },
     /// The funds that were brought went into a cell, in place of so many that were taken.
     Refill {
-        cell: Cell,
+        cell: Site,
         taken: u16,
     },
     /// A value went into a cell, and what it held came out.
     Swap {
-        cell: Cell,
+        cell: Site,
         new: CellWord,
         found: CellWord,
     },
     /// The same, where the cell held what was expected.
     CompareSwap {
-        cell: Cell,
+        cell: Site,
         found: CellWord,
         compared: Compared,
     },

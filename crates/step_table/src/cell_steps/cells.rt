@@ -3,34 +3,24 @@
 //! how many were taken.
 ghost use Rattle.std.specs.Prelude.{◌≡◌, ◌≢◌, ◌<◌, ◌==◌, ◌||◌, Option, None, Some, cond};
 ghost use Rattle.std.specs.Prelude.{is_some, true, false};
+ghost use Rattle.control_word.specs.Layout.{IsSite};
 ghost use Rattle.control_word.specs.declared.model.view.Pending.TheVariants.{Idle};
 ghost use Rattle.control_word.specs.Handles.{equivalent, same_place};
 ghost use Rattle.control_word.specs.Packing.{IsCellWord, cell_bits};
 ghost use Rattle.control_word.specs.State.{State, bag_size};
-ghost use Rattle.step_table.specs.CellAtomicSteps.{handle_told, kind_in_state, owing_funds, word_of};
-ghost use Rattle.step_table.specs.declared.cell_steps.cell_step.Cell.{Cell as At};
-ghost use Rattle.step_table.specs.Cells.{HasInHand, IsOpenTo, IsSomewhere, IsCellInUse, ShowsCell, target_of};
+ghost use Rattle.step_table.specs.CellAtomicSteps.{handle_told, kind_in_state, owing_funds};
+ghost use Rattle.control_word.specs.declared.site.Site.{Site as At};
+ghost use Rattle.step_table.specs.Cells.{HasInHand, IsOpenTo, IsCellInUse, ShowsCell, target_of};
 ghost use Rattle.step_table.specs.Cells.{word_of_cell};
 ghost use Rattle.step_table.specs.GhostStates.{ghost_after_step, pending, model_state};
 
-use crate::cell_steps::cell_step::{Cell, CellStep, Compared};
+use crate::cell_steps::cell_step::{CellStep, Compared};
 use crate::memory::ghost_history::AtomicStep;
 use crate::memory::table::Table;
-use control_word::CellWord;
 use control_word::packed::cell::{ONE_TAKEN, pack, unpack};
-use control_word::packed::layout::{MEMBERS, block_word, cell_word};
+use control_word::packed::layout::site_word;
 use control_word::place::{Block, Place};
-
-/// Where a cell's word lies, in a table of so many blocks.
-fn place_of(cell: Cell, blocks: u32) -> usize
-    requires { IsSomewhere cell }
-    ensures { result ≡ word_of blocks cell }
-{
-    match cell {
-        Cell::Free { number } => cell_word(blocks, number),
-        Cell::Member { block, member } => block_word(block, MEMBERS + usize::from(member)),
-    }
-}
+use control_word::{CellWord, Site};
 
 /// Whether two places are one.
 pub(crate) fn is_same_place(one: Option<Place>, other: Option<Place>) -> bool
@@ -54,35 +44,35 @@ fn is_same_empty(found: CellWord, expected: CellWord) -> bool
 impl Table {
     /// The block of the object that the handle in a cell is on; none where it is on none (own). Condition: the cell is
     /// free, or a member of what is in a block that isn't vacant.
-    pub fn target(&self, cell: Cell) -> Option<Block>
+    pub fn target(&self, cell: Site) -> Option<Block>
         requires { IsCellInUse self.now cell }
         ensures { result ≡ target_of (model_state self.now) cell }
     {
-        unpack(self.words.get(place_of(cell, self.extent.shape.blocks))).owned
+        unpack(self.words.get(site_word(self.extent.shape.blocks, cell))).owned
     }
 
     /// What a cell holds, and how many of its funds were taken.
-    pub fn shown(&self, desk: usize, cell: Cell) -> CellWord
+    pub fn shown(&self, desk: usize, cell: Site) -> CellWord
         requires seat { desk < self.now.extent.actors }
         requires open { IsOpenTo self.now desk cell }
         ensures { ShowsCell self.now cell result }
     {
-        unpack(self.words.get(place_of(cell, self.extent.shape.blocks)))
+        unpack(self.words.get(site_word(self.extent.shape.blocks, cell)))
     }
 
     /// Whether a cell's word is still that of a value.
-    fn shows(&self, desk: usize, cell: Cell, seen: CellWord) -> bool
+    fn shows(&self, desk: usize, cell: Site, seen: CellWord) -> bool
         requires seat { desk < self.now.extent.actors }
         requires open { IsOpenTo self.now desk cell }
         requires seen { IsCellWord seen }
         ensures { result ≡ (word_of_cell self.now cell == cell_bits seen) }
     {
-        self.words.get(place_of(cell, self.extent.shape.blocks)) == pack(seen)
+        self.words.get(site_word(self.extent.shape.blocks, cell)) == pack(seen)
     }
 
     /// Swaps a cell: the new value goes in, for which 256 funds were brought if it has an object, and what the cell
     /// held comes out. The funds of that which were not taken are out then, to be given back.
-    pub(crate) fn swap_cell(&mut self, desk: usize, cell: Cell, new: CellWord) -> CellWord
+    pub(crate) fn swap_cell(&mut self, desk: usize, cell: Site, new: CellWord) -> CellWord
         requires seat { desk < self.old.extent.actors }
         requires open { IsOpenTo self.old desk cell }
         requires new { IsCellWord new × (new.taken ≡ 0) }
@@ -98,14 +88,14 @@ impl Table {
         let atomic_step = CellStep::Swap { cell, new, found };
         let ghost_history = self.then(desk, AtomicStep::OnCell { atomic_step });
         self.words
-            .set(place_of(cell, self.extent.shape.blocks), pack(new));
+            .set(site_word(self.extent.shape.blocks, cell), pack(new));
         self.ghost_history = ghost_history;
         found
     }
 
     /// Takes a fund of a cell by a `compare_exchange`: where its word is still that of a value with an object, the word
     /// tells one more taken. That is the load of the value, which is under way until the fund is turned.
-    pub fn take_fund(&mut self, desk: usize, cell: Cell, seen: CellWord) -> bool
+    pub fn take_fund(&mut self, desk: usize, cell: Site, seen: CellWord) -> bool
         requires seat { desk < self.old.extent.actors }
         requires idle { pending self.old desk ≡ Idle }
         requires open { IsOpenTo self.old desk cell }
@@ -125,7 +115,7 @@ impl Table {
         };
         let ghost_history = self.then(desk, AtomicStep::OnCell { atomic_step });
         self.words.set(
-            place_of(cell, self.extent.shape.blocks),
+            site_word(self.extent.shape.blocks, cell),
             pack(seen) + ONE_TAKEN,
         );
         self.ghost_history = ghost_history;
@@ -134,7 +124,7 @@ impl Table {
 
     /// The look of a load, which answers what the cell holds. Where that has no object it is the load; else nothing is
     /// done.
-    pub(crate) fn look_cell(&mut self, desk: usize, cell: Cell) -> CellWord
+    pub(crate) fn look_cell(&mut self, desk: usize, cell: Site) -> CellWord
         requires seat { desk < self.old.extent.actors }
         requires idle { pending self.old desk ≡ Idle }
         requires open { IsOpenTo self.old desk cell }
@@ -158,7 +148,7 @@ impl Table {
     /// Refills a cell by a `compare_exchange`: where its word is still that of a value with an object, for which as
     /// many funds were brought as were taken, these funds go in and none is told to be taken any more. Else nothing is
     /// done.
-    pub fn refill_cell(&mut self, desk: usize, cell: Cell, seen: CellWord) -> bool
+    pub fn refill_cell(&mut self, desk: usize, cell: Site, seen: CellWord) -> bool
         requires seat { desk < self.old.extent.actors }
         requires open { IsOpenTo self.old desk cell }
         requires seen { IsCellWord seen × (seen.owned ≢ None) }
@@ -177,7 +167,7 @@ impl Table {
         };
         let ghost_history = self.then(desk, AtomicStep::OnCell { atomic_step });
         self.words.set(
-            place_of(cell, self.extent.shape.blocks),
+            site_word(self.extent.shape.blocks, cell),
             pack(CellWord { taken: 0, ..seen }),
         );
         self.ghost_history = ghost_history;
@@ -189,7 +179,7 @@ impl Table {
     pub fn compare_and_swap(
         &mut self,
         desk: usize,
-        cell: Cell,
+        cell: Site,
         seen: CellWord,
         compared: Compared,
     ) -> bool
@@ -218,14 +208,17 @@ impl Table {
             compared,
         };
         let ghost_history = self.then(desk, AtomicStep::OnCell { atomic_step });
-        self.words.set(place_of(cell, self.extent.shape.blocks), pack(compared.new));
+        self.words.set(
+            site_word(self.extent.shape.blocks, cell),
+            pack(compared.new),
+        );
         self.ghost_history = ghost_history;
         true
     }
 
     /// The look of a compare, which answers what the cell holds. Where that has no object and isn't what is expected it
     /// is a compare that differs; else nothing is done.
-    pub fn look_to_compare(&mut self, desk: usize, cell: Cell, compared: Compared) -> CellWord
+    pub fn look_to_compare(&mut self, desk: usize, cell: Site, compared: Compared) -> CellWord
         requires seat { desk < self.old.extent.actors }
         requires idle { pending self.old desk ≡ Idle }
         requires open { IsOpenTo self.old desk cell }
@@ -257,7 +250,7 @@ impl Table {
     pub fn take_differing(
         &mut self,
         desk: usize,
-        cell: Cell,
+        cell: Site,
         seen: CellWord,
         compared: Compared,
     ) -> bool
@@ -284,7 +277,7 @@ impl Table {
         };
         let ghost_history = self.then(desk, AtomicStep::OnCell { atomic_step });
         self.words.set(
-            place_of(cell, self.extent.shape.blocks),
+            site_word(self.extent.shape.blocks, cell),
             pack(seen) + ONE_TAKEN,
         );
         self.ghost_history = ghost_history;

@@ -7,13 +7,13 @@ ghost use Rattle.control_word.specs.State.{bag_size, ending, kind_of_member};
 ghost use Rattle.step_table.specs.Cells.{ShowsCell};
 ghost use Rattle.step_table.specs.GhostStates.{ghost_after_step, object_of_block, pending, model_state};
 
-use crate::cell_steps::cell_step::{Cell, CellStep};
+use crate::cell_steps::cell_step::CellStep;
 use crate::memory::ghost_history::AtomicStep;
 use crate::memory::table::Table;
-use control_word::CellWord;
 use control_word::packed::cell::unpack;
 use control_word::packed::layout::{MEMBERS, block_word};
 use control_word::place::Block;
+use control_word::{CellWord, Site};
 
 impl Table {
     /// Looks at a member of an ending object, and answers its word. Where that is 0 the member is empty, and cleared by
@@ -45,7 +45,7 @@ impl Table {
         requires seat { desk < self.now.extent.actors }
         requires ending { ((model_state self.now).object (object_of_block self.now block)).phase ≡ ending desk }
         requires inside { member < 3 }
-        ensures { ShowsCell self.now (Cell.Member block member) result }
+        ensures { ShowsCell self.now (Site.Member block member) result }
     {
         unpack(
             self.words
@@ -61,7 +61,7 @@ impl Table {
         requires ending { ((model_state self.old).object (object_of_block self.old block)).phase ≡ ending desk }
         requires inside { member < 3 }
         requires room { bag_size (model_state self.old) desk < (model_state self.old).allowance desk }
-        ensures found { ShowsCell self.old (Cell.Member block member) result }
+        ensures found { ShowsCell self.old (Site.Member block member) result }
         ensures after { self.new ≡ ghost_after_step self.old desk
             (AtomicStep.OnCell (CellStep.TakeOut block member result)) }
     {

@@ -11,14 +11,14 @@ ghost use Rattle.step_table.specs.Contents.{same_value, seen, slot_of, slots_swa
 ghost use Rattle.step_table.specs.Registers.{HoldsBag, Slots, slot_value};
 ghost use Rattle.step_table.specs.GhostStates.{ghost_after_step, pending, model_state};
 
-use crate::cell_steps::cell_step::{Cell, CellStep, Compared};
+use crate::cell_steps::cell_step::{CellStep, Compared};
 use crate::cell_steps::cells::is_same_place;
 use crate::memory::contents::slot_in;
 use crate::memory::ghost_history::AtomicStep;
 use crate::memory::table::Table;
 use crate::slots::registers::Registers;
 use crate::slots::slot::Slot;
-use control_word::CellWord;
+use control_word::{CellWord, Site};
 
 /// A compare between slots: what is expected, and what is to go in. Where the cell holds what is expected, what comes
 /// out of it comes into another slot, which has no object. Else this one gets what was to go in, and its slot gets what
@@ -69,7 +69,7 @@ impl Registers {
         &mut self,
         desk: usize,
         table: &mut Table,
-        cell: Cell,
+        cell: Site,
         comparing: Comparing,
     ) -> CellWord
         requires seat { desk < table.old.extent.actors }
@@ -113,7 +113,7 @@ impl Registers {
         &mut self,
         desk: usize,
         table: &mut Table,
-        cell: Cell,
+        cell: Site,
         seen: CellWord,
         comparing: Comparing,
     ) -> bool
@@ -152,7 +152,7 @@ impl Registers {
         &mut self,
         desk: usize,
         table: &mut Table,
-        cell: Cell,
+        cell: Site,
         seen: CellWord,
         comparing: Comparing,
     ) -> bool

@@ -3,9 +3,7 @@
 ghost use Rattle.std.specs.Prelude.{◌≡◌, ◌<◌, ◌≤◌, Option, Some};
 ghost use Rattle.control_word.specs.declared.place.Place.{Place};
 ghost use Rattle.control_word.specs.declared.model.view.Pending.TheVariants.{Idle};
-ghost use Rattle.control_word.specs.Layout.{spot};
 ghost use Rattle.control_word.specs.State.{Has, held};
-ghost use Rattle.control_word.specs.Words.{slot};
 ghost use Rattle.step_table.specs.CellAtomicSteps.{owing_funds};
 ghost use Rattle.step_table.specs.GhostStates.{ghost_after_step, handle_in_block, pending, model_state};
 
@@ -15,19 +13,8 @@ use crate::memory::table::Table;
 use control_word::Handle;
 use control_word::model::handle::Kind;
 use control_word::packed::counts::{with_fund_turned, with_funds, without_funds};
-use control_word::packed::layout::{OWNERS, WEAKS, block_word};
+use control_word::packed::layout::count_word;
 use control_word::place::Block;
-
-/// Where handles of this kind on the block's object are counted.
-pub(crate) fn count_word(block: Block, kind: Kind) -> usize
-    requires { 0 < block.0 }
-    ensures { result ≡ spot block.0 (slot kind) }
-{
-    match kind {
-        Kind::Owner => block_word(block, OWNERS),
-        Kind::Weak => block_word(block, WEAKS),
-    }
-}
 
 impl Table {
     /// Brings up to 256 funds to the count of a handle in hand: for that handle, which goes into a cell, or for one

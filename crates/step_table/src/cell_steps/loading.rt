@@ -9,13 +9,13 @@ ghost use Rattle.step_table.specs.Contents.{held_in, seen, slot_of};
 ghost use Rattle.step_table.specs.Registers.{HoldsBag, slot_pointer};
 ghost use Rattle.step_table.specs.GhostStates.{ghost_after_step, object_of_block, pending, model_state};
 
-use crate::cell_steps::cell_step::{Cell, CellStep};
+use crate::cell_steps::cell_step::CellStep;
 use crate::memory::contents::slot_in;
 use crate::memory::ghost_history::AtomicStep;
 use crate::memory::table::Table;
 use crate::slots::registers::Registers;
-use control_word::CellWord;
 use control_word::place::Block;
+use control_word::{CellWord, Site};
 
 impl Registers {
     /// Takes a fund of a cell, as `Table::take_fund` says: the value comes into a slot that has no object.
@@ -23,7 +23,7 @@ impl Registers {
         &mut self,
         desk: usize,
         table: &mut Table,
-        cell: Cell,
+        cell: Site,
         seen: CellWord,
         to: usize,
     ) -> bool
@@ -58,7 +58,7 @@ impl Registers {
         &mut self,
         desk: usize,
         table: &mut Table,
-        cell: Cell,
+        cell: Site,
         to: usize,
     ) -> CellWord
         requires seat { desk < table.old.extent.actors }
@@ -106,18 +106,18 @@ impl Registers {
         requires inside { to < length self.old.slots.items }
         requires empty { slot_pointer self.old.slots.items to ≡ None }
         ensures valid { IsCellWord result }
-        ensures found { result ≡ seen table.old (Cell.Member block member) }
+        ensures found { result ≡ seen table.old (Site.Member block member) }
         ensures slots { self.new.slots.items
             ≡ cond (is_some result.owned)
             (slice_set self.old.slots.items to
-            (slot_of (model_state table.old) (held_in (model_state table.old) (Cell.Member block member))))
+            (slot_of (model_state table.old) (held_in (model_state table.old) (Site.Member block member))))
             self.old.slots.items }
         ensures table { table.new ≡ ghost_after_step table.old desk
             (AtomicStep.OnCell (CellStep.TakeOut block member result)) }
         ensures holds { HoldsBag desk self.new.slots.items table.new }
     {
         table.known();
-        let kind = table.kind_in(Cell::Member { block, member });
+        let kind = table.kind_in(Site::Member { block, member });
         let found = table.take_out(desk, block, member);
         if found.owned.is_none() {
             return found;

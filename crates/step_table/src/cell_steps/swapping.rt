@@ -7,14 +7,14 @@ ghost use Rattle.step_table.specs.Contents.{as_word, held_in, is_of, owing_for, 
 ghost use Rattle.step_table.specs.Registers.{HoldsBag, slot_pointer, slot_value};
 ghost use Rattle.step_table.specs.GhostStates.{ghost_after_step, pending, model_state};
 
-use crate::cell_steps::cell_step::{Cell, CellStep};
+use crate::cell_steps::cell_step::CellStep;
 use crate::memory::contents::slot_in;
 use crate::memory::ghost_history::AtomicStep;
 use crate::memory::table::Table;
 use crate::slots::registers::Registers;
 use crate::slots::slot::Slot;
 use control_word::shape::CELL_FUNDS;
-use control_word::{CellWord, Handle};
+use control_word::{CellWord, Handle, Site};
 
 impl Registers {
     /// Brings the funds of a slot's pointer, which is to go into a cell.
@@ -34,7 +34,7 @@ impl Registers {
     }
 
     /// Exchanges a slot's value for what a cell holds.
-    pub fn exchange(&mut self, desk: usize, table: &mut Table, cell: Cell, at: usize) -> CellWord
+    pub fn exchange(&mut self, desk: usize, table: &mut Table, cell: Site, at: usize) -> CellWord
         requires seat { desk < table.old.extent.actors }
         requires holds { HoldsBag desk self.old.slots.items table.old }
         requires open { IsOpenTo table.old desk cell }
@@ -64,7 +64,7 @@ impl Registers {
         &mut self,
         desk: usize,
         table: &mut Table,
-        cell: Cell,
+        cell: Site,
         from: usize,
         to: usize,
     ) -> CellWord

@@ -5,26 +5,25 @@ ghost use Rattle.step_table.specs.CellAtomicSteps.{kind_in_state};
 ghost use Rattle.step_table.specs.Contents.{as_word, slot_in};
 ghost use Rattle.step_table.specs.GhostStates.{model_state};
 
-use crate::cell_steps::cell_step::Cell;
 use crate::memory::table::Table;
 use crate::slots::slot::Slot;
 use control_word::model::handle::Kind;
-use control_word::{CellWord, Handle};
+use control_word::{CellWord, Handle, Site};
 
 impl Table {
     /// The kind of the handles in a cell.
-    pub fn kind_in(&self, cell: Cell) -> Kind
+    pub fn kind_in(&self, cell: Site) -> Kind
         ensures { result ≡ kind_in_state (model_state self.now) cell }
     {
         match cell {
-            Cell::Free { number } => self.kind_of_free(number),
-            Cell::Member { member, .. } => kind_of_member(member),
+            Site::Free { number } => self.kind_of_free(number),
+            Site::Member { member, .. } => kind_of_member(member),
         }
     }
 
     /// The shared cells come first.
     fn kind_of_free(&self, number: u32) -> Kind
-        ensures { result ≡ kind_in_state (model_state self.now) (Cell.Free number) }
+        ensures { result ≡ kind_in_state (model_state self.now) (Site.Free number) }
     {
         if number < self.extent.shape.shared_cells {
             Kind::Owner

@@ -16,8 +16,7 @@ use crate::programs::call::CellName;
 use crate::said::{Answer, Said, Stepped};
 use crate::thread::{Thread, silent};
 use control_word::shape::CELL_FUNDS;
-use control_word::{CellWord, Handle};
-use step_table::cell_steps::cell_step::Cell;
+use control_word::{CellWord, Handle, Site};
 use step_table::cell_steps::comparing::is_same_value;
 use step_table::cell_steps::refill::Stage;
 use step_table::memory::table::Table;
@@ -233,7 +232,7 @@ impl Thread {
 }
 
 /// A fund of a cell was taken that showed this: it is turned next.
-fn turning(cell: Cell, found: CellWord, statement: u32) -> PendingCall
+fn turning(cell: Site, found: CellWord, statement: u32) -> PendingCall
     requires { found.taken < 256 }
     ensures { result ≡ PendingCall.Refill Stage.Turning cell (more_taken found) statement }
 {

@@ -8,8 +8,7 @@ use crate::pending_call::PendingCall;
 use crate::said::Stepped;
 use crate::thread::{Thread, silent};
 use control_word::place::Block;
-use control_word::{CellWord, Handle};
-use step_table::cell_steps::cell_step::Cell;
+use control_word::{CellWord, Handle, Site};
 use step_table::cell_steps::comparing::is_same_value;
 use step_table::cell_steps::refill::Stage;
 use step_table::memory::table::Table;
@@ -26,7 +25,7 @@ impl Thread {
         desk: usize,
         table: &mut Table,
         stage: Stage,
-        cell: Cell,
+        cell: Site,
         found: CellWord,
         statement: u32,
     ) -> Stepped
@@ -52,7 +51,7 @@ impl Thread {
         &mut self,
         desk: usize,
         table: &mut Table,
-        cell: Cell,
+        cell: Site,
         found: CellWord,
         block: Block,
         statement: u32,
@@ -78,7 +77,7 @@ impl Thread {
         &mut self,
         desk: usize,
         table: &mut Table,
-        cell: Cell,
+        cell: Site,
         found: CellWord,
         statement: u32,
     ) -> Stepped
@@ -102,7 +101,7 @@ impl Thread {
         &mut self,
         desk: usize,
         table: &mut Table,
-        cell: Cell,
+        cell: Site,
         found: CellWord,
         block: Block,
         statement: u32,
@@ -129,7 +128,7 @@ impl Thread {
         &mut self,
         desk: usize,
         table: &mut Table,
-        cell: Cell,
+        cell: Site,
         found: CellWord,
         statement: u32,
     ) -> Stepped
@@ -152,7 +151,7 @@ impl Thread {
         &mut self,
         desk: usize,
         table: &mut Table,
-        cell: Cell,
+        cell: Site,
         found: CellWord,
         block: Block,
         statement: u32,
@@ -172,7 +171,7 @@ impl Thread {
 }
 
 /// How far the refill of a cell is.
-fn at_stage(stage: Stage, cell: Cell, found: CellWord, statement: u32) -> PendingCall
+fn at_stage(stage: Stage, cell: Site, found: CellWord, statement: u32) -> PendingCall
     ensures { result ≡ PendingCall.Refill stage cell found statement }
 {
     PendingCall::Refill {

@@ -10,7 +10,7 @@ use crate::ending::Ending;
 use crate::pending_call::PendingCall;
 use crate::said::Stepped;
 use crate::thread::{Thread, silent};
-use step_table::cell_steps::cell_step::Cell;
+use control_word::Site;
 use step_table::memory::table::Table;
 
 impl Thread {
@@ -69,7 +69,7 @@ impl Thread {
             unreachable!()
         };
         let (block, member) = (ending.block, ending.stage);
-        let kind = table.kind_in(Cell::Member { block, member });
+        let kind = table.kind_in(Site::Member { block, member });
         let hand = self.frame.registers.hand();
         let found = self
             .frame

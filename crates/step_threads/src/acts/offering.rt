@@ -14,8 +14,8 @@ ghost use Rattle.step_table.specs.GhostStates.{ghost_after_step, pending, model_
 use crate::frame::Frame;
 use crate::programs::act::Act;
 use crate::programs::call::CellName;
-use control_word::CellWord;
-use step_table::cell_steps::cell_step::{Cell, CellStep};
+use control_word::{CellWord, Site};
+use step_table::cell_steps::cell_step::CellStep;
 use step_table::memory::ghost_history::AtomicStep;
 use step_table::memory::table::Table;
 
@@ -32,24 +32,24 @@ impl Frame {
     }
 
     /// The cell in the table: the weak ones stand behind the shared ones.
-    pub(crate) fn cell(&self, table: &Table, cell: CellName) -> Cell
+    pub(crate) fn cell(&self, table: &Table, cell: CellName) -> Site
         requires named { IsNamed (length self.now.registers.slots.items) cell }
         requires there { is_there self.now.registers.slots.items cell ≡ true }
         ensures { result ≡ cell_of_name (model_state table.now) self.now.registers.slots.items cell }
     {
         table.known();
         match cell {
-            CellName::Shared(number) => Cell::Free {
+            CellName::Shared(number) => Site::Free {
                 number: u32::from(number),
             },
-            CellName::Weak(number) => Cell::Free {
+            CellName::Weak(number) => Site::Free {
                 number: table.shared_cells() + u32::from(number),
             },
             CellName::Member { name, member } => {
                 let Some(owner) = self.registers.inside(usize::from(name.0)) else {
                     unreachable!()
                 };
-                Cell::Member {
+                Site::Member {
                     block: owner.block,
                     member,
                 }

@@ -3,10 +3,10 @@ use crate::alone::Listed;
 use crate::listed::{Answer, Call};
 use crate::same::same;
 use crate::shapes::{alone, shape};
-use control_block::cell_calls::{CellAt, Site};
+use control_block::cell_calls::CellAt;
 use control_block::census::{Census, Holders};
-use control_word::Block;
 use control_word::model::handle::Kind;
+use control_word::{Block, Site};
 use handle_table::{Cell, SharedMember, run};
 use std::alloc::Global;
 use std::process::Abort;
@@ -47,8 +47,8 @@ type Holder = (u16, u32, Kind);
 
 fn holder(cell: &CellAt) -> Holder {
     match cell.site {
-        Site::Free(number) => (0, number, cell.kind),
-        Site::Member(of, member) => (of.0, member, cell.kind),
+        Site::Free { number } => (0, number, cell.kind),
+        Site::Member { block, member } => (block.0, u32::from(member), cell.kind),
     }
 }
 

@@ -1,10 +1,11 @@
 use Rattle.std.proofs.Common.{◌≡◌, refl, sym, ap, ◌∙◌, arith, subst}
 use Rattle.std.specs.Prelude.{IfSome}
+use Rattle.control_word.specs.Layout.{site_place}
 use Rattle.control_word.specs.Events.{InHand}
 use Rattle.control_word.specs.Handles.{object_of}
 use Rattle.control_word.specs.declared.model.event.Event.TheVariants.{Swap}
 use Rattle.control_word.specs.declared.model.handle.NumberedHandle.{NumberedHandle}
-use Rattle.control_block.specs.CellCalls.{handle_in, word_at}
+use Rattle.control_block.specs.CellCalls.{handle_in}
 use Rattle.control_block.specs.CellStepKinds.{IsWordOf}
 use Rattle.control_block.specs.Desks.{DeskNow}
 use Rattle.control_block.specs.StepKinds.{HoldingInBlock, known}
@@ -14,10 +15,10 @@ use Rattle.control_block.proofs.cells.CellOutcomes.{Came, bag_then, desk_then, e
 use Rattle.control_block.proofs.cells.CellSites.{cell_there, word_there}
 use Rattle.control_block.proofs.calls.cells.exchange.Goals as goal
 
-pub word_of-word-requires : goal.word_of-word-requires
-word_of-word-requires g c =
+pub site_word-word-requires : goal.site_word-word-requires
+site_word-word-requires g c =
     let r = c.requires in
-    (word_there c.desk.inside c.desk.invariant c.args.new.kind (word_at c.domain.inside.shape.blocks c.args.site) c.args.desk.now
+    (word_there c.desk.inside c.desk.invariant c.args.new.kind (site_place c.domain.inside.shape.blocks c.args.site) c.args.desk.now
     c.domain.inside.table.shared.table_id c.domain.inside.shape c.args.site c.desk.view_is
     (ap (λ z. z.domain) c.desk.view_is ∙ (r.domain.table ∙ sym (ap (λ z. z.id) c.domain.view_is)))
     (ap (λ z. z.shape) c.desk.view_is ∙ (r.domain.shape ∙ sym (ap (λ z. z.shape) c.domain.view_is))) r.cell.0 refl).0
@@ -25,17 +26,17 @@ word_of-word-requires g c =
 pub swap-old-requires-clause-word : goal.swap-old-requires-clause-word
 swap-old-requires-clause-word g c =
     let r = c.requires in
-    (word_there c.desk.inside c.desk.invariant c.args.new.kind c.word_of-word.result c.args.desk.now
+    (word_there c.desk.inside c.desk.invariant c.args.new.kind c.site_word-word.result c.args.desk.now
     c.domain.inside.table.shared.table_id c.domain.inside.shape c.args.site c.desk.view_is
     (ap (λ z. z.domain) c.desk.view_is ∙ (r.domain.table ∙ sym (ap (λ z. z.id) c.domain.view_is)))
-    (ap (λ z. z.shape) c.desk.view_is ∙ (r.domain.shape ∙ sym (ap (λ z. z.shape) c.domain.view_is))) r.cell.0 c.word_of-word.ensures).1
+    (ap (λ z. z.shape) c.desk.view_is ∙ (r.domain.shape ∙ sym (ap (λ z. z.shape) c.domain.view_is))) r.cell.0 c.site_word-word.ensures).1
 
 pub swap-old-requires-clause-cell : goal.swap-old-requires-clause-cell
 swap-old-requires-clause-cell g c =
     let r = c.requires in
-    cell_there c.desk.inside c.desk.invariant c.args.new.kind c.word_of-word.result c.args.desk.now c.domain.inside.shape c.args.site
+    cell_there c.desk.inside c.desk.invariant c.args.new.kind c.site_word-word.result c.args.desk.now c.domain.inside.shape c.args.site
     g.A.CellArgs.cell c.desk.view_is (ap (λ z. z.shape) c.desk.view_is ∙ (r.domain.shape ∙ sym (ap (λ z. z.shape) c.domain.view_is))) r.cell.0 r.cell.1
-    c.word_of-word.ensures
+    c.site_word-word.ensures
 
 pub swap-old-requires-clause-new : goal.swap-old-requires-clause-new
 swap-old-requires-clause-new g c =

@@ -1,6 +1,6 @@
 use Rattle.std.proofs.Common.{◌+◌, refl, sym, ap, ◌∙◌, arith, None}
+use Rattle.control_word.specs.Layout.{site_place}
 use Rattle.control_word.specs.declared.model.event.Event.TheVariants.{Load}
-use Rattle.control_block.specs.CellCalls.{word_at}
 use Rattle.control_block.specs.Desks.{DeskNow}
 use Rattle.control_block.proofs.cells.CellDesks.{one, one_few}
 use Rattle.control_block.proofs.cells.CellOutcomes.{Came, bag_then, desk_then, event_of, holds_it, is_proper, keeps_else, loaded, size_now}
@@ -8,10 +8,10 @@ use Rattle.control_block.proofs.cells.CellSites.{aim_of, word_there}
 use Rattle.control_block.proofs.desks.DeskBags.{not_full, not_limit, room_left}
 use Rattle.control_block.proofs.calls.cells.load.Goals as goal
 
-pub word_of-word-requires : goal.word_of-word-requires
-word_of-word-requires g c =
+pub site_word-word-requires : goal.site_word-word-requires
+site_word-word-requires g c =
     let r = c.requires in
-    (word_there c.desk.inside c.desk.invariant c.args.cell.kind (word_at c.domain.inside.shape.blocks c.args.cell.site) c.args.desk.now
+    (word_there c.desk.inside c.desk.invariant c.args.cell.kind (site_place c.domain.inside.shape.blocks c.args.cell.site) c.args.desk.now
     c.domain.inside.table.shared.table_id c.domain.inside.shape c.args.cell.site c.desk.view_is
     (ap (λ z. z.domain) c.desk.view_is ∙ (r.domain.table ∙ sym (ap (λ z. z.id) c.domain.view_is)))
     (ap (λ z. z.shape) c.desk.view_is ∙ (r.domain.shape ∙ sym (ap (λ z. z.shape) c.domain.view_is))) r.cell.0 refl).0
@@ -22,8 +22,8 @@ load-seen-requires-clause-aim g c =
     let id = c.domain.inside.table.shared.table_id in let z = c.domain.inside.shape in let site = c.args.cell.site in
     let table = ap (λ z. z.domain) c.desk.view_is ∙ (r.domain.table ∙ sym (ap (λ z. z.id) c.domain.view_is)) in
     let shape = ap (λ z. z.shape) c.desk.view_is ∙ (r.domain.shape ∙ sym (ap (λ z. z.shape) c.domain.view_is)) in
-    let i = c.word_of-word.result in
-    aim_of d h k i y id z site g.A.CellArgs.cell c.desk.view_is table shape r.cell.0 r.cell.1 c.word_of-word.ensures
+    let i = c.site_word-word.result in
+    aim_of d h k i y id z site g.A.CellArgs.cell c.desk.view_is table shape r.cell.0 r.cell.1 c.site_word-word.ensures
 
 module _ (g : _) (c : goal.After-result-1 g) where
   came : Came c.desk.inside c.load-seen.new.seat.me.0 g.A.CellArgs.cell (λ y. Load g.A.CellArgs.cell y) c.args.cell.kind c.load-seen.result None None

@@ -1,12 +1,13 @@
 use Rattle.std.proofs.Common.{◌≡◌, ◌+◌, ◌<◌, ◌≤◌, ℕ, min, refl, sym, ap, ◌∙◌, arith, cond, None, subst}
 use Rattle.std.specs.Prelude.{IfSome}
+use Rattle.control_word.specs.Layout.{site_place}
 use Rattle.control_word.specs.Events.{InHand}
 use Rattle.control_word.specs.Handles.{object_of}
 use Rattle.control_word.specs.State.{bag_size}
 use Rattle.control_word.specs.declared.model.event.Event.TheVariants.{Compare}
 use Rattle.control_word.specs.declared.model.handle.NumberedHandle.{NumberedHandle}
 use Rattle.control_word.proofs.lists.Tallies.{same_kind_true}
-use Rattle.control_block.specs.CellCalls.{handle_in, with_handle, word_at}
+use Rattle.control_block.specs.CellCalls.{handle_in, with_handle}
 use Rattle.control_block.specs.CellStepKinds.{IsWordOf}
 use Rattle.control_block.specs.Desks.{DeskNow, bag_of}
 use Rattle.control_block.specs.Handles.{IsProper}
@@ -18,10 +19,10 @@ use Rattle.control_block.proofs.cells.CellSites.{aim_of, word_there}
 use Rattle.control_block.proofs.desks.DeskBags.{not_full, not_limit, room_left}
 use Rattle.control_block.proofs.calls.compares.compare.Goals as goal
 
-pub word_of-word-requires : goal.word_of-word-requires
-word_of-word-requires g c =
+pub site_word-word-requires : goal.site_word-word-requires
+site_word-word-requires g c =
     let r = c.requires in
-    (word_there c.desk.inside c.desk.invariant c.args.offer.new.kind (word_at c.domain.inside.shape.blocks c.args.site) c.args.desk.now
+    (word_there c.desk.inside c.desk.invariant c.args.offer.new.kind (site_place c.domain.inside.shape.blocks c.args.site) c.args.desk.now
     c.domain.inside.table.shared.table_id c.domain.inside.shape c.args.site c.desk.view_is
     (ap (λ z. z.domain) c.desk.view_is ∙ (r.domain.table ∙ sym (ap (λ z. z.id) c.domain.view_is)))
     (ap (λ z. z.shape) c.desk.view_is ∙ (r.domain.shape ∙ sym (ap (λ z. z.shape) c.domain.view_is))) r.cell.0 refl).0
@@ -32,7 +33,7 @@ compare-swapped-requires-clause-aim g c =
     let id = c.domain.inside.table.shared.table_id in let z = c.domain.inside.shape in let site = c.args.site in
     let table = ap (λ z. z.domain) c.desk.view_is ∙ (r.domain.table ∙ sym (ap (λ z. z.id) c.domain.view_is)) in
     let shape = ap (λ z. z.shape) c.desk.view_is ∙ (r.domain.shape ∙ sym (ap (λ z. z.shape) c.domain.view_is)) in
-    aim_of d h k c.word_of-word.result y id z site g.A.CellArgs.cell c.desk.view_is table shape r.cell.0 r.cell.1 c.word_of-word.ensures
+    aim_of d h k c.site_word-word.result y id z site g.A.CellArgs.cell c.desk.view_is table shape r.cell.0 r.cell.1 c.site_word-word.ensures
 
 pub compare-swapped-requires-clause-expected : goal.compare-swapped-requires-clause-expected
 compare-swapped-requires-clause-expected g c =

@@ -1,6 +1,7 @@
 use Rattle.std.proofs.Common.{◌≡◌, ◌+◌, ◌-◌, cond, refl, sym, ap, subst, ◌∙◌, arith, ◌≤◌, Option}
 use Rattle.std.specs.Prelude.{IfSome, is_some}
 use mir.Val.{bool_byte}
+use Rattle.control_word.specs.Layout.{site_place}
 use Rattle.control_word.specs.Events.{InHand}
 use Rattle.control_word.specs.Handles.{object_of}
 use Rattle.control_word.specs.State.{bag_size}
@@ -10,7 +11,7 @@ use Rattle.control_word.specs.declared.model.handle.NumberedHandle.{NumberedHand
 use Rattle.control_word.specs.declared.model.handle.Kind.{Kind}
 use Rattle.control_word.specs.declared.place.Block.{Block}
 use Rattle.control_word.specs.declared.place.Place.{Place}
-use Rattle.control_block.specs.CellCalls.{HoldsHandle, handle_in, word_at}
+use Rattle.control_block.specs.CellCalls.{HoldsHandle, handle_in}
 use Rattle.control_block.specs.CellStepKinds.{IsWordOf}
 use Rattle.control_block.specs.Desks.{DeskNow}
 use Rattle.control_block.specs.Inside.{desk_now}
@@ -29,10 +30,10 @@ use Rattle.control_block.proofs.leavings.GoneDesks as gone
 use Rattle.control_block.proofs.leavings.GoneDesks.{Going}
 use Rattle.control_block.proofs.calls.stores.store.Goals as goal
 
-pub word_of-word-requires : goal.word_of-word-requires
-word_of-word-requires g c =
+pub site_word-word-requires : goal.site_word-word-requires
+site_word-word-requires g c =
     let r = c.requires in
-    (word_there c.desk.inside c.desk.invariant c.args.new.kind (word_at c.domain.inside.shape.blocks c.args.site) c.args.desk.now
+    (word_there c.desk.inside c.desk.invariant c.args.new.kind (site_place c.domain.inside.shape.blocks c.args.site) c.args.desk.now
     c.domain.inside.table.shared.table_id c.domain.inside.shape c.args.site c.desk.view_is
     (ap (λ z. z.domain) c.desk.view_is ∙ (r.domain.table ∙ sym (ap (λ z. z.id) c.domain.view_is)))
     (ap (λ z. z.shape) c.desk.view_is ∙ (r.domain.shape ∙ sym (ap (λ z. z.shape) c.domain.view_is))) r.cell.0 refl).0
@@ -46,17 +47,17 @@ overflow_sub-desk g c =
 pub store-released-requires-clause-word : goal.store-released-requires-clause-word
 store-released-requires-clause-word g c =
     let r = c.requires in
-    (word_there c.desk.inside c.desk.invariant c.args.new.kind c.word_of-word.result c.args.desk.now
+    (word_there c.desk.inside c.desk.invariant c.args.new.kind c.site_word-word.result c.args.desk.now
     c.domain.inside.table.shared.table_id c.domain.inside.shape c.args.site c.desk.view_is
     (ap (λ z. z.domain) c.desk.view_is ∙ (r.domain.table ∙ sym (ap (λ z. z.id) c.domain.view_is)))
-    (ap (λ z. z.shape) c.desk.view_is ∙ (r.domain.shape ∙ sym (ap (λ z. z.shape) c.domain.view_is))) r.cell.0 c.word_of-word.ensures).1
+    (ap (λ z. z.shape) c.desk.view_is ∙ (r.domain.shape ∙ sym (ap (λ z. z.shape) c.domain.view_is))) r.cell.0 c.site_word-word.ensures).1
 
 pub store-released-requires-clause-cell : goal.store-released-requires-clause-cell
 store-released-requires-clause-cell g c =
     let r = c.requires in
-    cell_there c.desk.inside c.desk.invariant c.args.new.kind c.word_of-word.result c.args.desk.now c.domain.inside.shape c.args.site
+    cell_there c.desk.inside c.desk.invariant c.args.new.kind c.site_word-word.result c.args.desk.now c.domain.inside.shape c.args.site
     g.A.CellArgs.cell c.desk.view_is (ap (λ z. z.shape) c.desk.view_is ∙ (r.domain.shape ∙ sym (ap (λ z. z.shape) c.domain.view_is))) r.cell.0 r.cell.1
-    c.word_of-word.ensures
+    c.site_word-word.ensures
 
 pub store-released-requires-clause-new : goal.store-released-requires-clause-new
 store-released-requires-clause-new g c =

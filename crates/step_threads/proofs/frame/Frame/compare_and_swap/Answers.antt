@@ -1,6 +1,6 @@
 use Rattle.std.proofs.Common.{false, sym, ap, subst, ◌∙◌, ◌≡◌, true, ◌==◌, cond}
 use Rattle.std.proofs.lemmas.Bool.{cond-true, false≢true}
-use Rattle.step_table.specs.declared.cell_steps.cell_step.Cell.{Cell}
+use Rattle.control_word.specs.declared.site.Site.{Site}
 use Rattle.step_table.specs.declared.cell_steps.comparing.Comparing.{Comparing}
 use Rattle.step_table.specs.declared.slots.registers.Registers.{Registers}
 use Rattle.step_table.specs.CellAtomicSteps.{kind_in_state}
@@ -26,7 +26,7 @@ compare_and_swap-swapped-requires-clause-open c =
     let r = c.requires in
     let h : IsIn v.extent.shape c.args.cell = subst (HasCell v.extent.shape) r.act r.cell in
     let there = (may_compare t c.args.name c.args.cell c.args.weak r.within r.ready r.act r.still).0 in
-    subst (λ (x : Cell). IsOpenTo v c.args.desk x) (sym c.cell-cell.ensures) (cell_open v c.args.desk t.registers.slots.items c.args.cell h r.holds there)
+    subst (λ (x : Site). IsOpenTo v c.args.desk x) (sym c.cell-cell.ensures) (cell_open v c.args.desk t.registers.slots.items c.args.cell h r.holds there)
 
 pub compare_and_swap-swapped-requires-clause-compare : goal.compare_and_swap-swapped-requires-clause-compare
 compare_and_swap-swapped-requires-clause-compare c =
@@ -34,7 +34,7 @@ compare_and_swap-swapped-requires-clause-compare c =
     let t = c.args.self.now in
     let slots = t.registers.slots.items in
     let m = comparing slots c.args.name c.args.weak in
-    subst (λ (x : Cell). CanCompare (kind_in_state (model_state v) x) slots c.comparing-comparing.result) (sym c.cell-cell.ensures)
+    subst (λ (x : Site). CanCompare (kind_in_state (model_state v) x) slots c.comparing-comparing.result) (sym c.cell-cell.ensures)
     (subst (λ (y : Comparing). CanCompare (kind_in_state (model_state v) (cell_of_name (model_state v) slots c.args.cell)) slots y)
     (sym c.comparing-comparing.ensures)
     (can_compare t c.args.name c.args.cell c.args.weak c.requires.within c.requires.ready c.requires.act v c.requires.still c.requires.cell))
@@ -85,7 +85,7 @@ compare_and_swap-swapped-requires-clause-owes c =
     c.requires.owes
 
 pub returns-then-swapped-clause-same : goal.returns-then-swapped-clause-same
-returns-then-swapped-clause-same c = c.compare_and_swap-swapped.ensures.same ∙ ap (λ (y : Cell). word_of_cell c.args.table.now y == cell_bits
+returns-then-swapped-clause-same c = c.compare_and_swap-swapped.ensures.same ∙ ap (λ (y : Site). word_of_cell c.args.table.now y == cell_bits
     c.args.seen) c.cell-cell.ensures
 
 pub returns-then-swapped-clause-table : goal.returns-then-swapped-clause-table
@@ -95,7 +95,7 @@ returns-then-swapped-clause-table c =
     let slots = t.registers.slots.items in
     let at = cell_of_name (model_state v) slots c.args.cell in
     c.compare_and_swap-swapped.ensures.table
-    ∙ ap (λ (y : Cell). cond c.compare_and_swap-swapped.result (ghost_after_step v c.args.desk (OnCell (CompareSwap y c.args.seen (compared_in slots
+    ∙ ap (λ (y : Site). cond c.compare_and_swap-swapped.result (ghost_after_step v c.args.desk (OnCell (CompareSwap y c.args.seen (compared_in slots
     c.comparing-comparing.result)))) v) c.cell-cell.ensures
     ∙ ap (λ (y : Comparing). cond c.compare_and_swap-swapped.result (ghost_after_step v c.args.desk (OnCell (CompareSwap at c.args.seen (compared_in
     slots y)))) v) c.comparing-comparing.ensures
@@ -113,14 +113,14 @@ returns-then-swapped-clause-frame_view c =
     let x = slot_of s (held_in s c.cell-cell.result) in
     let e = c.compare_and_swap-swapped.ensures.slots ∙ cond-true c.compare_and_swap-swapped.result _ _ c.if-swapped.true
     ∙ ap (λ (y : Comparing). slots_swapped y.new y.other slots x) c.comparing-comparing.ensures
-    ∙ ap (λ (y : Cell). slots_swapped (hand slots) (other slots) slots (slot_of s (held_in s y))) c.cell-cell.ensures in
+    ∙ ap (λ (y : Site). slots_swapped (hand slots) (other slots) slots (slot_of s (held_in s y))) c.cell-cell.ensures in
     c.take.ensures.frame_view ∙ ap (λ (l : Slots). frame_settled l false t.endings.list (rest t)) e
 
 pub returns-then-swapped-clause-on : goal.returns-then-swapped-clause-on
 returns-then-swapped-clause-on c = λ q. c.take.ensures.on c.args.desk c.compare_and_swap-swapped.new.table c.compare_and_swap-swapped.ensures.holds
 
 pub returns-else-swapped-clause-same : goal.returns-else-swapped-clause-same
-returns-else-swapped-clause-same c = c.compare_and_swap-swapped.ensures.same ∙ ap (λ (y : Cell). word_of_cell c.args.table.now y == cell_bits
+returns-else-swapped-clause-same c = c.compare_and_swap-swapped.ensures.same ∙ ap (λ (y : Site). word_of_cell c.args.table.now y == cell_bits
     c.args.seen) c.cell-cell.ensures
 
 pub returns-else-swapped-clause-table : goal.returns-else-swapped-clause-table
@@ -130,7 +130,7 @@ returns-else-swapped-clause-table c =
     let slots = t.registers.slots.items in
     let at = cell_of_name (model_state v) slots c.args.cell in
     c.compare_and_swap-swapped.ensures.table
-    ∙ ap (λ (y : Cell). cond c.compare_and_swap-swapped.result (ghost_after_step v c.args.desk (OnCell (CompareSwap y c.args.seen (compared_in slots
+    ∙ ap (λ (y : Site). cond c.compare_and_swap-swapped.result (ghost_after_step v c.args.desk (OnCell (CompareSwap y c.args.seen (compared_in slots
     c.comparing-comparing.result)))) v) c.cell-cell.ensures
     ∙ ap (λ (y : Comparing). cond c.compare_and_swap-swapped.result (ghost_after_step v c.args.desk (OnCell (CompareSwap at c.args.seen (compared_in
     slots y)))) v) c.comparing-comparing.ensures

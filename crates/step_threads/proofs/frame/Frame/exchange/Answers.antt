@@ -1,5 +1,5 @@
 use Rattle.std.proofs.Common.{◌≡◌, ℕ, true, sym, subst, ◌∙◌, set, refl, ap}
-use Rattle.step_table.specs.declared.cell_steps.cell_step.Cell.{Cell}
+use Rattle.control_word.specs.declared.site.Site.{Site}
 use Rattle.step_table.specs.CellAtomicSteps.{kind_in_state}
 use Rattle.step_table.specs.Cells.{IsOpenTo}
 use Rattle.step_table.specs.Contents.{is_of, as_word, held_in, seen, slot_of, owing_for}
@@ -18,7 +18,7 @@ pub exchange-found-requires-clause-open : goal.exchange-found-requires-clause-op
 exchange-found-requires-clause-open c =
     let v = c.args.table.now in
     let h : IsIn v.extent.shape c.args.cell = subst (HasCell v.extent.shape) c.requires.act c.requires.cell in
-    subst (λ (x : Cell). IsOpenTo v c.args.desk x) (sym c.cell-cell.ensures)
+    subst (λ (x : Site). IsOpenTo v c.args.desk x) (sym c.cell-cell.ensures)
     (cell_open v c.args.desk c.args.self.now.registers.slots.items c.args.cell h c.requires.holds c.requires.there)
 
 pub exchange-found-requires-clause-kind : goal.exchange-found-requires-clause-kind
@@ -26,7 +26,7 @@ exchange-found-requires-clause-kind c =
     let v = c.args.table.now in
     let x = slot_value c.args.self.now.registers.slots.items c.from.result in
     let h : IsIn v.extent.shape c.args.cell = subst (HasCell v.extent.shape) c.requires.act c.requires.cell in
-    subst (λ (y : Cell). is_of (kind_in_state (model_state v) y) x ≡ true) (sym c.cell-cell.ensures)
+    subst (λ (y : Site). is_of (kind_in_state (model_state v) y) x ≡ true) (sym c.cell-cell.ensures)
     (goes_in v c.args.self.now.registers.slots.items c.args.cell x h
     (subst (λ (n : ℕ). is_of (kind_at c.args.cell) (slot_value c.args.self.now.registers.slots.items n) ≡ true) (sym c.from.ensures) c.requires.kind))
 
@@ -57,7 +57,7 @@ go_on-requires-clause-ready c =
     let s = model_state v in
     let x = slot_of s (held_in s c.cell-cell.result) in
     let e = c.exchange-found.ensures.slots ∙ ap (λ (i : ℕ). set slots i x) c.from.ensures
-    ∙ ap (λ (y : Cell). set slots c.args.name (slot_of s (held_in s y))) c.cell-cell.ensures in
+    ∙ ap (λ (y : Site). set slots c.args.name (slot_of s (held_in s y))) c.cell-cell.ensures in
     let r = c.requires in
     let a = Exchange c.args.name c.args.cell in
     subst (λ (l : Slots). IsReady l t.taken t.endings.list (rest t)) (sym e)
@@ -72,7 +72,7 @@ returns-clause-table c =
     let t = c.args.self.now in
     let slots = t.registers.slots.items in
     c.exchange-found.ensures.table
-    ∙ ap (λ (y : Cell). ghost_after_step v c.args.desk (OnCell (Swaps y (as_word (slot_value slots c.from.result)) c.exchange-found.result)))
+    ∙ ap (λ (y : Site). ghost_after_step v c.args.desk (OnCell (Swaps y (as_word (slot_value slots c.from.result)) c.exchange-found.result)))
     c.cell-cell.ensures
     ∙ ap (λ (i : ℕ). ghost_after_step v c.args.desk (OnCell (Swaps (cell_of_name (model_state v) slots c.args.cell) (as_word (slot_value slots i))
     c.exchange-found.result))) c.from.ensures
@@ -85,7 +85,7 @@ returns-clause-frame_view c =
     let s = model_state v in
     let x = slot_of s (held_in s c.cell-cell.result) in
     let e = c.exchange-found.ensures.slots ∙ ap (λ (i : ℕ). set slots i x) c.from.ensures
-    ∙ ap (λ (y : Cell). set slots c.args.name (slot_of s (held_in s y))) c.cell-cell.ensures in
+    ∙ ap (λ (y : Site). set slots c.args.name (slot_of s (held_in s y))) c.cell-cell.ensures in
     c.go_on.ensures.frame_view ∙ ap (λ (l : Slots). frame_settled l t.taken t.endings.list (rest t)) e
 
 pub returns-clause-on : goal.returns-clause-on

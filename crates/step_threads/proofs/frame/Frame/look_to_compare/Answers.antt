@@ -1,6 +1,6 @@
 use Rattle.std.proofs.Common.{sym, ap, subst, ◌∙◌, ◌≡◌, true, false, refl, cond, Bool}
 use Rattle.std.specs.Prelude.{◌||◌, is_some, Some}
-use Rattle.step_table.specs.declared.cell_steps.cell_step.Cell.{Cell}
+use Rattle.control_word.specs.declared.site.Site.{Site}
 use Rattle.step_table.specs.declared.cell_steps.comparing.Comparing.{Comparing}
 use Rattle.step_table.specs.declared.slots.registers.Registers.{Registers}
 use Rattle.step_table.specs.CellAtomicSteps.{kind_in_state}
@@ -27,7 +27,7 @@ look_to_compare-found-requires-clause-open c =
     let can = c.requires.can in
     let h : IsIn v.extent.shape c.args.cell = subst (HasCell v.extent.shape) c.requires.act can.cell in
     let there = (may_compare t c.args.name c.args.cell c.args.weak can.within can.ready c.requires.act can.still).0 in
-    subst (λ (x : Cell). IsOpenTo v c.args.desk x) (sym c.cell-cell.ensures) (cell_open v c.args.desk t.registers.slots.items c.args.cell h can.holds there)
+    subst (λ (x : Site). IsOpenTo v c.args.desk x) (sym c.cell-cell.ensures) (cell_open v c.args.desk t.registers.slots.items c.args.cell h can.holds there)
 
 pub look_to_compare-found-requires-clause-compare : goal.look_to_compare-found-requires-clause-compare
 look_to_compare-found-requires-clause-compare c =
@@ -35,7 +35,7 @@ look_to_compare-found-requires-clause-compare c =
     let t = c.args.self.now in
     let slots = t.registers.slots.items in
     let can = c.requires.can in
-    subst (λ (x : Cell). CanCompare (kind_in_state (model_state v) x) slots c.comparing-comparing.result) (sym c.cell-cell.ensures)
+    subst (λ (x : Site). CanCompare (kind_in_state (model_state v) x) slots c.comparing-comparing.result) (sym c.cell-cell.ensures)
     (subst (λ (y : Comparing). CanCompare (kind_in_state (model_state v) (cell_of_name (model_state v) slots c.args.cell)) slots y)
     (sym c.comparing-comparing.ensures)
     (can_compare t c.args.name c.args.cell c.args.weak can.within can.ready c.requires.act v can.still can.cell))
@@ -78,7 +78,7 @@ returns-then-not-is_same_value-clause-table c =
     let slots = t.registers.slots.items in
     let at = cell_of_name (model_state v) slots c.args.cell in
     c.look_to_compare-found.ensures.table
-    ∙ ap (λ (y : Cell). cond (is_some c.look_to_compare-found.result.owned || same_value c.look_to_compare-found.result (as_word (slot_value slots
+    ∙ ap (λ (y : Site). cond (is_some c.look_to_compare-found.result.owned || same_value c.look_to_compare-found.result (as_word (slot_value slots
     c.comparing-comparing.result.expected))) v
     (ghost_after_step v c.args.desk (OnCell (Look y c.look_to_compare-found.result (Some (compared_in slots c.comparing-comparing.result))))))
     c.cell-cell.ensures
@@ -99,7 +99,7 @@ returns-else-is_none-clause-table c =
     let slots = t.registers.slots.items in
     let at = cell_of_name (model_state v) slots c.args.cell in
     c.look_to_compare-found.ensures.table
-    ∙ ap (λ (y : Cell). cond (is_some c.look_to_compare-found.result.owned || same_value c.look_to_compare-found.result (as_word (slot_value slots
+    ∙ ap (λ (y : Site). cond (is_some c.look_to_compare-found.result.owned || same_value c.look_to_compare-found.result (as_word (slot_value slots
     c.comparing-comparing.result.expected))) v
     (ghost_after_step v c.args.desk (OnCell (Look y c.look_to_compare-found.result (Some (compared_in slots c.comparing-comparing.result))))))
     c.cell-cell.ensures
@@ -126,7 +126,7 @@ take-requires-clause-ready c =
     c.comparing-comparing.ensures
     ∙ cond-false (is_some c.look_to_compare-found.result.owned || same_value c.look_to_compare-found.result (as_word (slot_value slots c.args.name)))
     _ _ neither
-    ∙ ap (λ (y : Cell). differed (hand slots) (other slots) slots (slot_of s (held_in s y))) c.cell-cell.ensures in
+    ∙ ap (λ (y : Site). differed (hand slots) (other slots) slots (slot_of s (held_in s y))) c.cell-cell.ensures in
     subst (λ (l : Slots). IsReady l true t.endings.list (rest t)) (sym e)
     (differs_ready t c.args.name c.args.cell c.args.weak _ c.requires.can.within c.requires.can.ready c.requires.act)
 
@@ -162,7 +162,7 @@ returns-then-not-is_same_value-clause-frame_view c =
     c.comparing-comparing.ensures
     ∙ cond-false (is_some c.look_to_compare-found.result.owned || same_value c.look_to_compare-found.result (as_word (slot_value slots c.args.name)))
     _ _ neither
-    ∙ ap (λ (y : Cell). differed (hand slots) (other slots) slots (slot_of s (held_in s y))) c.cell-cell.ensures in
+    ∙ ap (λ (y : Site). differed (hand slots) (other slots) slots (slot_of s (held_in s y))) c.cell-cell.ensures in
     c.take.ensures.frame_view ∙ ap (λ (l : Slots). frame_settled l true t.endings.list (rest t)) e
 
 pub returns-else-is_none-clause-frame_view : goal.returns-else-is_none-clause-frame_view

@@ -1,5 +1,5 @@
 use Rattle.std.proofs.Common.{sym, ap, subst, ◌≡◌, ◌∙◌, ℕ, true, false, set, refl, cond}
-use Rattle.step_table.specs.declared.cell_steps.cell_step.Cell.{Cell}
+use Rattle.control_word.specs.declared.site.Site.{Site}
 use Rattle.step_table.specs.declared.slots.registers.Registers.{Registers}
 use Rattle.step_table.specs.Cells.{IsOpenTo}
 use Rattle.step_threads.specs.Frames.{HasCell, IsReady, hand, rest, frame_settled}
@@ -20,7 +20,7 @@ pub look_to_load-found-requires-clause-open : goal.look_to_load-found-requires-c
 look_to_load-found-requires-clause-open c =
     let v = c.args.table.now in
     let h : IsIn v.extent.shape c.args.cell = subst (HasCell v.extent.shape) c.requires.act c.requires.can.cell in
-    subst (λ (x : Cell). IsOpenTo v c.args.desk x) (sym c.cell-cell.ensures)
+    subst (λ (x : Site). IsOpenTo v c.args.desk x) (sym c.cell-cell.ensures)
     (cell_open v c.args.desk c.args.self.now.registers.slots.items c.args.cell h c.requires.can.holds c.requires.there)
 
 pub returns-else-is_none-clause-stays : goal.returns-else-is_none-clause-stays
@@ -54,7 +54,7 @@ take-requires-clause-ready c =
     let x = slot_of s (held_in s c.cell-cell.result) in
     let e = c.look_to_load-found.ensures.slots ∙ cond-false (is_some c.look_to_load-found.result.owned) _ _ bare
     ∙ ap (λ (i : ℕ). set slots i x) c.hand-hand.ensures
-    ∙ ap (λ (y : Cell). set slots (hand slots) (slot_of s (held_in s y))) c.cell-cell.ensures in
+    ∙ ap (λ (y : Site). set slots (hand slots) (slot_of s (held_in s y))) c.cell-cell.ensures in
     subst (λ (l : Slots). IsReady l true t.endings.list (rest t)) (sym e)
     (takes_ready t (Load c.args.cell) c.requires.can.within c.requires.can.ready c.requires.act (λ q. q) _ refl)
 
@@ -67,7 +67,7 @@ returns-then-is_none-clause-table c =
     let t = c.args.self.now in
     let slots = t.registers.slots.items in
     c.look_to_load-found.ensures.table
-    ∙ ap (λ (y : Cell). cond (is_some c.look_to_load-found.result.owned) v (ghost_after_step v c.args.desk (OnCell (Look y
+    ∙ ap (λ (y : Site). cond (is_some c.look_to_load-found.result.owned) v (ghost_after_step v c.args.desk (OnCell (Look y
     c.look_to_load-found.result None)))) c.cell-cell.ensures
 
 pub returns-then-is_none-clause-stays : goal.returns-then-is_none-clause-stays
@@ -86,7 +86,7 @@ returns-then-is_none-clause-frame_view c =
     let x = slot_of s (held_in s c.cell-cell.result) in
     let e = c.look_to_load-found.ensures.slots ∙ cond-false (is_some c.look_to_load-found.result.owned) _ _ bare
     ∙ ap (λ (i : ℕ). set slots i x) c.hand-hand.ensures
-    ∙ ap (λ (y : Cell). set slots (hand slots) (slot_of s (held_in s y))) c.cell-cell.ensures in
+    ∙ ap (λ (y : Site). set slots (hand slots) (slot_of s (held_in s y))) c.cell-cell.ensures in
     c.take.ensures.frame_view ∙ ap (λ (l : Slots). frame_settled l true t.endings.list (rest t)) e
 
 pub returns-then-is_none-clause-on : goal.returns-then-is_none-clause-on
@@ -101,7 +101,7 @@ returns-else-is_none-clause-table c =
     let t = c.args.self.now in
     let slots = t.registers.slots.items in
     c.look_to_load-found.ensures.table
-    ∙ ap (λ (y : Cell). cond (is_some c.look_to_load-found.result.owned) v (ghost_after_step v c.args.desk (OnCell (Look y
+    ∙ ap (λ (y : Site). cond (is_some c.look_to_load-found.result.owned) v (ghost_after_step v c.args.desk (OnCell (Look y
     c.look_to_load-found.result None)))) c.cell-cell.ensures
 
 pub returns-else-is_none-clause-frame_view : goal.returns-else-is_none-clause-frame_view

@@ -1,5 +1,5 @@
 use Rattle.std.proofs.Common.{◌≡◌, ℕ, true, sym, subst, ◌∙◌, false, ap}
-use Rattle.step_table.specs.declared.cell_steps.cell_step.Cell.{Cell}
+use Rattle.control_word.specs.declared.site.Site.{Site}
 use Rattle.step_table.specs.CellAtomicSteps.{kind_in_state}
 use Rattle.step_table.specs.Cells.{IsOpenTo}
 use Rattle.step_table.specs.Contents.{is_of, as_word, held_in, seen, slot_of, owing_for, slots_swapped}
@@ -18,7 +18,7 @@ pub swap-found-requires-clause-open : goal.swap-found-requires-clause-open
 swap-found-requires-clause-open c =
     let v = c.args.table.now in
     let h : IsIn v.extent.shape c.args.cell = subst (HasCell v.extent.shape) c.requires.act c.requires.cell in
-    subst (λ (x : Cell). IsOpenTo v c.args.desk x) (sym c.cell-cell.ensures)
+    subst (λ (x : Site). IsOpenTo v c.args.desk x) (sym c.cell-cell.ensures)
     (cell_open v c.args.desk c.args.self.now.registers.slots.items c.args.cell h c.requires.holds c.requires.there)
 
 pub swap-found-requires-clause-kind : goal.swap-found-requires-clause-kind
@@ -26,7 +26,7 @@ swap-found-requires-clause-kind c =
     let v = c.args.table.now in
     let x = slot_value c.args.self.now.registers.slots.items c.hand-hand.result in
     let h : IsIn v.extent.shape c.args.cell = subst (HasCell v.extent.shape) c.requires.act c.requires.cell in
-    subst (λ (y : Cell). is_of (kind_in_state (model_state v) y) x ≡ true) (sym c.cell-cell.ensures)
+    subst (λ (y : Site). is_of (kind_in_state (model_state v) y) x ≡ true) (sym c.cell-cell.ensures)
     (goes_in v c.args.self.now.registers.slots.items c.args.cell x h
     (subst (λ (n : ℕ). is_of (kind_at c.args.cell) (slot_value c.args.self.now.registers.slots.items n) ≡ true) (sym c.hand-hand.ensures) c.requires.kind))
 
@@ -67,7 +67,7 @@ take-requires-clause-ready c =
     let x = slot_of s (held_in s c.cell-cell.result) in
     let e = c.swap-found.ensures.slots ∙ ap (λ (i : ℕ). slots_swapped i c.other-other.result slots x) c.hand-hand.ensures
     ∙ ap (λ (i : ℕ). slots_swapped (hand slots) i slots x) c.other-other.ensures
-    ∙ ap (λ (y : Cell). slots_swapped (hand slots) (other slots) slots (slot_of s (held_in s y))) c.cell-cell.ensures in
+    ∙ ap (λ (y : Site). slots_swapped (hand slots) (other slots) slots (slot_of s (held_in s y))) c.cell-cell.ensures in
     subst (λ (l : Slots). IsReady l false t.endings.list (rest t)) (sym e)
     (swaps_ready t c.args.cell _ c.requires.within c.requires.ready c.requires.act)
 
@@ -80,7 +80,7 @@ returns-clause-table c =
     let t = c.args.self.now in
     let slots = t.registers.slots.items in
     c.swap-found.ensures.table
-    ∙ ap (λ (y : Cell). ghost_after_step v c.args.desk (OnCell (Swaps y (as_word (slot_value slots c.hand-hand.result)) c.swap-found.result)))
+    ∙ ap (λ (y : Site). ghost_after_step v c.args.desk (OnCell (Swaps y (as_word (slot_value slots c.hand-hand.result)) c.swap-found.result)))
     c.cell-cell.ensures
     ∙ ap (λ (i : ℕ). ghost_after_step v c.args.desk (OnCell (Swaps (cell_of_name (model_state v) slots c.args.cell) (as_word (slot_value slots i))
     c.swap-found.result))) c.hand-hand.ensures
@@ -94,7 +94,7 @@ returns-clause-frame_view c =
     let x = slot_of s (held_in s c.cell-cell.result) in
     let e = c.swap-found.ensures.slots ∙ ap (λ (i : ℕ). slots_swapped i c.other-other.result slots x) c.hand-hand.ensures
     ∙ ap (λ (i : ℕ). slots_swapped (hand slots) i slots x) c.other-other.ensures
-    ∙ ap (λ (y : Cell). slots_swapped (hand slots) (other slots) slots (slot_of s (held_in s y))) c.cell-cell.ensures in
+    ∙ ap (λ (y : Site). slots_swapped (hand slots) (other slots) slots (slot_of s (held_in s y))) c.cell-cell.ensures in
     c.take.ensures.frame_view ∙ ap (λ (l : Slots). frame_settled l false t.endings.list (rest t)) e
 
 pub returns-clause-on : goal.returns-clause-on

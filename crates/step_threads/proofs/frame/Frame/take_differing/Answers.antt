@@ -1,5 +1,5 @@
 use Rattle.std.proofs.Common.{sym, ap, subst, ◌≡◌, ◌∙◌, true, false, ◌==◌, cond}
-use Rattle.step_table.specs.declared.cell_steps.cell_step.Cell.{Cell}
+use Rattle.control_word.specs.declared.site.Site.{Site}
 use Rattle.step_table.specs.declared.cell_steps.comparing.Comparing.{Comparing}
 use Rattle.step_table.specs.declared.slots.registers.Registers.{Registers}
 use Rattle.step_table.specs.CellAtomicSteps.{kind_in_state}
@@ -27,7 +27,7 @@ take_differing-took-requires-clause-open c =
     let can = c.requires.can in
     let h : IsIn v.extent.shape c.args.cell = subst (HasCell v.extent.shape) c.requires.act can.cell in
     let there = (may_compare t c.args.name c.args.cell c.args.weak can.within can.ready c.requires.act can.still).0 in
-    subst (λ (x : Cell). IsOpenTo v c.args.desk x) (sym c.cell-cell.ensures) (cell_open v c.args.desk t.registers.slots.items c.args.cell h can.holds there)
+    subst (λ (x : Site). IsOpenTo v c.args.desk x) (sym c.cell-cell.ensures) (cell_open v c.args.desk t.registers.slots.items c.args.cell h can.holds there)
 
 pub take_differing-took-requires-clause-compare : goal.take_differing-took-requires-clause-compare
 take_differing-took-requires-clause-compare c =
@@ -35,7 +35,7 @@ take_differing-took-requires-clause-compare c =
     let t = c.args.self.now in
     let slots = t.registers.slots.items in
     let can = c.requires.can in
-    subst (λ (x : Cell). CanCompare (kind_in_state (model_state v) x) slots c.comparing-comparing.result) (sym c.cell-cell.ensures)
+    subst (λ (x : Site). CanCompare (kind_in_state (model_state v) x) slots c.comparing-comparing.result) (sym c.cell-cell.ensures)
     (subst (λ (y : Comparing). CanCompare (kind_in_state (model_state v) (cell_of_name (model_state v) slots c.args.cell)) slots y)
     (sym c.comparing-comparing.ensures)
     (can_compare t c.args.name c.args.cell c.args.weak can.within can.ready c.requires.act v can.still can.cell))
@@ -73,12 +73,12 @@ take-requires-clause-ready c =
     let x = slot_of s (held_in s c.cell-cell.result) in
     let e = c.take_differing-took.ensures.slots ∙ cond-true c.take_differing-took.result _ _ c.if-took.true
     ∙ ap (λ (y : Comparing). differed y.new y.other slots x) c.comparing-comparing.ensures
-    ∙ ap (λ (y : Cell). differed (hand slots) (other slots) slots (slot_of s (held_in s y))) c.cell-cell.ensures in
+    ∙ ap (λ (y : Site). differed (hand slots) (other slots) slots (slot_of s (held_in s y))) c.cell-cell.ensures in
     subst (λ (l : Slots). IsReady l true t.endings.list (rest t)) (sym e)
     (differs_ready t c.args.name c.args.cell c.args.weak _ c.requires.can.within c.requires.can.ready c.requires.act)
 
 pub returns-then-took-clause-same : goal.returns-then-took-clause-same
-returns-then-took-clause-same c = c.take_differing-took.ensures.same ∙ ap (λ (y : Cell). word_of_cell c.args.table.now y == cell_bits c.args.seen)
+returns-then-took-clause-same c = c.take_differing-took.ensures.same ∙ ap (λ (y : Site). word_of_cell c.args.table.now y == cell_bits c.args.seen)
     c.cell-cell.ensures
 
 pub returns-then-took-clause-table : goal.returns-then-took-clause-table
@@ -88,7 +88,7 @@ returns-then-took-clause-table c =
     let slots = t.registers.slots.items in
     let at = cell_of_name (model_state v) slots c.args.cell in
     c.take_differing-took.ensures.table
-    ∙ ap (λ (y : Cell). cond c.take_differing-took.result (ghost_after_step v c.args.desk (OnCell (Take y c.args.seen (Some (compared_in slots
+    ∙ ap (λ (y : Site). cond c.take_differing-took.result (ghost_after_step v c.args.desk (OnCell (Take y c.args.seen (Some (compared_in slots
     c.comparing-comparing.result))))) v) c.cell-cell.ensures
     ∙ ap (λ (y : Comparing). cond c.take_differing-took.result (ghost_after_step v c.args.desk (OnCell (Take at c.args.seen (Some (compared_in slots
     y))))) v) c.comparing-comparing.ensures
@@ -106,14 +106,14 @@ returns-then-took-clause-frame_view c =
     let x = slot_of s (held_in s c.cell-cell.result) in
     let e = c.take_differing-took.ensures.slots ∙ cond-true c.take_differing-took.result _ _ c.if-took.true
     ∙ ap (λ (y : Comparing). differed y.new y.other slots x) c.comparing-comparing.ensures
-    ∙ ap (λ (y : Cell). differed (hand slots) (other slots) slots (slot_of s (held_in s y))) c.cell-cell.ensures in
+    ∙ ap (λ (y : Site). differed (hand slots) (other slots) slots (slot_of s (held_in s y))) c.cell-cell.ensures in
     c.take.ensures.frame_view ∙ ap (λ (l : Slots). frame_settled l true t.endings.list (rest t)) e
 
 pub returns-then-took-clause-on : goal.returns-then-took-clause-on
 returns-then-took-clause-on c = λ q. c.take.ensures.on c.args.desk c.take_differing-took.new.table c.take_differing-took.ensures.holds
 
 pub returns-else-took-clause-same : goal.returns-else-took-clause-same
-returns-else-took-clause-same c = c.take_differing-took.ensures.same ∙ ap (λ (y : Cell). word_of_cell c.args.table.now y == cell_bits c.args.seen)
+returns-else-took-clause-same c = c.take_differing-took.ensures.same ∙ ap (λ (y : Site). word_of_cell c.args.table.now y == cell_bits c.args.seen)
     c.cell-cell.ensures
 
 pub returns-else-took-clause-table : goal.returns-else-took-clause-table
@@ -123,7 +123,7 @@ returns-else-took-clause-table c =
     let slots = t.registers.slots.items in
     let at = cell_of_name (model_state v) slots c.args.cell in
     c.take_differing-took.ensures.table
-    ∙ ap (λ (y : Cell). cond c.take_differing-took.result (ghost_after_step v c.args.desk (OnCell (Take y c.args.seen (Some (compared_in slots
+    ∙ ap (λ (y : Site). cond c.take_differing-took.result (ghost_after_step v c.args.desk (OnCell (Take y c.args.seen (Some (compared_in slots
     c.comparing-comparing.result))))) v) c.cell-cell.ensures
     ∙ ap (λ (y : Comparing). cond c.take_differing-took.result (ghost_after_step v c.args.desk (OnCell (Take at c.args.seen (Some (compared_in slots
     y))))) v) c.comparing-comparing.ensures

@@ -1,5 +1,5 @@
 use Rattle.std.proofs.Common.{sym, ap, subst, ◌∙◌, ℕ, true, set, refl, ◌==◌, cond}
-use Rattle.step_table.specs.declared.cell_steps.cell_step.Cell.{Cell}
+use Rattle.control_word.specs.declared.site.Site.{Site}
 use Rattle.step_table.specs.declared.slots.registers.Registers.{Registers}
 use Rattle.step_table.specs.Cells.{IsOpenTo, word_of_cell}
 use Rattle.step_threads.specs.Frames.{HasCell, IsReady, hand, rest, frame_settled}
@@ -21,7 +21,7 @@ pub take_fund-took-requires-clause-open : goal.take_fund-took-requires-clause-op
 take_fund-took-requires-clause-open c =
     let v = c.args.table.now in
     let h : IsIn v.extent.shape c.args.cell = subst (HasCell v.extent.shape) c.requires.act c.requires.can.cell in
-    subst (λ (x : Cell). IsOpenTo v c.args.desk x) (sym c.cell-cell.ensures)
+    subst (λ (x : Site). IsOpenTo v c.args.desk x) (sym c.cell-cell.ensures)
     (cell_open v c.args.desk c.args.self.now.registers.slots.items c.args.cell h c.requires.can.holds c.requires.there)
 
 pub returns-else-took-clause-stays : goal.returns-else-took-clause-stays
@@ -54,12 +54,12 @@ take-requires-clause-ready c =
     let x = slot_of s (held_in s c.cell-cell.result) in
     let e = c.take_fund-took.ensures.slots ∙ cond-true c.take_fund-took.result _ _ c.if-took.true
     ∙ ap (λ (i : ℕ). set slots i x) c.hand-hand.ensures
-    ∙ ap (λ (y : Cell). set slots (hand slots) (slot_of s (held_in s y))) c.cell-cell.ensures in
+    ∙ ap (λ (y : Site). set slots (hand slots) (slot_of s (held_in s y))) c.cell-cell.ensures in
     subst (λ (l : Slots). IsReady l true t.endings.list (rest t)) (sym e)
     (takes_ready t (Load c.args.cell) c.requires.can.within c.requires.can.ready c.requires.act (λ q. q) _ refl)
 
 pub returns-then-took-clause-same : goal.returns-then-took-clause-same
-returns-then-took-clause-same c = c.take_fund-took.ensures.same ∙ ap (λ (y : Cell). word_of_cell c.args.table.now y == cell_bits c.args.seen)
+returns-then-took-clause-same c = c.take_fund-took.ensures.same ∙ ap (λ (y : Site). word_of_cell c.args.table.now y == cell_bits c.args.seen)
     c.cell-cell.ensures
 
 pub returns-then-took-clause-table : goal.returns-then-took-clause-table
@@ -68,7 +68,7 @@ returns-then-took-clause-table c =
     let t = c.args.self.now in
     let slots = t.registers.slots.items in
     c.take_fund-took.ensures.table
-    ∙ ap (λ (y : Cell). cond c.take_fund-took.result (ghost_after_step v c.args.desk (OnCell (Take y c.args.seen None))) v) c.cell-cell.ensures
+    ∙ ap (λ (y : Site). cond c.take_fund-took.result (ghost_after_step v c.args.desk (OnCell (Take y c.args.seen None))) v) c.cell-cell.ensures
 
 pub returns-then-took-clause-stays : goal.returns-then-took-clause-stays
 returns-then-took-clause-stays c = λ q. absurd (false≢true (sym q ∙ c.if-took.true))
@@ -83,14 +83,14 @@ returns-then-took-clause-frame_view c =
     let x = slot_of s (held_in s c.cell-cell.result) in
     let e = c.take_fund-took.ensures.slots ∙ cond-true c.take_fund-took.result _ _ c.if-took.true
     ∙ ap (λ (i : ℕ). set slots i x) c.hand-hand.ensures
-    ∙ ap (λ (y : Cell). set slots (hand slots) (slot_of s (held_in s y))) c.cell-cell.ensures in
+    ∙ ap (λ (y : Site). set slots (hand slots) (slot_of s (held_in s y))) c.cell-cell.ensures in
     c.take.ensures.frame_view ∙ ap (λ (l : Slots). frame_settled l true t.endings.list (rest t)) e
 
 pub returns-then-took-clause-on : goal.returns-then-took-clause-on
 returns-then-took-clause-on c = λ q. c.take.ensures.on c.args.desk c.take_fund-took.new.table c.take_fund-took.ensures.holds
 
 pub returns-else-took-clause-same : goal.returns-else-took-clause-same
-returns-else-took-clause-same c = c.take_fund-took.ensures.same ∙ ap (λ (y : Cell). word_of_cell c.args.table.now y == cell_bits c.args.seen)
+returns-else-took-clause-same c = c.take_fund-took.ensures.same ∙ ap (λ (y : Site). word_of_cell c.args.table.now y == cell_bits c.args.seen)
     c.cell-cell.ensures
 
 pub returns-else-took-clause-table : goal.returns-else-took-clause-table
@@ -99,7 +99,7 @@ returns-else-took-clause-table c =
     let t = c.args.self.now in
     let slots = t.registers.slots.items in
     c.take_fund-took.ensures.table
-    ∙ ap (λ (y : Cell). cond c.take_fund-took.result (ghost_after_step v c.args.desk (OnCell (Take y c.args.seen None))) v) c.cell-cell.ensures
+    ∙ ap (λ (y : Site). cond c.take_fund-took.result (ghost_after_step v c.args.desk (OnCell (Take y c.args.seen None))) v) c.cell-cell.ensures
 
 pub returns-else-took-clause-frame_view : goal.returns-else-took-clause-frame_view
 returns-else-took-clause-frame_view c = λ q. absurd (false≢true (sym c.if-took.false ∙ q))

@@ -2,7 +2,7 @@ use Rattle.std.proofs.lemmas.Grind.{common_steps}
 use Rattle.std.proofs.Common.{arith}
 use Rattle.std.proofs.Common.{ℕ, false, sym, ap, subst, ◌∙◌}
 use Rattle.std.proofs.lemmas.Bool.{cond-true}
-use Rattle.step_table.specs.declared.cell_steps.cell_step.Cell.{Cell}
+use Rattle.control_word.specs.declared.site.Site.{Site}
 use Rattle.step_table.specs.Contents.{compared_in}
 use Rattle.step_table.specs.Refills.{more_taken}
 use Rattle.step_table.specs.GhostStates.{GhostState, model_state}
@@ -40,7 +40,7 @@ returns-clause-stepped c =
     r.differs)
     (ap (λ (s : Said). Event s) (c.compared.ensures ∙ ap (λ (m : ℕ). answers m false) c.statement-statement.ensures))
     (took.ensures.table ∙ cond-true took.result _ _ yes) (took.ensures.frame_view yes)
-    (c.turning-self.ensures ∙ ap (λ (y : Cell). Refill Turning y (more_taken x) c.statement-statement.result) c.cell-at.ensures
+    (c.turning-self.ensures ∙ ap (λ (y : Site). Refill Turning y (more_taken x) c.statement-statement.result) c.cell-at.ensures
     ∙ ap (λ (m : ℕ). Refill Turning (cell_of_name (model_state v) t.frame.registers.slots.items c.args.cell) (more_taken x) m)
     c.statement-statement.ensures)
 
@@ -56,7 +56,7 @@ returns-clause-fits c =
     let yes = c.if-not-take_differing.false in
     let m = c.statement-statement.result in
     let table = took.ensures.table ∙ cond-true took.result _ _ yes in
-    let pending_call = c.turning-self.ensures ∙ ap (λ (y : Cell). Refill Turning y (more_taken x) m) c.cell-at.ensures in
+    let pending_call = c.turning-self.ensures ∙ ap (λ (y : Site). Refill Turning y (more_taken x) m) c.cell-at.ensures in
     subst (λ (h : PendingCall). FitsThread d (record { frame = took.new.self; stock = t.stock; pending_call = h }) took.new.table) (sym pending_call)
     (subst (λ (u : GhostState). FitsThread d (record {
       frame = took.new.self;

@@ -1,7 +1,7 @@
 use Rattle.std.proofs.Common.{◌∙◌, ℕ, arith, drop, set, cond, sym, ap, subst}
 use Rattle.std.specs.Prelude.{is_some}
 use Rattle.control_word.specs.declared.model.handle.Kind.{Kind}
-use Rattle.step_table.specs.declared.cell_steps.cell_step.Cell.TheVariants.{Member}
+use Rattle.control_word.specs.declared.site.Site.TheVariants.{Member}
 use Rattle.step_table.specs.Contents.{held_in, slot_of}
 use Rattle.step_table.specs.Registers.{HoldsBag, slot_pointer}
 use Rattle.step_table.specs.GhostStates.{GhostState, model_state}

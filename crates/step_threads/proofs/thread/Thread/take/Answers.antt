@@ -3,7 +3,7 @@ use Rattle.std.proofs.Common.{arith}
 use Rattle.std.proofs.Common.{◌≡◌, Bool, cond, sym, ap, subst, ◌∙◌}
 use Rattle.step_threads.specs.declared.pending_call.PendingCall.{PendingCall}
 use Rattle.step_threads.specs.declared.pending_call.PendingCall.TheVariants.{Refill}
-use Rattle.step_table.specs.declared.cell_steps.cell_step.Cell.{Cell}
+use Rattle.control_word.specs.declared.site.Site.{Site}
 use Rattle.step_table.specs.declared.cell_steps.cell_step.CellStep.TheVariants.{Take}
 use Rattle.std.specs.Prelude.{None}
 use Rattle.step_table.specs.declared.memory.ghost_history.AtomicStep.TheVariants.{OnCell}
@@ -28,7 +28,7 @@ returns-clause-fits c =
     let w = ghost_after_step v d (OnCell (Take (cell_of_name (model_state v) t.frame.registers.slots.items c.args.cell) x None)) in
     let is : c.take_fund.new.table ≡ w = c.take_fund.ensures.table ∙ ap (λ (b : Bool). cond b w v) c.if-not-take_fund.false in
     let pending_call : c.turning-self.result ≡ Refill Turning (cell_of_name (model_state v) t.frame.registers.slots.items c.args.cell) (more_taken x) n =
-    c.turning-self.ensures ∙ ap (λ (y : Cell). Refill Turning y (more_taken x) n) c.cell-at.ensures in
+    c.turning-self.ensures ∙ ap (λ (y : Site). Refill Turning y (more_taken x) n) c.cell-at.ensures in
     subst (λ (h : PendingCall). FitsThread d (record { frame = c'; stock = t.stock; pending_call = h }) c.take_fund.new.table) (sym pending_call)
     (subst (λ (u : GhostState). FitsThread d (record {
       frame = c';

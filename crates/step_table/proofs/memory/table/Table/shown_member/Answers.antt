@@ -2,7 +2,7 @@ use Rattle.std.proofs.Common.{◌≡◌, ◌+◌, ◌∙◌, ℕ, ap, length, sy
 use Rattle.step_table.specs.GhostStates.{GhostState, TableInvariant}
 use Rattle.step_table.proofs.tables.Standing.{found, kept_now}
 use Rattle.control_word.specs.Layout.{spot}
-use Rattle.step_table.specs.declared.cell_steps.cell_step.Cell.TheVariants.{Member}
+use Rattle.control_word.specs.declared.site.Site.TheVariants.{Member}
 use Rattle.step_table.proofs.tables.Shown.{cell_packed, found_in, somewhere, word_inside}
 use Rattle.step_table.proofs.tables.Swaps.{ending_cell}
 use Rattle.step_table.proofs.memory.table.Table.shown_member.Goals as goal

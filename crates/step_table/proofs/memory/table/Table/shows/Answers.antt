@@ -1,13 +1,13 @@
 use Rattle.std.proofs.Common.{◌≡◌, ◌∙◌, ◌==◌, ℕ, ap, get_or, length, arith}
+use Rattle.control_word.specs.Layout.{site_place}
 use Rattle.step_table.specs.declared.memory.extent.Extent.{Extent}
-use Rattle.step_table.specs.CellAtomicSteps.{word_of}
 use Rattle.step_table.specs.GhostStates.{GhostState, TableInvariant}
 use Rattle.step_table.proofs.tables.Standing.{found, kept_now}
 use Rattle.step_table.proofs.tables.Shown.{kept_cell, somewhere, word_inside}
 use Rattle.step_table.proofs.memory.table.Table.shows.Goals as goal
 
-pub place_of-requires : goal.place_of-requires
-place_of-requires c =
+pub site_word-requires : goal.site_word-requires
+site_word-requires c =
     let k : TableInvariant c.args.self.now = kept_now _ _ _ _ c.args.self.now c.self.invariant c.self.view_is in
     let is = kept_cell c.args.self.now c.args.desk c.args.cell k c.requires.open in
     somewhere c.args.self.now c.args.cell k is
@@ -19,8 +19,8 @@ get-requires c =
     let x : c.self.inside.extent ≡ c.args.self.now.extent = ap (λ (s : GhostState). s.extent) c.self.view_is in
     let is = kept_cell c.args.self.now c.args.desk c.args.cell k c.requires.open in
     let i = word_inside c.args.self.now c.args.desk c.args.cell k c.requires.seat is in
-    let at : c.place_of.result ≡ word_of c.args.self.now.extent.shape.blocks c.args.cell =
-    c.place_of.ensures ∙ ap (λ (y : Extent). word_of y.shape.blocks c.args.cell) x in
+    let at : c.site_word.result ≡ site_place c.args.self.now.extent.shape.blocks c.args.cell =
+    c.site_word.ensures ∙ ap (λ (y : Extent). site_place y.shape.blocks c.args.cell) x in
     omega (arith, i, at, ap (length {A = ℕ}) w)
 
 pub returns : goal.returns
@@ -29,8 +29,8 @@ returns c =
     let w : c.self.inside.words ≡ c.args.self.now.words = ap (λ (s : GhostState). s.words) c.self.view_is in
     let x : c.self.inside.extent ≡ c.args.self.now.extent = ap (λ (s : GhostState). s.extent) c.self.view_is in
     let is = kept_cell c.args.self.now c.args.desk c.args.cell k c.requires.open in
-    let at : c.place_of.result ≡ word_of c.args.self.now.extent.shape.blocks c.args.cell =
-    c.place_of.ensures ∙ ap (λ (y : Extent). word_of y.shape.blocks c.args.cell) x in
-    let f = found c.self.inside.words c.args.self.now.words c.place_of.result _ _ w at c.get.ensures in
+    let at : c.site_word.result ≡ site_place c.args.self.now.extent.shape.blocks c.args.cell =
+    c.site_word.ensures ∙ ap (λ (y : Extent). site_place y.shape.blocks c.args.cell) x in
+    let f = found c.self.inside.words c.args.self.now.words c.site_word.result _ _ w at c.get.ensures in
     let e = c.pack.ensures in ap (λ (n : ℕ). n == c.pack.result) f ∙ ap
-    (λ (n : ℕ). get_or c.args.self.now.words (word_of c.args.self.now.extent.shape.blocks c.args.cell) 0 == n) e
+    (λ (n : ℕ). get_or c.args.self.now.words (site_place c.args.self.now.extent.shape.blocks c.args.cell) 0 == n) e

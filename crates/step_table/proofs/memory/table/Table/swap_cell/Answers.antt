@@ -1,6 +1,6 @@
 use Rattle.std.proofs.Common.{◌≡◌, ◌∙◌, ℕ, ap, length, arith}
+use Rattle.control_word.specs.Layout.{site_place}
 use Rattle.step_table.specs.declared.memory.extent.Extent.{Extent}
-use Rattle.step_table.specs.CellAtomicSteps.{word_of}
 use Rattle.step_table.specs.GhostStates.{GhostState, TableInvariant}
 use Rattle.step_table.proofs.tables.Standing.{kept_as, kept_now}
 use Rattle.step_table.specs.declared.cell_steps.cell_step.CellStep.TheVariants.{Swap}
@@ -9,8 +9,8 @@ use Rattle.step_table.proofs.tables.Shown.{kept_cell, somewhere, word_inside}
 use Rattle.step_table.proofs.tables.Swaps.{kept_swap}
 use Rattle.step_table.proofs.memory.table.Table.swap_cell.Goals as goal
 
-pub place_of-requires : goal.place_of-requires
-place_of-requires c =
+pub site_word-requires : goal.site_word-requires
+site_word-requires c =
     let k : TableInvariant c.args.self.now = kept_now _ _ _ _ c.args.self.now c.self.invariant c.self.view_is in
     let is = kept_cell c.args.self.now c.args.desk c.args.cell k c.requires.open in
     somewhere c.args.self.now c.args.cell k is
@@ -22,8 +22,8 @@ set-requires c =
     let x : c.self.inside.extent ≡ c.args.self.now.extent = ap (λ (s : GhostState). s.extent) c.self.view_is in
     let is = kept_cell c.args.self.now c.args.desk c.args.cell k c.requires.open in
     let i = word_inside c.args.self.now c.args.desk c.args.cell k c.requires.seat is in
-    let at : c.place_of.result ≡ word_of c.args.self.now.extent.shape.blocks c.args.cell =
-    c.place_of.ensures ∙ ap (λ (y : Extent). word_of y.shape.blocks c.args.cell) x in
+    let at : c.site_word.result ≡ site_place c.args.self.now.extent.shape.blocks c.args.cell =
+    c.site_word.ensures ∙ ap (λ (y : Extent). site_place y.shape.blocks c.args.cell) x in
     omega (arith, i, at, ap (length {A = ℕ}) w)
 
 pub invariant_of-self : goal.invariant_of-self
@@ -32,8 +32,8 @@ invariant_of-self c =
     let w : c.self.inside.words ≡ c.args.self.now.words = ap (λ (s : GhostState). s.words) c.self.view_is in
     let x : c.self.inside.extent ≡ c.args.self.now.extent = ap (λ (s : GhostState). s.extent) c.self.view_is in
     let is = kept_cell c.args.self.now c.args.desk c.args.cell k c.requires.open in
-    let at : c.place_of.result ≡ word_of c.args.self.now.extent.shape.blocks c.args.cell =
-    c.place_of.ensures ∙ ap (λ (y : Extent). word_of y.shape.blocks c.args.cell) x in
+    let at : c.site_word.result ≡ site_place c.args.self.now.extent.shape.blocks c.args.cell =
+    c.site_word.ensures ∙ ap (λ (y : Extent). site_place y.shape.blocks c.args.cell) x in
     kept_as c.args.self.now c.args.desk (OnCell (Swap c.args.cell c.args.new c.shown-found.result)) _ _ _ _
     (kept_swap c.args.self.now c.args.desk c.args.cell c.args.new c.shown-found.result k c.requires.seat c.requires.open c.requires.new.1
     c.requires.hand c.requires.owes

@@ -1,6 +1,6 @@
 use Rattle.std.proofs.Common.{◌≡◌, ◌+◌, ◌∙◌, ℕ, ap, get_or, length, sym, arith}
+use Rattle.control_word.specs.Layout.{site_place}
 use Rattle.step_table.specs.declared.memory.extent.Extent.{Extent}
-use Rattle.step_table.specs.CellAtomicSteps.{word_of}
 use Rattle.step_table.specs.GhostStates.{GhostState, TableInvariant}
 use Rattle.step_table.proofs.tables.Standing.{kept_as, kept_now}
 use Rattle.std.specs.Prelude.{None}
@@ -15,8 +15,8 @@ pub overflow_add-pack : goal.overflow_add-pack
 overflow_add-pack c =
     let a = cell_bits_few c.args.seen c.requires.seen.0 in let e = c.pack.ensures in omega (arith, a, e)
 
-pub place_of-requires : goal.place_of-requires
-place_of-requires c =
+pub site_word-requires : goal.site_word-requires
+site_word-requires c =
     let k : TableInvariant c.args.self.now = kept_now _ _ _ _ c.args.self.now c.self.invariant c.self.view_is in
     let is = kept_cell c.args.self.now c.args.desk c.args.cell k c.requires.open in
     somewhere c.args.self.now c.args.cell k is
@@ -28,8 +28,8 @@ set-requires c =
     let x : c.self.inside.extent ≡ c.args.self.now.extent = ap (λ (s : GhostState). s.extent) c.self.view_is in
     let is = kept_cell c.args.self.now c.args.desk c.args.cell k c.requires.open in
     let i = word_inside c.args.self.now c.args.desk c.args.cell k c.requires.seat is in
-    let at : c.place_of.result ≡ word_of c.args.self.now.extent.shape.blocks c.args.cell =
-    c.place_of.ensures ∙ ap (λ (y : Extent). word_of y.shape.blocks c.args.cell) x in
+    let at : c.site_word.result ≡ site_place c.args.self.now.extent.shape.blocks c.args.cell =
+    c.site_word.ensures ∙ ap (λ (y : Extent). site_place y.shape.blocks c.args.cell) x in
     omega (arith, i, at, ap (length {A = ℕ}) w)
 
 pub invariant_of-self : goal.invariant_of-self
@@ -38,12 +38,13 @@ invariant_of-self c =
     let w : c.self.inside.words ≡ c.args.self.now.words = ap (λ (s : GhostState). s.words) c.self.view_is in
     let x : c.self.inside.extent ≡ c.args.self.now.extent = ap (λ (s : GhostState). s.extent) c.self.view_is in
     let is = kept_cell c.args.self.now c.args.desk c.args.cell k c.requires.open in
-    let at : c.place_of.result ≡ word_of c.args.self.now.extent.shape.blocks c.args.cell =
-    c.place_of.ensures ∙ ap (λ (y : Extent). word_of y.shape.blocks c.args.cell) x in
+    let at : c.site_word.result ≡ site_place c.args.self.now.extent.shape.blocks c.args.cell =
+    c.site_word.ensures ∙ ap (λ (y : Extent). site_place y.shape.blocks c.args.cell) x in
     let z = eqb-true _ _ (sym c.shows.ensures ∙ c.if-not-shows.false) in
     kept_as c.args.self.now c.args.desk (OnCell (Take c.args.cell c.args.seen None)) _ _ _ _
     (kept_take c.args.self.now c.args.desk c.args.cell c.args.seen k c.requires.seat c.requires.idle c.requires.open c.requires.seen.1
     c.requires.seen.2 c.requires.room
     c.requires.seen.0 z)
     x (let e = c.pack.ensures in let g : c.pack.result + 17179869184 ≡ get_or c.args.self.now.words
-    (word_of c.args.self.now.extent.shape.blocks c.args.cell) 0 + 17179869184 = omega (arith, e, z) in let s = c.set.ensures in cc) c.then-ghost_history.ensures
+    (site_place c.args.self.now.extent.shape.blocks c.args.cell) 0 + 17179869184 = omega (arith, e, z)
+    in let s = c.set.ensures in cc) c.then-ghost_history.ensures

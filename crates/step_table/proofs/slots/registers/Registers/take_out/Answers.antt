@@ -1,7 +1,7 @@
 use Rattle.std.proofs.Common.{◌∙◌, set, sym, ap, subst}
 use Rattle.std.proofs.lemmas.Bool.{cond-true}
 use Rattle.std.specs.Prelude.{is_some, not}
-use Rattle.step_table.specs.declared.cell_steps.cell_step.Cell.TheVariants.{Member}
+use Rattle.control_word.specs.declared.site.Site.TheVariants.{Member}
 use Rattle.step_table.specs.declared.slots.slot.Slot.{Slot}
 use Rattle.step_table.specs.Contents.{held_in, slot_of}
 use Rattle.step_table.specs.Registers.{HoldsBag}
