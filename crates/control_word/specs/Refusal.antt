@@ -3,7 +3,6 @@ use Rattle.std.specs.Prelude.{ℕ, List, codes}
 use Rattle.control_word.specs.declared.refusal.Refusal.{Refusal}
 use Rattle.control_word.specs.declared.refusal.Refusal.TheVariants.{Memory, Shape, Full, Limit, BadWeak}
 use Rattle.control_word.specs.declared.refusal.Refusal.TheVariants.{Null, Outside, NotEnabled, NotSole}
-use Rattle.control_word.specs.declared.refusal.Refusal.TheVariants.{Syntax, BadTurn, Output, Input}
 
 -- its number in scripts and messages
 abbrev pub refusal_number : Refusal → ℕ
@@ -16,10 +15,6 @@ refusal_number Null = 6
 refusal_number Outside = 7
 refusal_number NotEnabled = 8
 refusal_number NotSole = 9
-refusal_number Syntax = 10
-refusal_number BadTurn = 11
-refusal_number Output = 12
-refusal_number Input = 13
 
 -- its word in messages
 abbrev pub refusal_text : Refusal → List ℕ
@@ -32,7 +27,3 @@ refusal_text Null = codes "null"
 refusal_text Outside = codes "outside"
 refusal_text NotEnabled = codes "not enabled"
 refusal_text NotSole = codes "not sole"
-refusal_text Syntax = codes "syntax"
-refusal_text BadTurn = codes "bad turn"
-refusal_text Output = codes "output"
-refusal_text Input = codes "input"

@@ -5,7 +5,7 @@ use std::alloc::{AllocError, AllocFailed};
 use std::error::Error;
 use std::fmt;
 
-/// A refusal, by its number in scripts and messages (own).
+/// A refusal, by its number in scripts and messages (own). From 10 on they are a script's own.
 #[derive(Clone, Copy, PartialEq, Eq, Debug, Drop)]
 pub enum Refusal {
     /// A growth was really refused.
@@ -26,20 +26,12 @@ pub enum Refusal {
     NotEnabled = 8,
     /// Other desks have not been joined.
     NotSole = 9,
-    /// A fault of a script.
-    Syntax = 10,
-    /// A fault of a turn.
-    BadTurn = 11,
-    /// The writer failed during the call.
-    Output = 12,
-    /// Standard input failed.
-    Input = 13,
 }
 
 impl Refusal {
     ghost use Rattle.control_word.specs.Refusal.{refusal_number};
 
-    /// The number that scripts and messages show (own), 1 to 13.
+    /// The number that scripts and messages show (own), 1 to 9.
     #[inline]
     pub fn number(self) -> u8
         ensures { result ≡ refusal_number self }
@@ -65,10 +57,6 @@ impl fmt::Display for Refusal {
             Refusal::Outside => "outside",
             Refusal::NotEnabled => "not enabled",
             Refusal::NotSole => "not sole",
-            Refusal::Syntax => "syntax",
-            Refusal::BadTurn => "bad turn",
-            Refusal::Output => "output",
-            Refusal::Input => "input",
         })
     }
 }

@@ -3,7 +3,7 @@ use crate::same::same;
 use control_block::census::close;
 use control_word::Refusal;
 use script_runner::{Gate, run_script};
-use script_text::parse;
+use script_text::{Script, parse};
 use std::alloc::{AllocError, Global};
 use std::sync::{Mutex, Wait};
 use std::test::Fail;
@@ -61,16 +61,17 @@ const SECOND: [Told; 4] = [
     Told::After(2, 2),
 ];
 
-/// What the gate of a run of the script is told.
-fn told_of_run<R: Threads + Wait + Sync>(rt: &R, alloc: Global) -> Result<Vec<Told>, Refusal> {
-    let Ok(script) = parse(alloc, SCRIPT) else {
-        return Err(Refusal::Syntax);
-    };
+/// What the gate of a run of a script is told.
+fn told_of_run<R: Threads + Wait + Sync>(
+    rt: &R,
+    alloc: Global,
+    script: &Script,
+) -> Result<Vec<Told>, Refusal> {
     let gate = Recording {
         rt,
         told: Mutex::new(Vec::new(alloc)),
     };
-    let (_report, domain, desk) = run_script(rt, alloc, &script, &gate)?;
+    let (_report, domain, desk) = run_script(rt, alloc, script, &gate)?;
     match close(domain, desk) {
         Ok(census) => drop(census),
         Err(_) => unreachable!(),
@@ -89,7 +90,8 @@ fn of_thread(alloc: Global, told: &[Told], thread: usize) -> Result<Vec<Told>, A
 #[test]
 fn a_gate_is_told_of_each_statement_before_and_after(rt: HostRuntime) -> Result<(), Fail> {
     let alloc = rt.alloc();
-    let told = told_of_run(&rt, alloc)?;
+    let script = parse(alloc, SCRIPT)?;
+    let told = told_of_run(&rt, alloc, &script)?;
     let of_first = of_thread(alloc, told.as_slice(), 1)?;
     let of_second = of_thread(alloc, told.as_slice(), 2)?;
     same(&rt, of_first.as_slice(), FIRST.as_slice());

@@ -65,18 +65,18 @@ impl Cause {
     }
 }
 
-/// A refusal of a script or of a run of it.
+/// A refusal of a script or of a run of it, by its number in messages (own).
 #[derive(Clone, Copy, Debug, PartialEq, Eq)]
 pub enum Fault {
-    /// A growth was really refused.
+    /// 1: a growth was really refused.
     Memory,
-    /// The first faulty line, counted from 1, and what is wrong with it.
+    /// 10: the first faulty line, counted from 1, and what is wrong with it.
     Syntax { line: usize, cause: Cause },
-    /// The position, from 1, of the first faulty turn.
+    /// 11: the position, from 1, of the first faulty turn.
     BadTurn { position: usize },
-    /// The writer failed.
+    /// 12: the writer failed during the call.
     Output,
-    /// Standard input failed.
+    /// 13: standard input failed.
     Input,
 }
 

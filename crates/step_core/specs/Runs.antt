@@ -2,8 +2,6 @@
 use Rattle.std.specs.Prelude.{◌≡◌, ◌≢◌, ℕ, zero, suc, ◌+◌, ◌-◌, ◌<◌, ◌≤◌, ◌==◌, ◌&&◌}
 use Rattle.std.specs.Prelude.{◌||◌, Bool, true, not, is_some}
 use Rattle.std.specs.Prelude.{false, List, [], ◌∷◌, ◌++◌, All, length, map, slice_index}
-use Rattle.control_word.specs.declared.refusal.Refusal.{Refusal}
-use Rattle.control_word.specs.declared.refusal.Refusal.TheVariants as refusal
 use Rattle.control_word.specs.declared.model.view.Pending.{Pending}
 use Rattle.control_word.specs.declared.model.view.Pending.TheVariants.{Paying}
 use Rattle.step_table.specs.GhostStates.{Nothing, pending}
@@ -137,10 +135,6 @@ pub record IsFirstBad (n : ℕ) (turns : List ℕ) (position : ℕ) : Type 0 whe
 abbrev pub IsRefusedFor : ℕ → List ℕ → RunRefusal → Type 0
 IsRefusedFor n turns Memory = All (NamesActor n) turns
 IsRefusedFor n turns (BadTurn position) = IsFirstBad n turns position
-
-abbrev pub refusal_of : RunRefusal → Refusal
-refusal_of Memory = refusal.Memory
-refusal_of (BadTurn position) = refusal.BadTurn
 
 -- a list got longer by steps that are such a run, and none of them waited
 pub record AddsRun (R : WorldState → List TraceStep → WorldState → Type 0) (u : WorldState) (xs : List TraceStep)

@@ -1,7 +1,6 @@
 //! What a run of a world answers.
 ghost use Rattle.std.specs.Prelude.{◌≡◌};
 
-use control_word::Refusal;
 use std::alloc::AllocError;
 use step_threads::said::Stepped;
 
@@ -18,27 +17,13 @@ pub struct Trace {
     pub steps: Vec<TraceStep>,
 }
 
-/// Why a run was refused.
+/// Why a run was refused (own).
 #[derive(Clone, Copy, Debug, PartialEq, Eq, Drop)]
 pub enum RunRefusal {
-    /// A growth was really refused.
+    /// Refusal 1 of messages: a growth was really refused.
     Memory,
-    /// The position, from 1, of the first number that names no actor.
+    /// Refusal 11 of messages, with the position, from 1, of the first number that names no actor.
     BadTurn { position: usize },
-}
-
-impl RunRefusal {
-    ghost use Rattle.step_core.specs.Runs.{refusal_of};
-
-    /// The refusal, without its position.
-    pub fn refusal(self) -> Refusal
-        ensures { result ≡ refusal_of self }
-    {
-        match self {
-            RunRefusal::Memory => Refusal::Memory,
-            RunRefusal::BadTurn { .. } => Refusal::BadTurn,
-        }
-    }
 }
 
 impl From<AllocError> for RunRefusal {

@@ -19,7 +19,7 @@ fn is_shown(rt: &impl Abort, message: Result<String, AllocError>, shown: &str) {
     }
 }
 
-const REFUSALS: [(Refusal, &str); 13] = [
+const REFUSALS: [(Refusal, &str); 9] = [
     (Refusal::Memory, "1: memory"),
     (Refusal::Shape, "2: shape"),
     (Refusal::Full, "3: full"),
@@ -29,10 +29,6 @@ const REFUSALS: [(Refusal, &str); 13] = [
     (Refusal::Outside, "7: outside"),
     (Refusal::NotEnabled, "8: not enabled"),
     (Refusal::NotSole, "9: not sole"),
-    (Refusal::Syntax, "10: syntax"),
-    (Refusal::BadTurn, "11: bad turn"),
-    (Refusal::Output, "12: output"),
-    (Refusal::Input, "13: input"),
 ];
 
 #[test]
