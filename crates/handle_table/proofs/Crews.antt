@@ -11,12 +11,12 @@ use Rattle.control_block.specs.Rule.{opening_of}
 use Rattle.control_block.specs.Standing.{Standing}
 use Rattle.handle_table.proofs.Filling.{total_one}
 use Rattle.handle_table.specs.Parting.{AbsorbsAll, IsNew, IsPartedInto, WhyFewer}
-use Rattle.handle_table.specs.Programs.{ArePartsOf, CanClose, EachWorks, HaveWorked, IsManned, NumberedWork, any_work, Works}
+use Rattle.handle_table.specs.Programs.{AreWorkersOf, CanClose, EachWorks, HaveWorked, IsManned, NumberedWork, any_work, Works}
 use Rattle.handle_table.specs.Staffs.{EachDoes}
 use Rattle.handle_table.specs.Tables.{FitsSlots, TableNow}
 use Rattle.handle_table.specs.declared.program.Manned.{Manned}
 use Rattle.handle_table.specs.declared.program.Team.{Team}
-use Rattle.handle_table.specs.declared.program.part.Part.{Part}
+use Rattle.handle_table.specs.declared.program.worker.Worker.{Worker}
 use Rattle.std.specs.Prelude.{All, IfSome}
 
 -- some worker was asked for
@@ -86,26 +86,26 @@ module _ {V : Type 0} where
         bare = (nil_from_length (bag_of d) (sym (total_one (bag_of d)) ∙ fits.bag (λ h. 1)), fits.held, none);
       }
 
-  -- what each worker's part says, by the program and the worker's number
-  pub parts_work : {P : Type 0} (did : P → NumberedWork V) (p : P) (n : ℕ) (xs ys : List (Part P)) (ts us : List (TableNow V)) → ArePartsOf p n xs
-      → EachDoes (λ (x : Part P) t y u. did x.program.now x.number t u) xs ts ys us → EachWorks (did p) n ts us
-  parts_work did p n [] [] [] [] are each = tt
-  parts_work did p n [] [] [] (u ∷ us) are each = absurd each
-  parts_work did p n [] [] (t ∷ ts) [] are each = absurd each
-  parts_work did p n [] [] (t ∷ ts) (u ∷ us) are each = absurd each
-  parts_work did p n [] (y ∷ ys) [] [] are each = absurd each
-  parts_work did p n [] (y ∷ ys) [] (u ∷ us) are each = absurd each
-  parts_work did p n [] (y ∷ ys) (t ∷ ts) [] are each = absurd each
-  parts_work did p n [] (y ∷ ys) (t ∷ ts) (u ∷ us) are each = absurd each
-  parts_work did p n (x ∷ xs) [] [] [] are each = absurd each
-  parts_work did p n (x ∷ xs) [] [] (u ∷ us) are each = absurd each
-  parts_work did p n (x ∷ xs) [] (t ∷ ts) [] are each = absurd each
-  parts_work did p n (x ∷ xs) [] (t ∷ ts) (u ∷ us) are each = absurd each
-  parts_work did p n (x ∷ xs) (y ∷ ys) [] [] are each = absurd each
-  parts_work did p n (x ∷ xs) (y ∷ ys) [] (u ∷ us) are each = absurd each
-  parts_work did p n (x ∷ xs) (y ∷ ys) (t ∷ ts) [] are each = absurd each
-  parts_work did p n (x ∷ xs) (y ∷ ys) (t ∷ ts) (u ∷ us) (program, number, rest) (one, each) =
-      (subst (λ k. did p k t u) number (subst (λ q. did q x.number t u) program one), parts_work did p (suc n) xs ys ts us rest each)
+  -- what each worker says, by the program and the worker's number
+  pub workers_work : {P : Type 0} (did : P → NumberedWork V) (p : P) (n : ℕ) (xs ys : List (Worker P)) (ts us : List (TableNow V)) → AreWorkersOf p n xs
+      → EachDoes (λ (x : Worker P) t y u. did x.program.now x.number t u) xs ts ys us → EachWorks (did p) n ts us
+  workers_work did p n [] [] [] [] are each = tt
+  workers_work did p n [] [] [] (u ∷ us) are each = absurd each
+  workers_work did p n [] [] (t ∷ ts) [] are each = absurd each
+  workers_work did p n [] [] (t ∷ ts) (u ∷ us) are each = absurd each
+  workers_work did p n [] (y ∷ ys) [] [] are each = absurd each
+  workers_work did p n [] (y ∷ ys) [] (u ∷ us) are each = absurd each
+  workers_work did p n [] (y ∷ ys) (t ∷ ts) [] are each = absurd each
+  workers_work did p n [] (y ∷ ys) (t ∷ ts) (u ∷ us) are each = absurd each
+  workers_work did p n (x ∷ xs) [] [] [] are each = absurd each
+  workers_work did p n (x ∷ xs) [] [] (u ∷ us) are each = absurd each
+  workers_work did p n (x ∷ xs) [] (t ∷ ts) [] are each = absurd each
+  workers_work did p n (x ∷ xs) [] (t ∷ ts) (u ∷ us) are each = absurd each
+  workers_work did p n (x ∷ xs) (y ∷ ys) [] [] are each = absurd each
+  workers_work did p n (x ∷ xs) (y ∷ ys) [] (u ∷ us) are each = absurd each
+  workers_work did p n (x ∷ xs) (y ∷ ys) (t ∷ ts) [] are each = absurd each
+  workers_work did p n (x ∷ xs) (y ∷ ys) (t ∷ ts) (u ∷ us) (program, number, rest) (one, each) =
+      (subst (λ k. did p k t u) number (subst (λ q. did q x.number t u) program one), workers_work did p (suc n) xs ys ts us rest each)
 
   -- where nothing is said of it
   pub any_each : (n : ℕ) (ts us : List (TableNow V)) → length us ≡ length ts → EachWorks any_work n ts us
@@ -114,8 +114,8 @@ module _ {V : Type 0} where
   any_each n [] (u ∷ us) many = absurd (cc many)
   any_each n (t ∷ ts) [] many = absurd (cc many)
 
--- one part more
-pub parts_more : {P : Type 0} (p : P) (n : ℕ) (xs : List (Part P)) (x : Part P) → ArePartsOf p n xs → x.program.now ≡ p → x.number ≡ n + length xs
-    → ArePartsOf p n (xs ++ x ∷ [])
-parts_more p n [] x are program number = (program, omega (arith, number), tt)
-parts_more p n (y ∷ xs) x (a, b, rest) program number = (a, b, parts_more p (suc n) xs x rest program (omega (arith, number)))
+-- one worker more
+pub workers_more : {P : Type 0} (p : P) (n : ℕ) (xs : List (Worker P)) (x : Worker P) → AreWorkersOf p n xs → x.program.now ≡ p → x.number ≡ n + length xs
+    → AreWorkersOf p n (xs ++ x ∷ [])
+workers_more p n [] x are program number = (program, omega (arith, number), tt)
+workers_more p n (y ∷ xs) x (a, b, rest) program number = (a, b, workers_more p (suc n) xs x rest program (omega (arith, number)))

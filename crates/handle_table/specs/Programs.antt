@@ -12,7 +12,7 @@ use Rattle.handle_table.specs.Parting.{AbsorbsAll, IsNew, IsPartedInto, WhyFewer
 use Rattle.handle_table.specs.Tables.{TableNow}
 use Rattle.handle_table.specs.declared.program.Manned.{Manned}
 use Rattle.handle_table.specs.declared.program.Team.{Team}
-use Rattle.handle_table.specs.declared.program.part.Part.{Part}
+use Rattle.handle_table.specs.declared.program.worker.Worker.{Worker}
 
 -- so many workers had a table: all that were asked for, or fewer and why
 abbrev pub IsManned : ℕ → ℕ → Option Refusal → Type 0
@@ -24,9 +24,9 @@ abbrev pub NumberedWork : Type 0 → Type 1
 NumberedWork V = ℕ → TableNow V → TableNow V → Type 0
 
 -- these are a program's workers, from this number on
-abbrev pub ArePartsOf : {P : Type 0} → P → ℕ → List (Part P) → Type 0
-ArePartsOf p n [] = Unit {0}
-ArePartsOf p n (x ∷ xs) = (x.program.now ≡ p) × (x.number ≡ n) × ArePartsOf p (suc n) xs
+abbrev pub AreWorkersOf : {P : Type 0} → P → ℕ → List (Worker P) → Type 0
+AreWorkersOf p n [] = Unit {0}
+AreWorkersOf p n (x ∷ xs) = (x.program.now ≡ p) × (x.number ≡ n) × AreWorkersOf p (suc n) xs
 
 module _ {V : Type 0} where
   -- nothing is said of it

@@ -65,7 +65,8 @@ module _ {V W : Type 0} where
     pub absorbs : AbsorbsAll (record t { desk = between }) left u
 
   -- so it is where none was refused its table or its thread; else why, and no worker has changed
-  abbrev pub StaffsOrNot : WorkerRelation V W → Share → List W → TableNow V → Option Refusal → List W → TableNow V → Type 0
+  abbrev pub StaffsOrNot : WorkerRelation V W → Share → List W → TableNow V → Option Refusal
+      → List W → TableNow V → Type 0
   StaffsOrNot does share had t refused has u = IfNone refused (Staffs does t share had has u)
       × IfSome refused (λ why. IsRefusedPart why × (has ≡ had))
       × (CanShare t.desk share (length had) → IfSome refused (λ why. why ≡ Memory))

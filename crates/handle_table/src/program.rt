@@ -9,7 +9,7 @@ ghost use Rattle.handle_table.specs.Programs.{HaveWorked, IsManned, Runs, Works}
 use crate::closing::close_bare;
 use crate::opening::{first_table, open_domain};
 use crate::parting::parts::Part;
-use crate::program::part::{is_memory, parts_of};
+use crate::program::worker::{is_memory, workers_of};
 use crate::staff::posts::worked;
 use crate::table::{HandleTable, Home};
 use control_block::census::Census;
@@ -21,7 +21,7 @@ use std::marker::Brand;
 use std::sync::Wait;
 use std::thread::Threads;
 
-mod part;
+mod worker;
 
 /// What each worker of a team does, in a thread with a table of its own. `works` says what comes of it: by the program,
 /// the worker's number, and its table before and after. A program that gives no such member says nothing.
@@ -152,11 +152,11 @@ fn lend_all<
     if workers == 0 {
         return Manned { workers, fewer };
     }
-    let Some(parts) = parts_of(alloc, program, workers) else {
+    let Some(staff) = workers_of(alloc, program, workers) else {
         return none;
     };
-    let mut parts = parts;
-    if worked::<V, H, R, part::Part<'_, P>>(rt, alloc, tables, &mut parts) {
+    let mut staff = staff;
+    if worked::<V, H, R, worker::Worker<'_, P>>(rt, alloc, tables, &mut staff) {
         Manned { workers, fewer }
     } else {
         none
