@@ -13,8 +13,8 @@ use Rattle.control_word.specs.declared.refusal.Refusal.TheVariants.{Null, Outsid
 use Rattle.control_block.specs.CellCalls.{HoldsHandle, IsOpenAt, with_handle, without_handle}
 use Rattle.control_block.specs.Desks.{DeskNow}
 use Rattle.control_block.specs.HandleLists.{IsHeldByDesk, with_held, without_held}
-use Rattle.control_block.specs.declared.cell_calls.Site.{Site}
-use Rattle.control_block.specs.declared.cell_calls.Site.TheVariants as site
+use Rattle.control_word.specs.declared.site.Site.{Site}
+use Rattle.control_word.specs.declared.site.Site.TheVariants as site
 use Rattle.control_block.specs.declared.handles.Held.{Held}
 use Rattle.control_block.specs.declared.handles.Held.TheVariants.{Owner, Weak}
 use Rattle.control_block.specs.declared.handles.Shared.{Shared}

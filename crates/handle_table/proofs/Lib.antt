@@ -15,6 +15,7 @@ pub mod Crews
 pub mod Manning
 pub mod Needing
 pub mod Sharing
+pub mod Refused
 pub mod Regained
 pub mod Lasts
 pub mod Starting

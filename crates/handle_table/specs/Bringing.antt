@@ -12,7 +12,7 @@ use Rattle.shared_handle.specs.Piles.{Bears}
 use Rattle.shared_handle.specs.declared.endings.Ending.{Ending}
 use Rattle.shared_handle.specs.declared.pile.Pile.{Pile}
 use Rattle.control_block.specs.CellCalls.{cell_of_site}
-use Rattle.control_block.specs.declared.cell_calls.Site.{Site}
+use Rattle.control_word.specs.declared.site.Site.{Site}
 use Rattle.atomic_cells.specs.Cells as cells
 use Rattle.handle_table.specs.Cells.{IsCellAtSite, SwapsFromSlot, WhyNotSwapped, kind_of_cell}
 use Rattle.handle_table.specs.Parts.{kind_of_held, block_of_held, place_of_held}

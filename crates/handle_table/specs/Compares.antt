@@ -4,7 +4,7 @@ use Rattle.std.specs.Prelude.{length, slice_get, slice_set, None, Some, Result, 
 use Rattle.control_word.specs.declared.refusal.Refusal.TheVariants.{Limit}
 use Rattle.control_block.specs.CellCalls.{cell_of_site}
 use Rattle.control_block.specs.Desks.{DeskNow, DomainNow}
-use Rattle.control_block.specs.declared.cell_calls.Site.{Site}
+use Rattle.control_word.specs.declared.site.Site.{Site}
 use Rattle.control_block.specs.declared.handles.Held.{Held}
 use Rattle.shared_handle.specs.Piles.{Bears}
 use Rattle.shared_handle.specs.declared.pile.Pile.{Pile}

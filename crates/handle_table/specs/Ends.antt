@@ -2,7 +2,7 @@
 use Rattle.std.specs.Prelude.{◌≡◌, ℕ, ◌-◌, ◌<◌, true, false, length, slice_get, slice_index, Some}
 use Rattle.control_word.specs.State.{Object}
 use Rattle.control_block.specs.Desks.{object_in}
-use Rattle.control_block.specs.declared.cell_calls.Site.{Site}
+use Rattle.control_word.specs.declared.site.Site.{Site}
 use Rattle.shared_handle.specs.declared.endings.Ending.{Ending}
 use Rattle.handle_table.specs.Cells.{IsCellAtSite}
 use Rattle.handle_table.specs.Tables.{TableNow}

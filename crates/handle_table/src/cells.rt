@@ -4,20 +4,20 @@ ghost use Rattle.atomic_cells.specs.Sites.{IsMember, number_of_member};
 ghost use Rattle.control_word.specs.declared.place.Block.{Block};
 ghost use Rattle.control_block.specs.CellCalls.{IsOpenAt};
 ghost use Rattle.control_block.specs.Desks.{Belongs};
-ghost use Rattle.control_block.specs.declared.cell_calls.Site.{Site};
-ghost use Rattle.control_block.specs.declared.cell_calls.Site.TheVariants as site;
+ghost use Rattle.control_word.specs.declared.site.Site.{Site};
+ghost use Rattle.control_word.specs.declared.site.Site.TheVariants as site;
 ghost use Rattle.handle_table.specs.Cells.{IsCellAtSite, OwnsInto, WhyNoCell, WhyNoObject, kind_of_cell};
 ghost use Rattle.handle_table.specs.Tables.{FitsSlots};
 
 use crate::fault::Fault;
+use crate::slots::owner_at;
 use crate::slots::slot::Slot;
-use crate::slots::{owner_at, stays};
 use atomic_cells::SharedMember;
-use control_block::cell_calls::{CellAt, Site};
+use control_block::cell_calls::CellAt;
 use control_block::desk::Desk;
 use control_block::domain::Domain;
 use control_word::model::handle::Kind;
-use control_word::{Block, Refusal};
+use control_word::{Block, Refusal, Site};
 use shared_handle::{Held, Shared};
 
 mod calls;
@@ -54,7 +54,7 @@ impl Cell {
 }
 
 /// The number of a member.
-fn number(which: SharedMember) -> u32
+fn number(which: SharedMember) -> u8
     ensures { result ≡ number_of_member which }
 {
     match which {
@@ -77,17 +77,13 @@ fn block_within(owner: &Shared) -> Result<Block, Refusal>
 }
 
 /// A member of the object that the owner in the slot owns and points into.
-fn member_at(slots: &Vec<Slot>, of: usize, member: u32) -> Result<Site, Fault>
+fn member_at(slots: &Vec<Slot>, of: usize, member: u8) -> Result<Site, Fault>
     ensures found { IfOk result (λ s. (b : Block) × OwnsInto slots.now.items of b × (s ≡ site.Member b member)) }
     ensures fault { IfErr result (WhyNoObject slots.now.items of) }
 {
     let owner = owner_at(slots, of)?;
-    let block = block_within(&owner);
-    stays(owner);
-    match block {
-        Ok(block) => Ok(Site::Member(block, member)),
-        Err(why) => Err(Fault::Call(why)),
-    }
+    let block = block_within(&owner.handle)?;
+    Ok(Site::Member { block, member })
 }
 
 /// Where the cell is.
@@ -101,13 +97,15 @@ fn site_of<V: Drop>(domain: &Domain<V>, slots: &Vec<Slot>, cell: Cell) -> Result
             if index >= domain.shared_cells() {
                 return Err(Fault::Cell);
             }
-            Ok(Site::Free(index))
+            Ok(Site::Free { number: index })
         }
         Cell::Weak(index) => {
             if index >= domain.weak_cells() {
                 return Err(Fault::Cell);
             }
-            Ok(Site::Free(domain.shared_cells() + index))
+            Ok(Site::Free {
+                number: domain.shared_cells() + index,
+            })
         }
         Cell::Member { of, which } => member_at(slots, of, number(which)),
         Cell::Up { of } => member_at(slots, of, 2),

@@ -1,4 +1,6 @@
 //! Why a call on a handle table was not done.
+ghost use Rattle.std.specs.Prelude.{◌≡◌};
+
 use control_word::Refusal;
 
 /// What a caller did wrong, or why the call was refused (own). A call that answers one has changed nothing, unless it
@@ -19,6 +21,16 @@ pub enum Fault {
     Place,
     /// The desk refused it.
     Call(Refusal),
+}
+
+impl From<Refusal> for Fault {
+    ghost use Rattle.handle_table.specs.declared.fault.Fault.TheVariants.{Call};
+
+    ghost from_gives = { λ refusal why. why ≡ Call refusal };
+
+    fn from(refusal: Refusal) -> Self {
+        Self::Call(refusal)
+    }
 }
 
 /// A fault, with what was handed in.

@@ -8,6 +8,7 @@ ghost use Rattle.handle_table.specs.Slots.{IsOwnedAt, owner_in};
 ghost use Rattle.handle_table.specs.Tables.{AllVacant};
 
 use crate::fault::Fault;
+use crate::slots::seen::{InSlot, Seen};
 use crate::slots::slot::Slot;
 use control_block::handles::Weak;
 use control_word::Place;
@@ -15,6 +16,7 @@ use shared_handle::{Held, Shared};
 
 pub mod assigning;
 pub(crate) mod kinds;
+pub mod seen;
 pub mod slot;
 
 /// So many vacant slots.
@@ -30,33 +32,29 @@ pub(crate) fn open_slots(slots: &mut Vec<Slot>, count: usize)
 
 /// The handle in the slot, to be looked at; it stays there.
 #[inline(always)]
-pub(crate) fn handle_at(slots: &Vec<Slot>, at: usize) -> Result<Held, Fault>
-    ensures found { IfOk result (λ h. slice_get slots.now.items at ≡ Some (Some h)) }
+pub(crate) fn handle_at(slots: &Vec<Slot>, at: usize) -> Result<Seen<Held>, Fault>
+    ensures found { IfOk result (λ h. slice_get slots.now.items at ≡ Some (Some h.handle)) }
     ensures fault { IfErr result (WhyNoHandle slots.now.items at) }
 {
     let Some(slot) = slots.get(at) else {
         return Err(Fault::Slot);
     };
     match slot.read() {
-        Some(handle) => Ok(handle),
+        Some(handle) => Ok(Seen { handle }),
         None => Err(Fault::Vacant),
     }
 }
 
 /// The owner in the slot, to be looked at; it stays there.
 #[inline(always)]
-pub fn owner_at(slots: &Vec<Slot>, at: usize) -> Result<Shared, Fault>
-    ensures found { IfOk result (λ h. slice_get slots.now.items at ≡ Some (Some (held.Owner h))) }
+pub fn owner_at(slots: &Vec<Slot>, at: usize) -> Result<Seen<Shared>, Fault>
+    ensures found { IfOk result (λ h. slice_get slots.now.items at ≡ Some (Some (held.Owner h.handle))) }
     ensures fault { IfErr result (WhyNoOwner slots.now.items at) }
 {
-    let handle = match handle_at(slots, at) {
-        Ok(handle) => handle,
-        Err(why) => return Err(why),
-    };
-    match handle {
-        Held::Owner(owner) => Ok(owner),
+    match handle_at(slots, at)?.into_handle() {
+        Held::Owner(handle) => Ok(Seen { handle }),
         Held::Weak(weak) => {
-            weak.into_parts();
+            weak.stays();
             Err(Fault::Kind)
         }
     }
@@ -64,18 +62,14 @@ pub fn owner_at(slots: &Vec<Slot>, at: usize) -> Result<Shared, Fault>
 
 /// The weak handle in the slot, to be looked at; it stays there.
 #[inline(always)]
-pub(crate) fn weak_at(slots: &Vec<Slot>, at: usize) -> Result<Weak, Fault>
-    ensures found { IfOk result (λ h. slice_get slots.now.items at ≡ Some (Some (held.Weak h))) }
+pub(crate) fn weak_at(slots: &Vec<Slot>, at: usize) -> Result<Seen<Weak>, Fault>
+    ensures found { IfOk result (λ h. slice_get slots.now.items at ≡ Some (Some (held.Weak h.handle))) }
     ensures fault { IfErr result (WhyNoWeak slots.now.items at) }
 {
-    let handle = match handle_at(slots, at) {
-        Ok(handle) => handle,
-        Err(why) => return Err(why),
-    };
-    match handle {
-        Held::Weak(weak) => Ok(weak),
+    match handle_at(slots, at)?.into_handle() {
+        Held::Weak(handle) => Ok(Seen { handle }),
         Held::Owner(owner) => {
-            stays(owner);
+            owner.stays();
             Err(Fault::Kind)
         }
     }
@@ -95,23 +89,6 @@ pub(crate) fn weak_again(weak: &Weak) -> Weak
     ensures { result ≡ weak.now }
 {
     Weak::of_parts(weak.block(), weak.place())
-}
-
-/// An owner was looked at, and is its slot's still.
-#[inline(always)]
-pub fn stays(owner: Shared) {
-    owner.into_parts();
-}
-
-/// A handle was looked at, and is its slot's still.
-#[inline(always)]
-pub(crate) fn handle_stays(handle: Held) {
-    match handle {
-        Held::Owner(owner) => stays(owner),
-        Held::Weak(weak) => {
-            weak.into_parts();
-        }
-    }
 }
 
 /// A handle goes into a slot, and what lay there comes out.
@@ -213,7 +190,7 @@ pub fn take_owner(slots: &mut Vec<Slot>, at: usize) -> Result<Shared, Fault>
         × (slots.new.items ≡ slice_set slots.old.items at None)) }
     ensures fault { IfErr result (λ why. WhyNoOwner slots.old.items at why × (slots.new.items ≡ slots.old.items)) }
 {
-    stays(owner_at(slots, at)?);
+    owner_at(slots, at)?;
     match take_handle(slots, at)? {
         Held::Owner(owner) => Ok(owner),
         Held::Weak(weak) => {

@@ -14,8 +14,8 @@ use crate::returned;
 use control_block::desk::Desk;
 use control_block::domain::Domain;
 use control_word::Refusal;
+use handle_table::slots::owner_at;
 use handle_table::slots::slot::Slot;
-use handle_table::slots::{owner_at, stays};
 use handle_table::{Fault, HandleTable, Home, Returned};
 use scene_structures::Observers;
 use std::alloc::Global;
@@ -74,8 +74,7 @@ fn attach_at<V: Drop, R: Wait>(
         Ok(owner) => owner,
         Err(why) => return Err(Returned { why, back: value }),
     };
-    let attached = observers.attach(rt, domain, desk, &owner, value);
-    stays(owner);
+    let attached = observers.attach(rt, domain, desk, &owner.handle, value);
     match attached {
         Ok(()) => Ok(()),
         Err(refused) => Err(returned(refused)),

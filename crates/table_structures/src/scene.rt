@@ -15,7 +15,7 @@ use control_block::domain::Domain;
 use control_word::Refused;
 use handle_table::slots::assigning::{arrive, assign};
 use handle_table::slots::slot::Slot;
-use handle_table::slots::{owner_at, put, spent, stays, take_owner};
+use handle_table::slots::{owner_at, put, spent, take_owner};
 use handle_table::{Fault, HandleTable, Home, Returned};
 use scene_structures::{Scene, tear_down};
 use shared_handle::Held;
@@ -79,8 +79,7 @@ fn child_of<V: Drop, R: Wait>(
         Ok(owner) => owner,
         Err(why) => return Err(Returned { why, back: value }),
     };
-    let added = scene.add_child(rt, domain, desk, &owner, fields, value);
-    stays(owner);
+    let added = scene.add_child(rt, domain, desk, &owner.handle, fields, value);
     match added {
         Ok(child) => Ok(Held::Owner(child)),
         Err(refused) => Err(returned(refused)),
@@ -197,28 +196,21 @@ impl<'d, V: Drop, H: Home> SceneCalls<V, H> for HandleTable<'d, V, H> {
         if to >= self.slots.len() {
             return Err(Fault::Slot);
         }
-        let owner = match owner_at(&self.slots, node) {
-            Ok(owner) => owner,
-            Err(why) => return Err(why),
-        };
-        let parent = scene.scene.parent(rt, self.domain, &mut self.desk, &owner);
-        stays(owner);
-        match parent {
-            Ok(parent) => {
-                let got = parent.block().is_some();
-                let parent = Held::Owner(parent);
-                assign(
-                    self.domain,
-                    &mut self.desk,
-                    &mut self.slots,
-                    &mut self.pile,
-                    to,
-                    parent,
-                );
-                Ok(got)
-            }
-            Err(why) => Err(Fault::Call(why)),
-        }
+        let owner = owner_at(&self.slots, node)?;
+        let parent = scene
+            .scene
+            .parent(rt, self.domain, &mut self.desk, &owner.handle)?;
+        let got = parent.block().is_some();
+        let parent = Held::Owner(parent);
+        assign(
+            self.domain,
+            &mut self.desk,
+            &mut self.slots,
+            &mut self.pile,
+            to,
+            parent,
+        );
+        Ok(got)
     }
 
     /// The node that the owner in a slot owns goes out of the children of what its `up` is on, and its `next` and `up`
@@ -234,17 +226,12 @@ impl<'d, V: Drop, H: Home> SceneCalls<V, H> for HandleTable<'d, V, H> {
         ensures detached { OnOk result (DetachesNode self.old node self.new) }
         ensures refused { IfErr result (λ why. WhyNotDetached self.old node why × (self.new ≡ self.old)) }
     {
-        let owner = match owner_at(&self.slots, node) {
-            Ok(owner) => owner,
-            Err(why) => return Err(why),
-        };
-        let detached = scene.scene.detach(rt, self.domain, &mut self.desk, &owner);
-        stays(owner);
-        let why = match detached {
-            Ok(()) => return Ok(()),
-            Err(why) => why,
-        };
-        Err(Fault::Call(why))
+        let owner = owner_at(&self.slots, node)?;
+        Ok(
+            scene
+                .scene
+                .detach(rt, self.domain, &mut self.desk, &owner.handle)?,
+        )
     }
 
     /// The owner leaves its slot, which is vacant then, and what ends by that does so (own): for an object first what

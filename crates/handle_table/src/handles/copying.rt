@@ -12,10 +12,9 @@ ghost use Rattle.handle_table.specs.declared.fault.Fault.TheVariants as fault;
 
 use crate::fault::Fault;
 use crate::slots::assigning::{arrive, assign};
+use crate::slots::seen::{InSlot, Seen};
 use crate::slots::slot::Slot;
-use crate::slots::{
-    handle_at, handle_stays, is_vacant, lay, owned_at, owner_at, stays, take_handle,
-};
+use crate::slots::{handle_at, is_vacant, lay, owned_at, owner_at, take_handle};
 use crate::table::{HandleTable, Home};
 use control_block::desk::Desk;
 use control_block::domain::Domain;
@@ -66,17 +65,8 @@ fn copy_from<V: Drop>(
     if to >= slots.len() {
         return Err(Fault::Slot);
     }
-    match handle_at(slots, from) {
-        Ok(handle) => {
-            let came = copy_of(domain, desk, &handle);
-            handle_stays(handle);
-            match came {
-                Ok(copy) => Ok(copy),
-                Err(why) => Err(Fault::Call(why)),
-            }
-        }
-        Err(why) => Err(why),
-    }
+    let seen = handle_at(slots, from)?;
+    Ok(copy_of(domain, desk, &seen.handle)?)
 }
 
 /// An owner of an object in a slot is copied into another, which is vacant: just where that is so, and the desk is
@@ -108,11 +98,11 @@ fn copy_owner<V: Drop>(
         return false;
     }
     lay(slots, to, number, place);
-    let owner = Shared::of_parts(Some(Block(number)), place);
-    let copied = share(domain, desk, &owner);
-    stays(owner);
-    match copied {
-        Ok(copy) => stays(copy),
+    let owner = Seen {
+        handle: Shared::of_parts(Some(Block(number)), place),
+    };
+    match share(domain, desk, &owner.handle) {
+        Ok(copy) => copy.stays(),
         Err(_) => unreachable!(),
     }
     true
@@ -137,17 +127,9 @@ fn weak_from<V: Drop>(
     if to >= slots.len() {
         return Err(Fault::Slot);
     }
-    match owner_at(slots, from) {
-        Ok(owner) => {
-            let came = downgrade(domain, desk, &owner);
-            stays(owner);
-            match came {
-                Ok(weak) => Ok(Held::Weak(weak)),
-                Err(why) => Err(Fault::Call(why)),
-            }
-        }
-        Err(why) => Err(why),
-    }
+    let owner = owner_at(slots, from)?;
+    let weak = downgrade(domain, desk, &owner.handle)?;
+    Ok(Held::Weak(weak))
 }
 
 impl<'d, V: Drop, H: Home> HandleTable<'d, V, H> {

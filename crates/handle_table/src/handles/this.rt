@@ -9,8 +9,8 @@ ghost use Rattle.handle_table.specs.This.{Aliases, SharesThis, SharesThisWeakly,
 
 use crate::fault::Fault;
 use crate::slots::assigning::arrive;
+use crate::slots::owner_at;
 use crate::slots::slot::Slot;
-use crate::slots::{owner_at, stays};
 use crate::table::{HandleTable, Home};
 use control_block::desk::Desk;
 use control_block::domain::Domain;
@@ -46,17 +46,9 @@ fn owner_of_this<V: Drop>(
     if to >= slots.len() {
         return Err(Fault::Slot);
     }
-    match owner_at(slots, of) {
-        Ok(owner) => {
-            let came = shared_from_this(domain, desk, &owner);
-            stays(owner);
-            match came {
-                Ok(this) => Ok(Held::Owner(this)),
-                Err(why) => Err(Fault::Call(why)),
-            }
-        }
-        Err(why) => Err(why),
-    }
+    let owner = owner_at(slots, of)?;
+    let this = shared_from_this(domain, desk, &owner.handle)?;
+    Ok(Held::Owner(this))
 }
 
 /// A weak handle of the object itself comes, for a slot.
@@ -78,17 +70,9 @@ fn weak_of_this<V: Drop>(
     if to >= slots.len() {
         return Err(Fault::Slot);
     }
-    match owner_at(slots, of) {
-        Ok(owner) => {
-            let came = weak_from_this(domain, desk, &owner);
-            stays(owner);
-            match came {
-                Ok(this) => Ok(Held::Weak(this)),
-                Err(why) => Err(Fault::Call(why)),
-            }
-        }
-        Err(why) => Err(why),
-    }
+    let owner = owner_at(slots, of)?;
+    let this = weak_from_this(domain, desk, &owner.handle)?;
+    Ok(Held::Weak(this))
 }
 
 /// An owner that points elsewhere comes, for a slot.
@@ -114,17 +98,9 @@ fn alias_of<V: Drop>(
     if !is_pointer(place) {
         return Err(Fault::Place);
     }
-    match owner_at(slots, of) {
-        Ok(owner) => {
-            let came = alias(domain, desk, &owner, place);
-            stays(owner);
-            match came {
-                Ok(copy) => Ok(Held::Owner(copy)),
-                Err(why) => Err(Fault::Call(why)),
-            }
-        }
-        Err(why) => Err(why),
-    }
+    let owner = owner_at(slots, of)?;
+    let copy = alias(domain, desk, &owner.handle, place)?;
+    Ok(Held::Owner(copy))
 }
 
 impl<'d, V: Drop, H: Home> HandleTable<'d, V, H> {

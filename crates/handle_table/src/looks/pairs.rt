@@ -5,7 +5,7 @@ ghost use Rattle.handle_table.specs.Pairs.{AreInOrder, PointAlike, WhyNoHandles,
 ghost use Rattle.handle_table.specs.Parts.{block_of_held};
 
 use crate::fault::Fault;
-use crate::slots::{handle_at, handle_stays, owner_at, stays};
+use crate::slots::{handle_at, owner_at};
 use crate::table::{HandleTable, Home};
 use control_block::desk::Desk;
 use control_block::domain::Domain;
@@ -45,21 +45,9 @@ impl<'d, V: Drop, H: Home> HandleTable<'d, V, H> {
         ensures refused { IfErr result (WhyNoOwners self.old.slots a b) }
         ensures same { self.new ≡ self.old }
     {
-        let one = match owner_at(&self.slots, a) {
-            Ok(owner) => owner,
-            Err(why) => return Err(why),
-        };
-        let other = match owner_at(&self.slots, b) {
-            Ok(owner) => owner,
-            Err(why) => {
-                stays(one);
-                return Err(why);
-            }
-        };
-        let alike = same_place(self.domain, &mut self.desk, &one, &other);
-        stays(one);
-        stays(other);
-        Ok(alike)
+        let one = owner_at(&self.slots, a)?;
+        let other = owner_at(&self.slots, b)?;
+        Ok(same_place(self.domain, &mut self.desk, &one.handle, &other.handle))
     }
 
     /// `owner_before` ([util.smartptr.shared.obs], [util.smartptr.weak.obs]) of two handles, each of either kind:
@@ -71,16 +59,7 @@ impl<'d, V: Drop, H: Home> HandleTable<'d, V, H> {
         ensures same { self.new ≡ self.old }
     {
         let one = handle_at(&self.slots, a)?;
-        let other = match handle_at(&self.slots, b) {
-            Ok(handle) => handle,
-            Err(why) => {
-                handle_stays(one);
-                return Err(why);
-            }
-        };
-        let before = are_in_order(self.domain, &mut self.desk, &one, &other);
-        handle_stays(one);
-        handle_stays(other);
-        Ok(before)
+        let other = handle_at(&self.slots, b)?;
+        Ok(are_in_order(self.domain, &mut self.desk, &one.handle, &other.handle))
     }
 }

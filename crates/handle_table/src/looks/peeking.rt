@@ -9,7 +9,7 @@ ghost use Rattle.handle_table.specs.Peeks.{IsPeeked};
 ghost use Rattle.handle_table.specs.Tables.{FitsSlots, IsAt};
 
 use crate::fault::Fault;
-use crate::slots::{handle_at, handle_stays};
+use crate::slots::handle_at;
 use crate::table::{HandleTable, Home};
 use control_word::model::handle::Kind;
 use control_word::{Block, Place};
@@ -47,10 +47,8 @@ impl<'d, V: Drop, H: Home> HandleTable<'d, V, H> {
         ensures there { IfOk result (λ x. (h : Held) × IsAt self.now at h × IsPeeked h x) }
         ensures fault { IfErr result (WhyNoHandle self.now.slots at) }
     {
-        let handle = handle_at(&self.slots, at)?;
-        let parts = parts_of(&handle);
-        handle_stays(handle);
-        Ok(parts)
+        let seen = handle_at(&self.slots, at)?;
+        Ok(parts_of(&seen.handle))
     }
 
     /// What is so of every table, which a proof may need (own): its desk is of the domain that its type names, and its

@@ -6,7 +6,7 @@ ghost use Rattle.handle_table.specs.Calls.{CountsSlot, CountsOf, Expires, IsNotR
 ghost use Rattle.handle_table.specs.Calls.{WhyNoOwner, WhyNoWeak};
 
 use crate::fault::Fault;
-use crate::slots::{handle_at, handle_stays, owner_at, stays, weak_at};
+use crate::slots::{handle_at, owner_at, weak_at};
 use crate::table::{HandleTable, Home};
 use control_block::desk::Desk;
 use control_block::domain::Domain;
@@ -36,18 +36,8 @@ impl<'d, V: Drop, H: Home> HandleTable<'d, V, H> {
         ensures refused { IfErr result (λ why.
             (WhyNoOwner self.old.slots at why ⊎ IsNotRead self.old at why self.new) × (self.new ≡ self.old)) }
     {
-        let field = match owner_at(&self.slots, at) {
-            Ok(owner) => {
-                let field = read(self.domain, &mut self.desk, &owner);
-                stays(owner);
-                field
-            }
-            Err(why) => return Err(why),
-        };
-        match field {
-            Ok(field) => Ok(field),
-            Err(why) => Err(Fault::Call(why)),
-        }
+        let owner = owner_at(&self.slots, at)?;
+        Ok(read(self.domain, &mut self.desk, &owner.handle)?)
     }
 
     /// `use_count` ([util.smartptr.shared.obs], [util.smartptr.weak.obs]) of a handle of either kind.
@@ -55,10 +45,8 @@ impl<'d, V: Drop, H: Home> HandleTable<'d, V, H> {
         ensures count { IfOk result (λ n. CountsSlot self.old at n self.new) }
         ensures refused { IfErr result (λ why. WhyNoHandle self.old.slots at why × (self.new ≡ self.old)) }
     {
-        let handle = handle_at(&self.slots, at)?;
-        let count = count_of(self.domain, &mut self.desk, &handle);
-        handle_stays(handle);
-        Ok(count)
+        let seen = handle_at(&self.slots, at)?;
+        Ok(count_of(self.domain, &mut self.desk, &seen.handle))
     }
 
     /// `expired` ([util.smartptr.weak.obs]) of a weak handle.
@@ -66,14 +54,8 @@ impl<'d, V: Drop, H: Home> HandleTable<'d, V, H> {
         ensures expired { IfOk result (λ expired. Expires self.old at expired self.new) }
         ensures refused { IfErr result (λ why. WhyNoWeak self.old.slots at why × (self.new ≡ self.old)) }
     {
-        match weak_at(&self.slots, at) {
-            Ok(weak) => {
-                let expired = expired(self.domain, &mut self.desk, &weak);
-                weak.into_parts();
-                Ok(expired)
-            }
-            Err(why) => Err(why),
-        }
+        let weak = weak_at(&self.slots, at)?;
+        Ok(expired(self.domain, &mut self.desk, &weak.handle))
     }
 
     /// Where an owner points: the stored pointer ([util.smartptr.shared.obs]).
@@ -81,9 +63,6 @@ impl<'d, V: Drop, H: Home> HandleTable<'d, V, H> {
         ensures place { IfOk result (λ place. PointsTo self.now at place) }
         ensures refused { IfErr result (WhyNoOwner self.now.slots at) }
     {
-        let owner = owner_at(&self.slots, at)?;
-        let place = owner.place();
-        stays(owner);
-        Ok(place)
+        Ok(owner_at(&self.slots, at)?.handle.place())
     }
 }

@@ -4,7 +4,7 @@ ghost use Rattle.std.specs.Fn.{FnOnceReturnsAtMut};
 ghost use Rattle.handle_table.specs.Visits.{VisitsSlot, WhyNotVisited};
 
 use crate::fault::{Fault, Returned};
-use crate::slots::{owner_at, stays};
+use crate::slots::owner_at;
 use crate::table::{HandleTable, Home};
 use control_word::Refused;
 use shared_handle::visit;
@@ -30,8 +30,7 @@ impl<'d, V: Drop, H: Home> HandleTable<'d, V, H> {
             Ok(owner) => owner,
             Err(why) => return Err(Returned { why, back: f }),
         };
-        let visited = visit(rt, self.domain, &mut self.desk, &owner, f);
-        stays(owner);
+        let visited = visit(rt, self.domain, &mut self.desk, &owner.handle, f);
         let refused = match visited {
             Ok(answer) => return Ok(answer),
             Err(refused) => refused,

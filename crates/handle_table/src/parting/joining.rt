@@ -4,7 +4,7 @@ ghost use Rattle.handle_table.specs.Parting.{AreFree, Clashes, IsFreeFor, JoinsT
 
 use crate::fault::{Fault, Returned};
 use crate::slots::slot::Slot;
-use crate::slots::{handle_at, handle_stays, put, spent};
+use crate::slots::{handle_at, put, spent};
 use crate::table::{HandleTable, Home};
 use shared_handle::Held;
 
@@ -13,20 +13,12 @@ fn clash(slots: &Vec<Slot>, others: &Vec<Slot>, at: usize) -> Option<Fault>
     ensures free { IfNone result (IsFreeFor slots.now.items others.now.items at) }
     ensures clash { IfSome result (λ why. Clashes slots.now.items others.now.items at why) }
 {
-    match handle_at(others, at) {
-        Ok(handle) => handle_stays(handle),
-        Err(_) => return None,
-    }
+    handle_at(others, at).ok()?;
     if at >= slots.len() {
         return Some(Fault::Slot);
     }
-    match handle_at(slots, at) {
-        Ok(handle) => {
-            handle_stays(handle);
-            Some(Fault::Taken)
-        }
-        Err(_) => None,
-    }
+    handle_at(slots, at).ok()?;
+    Some(Fault::Taken)
 }
 
 /// Why the first of the second table's handles that can't come into the first table can't, if there is one.

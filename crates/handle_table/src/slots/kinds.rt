@@ -52,8 +52,8 @@ pub(crate) fn content_at(slots: &Vec<Slot>, at: usize, kind: Kind) -> Result<Con
     ensures fault { IfErr result (WhyNoneOf kind slots.now.items at) }
 {
     match kind {
-        Kind::Owner => Ok(into_content(Held::Owner(owner_at(slots, at)?))),
-        Kind::Weak => Ok(into_content(Held::Weak(weak_at(slots, at)?))),
+        Kind::Owner => Ok(into_content(Held::Owner(owner_at(slots, at)?.into_handle()))),
+        Kind::Weak => Ok(into_content(Held::Weak(weak_at(slots, at)?.into_handle()))),
     }
 }
 

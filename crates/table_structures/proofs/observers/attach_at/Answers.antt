@@ -6,7 +6,7 @@ use Rattle.table_structures.proofs.observers.attach_at.Goals as goal
 
 pub attach-attached-requires-clause-holds : goal.attach-attached-requires-clause-holds
 attach-attached-requires-clause-holds g c =
-    fits_at c.args.desk.now c.args.slots.now.items c.args.subject (Owner c.in-Ok.owner) c.requires.fits c.in-Ok.ensures.found
+    fits_at c.args.desk.now c.args.slots.now.items c.args.subject (Owner c.in-Ok.owner.handle) c.requires.fits c.in-Ok.ensures.found
 
 pub returns-in-Err-clause-refused : goal.returns-in-Err-clause-refused
 returns-in-Err-clause-refused g c = (inl c.in-Err.ensures.fault, refl, refl)
@@ -16,8 +16,8 @@ returns-in-Ok-attached-clause-bears g c =
     let e = c.attach-attached.ensures in
     λ p w. bears_kept c.args.domain.now c.args.desk.now c.attach-attached.new.desk p w e.desk.domain e.desk.shape e.endings e.count
 
-pub returns-in-Err-attached-clause-bears : goal.returns-in-Err-attached-clause-bears
-returns-in-Err-attached-clause-bears g c =
+pub returns-clause-bears : goal.returns-clause-bears
+returns-clause-bears g c =
     let e = c.attach-attached.ensures in
     λ p w. bears_kept c.args.domain.now c.args.desk.now c.attach-attached.new.desk p w e.desk.domain e.desk.shape e.endings e.count
 
@@ -25,11 +25,11 @@ pub returns-in-Ok-attached-clause-fits : goal.returns-in-Ok-attached-clause-fits
 returns-in-Ok-attached-clause-fits g c =
     let e = c.attach-attached.ensures in fits_still c.args.desk.now c.attach-attached.new.desk c.args.slots.now.items c.requires.fits e.bag e.held
 
-pub returns-in-Err-attached-clause-fits : goal.returns-in-Err-attached-clause-fits
-returns-in-Err-attached-clause-fits g c =
+pub returns-clause-fits : goal.returns-clause-fits
+returns-clause-fits g c =
     let e = c.attach-attached.ensures in fits_still c.args.desk.now c.attach-attached.new.desk c.args.slots.now.items c.requires.fits e.bag e.held
 
 pub returns-in-Ok-attached-clause-attached : goal.returns-in-Ok-attached-clause-attached
 returns-in-Ok-attached-clause-attached g c =
     let e = c.in-Ok-attached.ensures in
-    record { of = c.in-Ok.owner; at = c.in-Ok.ensures.found; room = e.refusals.0; done = (e.own, e.list); order = e.order }
+    record { of = c.in-Ok.owner.handle; at = c.in-Ok.ensures.found; room = e.refusals.0; done = (e.own, e.list); order = e.order }

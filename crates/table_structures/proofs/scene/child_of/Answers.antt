@@ -12,7 +12,7 @@ add_child-added-requires-clause-carries g c =
 
 pub add_child-added-requires-clause-holds : goal.add_child-added-requires-clause-holds
 add_child-added-requires-clause-holds g c =
-    fits_at c.args.desk.now c.args.slots.now.items c.args.parent (Owner c.in-Ok.owner) c.requires.fits c.in-Ok.ensures.found
+    fits_at c.args.desk.now c.args.slots.now.items c.args.parent (Owner c.in-Ok.owner.handle) c.requires.fits c.in-Ok.ensures.found
 
 pub returns-then-to-len-clause-brought : goal.returns-then-to-len-clause-brought
 returns-then-to-len-clause-brought g c = ((inl (refl, omega arith), refl), refl)
@@ -27,7 +27,7 @@ returns-in-Ok-added-clause-brought g c =
       there = omega arith;
       room = far_below d e.may.0;
       comes = (
-        c.in-Ok.owner,
+        c.in-Ok.owner.handle,
         c.in-Ok.ensures.found,
         (e.may, record { owner = k; is = refl; event = (e.own, e.tree, order_clear d m _ _ c.requires.serves.none e.none e.order) }),
       );
@@ -40,13 +40,13 @@ returns-in-Ok-added-clause-serves g c =
     let e = c.in-Ok-added.ensures in
     scene_serves c.args.domain.now c.args.domain.now c.add_child-added.new.desk c.add_child-added.new.self refl e.carries e.none
 
-pub returns-in-Err-added-clause-serves : goal.returns-in-Err-added-clause-serves
-returns-in-Err-added-clause-serves g c =
+pub returns-clause-serves : goal.returns-clause-serves
+returns-clause-serves g c =
     subst (ServesDomain c.args.domain.now) (sym c.in-Err-added.ensures.refused.2) c.requires.serves
 
-pub returns-in-Err-added-clause-brought : goal.returns-in-Err-added-clause-brought
-returns-in-Err-added-clause-brought g c =
+pub returns-clause-brought : goal.returns-clause-brought
+returns-clause-brought g c =
     let e = c.in-Err-added.ensures in let r = c.in-Err-added.refused in let a = c.returned.ensures in (
-      (inr (inr (c.in-Ok.owner, c.in-Ok.ensures.found, (r.why, a.0, e.refusals))), a.1 ∙ e.refused.0),
+      (inr (inr (c.in-Ok.owner.handle, c.in-Ok.ensures.found, (r.why, a.0, e.refusals))), a.1 ∙ e.refused.0),
       e.refused.1,
     )

@@ -10,17 +10,17 @@ use Rattle.handle_table.proofs.Slotted.{none_full, owner_parts, same_owner}
 use Rattle.handle_table.proofs.Wholes.{kept}
 use Rattle.handle_table.proofs.handles.copying.copy_owner.Goals as goal
 
-pub share-copied-requires-clause-holds : goal.share-copied-requires-clause-holds
-share-copied-requires-clause-holds g c =
-    let d = c.args.desk.now in let n = c.in-Some.number in let p = c.in-Some.place in let e = c.of_parts-owner.ensures in
-    subst (λ (x : Shared). HoldsHandle d Owner x.block x.place) (sym (same_owner c.of_parts-owner.result (owner_parts n p) e.0 e.1))
+pub share-requires-clause-holds : goal.share-requires-clause-holds
+share-requires-clause-holds g c =
+    let d = c.args.desk.now in let n = c.in-Some.number in let p = c.in-Some.place in let e = c.of_parts.ensures in
+    subst (λ (x : Shared). HoldsHandle d Owner x.block x.place) (sym (same_owner c.of_parts.result (owner_parts n p) e.0 e.1))
     (fits_at d c.args.slots.now.items c.args.from (owner_in n p) c.requires.fits c.in-Some.ensures.owned.1)
 
 pub returns-clause-copied : goal.returns-clause-copied
 returns-clause-copied g c = λ _.
-    let d = c.args.desk.now in let m = c.share-copied.new.desk in let ss = c.args.slots.now.items in let n = c.in-Some.number in let p = c.in-Some.place in
-    let o = c.of_parts-owner.ensures in let e = c.in-Ok.ensures in
-    let is : c.of_parts-owner.result ≡ owner_parts n p = same_owner c.of_parts-owner.result (owner_parts n p) o.0 o.1 in
+    let d = c.args.desk.now in let m = c.share.new.desk in let ss = c.args.slots.now.items in let n = c.in-Some.number in let p = c.in-Some.place in
+    let o = c.of_parts.ensures in let e = c.in-Ok.ensures in
+    let is : c.of_parts.result ≡ owner_parts n p = same_owner c.of_parts.result (owner_parts n p) o.0 o.1 in
     let bag = subst (λ (x : Shared). bag_of m ≡ with_handle Owner x.block x.place (bag_of d)) is e.bag in
     record {
       handle = owner_in n p;

@@ -4,40 +4,40 @@ use Rattle.control_block.specs.declared.handles.Held.TheVariants.{Owner, Weak}
 use Rattle.handle_table.specs.declared.fault.Fault.TheVariants as fault
 use Rattle.handle_table.proofs.Filling.{fits_at, fits_more}
 use Rattle.handle_table.proofs.Bringing.{weakly}
-use Rattle.handle_table.proofs.Lasts.{no_owner}
+use Rattle.handle_table.proofs.Refused.{at_fault}
 use Rattle.handle_table.proofs.Wholes.{kept}
+use Rattle.handle_table.specs.Bringing.{Brought, IsWeakCopy, OfOwner, beside_pile}
+use Rattle.handle_table.specs.Calls.{IsOwnerAt, LimitLast, WhyNotDowngraded}
 use Rattle.handle_table.proofs.handles.copying.weak_from.Goals as goal
 
-pub downgrade-came-requires-clause-holds : goal.downgrade-came-requires-clause-holds
-downgrade-came-requires-clause-holds g c =
-    fits_at c.args.desk.now c.args.slots.now.items c.args.from (Owner c.in-Ok.owner) c.requires.fits c.in-Ok.ensures.found
+pub downgrade-requires-clause-holds : goal.downgrade-requires-clause-holds
+downgrade-requires-clause-holds g c =
+    fits_at c.args.desk.now c.args.slots.now.items c.args.from (Owner c.in_ok-owner.owner.handle) c.requires.fits c.in_ok-owner.ensures.found
 
 pub returns-then-to-len : goal.returns-then-to-len
 returns-then-to-len g c = ((inl (refl, omega arith), λ is. absurd (cc is)), refl)
 
-pub returns-in-Ok-came : goal.returns-in-Ok-came
-returns-in-Ok-came g c =
-    let d = c.args.desk.now in let m = c.downgrade-came.new.desk in let ss = c.args.slots.now.items in let e = c.in-Ok-came.ensures in
-    let h = c.in-Ok-came.weak in
+pub returns : goal.returns
+returns g c =
+    let d = c.args.desk.now in let m = c.downgrade.new.desk in let ss = c.args.slots.now.items in let e = c.in_ok-weak.ensures in
+    let h = c.in_ok-weak.weak in
     record {
       there = omega arith;
       room = λ full. absurd (cc (e.limit.1 full));
       comes = (
-        c.in-Ok.owner,
-        c.in-Ok.ensures.found,
+        c.in_ok-owner.owner.handle,
+        c.in_ok-owner.ensures.found,
         record { weak = h; is = refl; event = (e.handle.0, e.handle.1, e.event) },
       );
       fits = fits_more d m ss (Weak h) c.requires.fits
-          (e.bag ∙ weakly (bag_of d) h c.in-Ok.owner.block c.in-Ok.owner.place e.handle.0 e.handle.1) e.held;
+          (e.bag ∙ weakly (bag_of d) h c.in_ok-owner.owner.handle.block c.in_ok-owner.owner.handle.place e.handle.0 e.handle.1) e.held;
       bears = λ domain p w. kept domain d m p w e.keeps;
     }
 
-pub returns-in-Err-came : goal.returns-in-Err-came
-returns-in-Err-came g c =
-    let e = c.in-Err-came.ensures.refused in
-    ((inr (inr (ap fault.Call e.0, c.in-Err-came.ensures.limit.0 refl)), λ _. (omega arith, (c.in-Ok.owner, c.in-Ok.ensures.found))), e.1)
-
-pub returns-in-Err : goal.returns-in-Err
-returns-in-Err g c =
-    let w = c.in-Err.ensures.fault in
-    ((inr (inl w), λ is. absurd (no_owner c.args.slots.now.items c.args.from c.in-Err.why w is)), refl)
+pub returns-in_err-weak : goal.returns-in_err-weak
+returns-in_err-weak g c =
+    let d = c.args.desk.now in let ss = c.args.slots.now.items in let e = c.in_err-weak.ensures in
+    at_fault (λ r. Brought (OfOwner IsWeakCopy ss c.args.from) (λ w. WhyNotDowngraded (beside_pile d ss) c.args.from c.args.to w
+    × LimitLast ss c.args.to (IsOwnerAt ss c.args.from) w) d ss c.args.to r c.downgrade.new.desk)
+    c.from_residual-in_err-weak.result (fault.Call c.in_err-weak.field-0.0) c.from_residual-in_err-weak.ensures
+    ((inr (inr (ap fault.Call e.refused.0, e.limit.0 refl)), λ _. (omega arith, (c.in_ok-owner.owner.handle, c.in_ok-owner.ensures.found))), e.refused.1)

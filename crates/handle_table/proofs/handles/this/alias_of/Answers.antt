@@ -7,35 +7,39 @@ use Rattle.shared_handle.specs.Calls.{SharesOwner, pointed}
 use Rattle.control_block.specs.declared.handles.Held.TheVariants.{Owner}
 use Rattle.handle_table.specs.declared.fault.Fault.TheVariants as fault
 use Rattle.handle_table.proofs.Filling.{fits_at, fits_more}
-use Rattle.handle_table.proofs.Lasts.{no_owner}
+use Rattle.handle_table.proofs.Refused.{at_fault}
 use Rattle.handle_table.proofs.Wholes.{kept}
+use Rattle.control_word.specs.Handles.{IsPointer}
+use Rattle.handle_table.specs.Bringing.{Brought, IsAlias, OfOwner, beside_pile}
+use Rattle.handle_table.specs.Calls.{IsOwnerAt, LimitLast}
+use Rattle.handle_table.specs.This.{WhyNoAlias}
 use Rattle.handle_table.proofs.handles.this.alias_of.Goals as goal
 
-pub alias-came-requires-clause-holds : goal.alias-came-requires-clause-holds
-alias-came-requires-clause-holds g c =
-    fits_at c.args.desk.now c.args.slots.now.items c.args.of (Owner c.in-Ok.owner) c.requires.fits c.in-Ok.ensures.found
+pub alias-requires-clause-holds : goal.alias-requires-clause-holds
+alias-requires-clause-holds g c =
+    fits_at c.args.desk.now c.args.slots.now.items c.args.of (Owner c.in_ok-owner.owner.handle) c.requires.fits c.in_ok-owner.ensures.found
 
 pub returns-then-to-len : goal.returns-then-to-len
 returns-then-to-len g c = ((inl (refl, omega arith), λ is. absurd (cc is)), refl)
 
-pub returns-in-Ok-came : goal.returns-in-Ok-came
-returns-in-Ok-came g c =
-    let d = c.args.desk.now in let m = c.alias-came.new.desk in let ss = c.args.slots.now.items in let e = c.in-Ok-came.ensures in
-    let h = c.in-Ok-came.copy in
+pub returns : goal.returns
+returns g c =
+    let d = c.args.desk.now in let m = c.alias.new.desk in let ss = c.args.slots.now.items in let e = c.in_ok-copy.ensures in
+    let h = c.in_ok-copy.copy in
     let same : pointed c.args.place ≡ c.args.place = e.given (inr (inr (c.if-not-is_pointer.ensures.0 refl))) in
     record {
       there = omega arith;
       room = λ full. absurd (cc (e.limit.1 full));
       comes = (
-        c.in-Ok.owner,
-        c.in-Ok.ensures.found,
+        c.in_ok-owner.owner.handle,
+        c.in_ok-owner.ensures.found,
         record {
           owner = h;
           is = refl;
           event = (
             e.handle.0,
             e.handle.1 ∙ same,
-            subst (λ (p : Option Place). SharesOwner d c.in-Ok.owner.block c.in-Ok.owner.place p m) same e.event,
+            subst (λ (p : Option Place). SharesOwner d c.in_ok-owner.owner.handle.block c.in_ok-owner.owner.handle.place p m) same e.event,
           );
         },
       );
@@ -43,17 +47,12 @@ returns-in-Ok-came g c =
       bears = λ domain p w. kept domain d m p w e.keeps;
     }
 
-pub returns-in-Err-came : goal.returns-in-Err-came
-returns-in-Err-came g c =
-    let e = c.in-Err-came.ensures.refused in (
-      (
-        inr (inr (inr (ap fault.Call e.0, c.in-Err-came.ensures.limit.0 refl))),
-        λ _. (omega arith, (c.if-not-is_pointer.ensures.0 refl, (c.in-Ok.owner, c.in-Ok.ensures.found))),
-      ),
-      e.1,
+pub returns-in_err-copy : goal.returns-in_err-copy
+returns-in_err-copy g c =
+    let d = c.args.desk.now in let ss = c.args.slots.now.items in let e = c.in_err-copy.ensures in let p = c.if-not-is_pointer.ensures.0 refl in
+    at_fault (λ r. Brought (OfOwner (IsAlias c.args.place) ss c.args.of) (λ w. WhyNoAlias (beside_pile d ss) c.args.of c.args.place c.args.to w
+    × LimitLast ss c.args.to (IsPointer c.args.place × IsOwnerAt ss c.args.of) w) d ss c.args.to r c.alias.new.desk)
+    c.from_residual-in_err-copy.result (fault.Call c.in_err-copy.field-0.0) c.from_residual-in_err-copy.ensures (
+      (inr (inr (inr (ap fault.Call e.refused.0, e.limit.0 refl))), λ _. (omega arith, (p, (c.in_ok-owner.owner.handle, c.in_ok-owner.ensures.found)))),
+      e.refused.1,
     )
-
-pub returns-in-Err : goal.returns-in-Err
-returns-in-Err g c =
-    let w = c.in-Err.ensures.fault in
-    ((inr (inr (inl w)), λ is. absurd (no_owner c.args.slots.now.items c.args.of c.in-Err.why w is)), refl)

@@ -1,36 +1,39 @@
 use Rattle.std.proofs.Common.{arith, inl, inr, refl}
 use Rattle.control_block.specs.declared.handles.Held.TheVariants.{Owner}
+use Rattle.handle_table.specs.Bringing.{Brought, IsThisOwner, OfOwner, beside_pile}
+use Rattle.handle_table.specs.Calls.{IsOwnerAt, LimitLast}
+use Rattle.handle_table.specs.This.{WhyNoThis}
+use Rattle.handle_table.specs.declared.fault.Fault.TheVariants.{Call}
 use Rattle.handle_table.proofs.Bringing.{this_below}
 use Rattle.handle_table.proofs.Filling.{fits_at, fits_more}
-use Rattle.handle_table.proofs.Lasts.{no_owner}
+use Rattle.handle_table.proofs.Refused.{at_fault}
 use Rattle.handle_table.proofs.Wholes.{kept}
 use Rattle.handle_table.proofs.handles.this.owner_of_this.Goals as goal
 
-pub shared_from_this-came-requires-clause-holds : goal.shared_from_this-came-requires-clause-holds
-shared_from_this-came-requires-clause-holds g c =
-    fits_at c.args.desk.now c.args.slots.now.items c.args.of (Owner c.in-Ok.owner) c.requires.fits c.in-Ok.ensures.found
+pub shared_from_this-requires-clause-holds : goal.shared_from_this-requires-clause-holds
+shared_from_this-requires-clause-holds g c =
+    fits_at c.args.desk.now c.args.slots.now.items c.args.of (Owner c.in_ok-owner.owner.handle) c.requires.fits c.in_ok-owner.ensures.found
 
 pub returns-then-to-len : goal.returns-then-to-len
 returns-then-to-len g c = ((inl (refl, omega arith), λ is. absurd (cc is)), refl)
 
-pub returns-in-Ok-came : goal.returns-in-Ok-came
-returns-in-Ok-came g c =
-    let d = c.args.desk.now in let m = c.shared_from_this-came.new.desk in let ss = c.args.slots.now.items in let e = c.in-Ok-came.ensures in
-    let h = c.in-Ok-came.this in
+pub returns : goal.returns
+returns g c =
+    let d = c.args.desk.now in let m = c.shared_from_this.new.desk in let ss = c.args.slots.now.items in let e = c.in_ok-this.ensures in
+    let h = c.in_ok-this.this in let o = c.in_ok-owner.owner.handle in
     record {
       there = omega arith;
-      room = this_below d c.in-Ok.owner.block c.in-Ok.owner.place e.may;
-      comes = (c.in-Ok.owner, c.in-Ok.ensures.found, (e.may, record { owner = h; is = refl; event = (e.handle.0, e.handle.1, e.event) }));
+      room = this_below d o.block o.place e.may;
+      comes = (o, c.in_ok-owner.ensures.found, (e.may, record { owner = h; is = refl; event = (e.handle.0, e.handle.1, e.event) }));
       fits = fits_more d m ss (Owner h) c.requires.fits e.bag e.held;
       bears = λ domain p w. kept domain d m p w e.keeps;
     }
 
-pub returns-in-Err-came : goal.returns-in-Err-came
-returns-in-Err-came g c =
-    let e = c.in-Err-came.ensures.refused in let at = c.in-Ok.ensures.found in
-    ((inr (inr (c.in-Ok.owner, at, (c.in-Err-came.why, refl, e.0))), λ _. (omega arith, (c.in-Ok.owner, at))), e.1)
-
-pub returns-in-Err : goal.returns-in-Err
-returns-in-Err g c =
-    let w = c.in-Err.ensures.fault in
-    ((inr (inl w), λ is. absurd (no_owner c.args.slots.now.items c.args.of c.in-Err.why w is)), refl)
+pub returns-in_err-this : goal.returns-in_err-this
+returns-in_err-this g c =
+    let d = c.args.desk.now in let ss = c.args.slots.now.items in let o = c.in_ok-owner.owner.handle in let at = c.in_ok-owner.ensures.found in
+    let e = c.in_err-this.ensures.refused in let why = c.in_err-this.field-0.0 in
+    at_fault (λ r. Brought (OfOwner IsThisOwner ss c.args.of) (λ w. WhyNoThis (beside_pile d ss) c.args.of c.args.to w
+    × LimitLast ss c.args.to (IsOwnerAt ss c.args.of) w) d ss c.args.to r c.shared_from_this.new.desk)
+    c.from_residual-in_err-this.result (Call why) c.from_residual-in_err-this.ensures
+    ((inr (inr (o, at, (why, refl, e.0))), λ _. (omega arith, (o, at))), e.1)

@@ -1,13 +1,26 @@
-use Rattle.std.proofs.Common.{arith}
-use Rattle.handle_table.proofs.Merging.{no_handle, vacant_at}
+use Rattle.std.proofs.Common.{◌≡◌, Some, arith}
+use Rattle.std.specs.List.{slice_get}
+use Rattle.control_block.specs.declared.handles.Held.{Held}
+use Rattle.handle_table.specs.declared.slots.seen.Seen.{Seen}
+use Rattle.handle_table.proofs.Refused.{if_ok}
 use Rattle.handle_table.proofs.parting.joining.clash.Goals as goal
 
-pub returns-in-Err-clause-free : goal.returns-in-Err-clause-free
-returns-in-Err-clause-free c = λ h e. absurd (no_handle c.args.others.now.items c.args.at c.in-Err.field-0 h c.in-Err.ensures.fault e)
-
-pub returns-in-Err-handle_at-clause-free : goal.returns-in-Err-handle_at-clause-free
-returns-in-Err-handle_at-clause-free c = λ h e.
-    vacant_at c.args.slots.now.items c.args.at c.in-Err-handle_at.field-0 c.in-Err-handle_at.ensures.fault (let n = c.args.slots.now.ok.0 in omega arith)
-
 pub returns-then-at-len-clause-clash : goal.returns-then-at-len-clause-clash
-returns-then-at-len-clause-clash c = (c.in-Ok.handle, c.in-Ok.ensures.found, (let n = c.args.slots.now.ok.0 in omega arith))
+returns-then-at-len-clause-clash c =
+    let x = c.in_ok-ok.field-0 in (
+      x.handle,
+      if_ok (λ (h : Seen Held). slice_get c.args.others.now.items c.args.at ≡ Some (Some h.handle)) c.handle_at.result x c.handle_at.ensures.found
+          c.in_ok-ok.ensures.value,
+      (let n = c.args.slots.now.ok.0 in omega arith),
+    )
+
+pub returns-clause-clash : goal.returns-clause-clash
+returns-clause-clash c =
+    let x = c.in_ok-ok.field-0 in let y = c.in_ok-ok-2.field-0 in (
+      x.handle,
+      y.handle,
+      if_ok (λ (h : Seen Held). slice_get c.args.others.now.items c.args.at ≡ Some (Some h.handle)) c.handle_at.result x c.handle_at.ensures.found
+          c.in_ok-ok.ensures.value,
+      if_ok (λ (h : Seen Held). slice_get c.args.slots.now.items c.args.at ≡ Some (Some h.handle)) c.handle_at-2.result y c.handle_at-2.ensures.found
+          c.in_ok-ok-2.ensures.value,
+    )

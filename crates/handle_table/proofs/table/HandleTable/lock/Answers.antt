@@ -2,35 +2,35 @@ use Rattle.std.proofs.Common.{◌≡◌, ◌∙◌, Bool, is_some, ap, inl, inr,
 use Rattle.control_block.specs.declared.handles.Held.TheVariants.{Owner, Weak}
 use Rattle.shared_handle.specs.Locks as locks
 use Rattle.handle_table.specs.Calls.{IsWeakAt, LimitLast, LocksSlot, WhyNotLocked}
-use Rattle.control_block.specs.Desks.{DeskNow}
 use Rattle.handle_table.specs.declared.fault.Fault.TheVariants as fault
 use Rattle.handle_table.specs.Tables.{TableNow}
 use Rattle.handle_table.proofs.Filling.{fits_at, fits_more}
-use Rattle.handle_table.proofs.Lasts.{no_weak}
-use Rattle.handle_table.proofs.Wholes.{kept, same_whole, seen}
+use Rattle.handle_table.proofs.Wholes.{kept, seen}
+use Rattle.handle_table.proofs.Refused.{if_fault}
 use Rattle.handle_table.proofs.table.HandleTable.lock.Goals as goal
 
 pub lock-owner-requires-clause-holds : goal.lock-owner-requires-clause-holds
 lock-owner-requires-clause-holds g c =
-    fits_at c.self.inside.desk c.self.inside.slots.items c.args.from (Weak c.in-Ok.weak) c.self.invariant.fits c.in-Ok.ensures.found
-
-pub returns-in-Err-clause-refused : goal.returns-in-Err-clause-refused
-returns-in-Err-clause-refused g c =
-    (subst (λ (t : TableNow g.row.V.Denot). WhyNotLocked t c.args.from c.args.to c.in-Err.why) c.self.view_is (inr (inl c.in-Err.ensures.fault)), refl)
+    fits_at c.self.inside.desk c.self.inside.slots.items c.args.from (Weak c.in_ok-weak.weak.handle) c.self.invariant.fits c.in_ok-weak.ensures.found
 
 pub assign-requires-clause-bears : goal.assign-requires-clause-bears
 assign-requires-clause-bears g c =
-    kept c.self.inside.domain.now c.self.inside.desk c.lock-owner.new.desk c.self.inside.pile c.self.invariant.bears c.in-Ok-owner.ensures.keeps
+    kept c.self.inside.domain.now c.self.inside.desk c.lock-owner.new.desk c.self.inside.pile c.self.invariant.bears c.in_ok-owner.ensures.keeps
 
-pub returns-in-Ok-owner-clause-locked : goal.returns-in-Ok-owner-clause-locked
-returns-in-Ok-owner-clause-locked g c =
-    let e = c.in-Ok-owner.ensures in let h = c.in-Ok-owner.owner in let of = c.in-Ok.weak in
+pub assign-requires-clause-fits : goal.assign-requires-clause-fits
+assign-requires-clause-fits g c =
+    let e = c.in_ok-owner.ensures in
+    fits_more c.self.inside.desk c.lock-owner.new.desk c.self.inside.slots.items (Owner c.in_ok-owner.owner) c.self.invariant.fits e.bag e.held
+
+pub returns-clause-locked : goal.returns-clause-locked
+returns-clause-locked g c =
+    let e = c.in_ok-owner.ensures in let h = c.in_ok-owner.owner in let of = c.in_ok-weak.weak.handle in
     let told : c.is_some-got.result ≡ is_some h.block = c.is_some-got.ensures ∙ ap is_some c.block.ensures in
     subst (λ (t : TableNow g.row.V.Denot). LocksSlot t c.args.from c.args.to c.is_some-got.result
     (seen c.assign.new.desk c.assign.new.slots.items c.assign.new.pile)) c.self.view_is
     record {
       of = of;
-      at = c.in-Ok.ensures.found;
+      at = c.in_ok-weak.ensures.found;
       owner = record {
         handle = Owner h;
         between = c.lock-owner.new.desk;
@@ -48,32 +48,16 @@ returns-in-Ok-owner-clause-locked g c =
       };
     }
 
-pub assign-requires-clause-fits : goal.assign-requires-clause-fits
-assign-requires-clause-fits g c =
-    let e = c.in-Ok-owner.ensures in
-    fits_more c.self.inside.desk c.lock-owner.new.desk c.self.inside.slots.items (Owner c.in-Ok-owner.owner) c.self.invariant.fits e.bag e.held
+pub returns-in_err-weak-clause-refused : goal.returns-in_err-weak-clause-refused
+returns-in_err-weak-clause-refused g c =
+    let t = c.args.self.now in let why = c.in_err-weak.field-0.0 in
+    if_fault (λ w. WhyNotLocked t c.args.from c.args.to w × (t ≡ t)) c.from_residual.result why c.from_residual.ensures
+    (subst (λ (u : TableNow g.row.V.Denot). WhyNotLocked u c.args.from c.args.to why) c.self.view_is (inr (inl c.in_err-weak.ensures.fault)), refl)
 
-pub invariant_of-self-in-Err-owner : goal.invariant_of-self-in-Err-owner
-invariant_of-self-in-Err-owner g c =
-    same_whole _ c.self.inside.domain.now c.self.inside.desk c.lock-owner.new.desk c.self.inside.slots.items c.self.inside.pile c.self.invariant
-    c.in-Err-owner.ensures.refused.1
-
-pub returns-in-Err-owner-clause-refused : goal.returns-in-Err-owner-clause-refused
-returns-in-Err-owner-clause-refused g c =
-    let e = c.in-Err-owner.ensures in (
-      subst (λ (t : TableNow g.row.V.Denot). WhyNotLocked t c.args.from c.args.to (fault.Call c.in-Err-owner.why)) c.self.view_is
-          (inr (inr (ap fault.Call e.refused.0, e.limit.0 refl))),
-      ap (λ (d : DeskNow g.row.V.Denot). seen d c.self.inside.slots.items c.self.inside.pile) e.refused.1 ∙ c.self.view_is,
-    )
-
-pub returns-then-to-len-clause-last : goal.returns-then-to-len-clause-last
-returns-then-to-len-clause-last g c = λ is. absurd (cc is)
-
-pub returns-in-Err-clause-last : goal.returns-in-Err-clause-last
-returns-in-Err-clause-last g c = λ is. absurd (no_weak c.self.inside.slots.items c.args.from c.in-Err.why c.in-Err.ensures.fault is)
-
-pub returns-in-Err-owner-clause-last : goal.returns-in-Err-owner-clause-last
-returns-in-Err-owner-clause-last g c =
-    let few = c.if-to-len.false in
-    subst (λ (t : TableNow g.row.V.Denot). LimitLast t.slots c.args.to (IsWeakAt t.slots c.args.from) (fault.Call c.in-Err-owner.why)) c.self.view_is
-    (λ _. (omega (arith, few), (c.in-Ok.weak, c.in-Ok.ensures.found)))
+pub returns-in_err-owner-clause-last : goal.returns-in_err-owner-clause-last
+returns-in_err-owner-clause-last g c =
+    let few = c.if-to-len.false in let why = fault.Call c.in_err-owner.field-0.0 in
+    if_fault (LimitLast c.args.self.now.slots c.args.to (IsWeakAt c.args.self.now.slots c.args.from)) c.from_residual-in_err-owner.result why
+    c.from_residual-in_err-owner.ensures
+    (subst (λ (t : TableNow g.row.V.Denot). LimitLast t.slots c.args.to (IsWeakAt t.slots c.args.from) why) c.self.view_is
+    (λ _. (omega (arith, few), (c.in_ok-weak.weak.handle, c.in_ok-weak.ensures.found))))

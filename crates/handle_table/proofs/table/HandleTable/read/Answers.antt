@@ -1,4 +1,4 @@
-use Rattle.std.proofs.Common.{◌∙◌, ap, inl, inr, refl, subst, Ok}
+use Rattle.std.proofs.Common.{◌≡◌, ◌⊎◌, ◌∙◌, ap, inl, inr, refl, subst, Ok}
 use Rattle.control_block.specs.Desks.{DeskNow}
 use Rattle.control_block.specs.declared.handles.Held.TheVariants.{Owner}
 use Rattle.handle_table.specs.Calls.{IsNotRead, ReadsSlot, WhyNoOwner}
@@ -6,31 +6,37 @@ use Rattle.handle_table.specs.Tables.{TableNow}
 use Rattle.handle_table.specs.declared.fault.Fault.TheVariants as fault
 use Rattle.handle_table.proofs.Filling.{fits_at}
 use Rattle.handle_table.proofs.Wholes.{read_same, seen, still}
+use Rattle.handle_table.proofs.Refused.{if_fault}
 use Rattle.handle_table.proofs.table.HandleTable.read.Goals as goal
 
-pub read-field-requires-clause-holds : goal.read-field-requires-clause-holds
-read-field-requires-clause-holds g c =
-    fits_at c.self.inside.desk c.self.inside.slots.items c.args.at (Owner c.in-Ok.owner) c.self.invariant.fits c.in-Ok.ensures.found
+pub read-requires-clause-holds : goal.read-requires-clause-holds
+read-requires-clause-holds g c =
+    fits_at c.self.inside.desk c.self.inside.slots.items c.args.at (Owner c.in_ok-owner.owner.handle) c.self.invariant.fits c.in_ok-owner.ensures.found
 
-pub invariant_of-self : goal.invariant_of-self
-invariant_of-self g c =
-    let e = c.read-field.ensures in
-    still _ _ c.self.inside.desk c.read-field.new.desk c.self.inside.slots.items c.self.inside.pile c.self.invariant e.keeps e.bag e.held
+pub invariant_of-self-2 : goal.invariant_of-self-2
+invariant_of-self-2 g c =
+    let e = c.read.ensures in
+    still _ _ c.self.inside.desk c.read.new.desk c.self.inside.slots.items c.self.inside.pile c.self.invariant e.keeps e.bag e.held
 
-pub returns-in-Err-clause-refused : goal.returns-in-Err-clause-refused
-returns-in-Err-clause-refused g c =
-    (inl (subst (λ (t : TableNow g.row.V.Denot). WhyNoOwner t.slots c.args.at c.in-Err.why) c.self.view_is c.in-Err.ensures.fault), refl)
+pub returns-clause-read : goal.returns-clause-read
+returns-clause-read g c =
+    subst (λ (t : TableNow g.row.V.Denot). ReadsSlot t c.args.at (Ok c.in_ok-read.field-0)
+    (seen c.read.new.desk c.self.inside.slots.items c.self.inside.pile)) c.self.view_is
+    record { of = c.in_ok-owner.owner.handle; was = c.in_ok-owner.ensures.found; event = c.in_ok-read.ensures.read; rest = (refl, refl) }
 
-pub returns-in-Ok-field-clause-read : goal.returns-in-Ok-field-clause-read
-returns-in-Ok-field-clause-read g c =
-    subst (λ (t : TableNow g.row.V.Denot). ReadsSlot t c.args.at (Ok c.in-Ok-field.field)
-    (seen c.read-field.new.desk c.self.inside.slots.items c.self.inside.pile)) c.self.view_is
-    record { of = c.in-Ok.owner; was = c.in-Ok.ensures.found; event = c.in-Ok-field.ensures.read; rest = (refl, refl) }
+pub returns-in_err-owner-clause-refused : goal.returns-in_err-owner-clause-refused
+returns-in_err-owner-clause-refused g c =
+    let t = c.args.self.now in let why = c.in_err-owner.field-0.0 in
+    if_fault (λ w. (WhyNoOwner t.slots c.args.at w ⊎ IsNotRead t c.args.at w t) × (t ≡ t)) c.from_residual.result why c.from_residual.ensures
+    (inl (subst (λ (u : TableNow g.row.V.Denot). WhyNoOwner u.slots c.args.at why) c.self.view_is c.in_err-owner.ensures.fault), refl)
 
-pub returns-in-Err-field-clause-refused : goal.returns-in-Err-field-clause-refused
-returns-in-Err-field-clause-refused g c =
-    let e = c.in-Err-field.ensures in let ss = c.self.inside.slots.items in let pile = c.self.inside.pile in (
-      inr (subst (λ (t : TableNow g.row.V.Denot). IsNotRead t c.args.at (fault.Call c.in-Err-field.why) (seen c.read-field.new.desk ss pile)) c.self.view_is
-          (c.in-Err-field.why, refl, record { of = c.in-Ok.owner; was = c.in-Ok.ensures.found; event = e.read; rest = (refl, refl) })),
-      ap (λ (d : DeskNow g.row.V.Denot). seen d ss pile) (read_same c.self.inside.desk c.read-field.new.desk _ _ c.in-Err-field.why e.read) ∙ c.self.view_is,
+pub returns-in_err-read-clause-refused : goal.returns-in_err-read-clause-refused
+returns-in_err-read-clause-refused g c =
+    let t = c.args.self.now in let why = c.in_err-read.field-0.0 in let e = c.in_err-read.ensures in let ss = c.self.inside.slots.items in
+    let u = seen c.read.new.desk ss c.self.inside.pile in
+    if_fault (λ w. (WhyNoOwner t.slots c.args.at w ⊎ IsNotRead t c.args.at w u) × (u ≡ t)) c.from_residual-in_err-read.result (fault.Call why)
+    c.from_residual-in_err-read.ensures (
+      inr (subst (λ (x : TableNow g.row.V.Denot). IsNotRead x c.args.at (fault.Call why) u) c.self.view_is
+          (why, refl, record { of = c.in_ok-owner.owner.handle; was = c.in_ok-owner.ensures.found; event = e.read; rest = (refl, refl) })),
+      ap (λ (d : DeskNow g.row.V.Denot). seen d ss c.self.inside.pile) (read_same c.self.inside.desk c.read.new.desk _ _ why e.read) ∙ c.self.view_is,
     )

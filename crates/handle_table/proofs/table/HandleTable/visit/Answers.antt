@@ -11,7 +11,7 @@ use Rattle.handle_table.proofs.table.HandleTable.visit.Goals as goal
 
 pub visit-visited-requires-clause-holds : goal.visit-visited-requires-clause-holds
 visit-visited-requires-clause-holds g c =
-    fits_at c.self.inside.desk c.self.inside.slots.items c.args.at (Owner c.in-Ok.owner) c.self.invariant.fits c.in-Ok.ensures.found
+    fits_at c.self.inside.desk c.self.inside.slots.items c.args.at (Owner c.in-Ok.owner.handle) c.self.invariant.fits c.in-Ok.ensures.found
 
 pub invariant_of-self : goal.invariant_of-self
 invariant_of-self g c =
@@ -25,12 +25,12 @@ returns-in-Err-clause-refused g c =
 pub returns-in-Ok-visited-clause-visited : goal.returns-in-Ok-visited-clause-visited
 returns-in-Ok-visited-clause-visited g c =
     let ss = c.self.inside.slots.items in
-    visited _ _ (seen c.self.inside.desk ss c.self.inside.pile) c.args.self.now (seen c.visit-visited.new.desk ss c.self.inside.pile) c.args.at c.in-Ok.owner
-    c.in-Ok-visited.answer c.in-Ok.ensures.found c.in-Ok-visited.ensures.visit refl refl c.self.view_is
+    visited _ _ (seen c.self.inside.desk ss c.self.inside.pile) c.args.self.now (seen c.visit-visited.new.desk ss c.self.inside.pile) c.args.at
+    c.in-Ok.owner.handle c.in-Ok-visited.answer c.in-Ok.ensures.found c.in-Ok-visited.ensures.visit refl refl c.self.view_is
 
 pub returns-clause-refused : goal.returns-clause-refused
 returns-clause-refused g c =
-    let h = c.in-Ok.owner in let ss = c.self.inside.slots.items in
+    let h = c.in-Ok.owner.handle in let ss = c.self.inside.slots.items in
     let r = not_visited _ _ c.self.inside.desk c.visit-visited.new.desk h.block h.place c.in-Err-visited.refused c.in-Err-visited.ensures.visit in (
       subst (λ (t : TableNow g.row.V.Denot). WhyNotVisited t c.args.at (fault.Call c.in-Err-visited.refused.why)) c.self.view_is
           (inr (ap fault.Call r.0, (h, c.in-Ok.ensures.found, r.3))),
