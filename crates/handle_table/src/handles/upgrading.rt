@@ -24,7 +24,7 @@ impl<'d, V: Drop, H: Home> HandleTable<'d, V, H> {
         }
         let weak = weak_at(&self.slots, from)?;
         let owner = upgrade(rt, self.domain, &mut self.desk, &weak.handle);
-        // before the assignment: what lives across it costs a tenth of the call
+        // before the assignment, as in a lock
         drop(weak);
         let owner = owner?;
         let owner = Held::Owner(owner);
