@@ -27,6 +27,11 @@ def table():
     return rows
 
 
+def minutes_of_edits(crate: str) -> float:
+    """Processor minutes that a crate's wrong bodies take."""
+    return table().get(crate, [0.0, 0.0, 0.0])[PARTS.index("edits")]
+
+
 class Plan:
     """What is to be done, in processor minutes, and how much of it is."""
 
@@ -44,9 +49,9 @@ class Plan:
         for it in parts:
             self.left.pop(it, None)
 
-    def kept(self, crate):
-        """Notes that an earlier run did a crate, which says nothing of this run's pace."""
-        self.all -= sum(self.left.pop((crate, part), 0) for part in PARTS)
+    def kept(self, crate, parts=PARTS):
+        """Notes that an earlier run did these parts of a crate, which says nothing of this run's pace."""
+        self.all -= sum(self.left.pop((crate, part), 0) for part in parts)
 
     def stage_done(self, number):
         """Notes that a stage is over that runs once all is proved."""

@@ -1,0 +1,128 @@
+"""Where the functions of a Rattle file stand, and by which names a check tells of them."""
+
+import re
+from dataclasses import dataclass
+from pathlib import Path
+
+LITERAL = re.compile(r"""//[^\n]*|/\*.*?\*/|b?"(?:\\.|[^"\\])*"|b?'(?:\\.[^']*|[^'\\\n])'""", re.S)
+# What stands before the braces of a contract's clause, which may have a name.
+CLAUSE = re.compile(r"(?:requires|ensures)\*?(?:\s+\w+)?\s*$|ghost\s+\w+\s*:\s*$")
+AFTER_CLAUSE = re.compile(r"\s*(?:\{|requires\b|ensures\b)")
+BLOCK_OF_METHODS = re.compile(r"^(?:pub(?:\([^)]*\))? )?(?:unsafe )?(impl\b[^{;]*|trait\b[^{;]*)\{", re.M)
+FUNCTION = re.compile(r"\bfn\s+(\w+)")
+TYPE_ARGUMENTS = re.compile(r"<[^<>]*>")
+# Modules of these names are the crate's root, or the folder that they stand in.
+NAMELESS = "lib", "main", "mod"
+
+
+@dataclass(frozen=True)
+class Function:
+    """A function with a body: its file, its name, where its body begins and ends in the text, its lines, what `--only`
+    takes for it and for its file's module, and a pattern of the names that a check gives it and its closures."""
+
+    file: str
+    name: str
+    body: tuple[int, int]
+    lines: range
+    path: str
+    module: str
+    pattern: re.Pattern
+
+    def holds(self, begin: int, end: int) -> bool:
+        """Whether a part of the text lies in the body."""
+        return self.body[0] < begin and end <= self.body[1]
+
+
+def masked(text: str) -> str:
+    """The text with blanks for comments and literals, at the same places."""
+    return LITERAL.sub(lambda found: re.sub(r"[^\n]", " ", found[0]), text)
+
+
+def closing_brace(text: str, opening: int) -> int:
+    """Where the brace that opens at a place is closed."""
+    depth = 0
+    for place in range(opening, len(text)):
+        depth += (text[place] == "{") - (text[place] == "}")
+        if not depth:
+            return place
+    raise ValueError("a brace isn't closed")
+
+
+def body_after(text: str, name_end: int) -> tuple[int, int] | None:
+    """Where the body of a function begins and ends whose name ends at a place; None if it has none."""
+    depth, clause_begin, place = 0, name_end, name_end
+    while place < len(text):
+        sign = text[place]
+        depth += (sign in "([") - (sign in ")]")
+        if sign == ";" and not depth:
+            return None
+        if sign == "{" and not depth:
+            end = closing_brace(text, place)
+            if not CLAUSE.search(text[clause_begin:place]):
+                if AFTER_CLAUSE.match(text, end + 1):
+                    raise ValueError(f"what is a clause and what a body? {text[place:end][:60]}")
+                return place, end
+            place = clause_begin = end
+        place += 1
+    return None
+
+
+def last_word(text: str) -> str:
+    return re.escape((re.findall(r"\w+", text) or [""])[-1])
+
+
+def owner_pattern(header: str) -> str:
+    """The pattern of the name that a check gives an impl or a trait with this header."""
+    while TYPE_ARGUMENTS.search(header):
+        header = TYPE_ARGUMENTS.sub("", header)
+    words = re.split(r"\bwhere\b", header)[0].strip()
+    if words.startswith("trait"):
+        return re.escape(re.findall(r"\w+", words)[1])
+    words = words.removeprefix("impl")
+    if " for " not in words:
+        return last_word(words)
+    trait, _, of_type = words.partition(" for ")
+    both = rf"{last_word(of_type)}\w*{last_word(trait)}\w*"
+    # (an impl of Drop has the type's name alone)
+    return f"(?:{both}|{last_word(of_type)})" if last_word(trait) == "Drop" else both
+
+
+def function_of(crate: str, file: str, text: str, found: re.Match, owner: str | None) -> Function | None:
+    """The function whose name was found, if it has a body."""
+    body = body_after(text, found.end())
+    if not body:
+        return None
+    module = [part for part in Path(file).with_suffix("").parts[1:] if part not in NAMELESS]
+    name = found[1]
+    if owner and re.fullmatch(r"\w+", owner):
+        path = f"{owner}::{name}"
+    else:
+        # (its whole module where an impl's name isn't known)
+        path = "::".join(module if owner else [*module, name])
+    # (a method is named by the module of its type, which may be another)
+    home = rf"{crate}::(?:\w+::)*" if owner else re.escape("::".join([crate, *module])) + "::"
+    own = f"{owner}::" if owner else ""
+    pattern = re.compile(rf"{home}(?:{own}{name}|(?:{own})?fn::(?:{own})?{name}::.*)$")
+    lines = range(text.count("\n", 0, found.start()) + 1, text.count("\n", 0, body[1]) + 2)
+    return Function(file, name, body, lines, path, "::".join(module), pattern)
+
+
+def functions_of(crate: str, file: str, text: str) -> list[Function]:
+    """All functions of a file that have a body."""
+    text = masked(text)
+    owners = []
+    for found in BLOCK_OF_METHODS.finditer(text):
+        opening = found.end() - 1
+        owners.append((opening, closing_brace(text, opening), owner_pattern(found[1])))
+    functions = []
+    for found in FUNCTION.finditer(text):
+        owner = next((name for begin, end, name in owners if begin < found.start() < end), None)
+        functions.append(function_of(crate, file, text, found, owner))
+    return [function for function in functions if function]
+
+
+def function_around(crate: str, file: str, text: str, part: str) -> Function | None:
+    """The innermost function in whose body a part of a file's text lies."""
+    begin = text.index(part)
+    around = [function for function in functions_of(crate, file, text) if function.holds(begin, begin + len(part))]
+    return max(around, key=lambda function: function.body[0], default=None)
