@@ -60,7 +60,7 @@ def read_edit(crate: str, path: Path) -> Edit:
     return Edit(crate, path.stem, sentence, tuple(replacements), tuple(unread))
 
 
-def edit_paths(crate: str, *folders: str) -> list[Path]:
+def edit_paths(crate: str, *folders: str, root: Path = ROOT) -> list[Path]:
     """The files of a crate's edits, by name; those of both folders where none is named."""
-    home = ROOT / "crates" / crate
+    home = root / "crates" / crate
     return sorted(path for folder in folders or (WRONG_BODIES, MUST_FAIL) for path in (home / folder).glob("*.edit"))

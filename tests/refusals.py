@@ -22,6 +22,8 @@ UNREAD = re.compile(r"is not in scope|has no field|is no name|operand is missing
 STALE_LIBRARY = re.compile(r"module .Rattle-(\w+)-.*Run the lower steps again")
 VERDICT = "logic=not-proved", "only="
 KILLED, AT_A_LIMIT = -9, 3
+ENDS = {KILLED: "its check was killed", AT_A_LIMIT: "the prover met a limit of its own"}
+Functions = tuple[Function, ...]
 
 
 @dataclass(frozen=True)
@@ -56,7 +58,7 @@ class Verdict:
     reason: str
 
 
-def stands_in(functions: list[Function], crate: str, file: str, line: int) -> bool:
+def stands_in(functions: Functions, crate: str, file: str, line: int) -> bool:
     """Whether a line of a file belongs to one of these functions, or to its proof."""
     if file.startswith("src/"):
         return any(file == function.file and line in function.lines for function in functions)
@@ -65,7 +67,7 @@ def stands_in(functions: list[Function], crate: str, file: str, line: int) -> bo
     return file.startswith("proofs/") and any(function.pattern.match(name) for function in functions)
 
 
-def own_errors(functions: list[Function], crate: str, lines: tuple[str, ...]) -> list[tuple[str, str, str]]:
+def own_errors(functions: Functions, crate: str, lines: tuple[str, ...]) -> list[tuple[str, str, str]]:
     """The lines that tell of an error in these functions or in their proofs, each with its file and its text."""
     found = []
     for line in lines:
@@ -77,7 +79,7 @@ def own_errors(functions: list[Function], crate: str, lines: tuple[str, ...]) ->
     return found
 
 
-def verdict_of(functions: list[Function], crate: str, outcome: Outcome) -> Verdict | str:
+def verdict_of(functions: Functions, crate: str, outcome: Outcome) -> Verdict | str:
     """What a check says of the edit that turns these functions. Where it doesn't judge them, as one that they call is
     refused, that line."""
     if outcome.status == 0:
@@ -93,11 +95,11 @@ def verdict_of(functions: list[Function], crate: str, outcome: Outcome) -> Verdi
     return own_verdict(functions, crate, outcome, [found[0] for found in said])
 
 
-def is_of(functions: list[Function], name: str) -> bool:
+def is_of(functions: Functions, name: str) -> bool:
     return any(function.pattern.match(name) for function in functions)
 
 
-def own_verdict(functions: list[Function], crate: str, outcome: Outcome, said: list[str]) -> Verdict | str:
+def own_verdict(functions: Functions, crate: str, outcome: Outcome, said: list[str]) -> Verdict | str:
     """As `verdict_of`, where one of the functions isn't proved; `said` are the check's lines of them."""
     errors = own_errors(functions, crate, outcome.lines)
     unread = [line for line, file, text in errors if file.startswith("src/") and UNREAD.search(text)]
@@ -115,3 +117,14 @@ def own_verdict(functions: list[Function], crate: str, outcome: Outcome, said: l
     if lacking:
         return Verdict(NOT_REFUSED, f"only a proof's file is wanting: {lacking[0]}")
     return next((line for line in said if ": proved" not in line), said[0])
+
+
+def verdict_alone(functions: Functions, crate: str, outcome: Outcome) -> Verdict:
+    """What came of a check with one edit alone, which turns these functions."""
+    if outcome.has_verdict():
+        found = verdict_of(functions, crate, outcome)
+        return found if isinstance(found, Verdict) else Verdict(NOT_REFUSED, f"not for its own function: {found}")
+    if not outcome.compiles():
+        return Verdict(BAD, f"it doesn't compile: {outcome.first_error()}")
+    why = ENDS.get(outcome.status, f"status {outcome.status}")
+    return Verdict(NOT_TRIED, f"{why}: {outcome.first_error()}")

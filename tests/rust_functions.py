@@ -87,6 +87,16 @@ def owner_pattern(header: str) -> str:
     return f"(?:{both}|{last_word(of_type)})" if last_word(trait) == "Drop" else both
 
 
+def item_begin(text: str, place: int) -> int:
+    """Where the item begins in which a place lies, with its attributes."""
+    before = max(text.rfind(sign, 0, place) for sign in "{};")
+    return before + 1 + len(text[before + 1 : place]) - len(text[before + 1 : place].lstrip())
+
+
+def line_of(text: str, place: int) -> int:
+    return text.count("\n", 0, place) + 1
+
+
 def function_of(crate: str, file: str, text: str, found: re.Match, owner: str | None) -> Function | None:
     """The function whose name was found, if it has a body."""
     body = body_after(text, found.end())
@@ -103,7 +113,7 @@ def function_of(crate: str, file: str, text: str, found: re.Match, owner: str | 
     home = rf"{crate}::(?:\w+::)*" if owner else re.escape("::".join([crate, *module])) + "::"
     own = f"{owner}::" if owner else ""
     pattern = re.compile(rf"{home}(?:{own}{name}|(?:{own})?fn::(?:{own})?{name}::.*)$")
-    lines = range(text.count("\n", 0, found.start()) + 1, text.count("\n", 0, body[1]) + 2)
+    lines = range(line_of(text, item_begin(text, found.start())), line_of(text, body[1]) + 1)
     return Function(file, name, body, lines, path, "::".join(module), pattern)
 
 
