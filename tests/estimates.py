@@ -1,73 +1,168 @@
-"""How long checks will take: the tables of docs/gate.md, and the machine's processors."""
+"""How long checks will take: by what one run from nothing took, by what this run has measured so far, and by the load.
+
+gate_minutes.csv has the processor minutes of each crate, stage_seconds.csv the seconds by the clock of each stage that runs
+once all is proved. `tests/gate_times` writes both of one run."""
+
+import csv
 import os
-import pathlib
 import re
 import statistics
 import time
+from collections.abc import Iterable
+from pathlib import Path
 
-PAGE = pathlib.Path(__file__).resolve().parent.parent / "docs/gate.md"
-ROW = re.compile(r"^\| (\w+) \| ([\d.]*) \| ([\d.]*) \| ([\d.]*) \|", re.MULTILINE)
+from processor_time import used_seconds
+
+HERE = Path(__file__).resolve().parent
 PARTS = "proofs", "tests", "edits"
-# The row of what runs once all is proved.
-LAST = "after"
 # The most memory that one check of a crate has taken, in bytes.
 MEMORY_OF_A_CHECK = 4 << 30
+# How many crates' wrong bodies are tried at a time.
+CRATES_AT_ONCE = 2
+# So many minutes of work count as if they had gone as the tables say, and so many by the clock as the load says.
+TRUST = 3.0
+# Seconds of a stage that no run has measured.
+UNKNOWN_STAGE = 10.0
+SEED = re.compile(r",? seed \d+,?")
 
 
-def lanes():
-    """How many checks go side by side: one a processor, as memory allows."""
-    fit = os.sysconf("SC_PAGE_SIZE") * os.sysconf("SC_PHYS_PAGES") // MEMORY_OF_A_CHECK
-    return max(1, min(len(os.sched_getaffinity(0)), fit))
-
-
-def table():
-    """Processor minutes of each crate by part; a crate that has no row takes those of the one in the middle."""
-    rows = {name: [float(it or 0) for it in minutes] for name, *minutes in ROW.findall(PAGE.read_text())}
-    rows.pop("all", None)
-    return rows
+def rows(name: str) -> dict[str, list[float]]:
+    """A table's numbers by the word in its first column."""
+    with open(HERE / name, newline="", encoding="utf-8") as file:
+        lines = csv.reader(line for line in file if not line.startswith("#"))
+        next(lines)
+        return {first: [float(number or 0) for number in numbers] for first, *numbers in lines}
 
 
 def minutes_of_edits(crate: str) -> float:
     """Processor minutes that a crate's wrong bodies take."""
-    return table().get(crate, [0.0, 0.0, 0.0])[PARTS.index("edits")]
+    return rows("gate_minutes.csv").get(crate, [0.0, 0.0, 0.0])[PARTS.index("edits")]
+
+
+def processors() -> int:
+    return len(os.sched_getaffinity(0))
+
+
+def lanes() -> int:
+    """How many checks go side by side: one a processor, as memory allows."""
+    fit = os.sysconf("SC_PAGE_SIZE") * os.sysconf("SC_PHYS_PAGES") // MEMORY_OF_A_CHECK
+    return max(1, min(processors(), fit))
+
+
+def share(more: int) -> float:
+    """Which part of a processor each process gets, with so many beside those that run now."""
+    return min(1.0, processors() / max(os.getloadavg()[0] + more, 1.0))
+
+
+def stage_name(title: str) -> str:
+    """A stage's title without the day's seed."""
+    return SEED.sub("", title)
+
+
+class Pace:
+    """How work goes in this run: what it takes of what the tables say, and how much is done in a minute by the clock."""
+
+    def __init__(self, at_once: int, cost: float = 1.0):
+        self.at_once, self.done, self.cost_before, self.share = at_once, 0.0, cost, share(at_once)
+        self.start, self.ended_before = time.monotonic(), used_seconds()[0]
+
+    def used(self) -> tuple[float, float]:
+        """Processor minutes of what has ended since this began, and of what is under way."""
+        ended, under_way = used_seconds()
+        return (ended - self.ended_before) / 60, under_way / 60
+
+    def cost(self) -> float:
+        """What work takes here for each minute that the tables say."""
+        return (self.used()[0] + TRUST * self.cost_before) / (self.done + TRUST)
+
+    def rate(self) -> float:
+        """Processor minutes in a minute by the clock."""
+        clock = (time.monotonic() - self.start) / 60
+        return max((sum(self.used()) + TRUST * self.at_once * self.share) / (clock + TRUST), 0.05)
+
+    def each(self) -> float:
+        """Which part of a processor each of these processes gets."""
+        return min(1.0, max(self.rate() / self.at_once, share(0)))
+
+    def left(self, work: float, chain: float = 0.0) -> float:
+        """Minutes by the clock that this work takes still, of which the chain goes one after another."""
+        cost = self.cost()
+        rest = max(work * cost - self.used()[1], work * cost / 10)
+        return max(rest / self.rate(), chain * cost / self.each())
+
+
+class Stages:
+    """Stages that run one after another, each by its title, and how long those take that are left."""
+
+    def __init__(self, titles: Iterable[str]):
+        known = rows("stage_seconds.csv")
+        self.expected = {title: known.get(stage_name(title), [UNKNOWN_STAGE])[0] for title in titles}
+        self.ended, self.of_ended = 60 / share(1), 60.0
+
+    def done(self, title: str, seconds: float):
+        """Notes that a stage is over, and what it took."""
+        self.ended, self.of_ended = self.ended + seconds, self.of_ended + self.expected.pop(title, 0.0)
+
+    def minutes(self) -> float:
+        return sum(self.expected.values()) / 60 * self.ended / self.of_ended
 
 
 class Plan:
-    """What is to be done, in processor minutes, and how much of it is."""
+    """What is to be done: crates' proofs, tests and what `rt ci` tries, then the other wrong bodies, then stages."""
 
-    def __init__(self, crates, stages):
-        rows, self.start = table(), time.monotonic()
-        middle = [statistics.median(column) for column in zip(*rows.values())]
-        after = sum(rows.pop(LAST, [5.0]))
-        self.left = {(crate, part): it for crate in crates for part, it in zip(PARTS, rows.get(crate, middle))}
-        self.lanes, self.begun, self.all = lanes(), {}, sum(self.left.values())
-        # (these run one after another, and some of them on one processor)
-        self.after = {stage: after / stages / min(2, self.lanes) for stage in range(stages)}
+    def __init__(self, below: dict[str, list[str]], crates: list[str], tried_by_rt: set[str], titles: Iterable[str]):
+        known = rows("gate_minutes.csv")
+        # (a crate that has no row takes what the one in the middle does)
+        middle = [statistics.median(column) for column in zip(*known.values())]
+        self.proofs_left, self.edits_left = {}, {}
+        for crate in crates:
+            proofs, tests, edits = known.get(crate, middle)
+            self.proofs_left |= {(crate, "proofs"): proofs, (crate, "tests"): tests}
+            (self.proofs_left if crate in tried_by_rt else self.edits_left)[crate, "edits"] = edits
+        self.below, self.stages = below, Stages(titles)
+        self.proofs, self.edits = Pace(lanes()), None
 
-    def done(self, *parts):
+    def done(self, *parts: tuple[str, str]):
         """Notes that these parts of crates are over."""
-        for it in parts:
-            self.left.pop(it, None)
+        for part in parts:
+            self.proofs.done += self.proofs_left.pop(part, 0.0)
+            if self.edits:
+                self.edits.done += self.edits_left.pop(part, 0.0)
 
-    def kept(self, crate, parts=PARTS):
-        """Notes that an earlier run did these parts of a crate, which says nothing of this run's pace."""
-        self.all -= sum(self.left.pop((crate, part), 0) for part in parts)
+    def kept(self, *parts: tuple[str, str]):
+        """Notes that an earlier run did these, which says nothing of this run's pace."""
+        for part in parts:
+            self.proofs_left.pop(part, None)
+            self.edits_left.pop(part, None)
 
-    def stage_done(self, number):
-        """Notes that a stage is over that runs once all is proved."""
-        self.after.pop(number, None)
+    def proofs_end(self):
+        """All that is left of `rt ci` is over, and the wrong bodies begin: at first as dear as the proofs were here."""
+        self.done(*list(self.proofs_left))
+        self.edits = Pace(min(CRATES_AT_ONCE, lanes()), self.proofs.cost())
 
-    def edits_begin(self, crate):
-        """A crate's edits have no line at their end, so they are taken to go on at one processor."""
-        self.begun[crate, "edits"] = time.monotonic()
+    def chain(self) -> float:
+        """The most minutes of proofs and tests that are left and wait for one another."""
+        sums = {}
 
-    def minutes(self):
-        """How many minutes by the clock are left. Those of proofs go at the pace so far, as if a quarter of them had
-        gone at the table's before: what is under way isn't done, so that the first minutes say little."""
-        now = time.monotonic()
-        going = sum(min(self.left.get(it, 0), (now - since) / 60) for it, since in self.begun.items())
-        left = sum(self.left.values()) - going
-        before = self.all / 4
-        spent = (now - self.start) / 60 * self.lanes
-        pace = (spent + before) / (self.all - left + before) if self.all else 1
-        return left / self.lanes * pace + sum(self.after.values())
+        def proofs_below(crate: str) -> float:
+            if crate not in sums:
+                own = self.proofs_left.get((crate, "proofs"), 0.0)
+                sums[crate] = own + max(map(proofs_below, self.below.get(crate, ())), default=0.0)
+            return sums[crate]
+
+        longest = 0.0
+        for crate, part in self.proofs_left:
+            own = self.proofs_left.get((crate, "proofs"), 0.0)
+            tests = self.proofs_left[crate, part] - own if part == "tests" else 0.0
+            longest = max(longest, proofs_below(crate) + tests)
+        return longest
+
+    def minutes(self) -> float:
+        """How many minutes by the clock are left."""
+        proofs, edits = sum(self.proofs_left.values()), sum(self.edits_left.values())
+        left = self.proofs.left(proofs, self.chain()) if proofs else 0.0
+        if self.edits:
+            left += self.edits.left(edits) if edits else 0.0
+        else:
+            left += edits * self.proofs.cost() / self.proofs.each() / min(CRATES_AT_ONCE, lanes())
+        return left + self.stages.minutes()

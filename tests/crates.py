@@ -1,0 +1,23 @@
+"""The crates of this repository, and which of them have tests and wrong bodies."""
+
+from pathlib import Path
+
+from edit_files import MUST_FAIL, edit_paths
+
+ROOT = Path(__file__).resolve().parent.parent
+
+
+def crates() -> dict[str, list[str]]:
+    """The crates that crates.txt lists, in its order, each with the libraries that it stands on."""
+    lines = (ROOT / "crates.txt").read_text().splitlines()
+    parted = (line.partition(":") for line in lines if line.strip() and not line.startswith("#"))
+    return {head.split()[0]: below.split() for head, _, below in parted}
+
+
+def has_tests(crate: str) -> bool:
+    return any("#[test]" in file.read_text() for file in (ROOT / "crates" / crate / "src").rglob("*.rt"))
+
+
+def edits(crate: str, folder: str = MUST_FAIL) -> int:
+    """How many wrong bodies a crate has in a folder: those that `rt ci` tries, or the others."""
+    return len(edit_paths(crate, folder))
