@@ -66,10 +66,10 @@ class Pace:
         self.at_once, self.done, self.cost_before, self.share = at_once, 0.0, cost, share(at_once)
         self.start, self.ended_before = time.monotonic(), used_seconds()[0]
 
-    def used(self) -> tuple[float, float]:
-        """Processor minutes of what has ended since this began, and of what is under way."""
+    def used(self) -> tuple[float, float, float]:
+        """Processor minutes of what has ended since this began, of all that is under way, and of the longest of it."""
         ended, under_way = used_seconds()
-        return (ended - self.ended_before) / 60, under_way / 60
+        return (ended - self.ended_before) / 60, sum(under_way) / 60, max(under_way, default=0.0) / 60
 
     def cost(self) -> float:
         """What work takes here for each minute that the tables say."""
@@ -78,7 +78,7 @@ class Pace:
     def rate(self) -> float:
         """Processor minutes in a minute by the clock."""
         clock = (time.monotonic() - self.start) / 60
-        return max((sum(self.used()) + TRUST * self.at_once * self.share) / (clock + TRUST), 0.05)
+        return max((sum(self.used()[:2]) + TRUST * self.at_once * self.share) / (clock + TRUST), 0.05)
 
     def each(self) -> float:
         """Which part of a processor each of these processes gets."""
@@ -87,8 +87,11 @@ class Pace:
     def left(self, work: float, chain: float = 0.0) -> float:
         """Minutes by the clock that this work takes still, of which the chain goes one after another."""
         cost = self.cost()
-        rest = max(work * cost - self.used()[1], work * cost / 10)
-        return max(rest / self.rate(), chain * cost / self.each())
+        _, under_way, longest = self.used()
+        # (what is under way may take longer than was foretold)
+        rest = max(work * cost - under_way, work * cost / 10)
+        rest_of_chain = max(chain * cost - longest, chain * cost / 10)
+        return max(rest / self.rate(), rest_of_chain / self.each())
 
 
 class Stages:

@@ -27,20 +27,17 @@ def processes() -> Iterator[tuple[int, int, float, float]]:
         yield int(folder.name), int(words[1]), own / TICKS, of_children / TICKS
 
 
-def used_seconds() -> tuple[float, float]:
-    """Of all below this process: what has ended, and what those under way have used so far. A child that runs others,
+def used_seconds() -> tuple[float, list[float]]:
+    """Of all below this process: what has ended, and what each that is under way has used so far. A child that runs others,
     as `rt` runs the prover, is no work under way itself."""
     children, times = defaultdict(list), {}
     for process, parent, own, of_children in processes():
         children[parent].append(process)
         times[process] = own, of_children
-    ended, under_way = ended_seconds(), 0.0
     runners = children[os.getpid()]
-    for runner in runners:
-        ended += sum(times[runner])
-    left = [process for runner in runners for process in children[runner]]
-    while left:
-        process = left.pop()
-        under_way += sum(times[process])
-        left += children[process]
-    return ended, under_way
+    ended = ended_seconds() + sum(sum(times[runner]) for runner in runners)
+
+    def whole(process: int) -> float:
+        return sum(times[process]) + sum(map(whole, children[process]))
+
+    return ended, [whole(process) for runner in runners for process in children[runner]]

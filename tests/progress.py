@@ -26,6 +26,8 @@ class Progress:
         proved, kept, begun = PROVED.match(line), KEPT.match(line), BEGUN.match(line)
         if begun:
             say(f"{begun[1]}: its {edits(begun[1])} wrong bodies have begun")
+            # (they have no line at their end)
+            self.plan.done((begun[1], "edits"))
         elif kept:
             # (its tests and the edits of `rt ci` are kept too, or as good as done)
             self.proofs.add(kept[1])
