@@ -10,6 +10,7 @@ pub mod Own
 pub mod Sole
 pub mod Shelving
 pub mod Latest
+pub mod Observations
 pub mod SlotLists
 pub mod HandleLists
 pub mod cells

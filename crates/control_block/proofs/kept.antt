@@ -21,5 +21,6 @@ pub mod Finish
 pub mod Clear
 pub mod Split
 pub mod Join
+pub mod Observation
 pub mod Peek
 pub mod Shelf

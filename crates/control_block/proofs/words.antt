@@ -3,6 +3,7 @@ pub mod Slots
 pub mod Seats
 pub mod Hands
 pub mod Still
+pub mod Apart
 pub mod Unseen
 pub mod Lists
 pub mod Stores

@@ -1,7 +1,6 @@
 -- What the calls on cells say of a desk. A handle goes by its kind, its block, if it has one, and its place.
 use Rattle.std.specs.Prelude.{◌≡◌, ℕ, ◌+◌, ◌<◌, List, ◌∷◌, length, Option, None, Some}
 use Rattle.control_word.specs.Handles.{handle, same_handle}
-use Rattle.control_word.specs.Layout.{IsSite, cell_place, site_place, spot}
 use Rattle.control_word.specs.State.{kind_of_free, kind_of_member, without}
 use Rattle.control_word.specs.declared.model.event.Cell.{Cell}
 use Rattle.control_word.specs.declared.model.event.Cell.TheVariants.{Free, Member}

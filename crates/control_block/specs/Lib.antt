@@ -6,6 +6,7 @@ pub mod LockCalls
 pub mod DoorStepKinds
 pub mod FundStepKinds
 pub mod ShelfStepKinds
+pub mod ObservationStepKinds
 pub mod CellStepKinds
 pub mod CellRetries
 pub mod Clearing
@@ -23,6 +24,7 @@ pub mod Standing
 pub mod Outcomes
 pub mod Own
 pub mod Laws
+pub mod Observations
 pub mod Shelf
 pub mod SlotLists
 pub mod HandleLists

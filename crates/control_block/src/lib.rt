@@ -9,6 +9,7 @@ pub mod domain;
 pub mod handles;
 pub mod in_place;
 pub mod laws;
+mod observation;
 mod parting;
 mod pause;
 pub mod released;

@@ -16,6 +16,7 @@ pub mod clears;
 pub mod doors;
 pub mod funds;
 pub mod locks;
+pub mod observation;
 pub mod shelf;
 
 use crate::slot::Slot;

@@ -20,6 +20,7 @@ pub mod in_hand;
 pub mod leaving;
 pub mod locks;
 pub mod making;
+pub mod observation;
 pub mod seats;
 pub mod shelf;
 mod words;
