@@ -49,7 +49,7 @@ def ask_about(record):
     if not shutil.which('gdb'):
         return answers
     types, symbols = collections.defaultdict(set), collections.defaultdict(set)
-    for it in record.handles + record.raw_pointers:
+    for it in record.handles + record.raw_pointers + record.links:
         if it.place.kind == 'object':
             types[record.blocks[it.place.number].name].add(it.place.offset)
         elif it.place.kind == 'static':

@@ -1,21 +1,19 @@
-"""What a programmer calls the memory that a handle lies in, and whether it owns or watches."""
-import collections
+"""What a programmer calls the memory that a word lies in, and whether its declared type can own."""
 import os
 import re
 
 from recorder.record_text import Handle
 from recorder.type_names import short
 
+NOBODY = 'heap memory that nothing points to'
 WORD = 8  # a handle is told by its second, the first is the pointer to its object
 
 
 def label_places(record, answers):
     """Gives each handle and raw pointer the name of its place, and each handle its declared type where that is
     known."""
-    for it in record.handles + record.raw_pointers:
-        it.label, declared = label_of(it.place, record, answers, WORD if isinstance(it, Handle) else 0)
-        if isinstance(it, Handle):
-            it.declared = declared
+    for it in record.handles + record.raw_pointers + record.links:
+        it.label, it.declared = label_of(it.place, record, answers, WORD if isinstance(it, Handle) else 0)
 
 
 def label_of(place, record, answers, before):
@@ -32,7 +30,17 @@ def label_of(place, record, answers, before):
         return 'a thread-local variable', ''
     if place.kind == 'stack':
         return f'the stack of thread {place.number}', ''
-    return 'heap memory that nothing points to', ''
+    if place.kind == 'kernel':
+        return 'the kernel, by an epoll', ''
+    return NOBODY, ''
+
+
+def is_raw(declared):
+    """Whether a type is a raw pointer or a reference, an iterator, or a container of such: what owns nothing."""
+    if declared.endswith(('*', '&')) or re.search(r'_iterator\b|::iterator\b', declared):
+        return True
+    owns = re.search(r'_ptr<|std::(function|any|optional|variant|coroutine)\b|\(\*\)|\)', declared)
+    return not owns and bool(re.search(r'\*( const)?[,>]', declared))
 
 
 def label_in_object(place, block, answers, before):
@@ -49,7 +57,7 @@ def is_beyond(block, offset, answers):
 
 def drop_beyond(record, answers):
     """In a pool an object is as large as its type: what lies beyond is somebody else's."""
-    for it in record.handles + record.raw_pointers:
+    for it in record.handles + record.raw_pointers + record.links:
         if it.place.kind != 'object' or it.place.inner >= 0:
             continue
         if is_beyond(record.blocks[it.place.number], it.place.offset, answers):
@@ -57,144 +65,3 @@ def drop_beyond(record, answers):
     record.raw_pointers = [
         it for it in record.raw_pointers if not is_beyond(record.blocks[it.to], it.to_byte, answers)
     ]
-
-
-class Counts:
-    """The handles on one block, beside what it counts itself."""
-
-    __slots__ = 'handles', 'owners_wanted', 'weaks_wanted', 'owners_missing', 'weaks_missing', 'open'
-
-    def __init__(self, block, handles):
-        self.handles = handles
-        self.owners_wanted, self.weaks_wanted = block.uses, block.weaks - block.is_live
-        self.count()
-
-    def count(self):
-        self.owners_missing, self.weaks_missing, self.open = self.owners_wanted, self.weaks_wanted, 0
-        for it in self.handles:
-            if it.kind == 'owner':
-                self.owners_missing -= 1
-            elif it.kind == 'weak':
-                self.weaks_missing -= 1
-            else:
-                self.open += 1
-
-    @property
-    def are_met(self):
-        return not (self.owners_missing or self.weaks_missing or self.open)
-
-    def decide(self):
-        """What is open is all of one kind where the other is found already."""
-        if self.weaks_missing <= 0 < self.owners_missing:
-            self.set_open('owner')
-        elif self.owners_missing <= 0 < self.weaks_missing:
-            self.set_open('weak')
-
-    def set_open(self, kind):
-        for it in self.handles:
-            if it.kind == 'either':
-                it.kind = kind
-        if kind == 'owner':
-            self.owners_missing -= self.open
-        else:
-            self.weaks_missing -= self.open
-        self.open = 0
-
-    def drop(self, kind, excess):
-        """Drops so many of a kind that lie in statics themselves."""
-        if excess <= 0:
-            return
-        for it in [it for it in self.handles if it.kind == kind and is_in_static(it.place)][:excess]:
-            it.kind = 'old'
-            self.handles.remove(it)
-        self.count()
-
-
-def is_storage(handle):
-    """Whether the declared type is bytes, in which anything may have been."""
-    return bool(re.search(r'\b(char|byte)\b|aligned_storage|aligned_buffer', handle.declared))
-
-
-def drop_from_storage(record, counts, leaked):
-    """Where more owners are found than a block counts, those that lie in mere bytes of leaked objects are old ones.
-    What leaks is the same without them. Returns whether there were some."""
-    dropped = False
-    for it in counts:
-        if it.owners_missing >= 0:
-            continue
-        old = [owner for owner in it.handles if owner.kind == 'owner' and is_storage(owner)]
-        old = [owner for owner in old if owner.place.kind == 'object' and owner.place.number in leaked]
-        for owner in old[: -it.owners_missing]:
-            owner.kind = 'old'
-            it.handles.remove(owner)
-            dropped = True
-        it.count()
-    if dropped:
-        record.handles = [it for it in record.handles if it.kind != 'old']
-    return dropped
-
-
-def is_in_static(place):
-    return place.kind in ('static', 'thread-local') and place.inner < 0
-
-
-def kind_by_type(declared):
-    is_weak = 'weak_ptr<' in declared or 'enable_shared_from_this<' in declared
-    is_owner = 'shared_ptr<' in declared
-    return 'either' if is_weak == is_owner else 'weak' if is_weak else 'owner'
-
-
-def place_key(it, record):
-    """What places of one declaration have in common."""
-    name = record.blocks[it.place.number].name if it.place.kind in ('object', 'deleter') else it.place.number
-    return it.place.kind, name, it.place.offset, it.place.inner
-
-
-def decide_kinds(record):
-    """Owner or weak, where only memory told of a handle: by what the counts leave, by the declared type, by
-    other handles in the same member. Returns the counts of each block."""
-    on = collections.defaultdict(list)
-    for it in record.handles:
-        on[it.block].append(it)
-    counts = [Counts(block, on[number]) for number, block in enumerate(record.blocks)]
-    if record.when == 'exit':
-        drop_old(counts)
-    known = collections.defaultdict(set)
-    undecided = counts
-    while True:
-        for it in undecided:
-            it.decide()
-        undecided = [it for it in undecided if it.open]
-        if not undecided or not by_declaration(record, undecided, known):
-            break
-    if record.when == 'exit':
-        drop_old(it for it in counts if not it.are_met)
-    record.handles = [it for it in record.handles if it.kind != 'old']
-    return counts
-
-
-def by_declaration(record, undecided, known):
-    """Decides by declared types, and by what other handles in the same member are. Returns whether it decided
-    any."""
-    for it in record.handles:
-        if it.kind in ('owner', 'weak'):
-            known[place_key(it, record)].add(it.kind)
-    changed = False
-    for counts in undecided:
-        for it in counts.handles:
-            if it.kind == 'either':
-                same = known[place_key(it, record)]
-                kind = kind_by_type(it.declared)
-                it.kind = next(iter(same)) if kind == 'either' and len(same) == 1 else kind
-                changed |= it.kind != 'either'
-        counts.count()
-    return changed
-
-
-def drop_old(counts):
-    """After the destructors of statics these keep their old bytes: where more handles are found than a block
-    counts, those in statics are no handles any more."""
-    for it in counts:
-        it.drop('either', it.open - max(it.owners_missing, 0) - max(it.weaks_missing, 0))
-        it.drop('owner', -it.owners_missing)
-        it.drop('weak', -it.weaks_missing)

@@ -4,6 +4,7 @@ import functools
 from dataclasses import dataclass, field
 
 from recorder import owner_search
+from recorder.memories import Memories
 
 LONGEST_LABEL = 1000
 MOST_CUTS = 2000  # objects up to which the search tells single cuts, which only drawings show
@@ -11,18 +12,22 @@ MOST_CUTS = 2000  # objects up to which the search tells single cuts, which only
 
 @dataclass
 class Graph:
-    """Objects by number from 1; owners and weak ones as (from, to, label), roots as (to, label)."""
+    """Objects by number from 1; owners and weak ones as (from, to, label), roots as (to, label). `lost` are owners in
+    memory that nothing leads to: in the graph's text they are roots."""
 
     objects: list = field(default_factory=list)
     owners: list = field(default_factory=list)
     weaks: list = field(default_factory=list)
     roots: list = field(default_factory=list)
+    lost: list = field(default_factory=list)
+    undecided: set = field(default_factory=set)
 
     def text(self):
         lines = [f'object {number} {label}' for number, label in enumerate(self.objects, 1)]
         lines += [f'owner {a} {b} {label}' for a, b, label in self.owners]
         lines += [f'weak {a} {b} {label}' for a, b, label in self.weaks]
         lines += [f'root {to} {label}' for to, label in self.roots]
+        lines += [f'root {to} an owner in {label}' for to, label in self.lost]
         return ''.join(f'{line.rstrip()}\n' for line in lines)
 
 
@@ -40,6 +45,7 @@ class Answer:
 
     verdicts: list
     leaked: set
+    lost: set  # what only an owner in lost memory keeps
     knots: list = field(default_factory=list)
 
 
@@ -52,8 +58,16 @@ def plain(label):
 
 def ask(graph):
     """The answer to a graph. A knot that another object owns has nothing to cut or to weaken."""
-    verdicts = owner_search.verdicts(len(graph.objects), graph.owners, [to for to, _ in graph.roots])
-    answer = Answer(verdicts, {it for it in range(1, len(verdicts)) if verdicts[it] == 'leaked'})
+    roots, lost = [to for to, _ in graph.roots], [to for to, _ in graph.lost]
+    count = len(graph.objects)
+    verdicts = owner_search.verdicts(count, graph.owners, roots + lost)
+    kept = owner_search.reached(owner_search.lists_of(count, graph.owners), roots) if lost else ()
+    numbers = range(1, count + 1)
+    answer = Answer(
+        verdicts,
+        {it for it in numbers if verdicts[it] == 'leaked'},
+        {it for it in numbers if lost and verdicts[it] == 'kept' and it not in kept},
+    )
     for objects, ties, is_owned in owner_search.knots(verdicts, graph.owners):
         knot = Knot(objects, ties)
         if not is_owned:
@@ -66,28 +80,30 @@ def ask(graph):
 
 def graph_of(record, counts):
     """The graph of the objects that are left, and in it the number of each block's object. An owner that a block
-    counts and nobody found is a root."""
-    graph = Graph()
-    numbers = {}
+    counts and nobody found is a root; where it isn't certain whether a handle owns, it is what it most likely is."""
+    graph, numbers = Graph(), {}
     for at, block in enumerate(record.blocks):
         if block.is_live:
             graph.objects.append(plain(block.name))
             numbers[at] = len(graph.objects)
+    memories = Memories(record, numbers, counts)
     for it in record.handles:
         if it.block not in numbers:
             continue
-        to, label = numbers[it.block], plain(it.label)
-        holder = numbers.get(it.place.number) if it.place.kind in ('object', 'deleter') else None
-        if it.kind == 'weak':
-            if holder:
-                graph.weaks.append((holder, to, label))
-        elif holder:
-            graph.owners.append((holder, to, label))
+        to, owner = numbers[it.block], memories.owner_at(it.place, it.label)
+        if (it.guess or it.kind) == 'weak':
+            if owner:
+                graph.weaks.append((owner[0], to, plain(owner[1])))
+        elif owner:
+            graph.owners.append((owner[0], to, plain(owner[1])))
+        elif memories.is_lost(it.place):
+            graph.lost.append((to, memories.root_label(it.place, it.label)))
         else:
-            graph.roots.append((to, label))
+            graph.roots.append((to, plain(memories.root_label(it.place, it.label))))
     for at, number in numbers.items():
-        graph.roots += [(number, 'an owner that was not found')] * max(counts[at].owners_missing, 0)
-    return graph, numbers
+        graph.roots += [(number, 'an owner that was not found')] * counts[at].owners_nowhere
+    graph.undecided = memories.kept - memories.surely_kept
+    return graph, numbers, memories
 
 
 def tied_by(knot):

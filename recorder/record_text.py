@@ -5,12 +5,15 @@ from typing import NamedTuple
 
 class Place(NamedTuple):
     """Where a word lies: in an object, a control block with a deleter, a static, a thread's variables or stack,
-    or on the heap. `inner` is its byte in a chunk that pointers lead to from `offset`, or -1."""
+    or on the heap. `inner` is its byte in a chunk that pointers lead to from `offset`, or -1; `memory` is what this
+    chunk is a part of where it isn't certain whose that is, or -1. `maker` says of which type the chunk is, or `-`."""
 
     kind: str
     number: int
     offset: int
     inner: int
+    memory: int = -1
+    maker: str = '-'
 
 
 @dataclass(slots=True)
@@ -41,6 +44,7 @@ class Handle:
     place: Place
     label: str = ''
     declared: str = ''
+    guess: str = ''  # of `owner` or `weak`, where its kind stays `either`
 
 
 @dataclass(slots=True)
@@ -49,6 +53,17 @@ class RawPointer:
     to_byte: int
     place: Place
     label: str = ''
+    declared: str = ''
+
+
+@dataclass(slots=True)
+class Link:
+    """A pointer to memory of which it isn't certain whose it is."""
+
+    to: int
+    place: Place
+    label: str = ''
+    declared: str = ''
 
 
 @dataclass
@@ -60,12 +75,13 @@ class Record:
     blocks: list = field(default_factory=list)
     handles: list = field(default_factory=list)
     raw_pointers: list = field(default_factory=list)
+    links: list = field(default_factory=list)
     untyped: int = 0
     lost: int = 0
 
 
 def place_of(words):
-    return Place(words[0], int(words[1]), int(words[2]), int(words[3]))
+    return Place(words[0], int(words[1]), int(words[2]), int(words[3]), int(words[4]), words[5])
 
 
 def block_of(words, known):
@@ -88,6 +104,8 @@ def read(path):
                 record.handles.append(Handle(words[0], int(words[1]), place_of(words[2:])))
             elif kind == 'raw':
                 record.raw_pointers.append(RawPointer(int(words[0]), int(words[1]), place_of(words[2:])))
+            elif kind == 'link':
+                record.links.append(Link(int(words[0]), place_of(words[1:])))
             elif kind == 'block':
                 record.blocks.append(block_of(words[1:], known))
             elif kind == 'told':

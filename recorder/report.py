@@ -18,8 +18,18 @@ def kind_text(kind):
 
 
 def leaked_lines(told):
-    counts = collections.Counter(told.kind(it) for it in sorted(told.alarming))
-    return [f'leaked {count} {kind_text(kind)}' for kind, count in counts.most_common()]
+    lost = {to: label for to, label in told.graph.lost if to in told.alarming}
+    counts = collections.Counter(told.kind(it) for it in sorted(told.alarming - set(lost)))
+    yield from [f'leaked {count} {kind_text(kind)}' for kind, count in counts.most_common()]
+    counts = collections.Counter((told.kind(it), label) for it, label in sorted(lost.items()))
+    for (kind, label), count in counts.most_common():
+        yield f'lost {count} {kind_text(kind)}, by an owner in {label}'
+
+
+def undecided_lines(told):
+    counts = collections.Counter(told.kind(it) for it in sorted(told.undecided))
+    for kind, count in counts.most_common():
+        yield f'undecided {count} {kind_text(kind)}: compile with -g, or with the flags of ./record --flags'
 
 
 def reached_lines(told):
@@ -77,7 +87,7 @@ def lines(told):
     first += f'{"is" if count == 1 else "are"} left, {len(told.alarming)} leaked'
     if told.reached:
         first += f', {len(told.reached)} that raw pointers reach'
-    found = [first, *leaked_lines(told), *knot_texts(told), *reached_lines(told)]
+    found = [first, *leaked_lines(told), *knot_texts(told), *undecided_lines(told), *reached_lines(told)]
     return [*found, *advice_lines(told), *doubt_lines(told), trust_line(told)]
 
 

@@ -4,7 +4,7 @@ import functools
 import operator
 from dataclasses import dataclass, field
 
-from recorder import debug_information, labels, owner_graph, type_names
+from recorder import debug_information, kinds, labels, owner_graph, type_names
 
 
 @dataclass
@@ -21,7 +21,12 @@ class Told:
 
     @functools.cached_property
     def alarming(self):
-        return self.answer.leaked - set(self.reached)
+        """What is leaked or lost for certain."""
+        return (self.answer.leaked | self.answer.lost) - set(self.reached) - self.graph.undecided
+
+    @property
+    def undecided(self):
+        return self.graph.undecided - set(self.reached)
 
     def kind(self, number):
         """An object's type and the place of its making."""
@@ -29,7 +34,7 @@ class Told:
         return type_names.short(block.name), block.made
 
     def alarming_knots(self):
-        return [it for it in self.answer.knots if it.objects[0] not in self.reached]
+        return [it for it in self.answer.knots if it.objects[0] in self.alarming]
 
     @functools.cached_property
     def owned_knots(self):
@@ -49,30 +54,37 @@ def tell(record):
     labels.drop_beyond(record, answers)
     labels.label_places(record, answers)
     record.handles.sort(key=operator.attrgetter('place'))
-    counts = labels.decide_kinds(record)
-    graph, numbers = owner_graph.graph_of(record, counts)
+    counts = kinds.decide_kinds(record)
+    graph, numbers, memories = owner_graph.graph_of(record, counts)
     answer = owner_graph.ask(graph)
     leaked = {at for at, number in numbers.items() if number in answer.leaked}
-    if labels.drop_from_storage(record, counts, leaked):
-        graph, numbers = owner_graph.graph_of(record, counts)
+    if kinds.drop_from_storage(record, counts, leaked):
+        graph, numbers, memories = owner_graph.graph_of(record, counts)
         answer = owner_graph.ask(graph)
     debug_information.name_places(record)
     blocks = [record.blocks[at] for at in numbers]
     told = Told(record, graph, answer, blocks, sum(it.are_met for it in counts))
-    told.reached = reached_by_raw_pointers(record, numbers, graph, answer)
+    told.reached = reached_by_raw_pointers(record, numbers, graph, answer, memories)
     return told
 
 
-def reached_by_raw_pointers(record, numbers, graph, answer):
+def reached_by_raw_pointers(record, numbers, graph, answer, memories):
     """Of the leaked, those that raw pointers lead to from a static, a thread or a kept object, and whatever
     these own or point to: each with where the first pointer lies."""
     raw, first = collections.defaultdict(list), []
+    unreached = answer.leaked | answer.lost
     for it in record.raw_pointers:
-        to = numbers.get(it.to)
-        holder = numbers.get(it.place.number) if it.place.kind in ('object', 'deleter') else None
-        if to and holder in answer.leaked:
+        to, holder = numbers.get(it.to), memories.holder(it.place)
+        if not to:
+            continue
+        if it.place.memory >= 0:
+            if it.place.memory in memories.kept_memories:
+                first.append((to, memories.root_label(it.place, it.label)))
+            elif holder:
+                raw[holder].append(to)
+        elif holder in unreached:
             raw[holder].append(to)
-        elif to and (holder or it.place.kind in ('static', 'thread-local', 'stack')):
+        elif holder or it.place.kind in ('static', 'thread-local', 'stack', 'kernel'):
             first.append((to, it.label))
     for a, b, _ in graph.owners:
         raw[a].append(b)
@@ -80,7 +92,7 @@ def reached_by_raw_pointers(record, numbers, graph, answer):
     todo = collections.deque(first)
     while todo:
         it, label = todo.popleft()
-        if it in answer.leaked and it not in reached:
+        if it in unreached and it not in reached:
             reached[it] = label
             todo.extend((to, label) for to in raw[it])
     return reached

@@ -1,10 +1,16 @@
 // Who holds each chunk: whoever's memory leads to it by pointers.
 #include <algorithm>
+#include <cstdio>
+#include <cstring>
 #include <set>
+#include <tuple>
 
 #include "snapshot.h"
 
 namespace recorder {
+
+// A pointer without what a program may keep in its upper sixteen bits.
+Word without_tag(Word word) { return word & ((Word(1) << 48) - 1); }
 
 // Memory of one holder, from which pointers lead on.
 struct Region {
@@ -13,19 +19,37 @@ struct Region {
   int chunk;  // -1 for an object itself and an area
 };
 
-// Spreads from areas and objects over the chunks that nobody holds yet, nearest first, and areas before
-// objects. In three rounds: by what only a container has (a vector's three pointers, or a node that points
-// back), by pointers to the beginning of a chunk, by any.
+// Spreads from areas and objects over the chunks that nobody holds yet, nearest first: by what only a container has
+// (a vector's three pointers, or a node that points back), by pointers to the beginning of a chunk, by any. What a
+// static leads to is the static's, before an object's container that only seems to have it.
 class Spreading {
 public:
   explicit Spreading(Snapshot& all) : all(all) { add_first(); }
 
   void run() {
-    for (Round round : {CONTAINERS, BEGINNINGS, ANY}) {
-      spread(round, Holder::AREA);
-      spread(round, Holder::OBJECT);
+    spread(CONTAINERS, STATICS);
+    spread(BEGINNINGS, STATICS);
+    spread(CONTAINERS, OBJECTS);
+    spread(BEGINNINGS, COPIES);
+    spread(BEGINNINGS, OBJECTS);
+    spread(ANY, STATICS);
+    spread(ANY, COPIES);
+    spread(ANY, OBJECTS);
+  }
+
+  // Each region of memory: areas, objects, the chunks that lead on from these, and those to which nothing leads.
+  template <typename Visit>
+  void each_region(Visit visit) const {
+    for (auto& region : found)
+      if (region.chunk < 0) visit(region);
+    for (std::size_t chunk = 0; chunk < all.chunks.size(); chunk++) {
+      auto& it = all.chunks[chunk];
+      if (it.origin || it.holder.kind == Holder::NOBODY)
+        visit(Region{it.from, it.to, it.holder, static_cast<int>(chunk)});
     }
   }
+
+  void find_links();
 
   // Visits the words of a region that are no part of a handle: neither the address of a control block nor the
   // word before.
@@ -45,8 +69,6 @@ public:
     if (before) visit(before_at, before);
   }
 
-  const std::vector<Region>& regions() const { return found; }
-
 private:
   template <typename Visit>
   void each_region_word(const Region& region, Visit visit) const {
@@ -60,11 +82,21 @@ private:
   }
 
   enum Round { CONTAINERS, BEGINNINGS, ANY };
+  enum From { STATICS, COPIES, OBJECTS };  // (what is copied may be old bytes)
 
   void add_first();
-  void spread(Round round, Holder::Kind kind);
+  From kind_of(const Region& region) const {
+    if (region.holder.kind == Holder::OBJECT) return OBJECTS;
+    return all.areas[region.holder.number].copy.empty() ? STATICS : COPIES;
+  }
+  void spread(Round round, From from);
   bool leads(Round round, const Region& region, Word at, Word word, LiveChunk& chunk) const;
-  void claim(const Region& region, Word at, int chunk);
+  LiveChunk::Hashed hashed(const Region& region, Word at, const LiveChunk& chunk) const;
+  void claim(Round round, const Region& region, Word at, int chunk);
+  int memory_of(int chunk, bool is_apart) const;
+  void divide();
+  template <typename Visit>
+  void each_link(Visit visit) const;
 
   Snapshot& all;
   std::vector<Region> found;
@@ -90,14 +122,14 @@ void Spreading::add_first() {
   }
 }
 
-void Spreading::spread(Round round, Holder::Kind kind) {
+void Spreading::spread(Round round, From from) {
   for (std::size_t at = 0; at < found.size(); at++) {
-    if (found[at].holder.kind != kind) continue;
+    if (kind_of(found[at]) != from) continue;
     Region region = found[at];
     each_plain_word(region, [&](Word where, Word word) {
-      int chunk = all.chunk_of(word);
+      int chunk = all.chunk_of(round == ANY ? without_tag(word) : word);
       if (chunk < 0 || all.chunks[chunk].holder.kind != Holder::NOBODY) return;
-      if (leads(round, region, where, word, all.chunks[chunk])) claim(region, where, chunk);
+      if (leads(round, region, where, word, all.chunks[chunk])) claim(round, region, where, chunk);
     });
   }
 }
@@ -119,15 +151,54 @@ Word filled_by_vector(const Word* words, const LiveChunk& chunk) {
   return is_vector ? words[1] : 0;
 }
 
-// Whether a node's first words point back to about where the pointer to it lies.
-bool points_back(const LiveChunk& chunk, Word at) {
-  bool found = false;
-  each_word(chunk.from, std::min(chunk.to, chunk.from + 4 * WORD),
-            [&](Word, Word word) { found |= word + 64 >= at && word <= at + 64; });
-  return found;
+}  // namespace
+
+// Whether a list's or a tree's node begins here, by its own pointer back to the one at `at`: a list's next and previous,
+// a tree's parent, left and right, in the node or in the container.
+bool Snapshot::points_back(const LiveChunk& chunk, Word at) const {
+  auto words = reinterpret_cast<const Word*>(chunk.from);
+  Word count = (chunk.to - chunk.from) / WORD;
+  auto is = [&](Word place, Word wanted) {
+    if (place >= count || words[place] != wanted || is_block(wanted)) return false;
+    return place + 1 >= count || !is_block(words[place + 1]);  // (a handle's pointer to its object is none)
+  };
+  bool is_in_list = is(1, at) || is(0, at - WORD);
+  bool is_in_tree = is(1, at - WORD) || is(1, at - 2 * WORD) || is(1, at - 3 * WORD);
+  return is_in_list || is_in_tree || is(2, at - WORD) || is(3, at - WORD);
+}
+
+namespace {
+
+// Where the table of a hashed container begins that has its head here: buckets, their number, the first node, the
+// number of elements, the load, and room for one bucket. 0 where there is none.
+Word table_of(Word head, Word end) {
+  if (head + 7 * WORD > end) return 0;
+  auto words = reinterpret_cast<const Word*>(head);
+  float load;
+  std::memcpy(&load, &words[4], sizeof load);
+  bool is_head = words[1] && words[1] < Word(1) << 40 && load > 0.01f && load < 1000 && words[3] < Word(1) << 40;
+  if (!is_head || !words[3] != !words[2]) return 0;
+  return words[1] != 1 || words[0] == head + 6 * WORD ? words[0] : 0;
 }
 
 }  // namespace
+
+// Whether a hashed container leads from `at`: from its head to its buckets or its first node, or on from these.
+LiveChunk::Hashed Spreading::hashed(const Region& region, Word at, const LiveChunk& chunk) const {
+  if (region.chunk >= 0) {
+    auto& from = all.chunks[region.chunk];
+    if (from.hashed == LiveChunk::BUCKETS || (from.hashed == LiveChunk::NODE && at == from.from)) return LiveChunk::NODE;
+  }
+  auto words = reinterpret_cast<const Word*>(at);
+  if (table_of(at, region.to) == chunk.from && words[1] * WORD <= chunk.to - chunk.from) return LiveChunk::BUCKETS;
+  if (at < region.from + 2 * WORD) return LiveChunk::NEITHER;
+  auto table = reinterpret_cast<const Word*>(table_of(at - 2 * WORD, region.to));
+  if (!table || words[0] != chunk.from) return LiveChunk::NEITHER;
+  Word count = words[-1];
+  int buckets = all.chunk_of(reinterpret_cast<Word>(table));
+  bool is_there = count == 1 || (buckets >= 0 && count * WORD <= all.chunks[buckets].to - all.chunks[buckets].from);
+  return is_there && std::find(table, table + count, at) != table + count ? LiveChunk::NODE : LiveChunk::NEITHER;
+}
 
 bool Spreading::leads(Round round, const Region& region, Word at, Word word, LiveChunk& chunk) const {
   if (round == ANY) return true;
@@ -140,30 +211,135 @@ bool Spreading::leads(Round round, const Region& region, Word at, Word word, Liv
   if (at + 4 * WORD <= region.to && is_deque(words, all)) return true;
   if (at + 3 * WORD <= region.to)
     if (Word filled = filled_by_vector(words, chunk)) return chunk.filled = filled, true;
-  return points_back(chunk, at);
+  if (all.points_back(chunk, at)) return true;
+  chunk.hashed = hashed(region, at, chunk);
+  return chunk.hashed != LiveChunk::NEITHER;
 }
 
-void Spreading::claim(const Region& region, Word at, int chunk) {
+void Spreading::claim(Round round, const Region& region, Word at, int chunk) {
   auto& it = all.chunks[chunk];
   it.holder = region.holder;
   it.origin = region.chunk < 0 ? at : all.chunks[region.chunk].origin;
+  it.before = region.chunk;
+  it.pointer = at;
+  it.is_contained = round == CONTAINERS;
+  if (region.holder.kind == Holder::OBJECT) it.memory = memory_of(chunk, false);
   found.push_back({it.from, it.to, region.holder, chunk});
 }
 
+// What a chunk is a part of, where it isn't certain whose that is: it itself where it `is_apart`.
+int Spreading::memory_of(int chunk, bool is_apart) const {
+  auto& it = all.chunks[chunk];
+  int before = it.before < 0 ? -1 : all.chunks[it.before].memory;
+  return !it.is_contained && (is_apart || before < 0) ? chunk : before;
+}
+
+// What says of which type a chunk is: its own table of virtual functions (`v`), else a function that knows: the first of a
+// coroutine's frame (`c`), the manager in a std::function (`f`) or an any (`a`) that leads here. `-` where nothing does.
+std::string Snapshot::maker_of(int chunk) const {
+  auto& it = chunks[chunk];
+  auto words = reinterpret_cast<const Word*>(it.from);
+  auto is_code = [&](Word word) {
+    const Segment* segment = modules.segment_of(word);
+    return segment && segment->is_code;
+  };
+  char text[32];
+  auto told = [&](char kind, Word word) {
+    std::snprintf(text, sizeof text, "%c:%zx", kind, word);
+    return std::string(text);
+  };
+  if (it.to - it.from >= 2 * WORD) {
+    auto& table = tables.of(words[0]);
+    if (table.type && !table.is_control_block && !table.to_top) return std::string("v:") + table.type;
+    if (is_code(words[0]) && is_code(words[1])) return told('c', words[0]);
+  }
+  bool is_copied = area_of(it.pointer) >= 0 && !areas[area_of(it.pointer)].copy.empty();
+  if (!it.pointer || is_copied) return "-";
+  auto pointer = reinterpret_cast<const Word*>(it.pointer);
+  if (pointer[0] != it.from) return "-";
+  if (is_code(pointer[2]) && is_code(pointer[3])) return told('f', pointer[2]);
+  return is_code(pointer[-1]) ? told('a', pointer[-1]) : "-";
+}
+
 void Snapshot::find_holders() {
-  Spreading(*this).run();
+  Spreading spreading(*this);
+  spreading.run();
   auto is_left_over = [&](const Handle& it) {
     int chunk = chunk_of(it.at);
     return chunk >= 0 && it.at >= chunks[chunk].filled;
   };
   handles.erase(std::remove_if(handles.begin(), handles.end(), is_left_over), handles.end());
+  for (std::size_t chunk = 0; chunk < chunks.size(); chunk++)
+    if (chunks[chunk].holder.kind == Holder::NOBODY) chunks[chunk].memory = static_cast<int>(chunk);
+  spreading.find_links();
+}
+
+// Pointers to memory of which it isn't certain whose it is, as far as handles lie there or behind it.
+void Spreading::find_links() {
+  std::vector<bool> is_useful(all.chunks.size());
+  bool is_any = false;
+  for (auto& it : all.handles) {
+    int chunk = all.object_of(it.at) < 0 ? all.chunk_of(it.at) : -1;
+    is_any |= chunk >= 0 && all.chunks[chunk].memory >= 0;
+  }
+  if (!is_any) return;
+  divide();
+  for (auto& it : all.handles) {
+    int chunk = all.object_of(it.at) < 0 ? all.chunk_of(it.at) : -1;
+    if (chunk >= 0 && all.chunks[chunk].memory >= 0) is_useful[all.chunks[chunk].memory] = true;
+  }
+  std::vector<Link> links;
+  std::set<std::tuple<Holder, int, int>> seen;
+  each_link([&](const Region& region, Word at, int chunk) {
+    int to = all.chunks[chunk].memory, from = region.chunk < 0 ? -1 : all.chunks[region.chunk].memory;
+    if (from == to) return;
+    if (seen.insert({from < 0 ? region.holder : Holder{}, from, to}).second) links.push_back({at, from, to});
+  });
+  std::vector<std::vector<int>> before(all.chunks.size());
+  for (auto& it : links)
+    if (it.from >= 0) before[it.to].push_back(it.from);
+  std::vector<int> todo;
+  for (std::size_t chunk = 0; chunk < all.chunks.size(); chunk++)
+    if (is_useful[chunk]) todo.push_back(static_cast<int>(chunk));
+  while (!todo.empty()) {
+    int memory = todo.back();
+    todo.pop_back();
+    for (int it : before[memory])
+      if (!is_useful[it]) is_useful[it] = true, todo.push_back(it);
+  }
+  for (auto& it : links)
+    if (is_useful[it.to]) all.links.push_back(it);
+}
+
+// Divides the memory behind an uncertain pointer where another pointer leads into its midst.
+void Spreading::divide() {
+  std::vector<bool> is_apart(all.chunks.size());
+  each_link([&](const Region& region, Word, int chunk) {
+    int from = region.chunk < 0 ? -1 : all.chunks[region.chunk].memory;
+    if (from != all.chunks[chunk].memory) is_apart[chunk] = true;
+  });
+  for (auto& region : found) {
+    if (region.chunk < 0 || region.holder.kind != Holder::OBJECT) continue;
+    all.chunks[region.chunk].memory = memory_of(region.chunk, is_apart[region.chunk]);
+  }
+}
+
+template <typename Visit>
+void Spreading::each_link(Visit visit) const {
+  each_region([&](const Region& region) {
+    each_plain_word(region, [&](Word at, Word word) {
+      int chunk = all.chunk_of(without_tag(word));
+      if (chunk >= 0 && all.chunks[chunk].memory >= 0 && chunk != region.chunk) visit(region, at, chunk);
+    });
+  });
 }
 
 void Snapshot::find_raw_pointers() {
   std::set<std::pair<Holder, Word>> seen;
   Spreading spreading(*this);
-  auto look = [&](const Region& region) {
+  spreading.each_region([&](const Region& region) {
     spreading.each_plain_word(region, [&](Word at, Word word) {
+      word = without_tag(word);
       if (chunk_of(word) < 0) return;
       Holder to = holder_of(word);
       if (to.kind != Holder::OBJECT || to == region.holder || !blocks[to.number].is_live()) return;
@@ -172,12 +348,7 @@ void Snapshot::find_raw_pointers() {
           chunks[object.chunk].is_pool ? word : object.at;  // (where a pool's objects end isn't known here)
       if (seen.insert({region.holder, told}).second) raw_pointers.push_back({at, to.number, word});
     });
-  };
-  for (auto& region : spreading.regions()) look(region);
-  for (std::size_t chunk = 0; chunk < chunks.size(); chunk++) {
-    auto& it = chunks[chunk];
-    if (it.origin) look({it.from, it.to, it.holder, static_cast<int>(chunk)});
-  }
+  });
 }
 
 }  // namespace recorder

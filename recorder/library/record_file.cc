@@ -67,7 +67,8 @@ void write_block(Output& out, const Snapshot& all, int number) {
   out.say_text("\n");
 }
 
-// Where in its holder an address lies, or the pointers to its chunk begin: the kind, the number, the byte.
+// Where in its holder an address lies, or the pointers to its chunk begin: the kind, the number, the byte; the byte in the
+// chunk, the memory that this is a part of where it isn't certain whose that is, and what says of which type it is.
 void write_place(Output& out, const Snapshot& all, Word at) {
   int chunk = all.object_of(at) < 0 ? all.chunk_of(at) : -1;
   Word inner = chunk < 0 ? 0 : at - all.chunks[chunk].from;
@@ -88,7 +89,10 @@ void write_place(Output& out, const Snapshot& all, Word at) {
   } else {
     out.say(" heap 0 0");
   }
-  out.say(" %zd\n", is_inner ? std::ptrdiff_t(inner) : -1);
+  bool is_apart = is_inner || (chunk >= 0 && all.chunks[chunk].memory >= 0);
+  out.say(" %zd %d ", is_apart ? std::ptrdiff_t(inner) : -1, chunk < 0 ? -1 : all.chunks[chunk].memory);
+  out.say_text(chunk < 0 ? "-" : all.maker_of(chunk).c_str());
+  out.say_text("\n");
 }
 
 }  // namespace
@@ -111,6 +115,11 @@ void write_record(const char* path, const Snapshot& all, const char* when) {
   }
   for (auto& it : all.raw_pointers) {
     out.say("raw %d %zd", it.to, std::ptrdiff_t(it.word - all.blocks[it.to].object));
+    write_place(out, all, it.at);
+    out.say_text("");
+  }
+  for (auto& it : all.links) {
+    out.say("link %d", it.to);
     write_place(out, all, it.at);
     out.say_text("");
   }

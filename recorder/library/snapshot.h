@@ -41,6 +41,11 @@ struct LiveChunk {
   std::size_t alignment;
   Holder holder;
   Word origin = 0;  // where in the holder the pointers begin that lead here
+  Word pointer = 0;  // the last of them
+  int before = -1;  // the chunk that this lies in; -1 where it lies in the holder itself
+  int memory = -1;  // the first chunk of what goes with it, where it isn't certain whose that is
+  bool is_contained = false;  // a container has it, which is certain
+  enum Hashed { NEITHER, BUCKETS, NODE } hashed = NEITHER;  // of a hashed container
   bool has_blocks = false;
   bool is_pool = false;  // control blocks lie in the midst of it
 };
@@ -75,6 +80,13 @@ struct RawPointer {
   Word word;
 };
 
+// A pointer to memory of which it isn't certain whose it is.
+struct Link {
+  Word at;
+  int from;  // the memory of the same kind in which it lies; -1 where it lies elsewhere
+  int to;
+};
+
 class Snapshot {
 public:
   Snapshot(const Modules& modules, const std::vector<LivingStack>& stacks);
@@ -84,12 +96,14 @@ public:
   int area_of(Word address) const;
   bool is_pointer(Word word) const { return chunk_of(word) >= 0 || modules.has(word); }
   Holder holder_of(Word address) const;
+  std::string maker_of(int chunk) const;
 
   std::vector<Area> areas;
   std::vector<LiveChunk> chunks;     // in the order of their addresses
   std::vector<ControlBlock> blocks;  // in the order of their making
   std::vector<Handle> handles;
   std::vector<RawPointer> raw_pointers;
+  std::vector<Link> links;
   std::size_t untyped_blocks = 0;
   std::size_t lost_handles = 0;  // that hooks told of, and that aren't there any more
 
@@ -98,7 +112,7 @@ public:
 private:
   friend class Spreading;
 
-  VirtualTables tables;
+  mutable VirtualTables tables;
 
   void find_blocks();
   void find_untyped();
@@ -107,6 +121,7 @@ private:
   void add_candidate(Word at, Word before, Word word);
   bool is_dead(Word at) const;
   bool is_block(Word word) const;
+  bool points_back(const LiveChunk& chunk, Word at) const;
   void find_objects();
   void place_object(ControlBlock& block, const std::vector<Word>& stored);
   void find_holders();

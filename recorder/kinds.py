@@ -1,0 +1,257 @@
+"""Whether a handle owns or watches, where only memory told of it: by what the counts leave, by the declared type, by other
+handles in the same member, and by all these together."""
+import collections
+import re
+from collections.abc import Iterable
+
+from recorder.record_text import Block, Handle, Place, Record
+
+MOST_MEMBERS = 12  # of those that depend on each other, to be tried in each way
+MOST_ANSWERS = 32
+
+
+class Counts:
+    """The handles on one block, beside what it counts itself."""
+
+    __slots__ = "handles", "owners_wanted", "weaks_wanted", "owners_missing", "weaks_missing", "open"
+
+    def __init__(self, block: Block, handles: list[Handle]):
+        self.handles = handles
+        self.owners_wanted, self.weaks_wanted = block.uses, block.weaks - block.is_live
+        self.count()
+
+    def count(self):
+        self.owners_missing, self.weaks_missing, self.open = self.owners_wanted, self.weaks_wanted, 0
+        for handle in self.handles:
+            if handle.kind == "owner":
+                self.owners_missing -= 1
+            elif handle.kind == "weak":
+                self.weaks_missing -= 1
+            else:
+                self.open += 1
+
+    @property
+    def are_met(self):
+        return not (self.owners_missing or self.weaks_missing or self.open)
+
+    @property
+    def least_owners(self):
+        """How many of the open handles own at least, as the others would be too many weak pointers."""
+        return min(max(self.open - max(self.weaks_missing, 0), 0), max(self.owners_missing, 0))
+
+    @property
+    def most_owners(self):
+        return min(self.open, max(self.owners_missing, 0))
+
+    @property
+    def owners_nowhere(self):
+        """How many owners are at no handle that was found, whatever the open ones are."""
+        return max(self.owners_missing - self.open, 0)
+
+    def decide(self):
+        """What is open is all of one kind where the other is found already."""
+        if self.weaks_missing <= 0 < self.owners_missing:
+            self.set_open("owner")
+        elif self.owners_missing <= 0 < self.weaks_missing:
+            self.set_open("weak")
+
+    def set_open(self, kind: str):
+        for handle in self.handles:
+            if handle.kind == "either":
+                handle.kind = kind
+        self.count()
+
+    def drop(self, kind: str, excess: int):
+        """Drops so many of a kind that lie in statics themselves."""
+        if excess <= 0:
+            return
+        for handle in [it for it in self.handles if it.kind == kind and is_in_static(it.place)][:excess]:
+            handle.kind = "old"
+        self.forget_old()
+
+    def forget_old(self):
+        self.handles = [it for it in self.handles if it.kind != "old"]
+        self.count()
+
+
+def is_storage(handle: Handle) -> bool:
+    """Whether the declared type is bytes, in which anything may have been."""
+    return bool(re.search(r"\b(char|byte)\b|aligned_storage|aligned_buffer", handle.declared))
+
+
+def drop_from_storage(record: Record, counts: list[Counts], leaked: set[int]) -> bool:
+    """Where more owners are found than a block counts, those that lie in mere bytes of leaked objects are old ones.
+    What leaks is the same without them. Returns whether there were some."""
+    dropped = False
+    for it in counts:
+        if it.owners_missing >= 0:
+            continue
+        old = [owner for owner in it.handles if owner.kind == "owner" and is_storage(owner)]
+        old = [owner for owner in old if owner.place.kind == "object" and owner.place.number in leaked]
+        for owner in old[: -it.owners_missing]:
+            owner.kind = "old"
+            dropped = True
+        it.forget_old()
+    if dropped:
+        record.handles = [it for it in record.handles if it.kind != "old"]
+    return dropped
+
+
+def is_in_static(place: Place) -> bool:
+    return place.kind in ("static", "thread-local") and place.inner < 0
+
+
+def kind_by_type(declared: str) -> str:
+    is_weak = "weak_ptr<" in declared or "enable_shared_from_this<" in declared
+    is_owner = "shared_ptr<" in declared
+    return "either" if is_weak == is_owner else "weak" if is_weak else "owner"
+
+
+def member_of(place: Place, record: Record) -> tuple:
+    """What places of one declaration have in common."""
+    name = record.blocks[place.number].name if place.kind in ("object", "deleter") else place.number
+    return place.kind, name, place.offset, place.inner, place.maker
+
+
+def decide_kinds(record: Record) -> list[Counts]:
+    """Decides each handle as far as it can be. Returns the counts of each block."""
+    on = collections.defaultdict(list)
+    for handle in record.handles:
+        on[handle.block].append(handle)
+    counts = [Counts(block, on[number]) for number, block in enumerate(record.blocks)]
+    if record.when == "exit":
+        drop_old(counts)
+    known = collections.defaultdict(set)
+    undecided = counts
+    while True:
+        for it in undecided:
+            it.decide()
+        undecided = [it for it in undecided if it.open]
+        if not undecided or not by_declaration(record, undecided, known):
+            break
+    if undecided:
+        Together(record, undecided).decide()
+    if record.when == "exit":
+        drop_old(it for it in counts if not it.are_met)
+    record.handles = [it for it in record.handles if it.kind != "old"]
+    return counts
+
+
+def by_declaration(record: Record, undecided: list[Counts], known: dict) -> bool:
+    """Decides by declared types, and by what other handles in the same member are. Returns whether it decided
+    any."""
+    for handle in record.handles:
+        if handle.kind in ("owner", "weak"):
+            known[member_of(handle.place, record)].add(handle.kind)
+    changed = False
+    for counts in undecided:
+        for handle in counts.handles:
+            if handle.kind == "either":
+                same = known[member_of(handle.place, record)]
+                kind = kind_by_type(handle.declared)
+                handle.kind = next(iter(same)) if kind == "either" and len(same) == 1 else kind
+                changed |= handle.kind != "either"
+        counts.count()
+    return changed
+
+
+def drop_old(counts: Iterable[Counts]):
+    """After the destructors of statics these keep their old bytes: where more handles are found than a block
+    counts, those in statics are no handles any more."""
+    for it in counts:
+        it.drop("either", it.open - max(it.owners_missing, 0) - max(it.weaks_missing, 0))
+        it.drop("owner", -it.owners_missing)
+        it.drop("weak", -it.weaks_missing)
+
+
+def is_of_itself(handle: Handle) -> bool:
+    """Whether it lies in the very object that it is on."""
+    return handle.place.kind == "object" and handle.place.inner < 0 and handle.place.number == handle.block
+
+
+class Together:
+    """The members whose handles are open: all handles in one member are of one kind, and each block has as many owners
+    among them as it counts. Where one answer alone fits, it is that. Where several do, the handles stay open, and
+    `guess` is the kind that each would have in the likeliest."""
+
+    def __init__(self, record: Record, undecided: list[Counts]):
+        self.record, self.undecided = record, undecided
+        self.rows_of = collections.defaultdict(list)
+        for row in dict.fromkeys(self.row_of(it) for it in undecided):
+            for member, _ in row[0]:
+                self.rows_of[member].append(row)
+        open_ = [handle for it in undecided for handle in it.handles if handle.kind == "either"]
+        self.own_members = {member_of(it.place, record) for it in open_ if is_of_itself(it)}
+
+    def open_members(self, counts: Counts):
+        return collections.Counter(member_of(it.place, self.record) for it in counts.handles if it.kind == "either")
+
+    def row_of(self, counts: Counts):
+        return frozenset(self.open_members(counts).items()), counts.least_owners, counts.most_owners
+
+    def decide(self):
+        kinds, guesses = {}, {}
+        for members in self.parts():
+            answers = self.answers(members)
+            for at, member in enumerate(members):
+                found = {answer[at] for answer in answers}
+                if len(found) == 1:
+                    kinds[member] = found.pop()
+                if answers:
+                    guesses[member] = answers[0][at]
+        for it in self.undecided:
+            for handle in it.handles:
+                if handle.kind == "either":
+                    member = member_of(handle.place, self.record)
+                    handle.kind = kinds.get(member, "either")
+                    handle.guess = guesses.get(member, "owner")
+            it.count()
+            it.decide()
+            guess_the_rest(it)
+
+    def parts(self):
+        """The members in parts that have no row in common."""
+        left = dict.fromkeys(self.rows_of)
+        while left:
+            first, _ = left.popitem()
+            part, todo, rows = [first], [first], set()
+            while todo:
+                for row in self.rows_of[todo.pop()]:
+                    if row in rows:
+                        continue
+                    rows.add(row)
+                    for member, _ in row[0]:
+                        if member in left:
+                            del left[member]
+                            part.append(member)
+                            todo.append(member)
+            yield part
+
+    def answers(self, members: list) -> list[tuple]:
+        """Each choice of kinds that fits all rows, the likeliest first; none where there are too many members."""
+        if len(members) > MOST_MEMBERS:
+            return []
+        rows = {row for member in members for row in self.rows_of[member]}
+        found = []
+        for number in range(1 << len(members)):
+            owners = {member for at, member in enumerate(members) if number >> at & 1}
+            if all(low <= sum(n for it, n in row if it in owners) <= high for row, low, high in rows):
+                found.append(tuple("owner" if it in owners else "weak" for it in members))
+        likely = sorted(found, key=lambda kinds: self.strangeness(members, kinds))
+        return likely if len(found) <= MOST_ANSWERS else []
+
+    def strangeness(self, members: list, kinds: tuple) -> int:
+        """How many objects would own themselves by a member of their own, as enable_shared_from_this watches them."""
+        return sum(kind == "owner" and member in self.own_members for member, kind in zip(members, kinds))
+
+
+def guess_the_rest(counts: Counts):
+    """The open handles of one block are guessed to be as many owners as it counts, those first that own nothing of
+    themselves."""
+    open_ = [it for it in counts.handles if it.kind == "either"]
+    owners = sum(it.guess == "owner" for it in open_)
+    if counts.least_owners <= owners <= counts.most_owners:
+        return
+    open_.sort(key=lambda it: (it.guess != "owner", is_of_itself(it)))
+    for at, handle in enumerate(open_):
+        handle.guess = "owner" if at < counts.most_owners else "weak"
