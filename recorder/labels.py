@@ -32,6 +32,8 @@ def label_of(place, record, answers, before):
         return f'the stack of thread {place.number}', ''
     if place.kind == 'kernel':
         return 'the kernel, by an epoll', ''
+    if place.kind == 'mapped':
+        return 'memory that the program mapped itself', ''
     return NOBODY, ''
 
 

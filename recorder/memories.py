@@ -102,8 +102,8 @@ class Memories:
         return owner if owner and (owner[0] in self.kept_by_owners or not is_kept) else None
 
     def is_lost(self, place: Place) -> bool:
-        """Whether nothing that is kept leads to it, and no object owns it."""
-        return place.memory >= 0 and place.memory not in self.kept_memories and place.memory not in self.owners
+        """Whether nothing that is kept leads to it, and no object owns it. Memory that was not looked at may lead there."""
+        return not self.record.mapped_bytes and place.memory >= 0 and place.memory not in self.kept_memories and place.memory not in self.owners
 
     def root_label(self, place: Place, label: str) -> str:
         """By what an owner there is kept, or what is known of its memory where it is lost."""

@@ -78,6 +78,8 @@ class Record:
     links: list = field(default_factory=list)
     untyped: int = 0
     lost: int = 0
+    mapped_blocks: int = 0  # in memory that the program mapped itself, which aren't told
+    mapped_bytes: int = 0  # of such memory that was not looked at
 
 
 def place_of(words):
@@ -116,7 +118,7 @@ def read(path):
                 record.how, record.when = words
             elif kind == 'refused':
                 record.refused = line.split(' ', 1)[1].strip()
-            elif kind in ('untyped', 'lost'):
+            elif kind in ('untyped', 'lost', 'mapped_blocks', 'mapped_bytes'):
                 setattr(record, kind, int(words[0]))
     if line.strip() != 'end':
         raise ValueError('it is not whole')

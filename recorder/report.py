@@ -98,6 +98,11 @@ def doubt_lines(told):
     if record.untyped:
         why = 'as they have no RTTI; see --flags'
         yield f'record: {record.untyped} control blocks tell no type and are left out, {why}'
+    if record.mapped_blocks:
+        yield f'record: not looked at: {record.mapped_blocks} control blocks in memory that the program mapped itself'
+    if record.mapped_bytes:
+        size = record.mapped_bytes >> 20
+        yield f'record: not looked at: {size} MB of memory that the program mapped itself'
     if not record.blocks and not any('libstdc++' in path for _, path in record.modules):
         yield 'record: it loads no libstdc++; what it starts is told with --children'
 

@@ -84,7 +84,7 @@ def reached_by_raw_pointers(record, numbers, graph, answer, memories):
                 raw[holder].append(to)
         elif holder in unreached:
             raw[holder].append(to)
-        elif holder or it.place.kind in ('static', 'thread-local', 'stack', 'kernel'):
+        elif holder or it.place.kind in ('static', 'thread-local', 'stack', 'mapped', 'kernel'):
             first.append((to, it.label))
     for a, b, _ in graph.owners:
         raw[a].append(b)

@@ -5,6 +5,7 @@
 #include <signal.h>
 #include <sys/syscall.h>
 #include <unistd.h>
+#include <unwind.h>
 
 #include <cstdio>
 #include <cstdlib>
@@ -49,11 +50,28 @@ void read_memory(const char* when, Word from_frame, int snapshot) {
   Word end = from_frame ? end_of_stack(thread, from_frame) : 0;
   Modules modules;
   OwnRegion region;
+  Outside outside(modules);
   AllStandStill still;
   auto stacks = still.stacks();
   if (from_frame) stacks.push_back({thread, from_frame, end});
-  Snapshot all(modules, stacks);
+  Snapshot all(modules, outside, stacks);
   write_record(file_name(snapshot), all, when);
+}
+
+// Whether frames of the program lie on this stack below the C library's, as where err or error ends it: more than the
+// one that called main.
+bool has_frames_of_program() {
+  int count = 0;
+  auto visit = [](_Unwind_Context* context, void* to) {
+    Dl_info info{}, own{};
+    if (!dladdr(reinterpret_cast<void*>(_Unwind_GetIP(context)), &info)) return _URC_NO_REASON;
+    dladdr(reinterpret_cast<void*>(&has_frames_of_program), &own);
+    bool is_of_libc = std::strstr(info.dli_fname, "/libc.so") || std::strstr(info.dli_fname, "/ld-linux");
+    *static_cast<int*>(to) += info.dli_fbase != own.dli_fbase && !is_of_libc;
+    return _URC_NO_REASON;
+  };
+  _Unwind_Backtrace(visit, &count);
+  return count > 1;
 }
 
 // Once in each process.
@@ -63,7 +81,8 @@ void read_at_end(const char* when, Word from_frame) {
 
 void at_the_end(void*) {
   bool is_deep = exit_frame && exit_thread == static_cast<pid_t>(syscall(SYS_gettid));
-  read_at_end("exit", is_deep ? exit_frame : 0);
+  bool is_within = !exit_frame && has_frames_of_program();
+  read_at_end("exit", is_deep ? exit_frame : is_within ? frame_here() : 0);
 }
 
 void at_quick_exit_end() { read_at_end("quick_exit", frame_here()); }

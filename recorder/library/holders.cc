@@ -87,7 +87,8 @@ private:
   void add_first();
   From kind_of(const Region& region) const {
     if (region.holder.kind == Holder::OBJECT) return OBJECTS;
-    return all.areas[region.holder.number].copy.empty() ? STATICS : COPIES;
+    auto& area = all.areas[region.holder.number];
+    return area.copy.empty() && area.kind != Area::MAPPED ? STATICS : COPIES;
   }
   void spread(Round round, From from);
   bool leads(Round round, const Region& region, Word at, Word word, LiveChunk& chunk) const;

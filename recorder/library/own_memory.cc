@@ -2,10 +2,20 @@
 
 #include <sys/mman.h>
 
+#include <algorithm>
+#include <atomic>
+#include <iterator>
+
 namespace recorder {
 namespace {
 
 Word next;
+
+// What own_pages has given; one that was given back is empty.
+struct Own {
+  std::atomic<Word> from, to;
+} own[1 << 16];
+std::atomic<std::size_t> own_count{0};
 
 }  // namespace
 
@@ -15,10 +25,30 @@ Word OwnRegion::from, OwnRegion::to;
 void* own_pages(std::size_t bytes) {
   void* pages =
       mmap(nullptr, bytes, PROT_READ | PROT_WRITE, MAP_PRIVATE | MAP_ANONYMOUS | MAP_NORESERVE, -1, 0);
-  return pages == MAP_FAILED ? nullptr : pages;
+  if (pages == MAP_FAILED) return nullptr;
+  std::size_t place = own_count++;
+  if (place < std::size(own)) {
+    own[place].from = reinterpret_cast<Word>(pages);
+    own[place].to = reinterpret_cast<Word>(pages) + bytes;
+  }
+  return pages;
 }
 
-void give_own_pages(void* pages, std::size_t bytes) { munmap(pages, bytes); }
+void give_own_pages(void* pages, std::size_t bytes) {
+  for (std::size_t place = std::min(own_count.load(), std::size(own)); place-- > 0;)
+    if (own[place].from == reinterpret_cast<Word>(pages)) {
+      own[place].from = own[place].to = 0;
+      break;
+    }
+  munmap(pages, bytes);
+}
+
+std::pair<Word, Word> own_range(std::size_t place) {
+  if (place >= std::min(own_count.load(), std::size(own))) return {0, 0};
+  return {own[place].from, own[place].to};
+}
+
+std::size_t own_ranges() { return std::min(own_count.load(), std::size(own)); }
 
 OwnRegion::OwnRegion() {
   std::size_t bytes = std::size_t(64) << 30;

@@ -1,11 +1,17 @@
 // Memory of the recorder, apart from the program's heap.
 #pragma once
+#include <utility>
+
 #include "base.h"
 
 namespace recorder {
 
 void* own_pages(std::size_t bytes);
 void give_own_pages(void* pages, std::size_t bytes);
+
+// Where own pages lie, for each place below `own_ranges`; some are empty.
+std::size_t own_ranges();
+std::pair<Word, Word> own_range(std::size_t place);
 
 // While one lives, what its thread takes by malloc comes from a region of its own, and is given back as a whole
 // at its end: threads that stand still may hold the locks of the program's heap.

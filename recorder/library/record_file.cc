@@ -81,7 +81,7 @@ void write_place(Output& out, const Snapshot& all, Word at) {
     out.say(" %s %d %zd", is_in_object ? "object" : "deleter", holder.number,
             origin - (is_in_object ? block.object : block.at));
   } else if (holder.kind == Holder::AREA) {
-    static const char* const KINDS[] = {"static", "thread-local", "stack"};
+    static const char* const KINDS[] = {"static", "thread-local", "stack", "mapped", "kernel"};
     auto& area = all.areas[holder.number];
     bool is_static = area.kind == Area::STATIC;
     out.say(" %s %d %zd", KINDS[area.kind], area.number,
@@ -123,7 +123,8 @@ void write_record(const char* path, const Snapshot& all, const char* when) {
     write_place(out, all, it.at);
     out.say_text("");
   }
-  out.say("untyped %zu\nlost %zu\nend\n", all.untyped_blocks, all.lost_handles);
+  out.say("untyped %zu\nlost %zu\n", all.untyped_blocks, all.lost_handles);
+  out.say("mapped_blocks %zu\nmapped_bytes %zu\nend\n", all.mapped_blocks, all.mapped_bytes);
 }
 
 void write_refusal(const char* path, const char* why) {

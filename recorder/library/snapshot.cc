@@ -34,7 +34,7 @@ int place_below(const Sorted& sorted, Word address) {
 
 }  // namespace
 
-Snapshot::Snapshot(const Modules& modules, const std::vector<LivingStack>& stacks)
+Snapshot::Snapshot(const Modules& modules, const Outside& outside, const std::vector<LivingStack>& stacks)
     : modules(modules), tables(modules) {
   for (auto& it : modules.segments)
     if (it.is_writable)
@@ -51,11 +51,33 @@ Snapshot::Snapshot(const Modules& modules, const std::vector<LivingStack>& stack
     chunks.push_back({from, to, to, it.number, it.trace, it.alignment, {}});
   });
   std::sort(chunks.begin(), chunks.end(), [](auto& a, auto& b) { return a.from < b.from; });
+  add_outside(outside);
   find_blocks();
   find_handles();
   find_objects();
   find_holders();
   find_raw_pointers();
+}
+
+// What the kernel keeps, and what the program mapped itself, where malloc has nothing there and it isn't very large.
+void Snapshot::add_outside(const Outside& outside) {
+  if (!outside.kernel.empty())
+    areas.push_back({Area::KERNEL, 0, WORD, WORD * (outside.kernel.size() + 1), outside.kernel, false});
+  std::size_t left = std::size_t(256) << 20;
+  for (auto& it : outside.mapped) {
+    auto after = std::lower_bound(chunks.begin(), chunks.end(), it.from,
+                                  [](const LiveChunk& chunk, Word word) { return chunk.to <= word; });
+    if (after != chunks.end() && after->from < it.to) continue;
+    if (it.to - it.from > left) {
+      mapped_bytes += it.to - it.from;
+      continue;
+    }
+    left -= it.to - it.from;
+    areas.push_back({Area::MAPPED, 0, it.from, it.to, {}, false});
+    each_word(it.from, it.to - WORD, [&](Word at, Word word) {
+      mapped_blocks += tables.of(word).is_control_block && reinterpret_cast<const int*>(at)[2] > 0;
+    });
+  }
 }
 
 int Snapshot::chunk_of(Word address) const {

@@ -7,6 +7,7 @@
 
 #include "chunks.h"
 #include "modules.h"
+#include "outside.h"
 #include "threads.h"
 
 namespace recorder {
@@ -25,7 +26,7 @@ struct Holder {
 
 // Memory that is there without malloc.
 struct Area {
-  enum Kind { STATIC, THREAD_LOCAL, STACK } kind;
+  enum Kind { STATIC, THREAD_LOCAL, STACK, MAPPED, KERNEL } kind;
   int number;  // its module or thread
   Word from, to;
   std::vector<Word> copy;  // its words, where it may change
@@ -89,7 +90,7 @@ struct Link {
 
 class Snapshot {
 public:
-  Snapshot(const Modules& modules, const std::vector<LivingStack>& stacks);
+  Snapshot(const Modules& modules, const Outside& outside, const std::vector<LivingStack>& stacks);
 
   int chunk_of(Word address) const;   // -1 where none has it
   int object_of(Word address) const;  // a block's number; -1 where no object has the address
@@ -105,6 +106,8 @@ public:
   std::vector<RawPointer> raw_pointers;
   std::vector<Link> links;
   std::size_t untyped_blocks = 0;
+  std::size_t mapped_blocks = 0;  // that lie in memory which the program mapped itself
+  std::size_t mapped_bytes = 0;   // of such memory, where it wasn't looked at
   std::size_t lost_handles = 0;  // that hooks told of, and that aren't there any more
 
   const Modules& modules;
@@ -114,6 +117,7 @@ private:
 
   mutable VirtualTables tables;
 
+  void add_outside(const Outside& outside);
   void find_blocks();
   void find_untyped();
   void add_block(Word at, int chunk, const VirtualTable& table);

@@ -148,6 +148,10 @@ Word end_of_stack(pid_t thread, Word address) {
   return end;
 }
 
+void each_known_stack(void (*visit)(Word from, Word to, void* with), void* with) {
+  known_stacks.each([&](Word, const Bounds& it) { visit(it.from, it.to, with); });
+}
+
 AllStandStill::AllStandStill() {
   places = ready = 0;
   struct sigaction action {};

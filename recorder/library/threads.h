@@ -25,6 +25,9 @@ bool is_on_this_stack(Word address);
 // Where the stack ends that `address` lies in, for a thread that noted it; else the end of the mapping.
 Word end_of_stack(pid_t thread, Word address);
 
+// Visits where each stack lies that a thread has noted, ended ones too, whose stacks are kept for the next.
+void each_known_stack(void (*visit)(Word from, Word to, void* with), void* with);
+
 // While one lives, all other threads stand still: those in system calls where they are, the others in a
 // signal's handler.
 class AllStandStill {

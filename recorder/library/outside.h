@@ -1,0 +1,20 @@
+// Memory that neither malloc nor a library has, and what the kernel keeps for the program.
+#pragma once
+#include <vector>
+
+#include "modules.h"
+
+namespace recorder {
+
+struct Range {
+  Word from, to;
+};
+
+struct Outside {
+  explicit Outside(const Modules& modules);  // no thread may stand still yet
+
+  std::vector<Word> kernel;   // the data of epolls
+  std::vector<Range> mapped;  // what the program mapped itself, in the order of addresses
+};
+
+}  // namespace recorder
