@@ -1,0 +1,49 @@
+-- `new` makes one open cell.
+use Rattle.std.proofs.Common.{◌≡◌, ℕ, List, [], ◌∷◌, ◌++◌, length, slice_set, Option, Some, None, refl}
+use mir.Syntax.{a_type, dcons, dnil, named}
+use mir.Val.{Val, vunit, vptr}
+use mir.MapTy.{inst_fn}
+use base.Logic.{SProp, id⊢}
+use base.Fml.{Fml, ftrue, fsep, flft}
+use types.Logic.{sem}
+use types.Kit.{‵, raw, ◌⊛◌, some, given, later, ◌$◌, ◌∵◌, !, qed, by, move, keep, drop, split, join, fsplit, fsplit3, fjoin, fjoin3, pick, learn, use0, use1, use2, use3, await, rewrite, feq_i}
+use types.Run.{unit_lit, of_opd, no_more, and_then, returns, enter}
+use types.ByLocal.{alloc_all, pass_all, free_all, look_at, get, sets}
+use types.Part.{agg}
+use contract.Running.{tables}
+use contract.Monad.{fact, fact_i}
+use denote.Exit.{yes, no}
+use denote.RattleType.{RattleType, owns}
+use denote.Signature.{types_at, plain}
+use denote.Builtin.{RefOf, unit}
+use denote.Ref.{mut_vals, mut_Tells, shr_vals, shr_Tells}
+use denote.Opens.{unhide}
+use denote.Steps.{nothing, opens, closes}
+use denote.Param.{param, bounded, layouts}
+use denote.Struct.Tuple.{Tuple}
+use denote.Triple.Entry.{alive}
+use denote.Triple.Walked.{Stays, stay_dropped, stay_ref, walk_of, Goes-dropped, Goes-ref}
+use Rattle.atomic_table.proofs.Walks.{proved}
+use Rattle.ghost_map.specs.Chain.{blank_owns, map_owns, entry_owns}
+use Rattle.ghost_map.specs.contracts.map.Blank as Blank
+use Rattle.ghost_map.specs.contracts.map.GhostMap as GhostMap
+use Rattle.ghost_map.specs.contracts.entry.GhostEntry as GhostEntry
+use Rattle.ghost_map.specs.contracts.value.Ghost as Ghost
+use Rattle.ghost_map.proofs.Steps as steps
+use Rattle.ghost_map.proofs.Walks.{token, Token, token_told, token_made, ends, tells_all}
+use Rattle.ghost_map.specs.contracts.map.Blank.new.{ended, clauses}
+use Rattle.ghost_map.specs.contracts.map.Blank.new.Key.{name as #self}
+use Rattle.ghost_map.proofs.map.Blank.new.Statement.{statement}
+use Rattle.ghost_map.proofs.map.Blank.new.Code as code
+
+pub new_spec : {M : Type 1} → statement M
+new_spec 𝓤 𝓛 𝓜 𝓡 wired =
+    let H = 𝓛.H in let 𝓣 = tables 𝓤 H 𝓜 𝓡 𝓡.env in let fn = code.function in let c = clauses 𝓛 𝓜.mem 𝓡.returns in let hs : Stays ended.signature.params ended.kept = tt in
+    proved 𝓛 ended hs c 𝓜 𝓡 tt #self fn (code.unfolded 𝓤 H 𝓜 𝓡 wired) (λ κs. tt) (λ κs. tt) (λ κs qs bounds a gh are.
+    let y : (walk_of 𝓛 ended hs c).Ghost = ((κs, qs, bounds, a, tt), gh) in let Post : Val → SProp 𝓤 = (walk_of 𝓛 ended hs c).post y in
+    qed 𝓛 ((raw (alive 𝓛 ended.signature κs qs) ⊛ ‵ (owns (types_at ended.signature.params κs) a tt)) ∷ raw ((c κs a).requires gh) ∷ []) ∵ split ! $ keep ! (0 ∷ []) $
+    enter ! 𝓣.C 𝓣.Λ fn [] Post $ alloc_all ! (λ l. pass_all ! refl tt $
+    use0 𝓛 (later (some (λ (γ : ℕ). ‵ (blank_owns γ)))) (steps.begins 𝓛) $ await ! tt $ pick ! (λ γ.
+    sets ! (agg ! (no_more !)) refl (tt, tt) $ sets ! (agg ! (and_then ! (get ! refl) (no_more !))) refl (tt, (tt, tt)) $
+    use0 𝓛 (‵ ((Token unit).own_val (record {}, tt) (token ∷ []))) (token_made unit 𝓛) $ fjoin ! $ nothing ! $
+    returns ! (look_at ! 0 refl) $ free_all ! refl $ move ! (2 ∷ 0 ∷ 1 ∷ []) $ by ! (ends 𝓛 ended hs c y token (record { marker = record {}; name = γ }) tt tt (id⊢ 𝓤 _)))))
