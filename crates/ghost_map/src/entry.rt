@@ -21,3 +21,7 @@ impl<N: Named, T> Model for GhostEntry<N, T> {
 
     ghost also_shares = { λ e _ κ. entry_shares T.row.coded N.name e.at e.life e.value κ };
 }
+
+unsafe impl<N: Named, T> Send for GhostEntry<N, T> {}
+
+unsafe impl<N: Named, T> Sync for GhostEntry<N, T> {}

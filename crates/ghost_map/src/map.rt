@@ -90,3 +90,7 @@ impl<N: Named, T> GhostMap<N, T> {
         let GhostEntry { marker: _ } = entry;
     }
 }
+
+unsafe impl Send for Blank {}
+
+unsafe impl<N: Named, T> Send for GhostMap<N, T> {}

@@ -1,6 +1,7 @@
 //! A value of proofs alone.
 ghost use Rattle.std.specs.Prelude.{◌≡◌};
 ghost use base.Fml.{ftrue};
+ghost use denote.Sharing.{said};
 
 use std::marker::{Model, PhantomData};
 
@@ -14,6 +15,8 @@ pub struct Ghost<T> {
 impl<T> Model for Ghost<T> {
     // Nothing is owned; that there is an `also_owns` keeps other crates from making one.
     ghost also_owns = { λ _. ftrue };
+
+    ghost also_shares = { λ _ _. said ftrue };
 }
 
 /// What a value of `X` tells.
@@ -50,3 +53,7 @@ impl<T> Ghost<T> {
         }
     }
 }
+
+unsafe impl<T> Send for Ghost<T> {}
+
+unsafe impl<T> Sync for Ghost<T> {}

@@ -1,0 +1,9 @@
+use denote.RattleType.{RattleType}
+use denote.Param.Send.{IsSync, sendable}
+use denote.Struct.Struct.{Struct}
+use denote.Struct.Owning.{shape}
+use Rattle.ghost_map.specs.contracts.value.Ghost.{the_row, the_type}
+
+pub sync : (T : RattleType) → IsSync (the_row T)
+sync T = let fields : IsSync (Struct (shape (the_type T))) = search sendable depth 20 in
+    record { shared = λ d b o κ. (fields.shared (tt, tt) b o κ, tt) }
