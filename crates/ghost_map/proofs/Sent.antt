@@ -1,6 +1,6 @@
 -- Nothing that a map or an entry owns belongs to one thread.
 use Rattle.std.proofs.Common.{ℕ, zero, suc, ◌^◌, List, [], ◌∷◌, Option, None, Some}
-use base.Stored.{Coded}
+use base.Stored.{Gv}
 use base.Shift.{Keyless}
 use Rattle.left_right.specs.Parted.{tokens}
 use Rattle.ghost_map.specs.Chain.{Cell, state, blank_owns, chain, path, map_owns, entry_path}
@@ -12,7 +12,7 @@ blank_keyless name = (tt, tt)
 pub tokens_keyless : (a k : ℕ) → Keyless (tokens a k)
 tokens_keyless a k = λ e c. tt
 
-module _ {A : Type 0} (code : Coded A) where
+module _ {A : Type 0} (code : A → Gv) where
   state_keyless : (e : Option A) (c : Cell A) → Keyless (state e c)
   state_keyless (Some x) c = λ _. tt
   state_keyless None c = tt

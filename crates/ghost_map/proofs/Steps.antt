@@ -27,11 +27,11 @@ module _ {A : Type 0} where
   Has es i x = slice_get es i ≡ Some (Some x)
 
 module _ {A : Type 0} (C : Coded A) where
-  value_inj : (x y : Cell A) → value C x ≡ value C y → x ≡ y
+  value_inj : (x y : Cell A) → value C.code x ≡ value C.code y → x ≡ y
   unfolding value
   value_inj = (coded× coded_ℕ (coded× coded_ℕ C)).inj
 
-  value_not_nil : (x : Cell A) → value C x ≡ gnil → ⊥
+  value_not_nil : (x : Cell A) → value C.code x ≡ gnil → ⊥
   unfolding value
   value_not_nil x e = subst IsPair e tt
 
@@ -50,81 +50,81 @@ module _ {S : Type 0} (C : Coded S) {M : Type 1} {𝓤 : Ura M} (𝓛 : Logic �
   infix 26 ◌⊢◌
   infixr 35 ◌∗◌
 
-  path_dup : (i a : ℕ) (h : S) (γ : ℕ) → ⟦ path C i a h γ ⟧ ⊢ ⟦ path C i a h γ ⟧ ∗ ⟦ path C i a h γ ⟧
-  path_dup zero a h γ = qed 𝓛 (‵ (path C zero a h γ) ∷ []) ∵ fpick ! (λ c. fsplit ! $ res_dup ! $ move ! (2 ∷ []) $ fpick ! (λ is. drop ! $
-      nothing ! $ fpack ! ((c.0 ≡ a) × (c.1.1 ≡ h)) (λ _. ftrue) is $ move ! (1 ∷ 0 ∷ []) $ fjoin ! $ fpack ! (Cell S) (past C γ (this a h)) c $ frame ! $
-      nothing ! $ fpack ! ((c.0 ≡ a) × (c.1.1 ≡ h)) (λ _. ftrue) is $ move ! (1 ∷ 0 ∷ []) $ fjoin ! $ fpack ! (Cell S) (past C γ (this a h)) c $ done !))
-  path_dup (suc i) a h γ = qed 𝓛 (‵ (path C (suc i) a h γ) ∷ []) ∵ fpick ! (λ c. fsplit ! $ res_dup ! $ move ! (2 ∷ []) $
-      use1 𝓛 (‵ (path C i a h c.1.0) ⊛ ‵ (path C i a h c.1.0)) (path_dup i a h c.1.0) $ split ! $ move ! (2 ∷ 0 ∷ []) $ fjoin ! $ fpack ! (Cell S) (past C γ (λ d. path C i a h d.1.0)) c $ frame ! $
-      move ! (1 ∷ 0 ∷ []) $ fjoin ! $ fpack ! (Cell S) (past C γ (λ d. path C i a h d.1.0)) c $ done !)
+  path_dup : (i a : ℕ) (h : S) (γ : ℕ) → ⟦ path C.code i a h γ ⟧ ⊢ ⟦ path C.code i a h γ ⟧ ∗ ⟦ path C.code i a h γ ⟧
+  path_dup zero a h γ = qed 𝓛 (‵ (path C.code zero a h γ) ∷ []) ∵ fpick ! (λ c. fsplit ! $ res_dup ! $ move ! (2 ∷ []) $ fpick ! (λ is. drop ! $
+      nothing ! $ fpack ! ((c.0 ≡ a) × (c.1.1 ≡ h)) (λ _. ftrue) is $ move ! (1 ∷ 0 ∷ []) $ fjoin ! $ fpack ! (Cell S) (past C.code γ (this a h)) c $ frame ! $
+      nothing ! $ fpack ! ((c.0 ≡ a) × (c.1.1 ≡ h)) (λ _. ftrue) is $ move ! (1 ∷ 0 ∷ []) $ fjoin ! $ fpack ! (Cell S) (past C.code γ (this a h)) c $ done !))
+  path_dup (suc i) a h γ = qed 𝓛 (‵ (path C.code (suc i) a h γ) ∷ []) ∵ fpick ! (λ c. fsplit ! $ res_dup ! $ move ! (2 ∷ []) $
+      use1 𝓛 (‵ (path C.code i a h c.1.0) ⊛ ‵ (path C.code i a h c.1.0)) (path_dup i a h c.1.0) $ split ! $ move ! (2 ∷ 0 ∷ []) $ fjoin ! $ fpack ! (Cell S) (past C.code γ (λ d. path C.code i a h d.1.0)) c $ frame ! $
+      move ! (1 ∷ 0 ∷ []) $ fjoin ! $ fpack ! (Cell S) (past C.code γ (λ d. path C.code i a h d.1.0)) c $ done !)
 
   -- nothing is known past an open cell
-  past_open : (γ : ℕ) (F : (Cell S) → Fml) (X Z : SProp 𝓤) → ⟦ chain C [] γ ⟧ ∗ ⟦ fex (Cell S) (past C γ F) ⟧ ∗ X ⊢ Z
-  past_open γ F X Z = qed 𝓛 (‵ (chain C [] γ) ∷ ‵ (fex (Cell S) (past C γ F)) ∷ raw X ∷ []) ∵ fsplit ! $ move ! (2 ∷ []) $ fpick ! (λ c. fsplit ! $ move ! (0 ∷ 3 ∷ []) $
-      use2 𝓛 (given (value C c ≡ gnil) (‵ (fres γ (value C c)) ⊛ ‵ (fauth γ gnil))) (𝓛.names.res_agree γ (value C c) gnil) $ learn ! (λ e. absurd (value_not_nil C c e)))
+  past_open : (γ : ℕ) (F : (Cell S) → Fml) (X Z : SProp 𝓤) → ⟦ chain C.code [] γ ⟧ ∗ ⟦ fex (Cell S) (past C.code γ F) ⟧ ∗ X ⊢ Z
+  past_open γ F X Z = qed 𝓛 (‵ (chain C.code [] γ) ∷ ‵ (fex (Cell S) (past C.code γ F)) ∷ raw X ∷ []) ∵ fsplit ! $ move ! (2 ∷ []) $ fpick ! (λ c. fsplit ! $ move ! (0 ∷ 3 ∷ []) $
+      use2 𝓛 (given (value C.code c ≡ gnil) (‵ (fres γ (value C.code c)) ⊛ ‵ (fauth γ gnil))) (𝓛.names.res_agree γ (value C.code c) gnil) $ learn ! (λ e. absurd (value_not_nil C c e)))
 
   -- what is known past a cell is known of what the cell names
   past_cell : (γ : ℕ) (r : Option S) (rest : ℕ → Fml) (F : (Cell S) → Fml) (X Z : SProp 𝓤)
-      → ((c : (Cell S)) → A.auth γ (value C c) ∗ A.res γ (value C c) ∗ ⟦ state r c ⟧ ∗ ⟦ rest c.1.0 ⟧ ∗ A.res γ (value C c) ∗ ⟦ F c ⟧ ∗ X ⊢ Z)
-      → ⟦ fex (Cell S) (cell C γ r rest) ⟧ ∗ ⟦ fex (Cell S) (past C γ F) ⟧ ∗ X ⊢ Z
-  past_cell γ r rest F X Z k = qed 𝓛 (‵ (fex (Cell S) (cell C γ r rest)) ∷ ‵ (fex (Cell S) (past C γ F)) ∷ raw X ∷ []) ∵ fpick ! (λ c. fsplit3 ! $ move ! (2 ∷ []) $ fsplit ! $ move ! (4 ∷ []) $ fpick ! (λ d. fsplit ! $ move ! (0 ∷ 4 ∷ []) $
-      use2 𝓛 (given (value C d ≡ value C c) (‵ (fres γ (value C d)) ⊛ ‵ (fauth γ (value C c)))) (𝓛.names.res_agree γ (value C d) (value C c)) $ learn ! (λ e. split ! $
-      rewrite ! 0 (λ (u : (Cell S)). ‵ (fres γ (value C u))) (value_inj C d c e) refl $ rewrite ! 2 (λ (u : (Cell S)). ‵ (F u)) (value_inj C d c e) refl $ move ! (1 ∷ 5 ∷ 3 ∷ 4 ∷ 0 ∷ 2 ∷ []) $ by ! (k c))))
+      → ((c : (Cell S)) → A.auth γ (value C.code c) ∗ A.res γ (value C.code c) ∗ ⟦ state r c ⟧ ∗ ⟦ rest c.1.0 ⟧ ∗ A.res γ (value C.code c) ∗ ⟦ F c ⟧ ∗ X ⊢ Z)
+      → ⟦ fex (Cell S) (cell C.code γ r rest) ⟧ ∗ ⟦ fex (Cell S) (past C.code γ F) ⟧ ∗ X ⊢ Z
+  past_cell γ r rest F X Z k = qed 𝓛 (‵ (fex (Cell S) (cell C.code γ r rest)) ∷ ‵ (fex (Cell S) (past C.code γ F)) ∷ raw X ∷ []) ∵ fpick ! (λ c. fsplit3 ! $ move ! (2 ∷ []) $ fsplit ! $ move ! (4 ∷ []) $ fpick ! (λ d. fsplit ! $ move ! (0 ∷ 4 ∷ []) $
+      use2 𝓛 (given (value C.code d ≡ value C.code c) (‵ (fres γ (value C.code d)) ⊛ ‵ (fauth γ (value C.code c)))) (𝓛.names.res_agree γ (value C.code d) (value C.code c)) $ learn ! (λ e. split ! $
+      rewrite ! 0 (λ (u : (Cell S)). ‵ (fres γ (value C.code u))) (value_inj C d c e) refl $ rewrite ! 2 (λ (u : (Cell S)). ‵ (F u)) (value_inj C d c e) refl $ move ! (1 ∷ 5 ∷ 3 ∷ 4 ∷ 0 ∷ 2 ∷ []) $ by ! (k c))))
 
   abbrev Sees : List (Option S) → ℕ → ℕ → S → ℕ → Share → SProp 𝓤
-  Sees rs i a h γ q = guard 𝓤 (Has rs i h) (⟦ chain C rs γ ⟧ ∗ A.lft (a ∷ []) q)
+  Sees rs i a h γ q = guard 𝓤 (Has rs i h) (⟦ chain C.code rs γ ⟧ ∗ A.lft (a ∷ []) q)
 
   -- an entry whose life goes on is in the chain, and isn't over
-  sees : (rs : List (Option S)) (i a : ℕ) (h : S) (γ : ℕ) (q : Share) → ⟦ chain C rs γ ⟧ ∗ ⟦ path C i a h γ ⟧ ∗ A.lft (a ∷ []) q ⊢ Sees rs i a h γ q
+  sees : (rs : List (Option S)) (i a : ℕ) (h : S) (γ : ℕ) (q : Share) → ⟦ chain C.code rs γ ⟧ ∗ ⟦ path C.code i a h γ ⟧ ∗ A.lft (a ∷ []) q ⊢ Sees rs i a h γ q
   sees [] zero a h γ q = past_open γ (this a h) (A.lft (a ∷ []) q) _
-  sees [] (suc i) a h γ q = past_open γ (λ c. path C i a h c.1.0) (A.lft (a ∷ []) q) _
-  sees (Some k ∷ rs) zero a h γ q = past_cell γ (Some k) (chain C rs) (this a h) (A.lft (a ∷ []) q) (Sees (Some k ∷ rs) zero a h γ q) (λ c.
-      qed 𝓛 (‵ (fauth γ (value C c)) ∷ ‵ (fres γ (value C c)) ∷ ‵ (state (Some k) c) ∷ ‵ (chain C rs c.1.0) ∷ ‵ (fres γ (value C c)) ∷ ‵ (this a h c) ∷ ‵ (flft (a ∷ []) q) ∷ []) ∵
+  sees [] (suc i) a h γ q = past_open γ (λ c. path C.code i a h c.1.0) (A.lft (a ∷ []) q) _
+  sees (Some k ∷ rs) zero a h γ q = past_cell γ (Some k) (chain C.code rs) (this a h) (A.lft (a ∷ []) q) (Sees (Some k ∷ rs) zero a h γ q) (λ c.
+      qed 𝓛 (‵ (fauth γ (value C.code c)) ∷ ‵ (fres γ (value C.code c)) ∷ ‵ (state (Some k) c) ∷ ‵ (chain C.code rs c.1.0) ∷ ‵ (fres γ (value C.code c)) ∷ ‵ (this a h c) ∷ ‵ (flft (a ∷ []) q) ∷ []) ∵
       move ! (5 ∷ []) $ fpick ! (λ is. drop ! $ move ! (2 ∷ []) $ fpick ! (λ same. drop ! $ check ! (ap (λ (x : S). Some (Some x)) (sym same ∙ is.1)) $
-      nothing ! $ fpack ! (c.1.1 ≡ k) (λ _. ftrue) same $ move ! (0 ∷ 3 ∷ []) $ fjoin ! $ move ! (1 ∷ 2 ∷ 0 ∷ []) $ fjoin3 ! $ fpack ! (Cell S) (cell C γ (Some k) (chain C rs)) c $ frame ! $ keep ! (1 ∷ []) $ done !)))
-  sees (None ∷ rs) zero a h γ q = past_cell γ None (chain C rs) (this a h) (A.lft (a ∷ []) q) (Sees (None ∷ rs) zero a h γ q) (λ c.
-      qed 𝓛 (‵ (fauth γ (value C c)) ∷ ‵ (fres γ (value C c)) ∷ ‵ (state None c) ∷ ‵ (chain C rs c.1.0) ∷ ‵ (fres γ (value C c)) ∷ ‵ (this a h c) ∷ ‵ (flft (a ∷ []) q) ∷ []) ∵
+      nothing ! $ fpack ! (c.1.1 ≡ k) (λ _. ftrue) same $ move ! (0 ∷ 3 ∷ []) $ fjoin ! $ move ! (1 ∷ 2 ∷ 0 ∷ []) $ fjoin3 ! $ fpack ! (Cell S) (cell C.code γ (Some k) (chain C.code rs)) c $ frame ! $ keep ! (1 ∷ []) $ done !)))
+  sees (None ∷ rs) zero a h γ q = past_cell γ None (chain C.code rs) (this a h) (A.lft (a ∷ []) q) (Sees (None ∷ rs) zero a h γ q) (λ c.
+      qed 𝓛 (‵ (fauth γ (value C.code c)) ∷ ‵ (fres γ (value C.code c)) ∷ ‵ (state None c) ∷ ‵ (chain C.code rs c.1.0) ∷ ‵ (fres γ (value C.code c)) ∷ ‵ (this a h c) ∷ ‵ (flft (a ∷ []) q) ∷ []) ∵
       move ! (5 ∷ []) $ fpick ! (λ is. drop ! $ rewrite ! 2 (λ (u : ℕ). ‵ (fdead (u ∷ []))) is.0 refl $ move ! (5 ∷ 2 ∷ []) $
       use2 𝓛 (raw (never 𝓤)) (𝓛.lfts.lft-dead (a ∷ []) q) $ keep ! (0 ∷ []) $ by ! (never_e 𝓤 _)))
-  sees (r ∷ rs) (suc i) a h γ q = past_cell γ r (chain C rs) (λ c. path C i a h c.1.0) (A.lft (a ∷ []) q) (Sees (r ∷ rs) (suc i) a h γ q) (λ c.
-      qed 𝓛 (‵ (fauth γ (value C c)) ∷ ‵ (fres γ (value C c)) ∷ ‵ (state r c) ∷ ‵ (chain C rs c.1.0) ∷ ‵ (fres γ (value C c)) ∷ ‵ (path C i a h c.1.0) ∷ ‵ (flft (a ∷ []) q) ∷ []) ∵
-      move ! (3 ∷ 5 ∷ 6 ∷ []) $ use3 𝓛 (given (Has rs i h) (‵ (chain C rs c.1.0) ⊛ ‵ (flft (a ∷ []) q))) (sees rs i a h c.1.0 q) $ learn ! (λ has. split ! $ check ! has $
-      move ! (4 ∷ 0 ∷ []) $ fjoin ! $ move ! (2 ∷ 3 ∷ 0 ∷ []) $ fjoin3 ! $ fpack ! (Cell S) (cell C γ r (chain C rs)) c $ frame ! $ keep ! (0 ∷ []) $ done !))
+  sees (r ∷ rs) (suc i) a h γ q = past_cell γ r (chain C.code rs) (λ c. path C.code i a h c.1.0) (A.lft (a ∷ []) q) (Sees (r ∷ rs) (suc i) a h γ q) (λ c.
+      qed 𝓛 (‵ (fauth γ (value C.code c)) ∷ ‵ (fres γ (value C.code c)) ∷ ‵ (state r c) ∷ ‵ (chain C.code rs c.1.0) ∷ ‵ (fres γ (value C.code c)) ∷ ‵ (path C.code i a h c.1.0) ∷ ‵ (flft (a ∷ []) q) ∷ []) ∵
+      move ! (3 ∷ 5 ∷ 6 ∷ []) $ use3 𝓛 (given (Has rs i h) (‵ (chain C.code rs c.1.0) ⊛ ‵ (flft (a ∷ []) q))) (sees rs i a h c.1.0 q) $ learn ! (λ has. split ! $ check ! has $
+      move ! (4 ∷ 0 ∷ []) $ fjoin ! $ move ! (2 ∷ 3 ∷ 0 ∷ []) $ fjoin3 ! $ fpack ! (Cell S) (cell C.code γ r (chain C.code rs)) c $ frame ! $ keep ! (0 ∷ []) $ done !))
 
   -- an entry whose life has ended is over
-  ends : (rs : List (Option S)) (i a : ℕ) (h : S) (γ : ℕ) → ⟦ chain C rs γ ⟧ ∗ ⟦ path C i a h γ ⟧ ∗ A.dead (a ∷ []) ⊢ ⟦ chain C (slice_set rs i None) γ ⟧
+  ends : (rs : List (Option S)) (i a : ℕ) (h : S) (γ : ℕ) → ⟦ chain C.code rs γ ⟧ ∗ ⟦ path C.code i a h γ ⟧ ∗ A.dead (a ∷ []) ⊢ ⟦ chain C.code (slice_set rs i None) γ ⟧
   ends [] zero a h γ = past_open γ (this a h) (A.dead (a ∷ [])) _
-  ends [] (suc i) a h γ = past_open γ (λ c. path C i a h c.1.0) (A.dead (a ∷ [])) _
-  ends (r ∷ rs) zero a h γ = past_cell γ r (chain C rs) (this a h) (A.dead (a ∷ [])) (⟦ chain C (None ∷ rs) γ ⟧) (λ c.
-      qed 𝓛 (‵ (fauth γ (value C c)) ∷ ‵ (fres γ (value C c)) ∷ ‵ (state r c) ∷ ‵ (chain C rs c.1.0) ∷ ‵ (fres γ (value C c)) ∷ ‵ (this a h c) ∷ ‵ (fdead (a ∷ [])) ∷ []) ∵
+  ends [] (suc i) a h γ = past_open γ (λ c. path C.code i a h c.1.0) (A.dead (a ∷ [])) _
+  ends (r ∷ rs) zero a h γ = past_cell γ r (chain C.code rs) (this a h) (A.dead (a ∷ [])) (⟦ chain C.code (None ∷ rs) γ ⟧) (λ c.
+      qed 𝓛 (‵ (fauth γ (value C.code c)) ∷ ‵ (fres γ (value C.code c)) ∷ ‵ (state r c) ∷ ‵ (chain C.code rs c.1.0) ∷ ‵ (fres γ (value C.code c)) ∷ ‵ (this a h c) ∷ ‵ (fdead (a ∷ [])) ∷ []) ∵
       move ! (5 ∷ []) $ fpick ! (λ is. drop ! $ rewrite ! 5 (λ (u : ℕ). ‵ (fdead (u ∷ []))) (sym is.0) refl $ move ! (5 ∷ 3 ∷ []) $ fjoin ! $ move ! (1 ∷ 2 ∷ 0 ∷ []) $ fjoin3 ! $
-      fpack ! (Cell S) (cell C γ None (chain C rs)) c $ keep ! (0 ∷ []) $ done !))
-  ends (r ∷ rs) (suc i) a h γ = past_cell γ r (chain C rs) (λ c. path C i a h c.1.0) (A.dead (a ∷ [])) (⟦ chain C (r ∷ slice_set rs i None) γ ⟧) (λ c.
-      qed 𝓛 (‵ (fauth γ (value C c)) ∷ ‵ (fres γ (value C c)) ∷ ‵ (state r c) ∷ ‵ (chain C rs c.1.0) ∷ ‵ (fres γ (value C c)) ∷ ‵ (path C i a h c.1.0) ∷ ‵ (fdead (a ∷ [])) ∷ []) ∵
-      move ! (3 ∷ 5 ∷ 6 ∷ []) $ use3 𝓛 (‵ (chain C (slice_set rs i None) c.1.0)) (ends rs i a h c.1.0) $
-      move ! (3 ∷ 0 ∷ []) $ fjoin ! $ move ! (1 ∷ 2 ∷ 0 ∷ []) $ fjoin3 ! $ fpack ! (Cell S) (cell C γ r (chain C (slice_set rs i None))) c $ keep ! (0 ∷ []) $ done !)
+      fpack ! (Cell S) (cell C.code γ None (chain C.code rs)) c $ keep ! (0 ∷ []) $ done !))
+  ends (r ∷ rs) (suc i) a h γ = past_cell γ r (chain C.code rs) (λ c. path C.code i a h c.1.0) (A.dead (a ∷ [])) (⟦ chain C.code (r ∷ slice_set rs i None) γ ⟧) (λ c.
+      qed 𝓛 (‵ (fauth γ (value C.code c)) ∷ ‵ (fres γ (value C.code c)) ∷ ‵ (state r c) ∷ ‵ (chain C.code rs c.1.0) ∷ ‵ (fres γ (value C.code c)) ∷ ‵ (path C.code i a h c.1.0) ∷ ‵ (fdead (a ∷ [])) ∷ []) ∵
+      move ! (3 ∷ 5 ∷ 6 ∷ []) $ use3 𝓛 (‵ (chain C.code (slice_set rs i None) c.1.0)) (ends rs i a h c.1.0) $
+      move ! (3 ∷ 0 ∷ []) $ fjoin ! $ move ! (1 ∷ 2 ∷ 0 ∷ []) $ fjoin3 ! $ fpack ! (Cell S) (cell C.code γ r (chain C.code (slice_set rs i None))) c $ keep ! (0 ∷ []) $ done !)
 
   -- a new entry, of a new life, and a new open cell
   abbrev Added : List (Option S) → ℕ → S → ℕ → SProp 𝓤
-  Added rs a h γ = ⟦ chain C (rs ++ Some h ∷ []) γ ⟧ ∗ ⟦ path C (length rs) a h γ ⟧
+  Added rs a h γ = ⟦ chain C.code (rs ++ Some h ∷ []) γ ⟧ ∗ ⟦ path C.code (length rs) a h γ ⟧
 
-  entry_add : (rs : List (Option S)) (a : ℕ) (h : S) (δ γ : ℕ) → ⟦ chain C rs γ ⟧ ∗ ⟦ chain C [] δ ⟧ ⊢ upd 𝓤 (Added rs a h γ)
+  entry_add : (rs : List (Option S)) (a : ℕ) (h : S) (δ γ : ℕ) → ⟦ chain C.code rs γ ⟧ ∗ ⟦ chain C.code [] δ ⟧ ⊢ upd 𝓤 (Added rs a h γ)
   entry_add [] a h δ γ = let G : SProp 𝓤 = Added [] a h γ in let d : (Cell S) = (a, (δ, h)) in
-      qed 𝓛 (‵ (chain C [] γ) ∷ ‵ (chain C [] δ) ∷ []) ∵ use1 𝓛 (raw (upd 𝓤 (A.obs γ (value C d) ∗ A.auth γ (value C d)))) (𝓛.names.name_set_upd γ gnil gnil (value C d)) $ settle 𝓛 G (‵ (fobs γ (value C d)) ⊛ ‵ (fauth γ (value C d))) $ split ! $
-      use1 𝓛 (‵ (fres γ (value C d))) (𝓛.names.obs-res γ (value C d)) $ res_dup ! $ suffices ! G (upd_i 𝓤 G) $
-      nothing ! $ fpack ! (h ≡ h) (λ _. ftrue) refl $ move ! (0 ∷ 4 ∷ []) $ fjoin ! $ move ! (3 ∷ 2 ∷ 0 ∷ []) $ fjoin3 ! $ fpack ! (Cell S) (cell C γ (Some h) (chain C [])) d $ frame ! $
-      nothing ! $ fpack ! ((a ≡ a) × (h ≡ h)) (λ _. ftrue) (refl, refl) $ move ! (1 ∷ 0 ∷ []) $ fjoin ! $ fpack ! (Cell S) (past C γ (this a h)) d $ done !
+      qed 𝓛 (‵ (chain C.code [] γ) ∷ ‵ (chain C.code [] δ) ∷ []) ∵ use1 𝓛 (raw (upd 𝓤 (A.obs γ (value C.code d) ∗ A.auth γ (value C.code d)))) (𝓛.names.name_set_upd γ gnil gnil (value C.code d)) $ settle 𝓛 G (‵ (fobs γ (value C.code d)) ⊛ ‵ (fauth γ (value C.code d))) $ split ! $
+      use1 𝓛 (‵ (fres γ (value C.code d))) (𝓛.names.obs-res γ (value C.code d)) $ res_dup ! $ suffices ! G (upd_i 𝓤 G) $
+      nothing ! $ fpack ! (h ≡ h) (λ _. ftrue) refl $ move ! (0 ∷ 4 ∷ []) $ fjoin ! $ move ! (3 ∷ 2 ∷ 0 ∷ []) $ fjoin3 ! $ fpack ! (Cell S) (cell C.code γ (Some h) (chain C.code [])) d $ frame ! $
+      nothing ! $ fpack ! ((a ≡ a) × (h ≡ h)) (λ _. ftrue) (refl, refl) $ move ! (1 ∷ 0 ∷ []) $ fjoin ! $ fpack ! (Cell S) (past C.code γ (this a h)) d $ done !
   entry_add (r ∷ rs) a h δ γ = let G : SProp 𝓤 = Added (r ∷ rs) a h γ in
-      qed 𝓛 (‵ (chain C (r ∷ rs) γ) ∷ ‵ (chain C [] δ) ∷ []) ∵ fpick ! (λ c. fsplit3 ! $ move ! (2 ∷ []) $ fsplit ! $ move ! (1 ∷ 4 ∷ []) $
-      use2 𝓛 (raw (upd 𝓤 (Added rs a h c.1.0))) (entry_add rs a h δ c.1.0) $ settle 𝓛 G (‵ (chain C (rs ++ Some h ∷ []) c.1.0) ⊛ ‵ (path C (length rs) a h c.1.0)) $ split ! $ suffices ! G (upd_i 𝓤 G) $
-      move ! (4 ∷ []) $ res_dup ! $ move ! (4 ∷ 2 ∷ []) $ fjoin ! $ move ! (4 ∷ 1 ∷ 0 ∷ []) $ fjoin3 ! $ fpack ! (Cell S) (cell C γ r (chain C (rs ++ Some h ∷ []))) c $ frame ! $
-      fjoin ! $ fpack ! (Cell S) (past C γ (λ e. path C (length rs) a h e.1.0)) c $ done !)
+      qed 𝓛 (‵ (chain C.code (r ∷ rs) γ) ∷ ‵ (chain C.code [] δ) ∷ []) ∵ fpick ! (λ c. fsplit3 ! $ move ! (2 ∷ []) $ fsplit ! $ move ! (1 ∷ 4 ∷ []) $
+      use2 𝓛 (raw (upd 𝓤 (Added rs a h c.1.0))) (entry_add rs a h δ c.1.0) $ settle 𝓛 G (‵ (chain C.code (rs ++ Some h ∷ []) c.1.0) ⊛ ‵ (path C.code (length rs) a h c.1.0)) $ split ! $ suffices ! G (upd_i 𝓤 G) $
+      move ! (4 ∷ []) $ res_dup ! $ move ! (4 ∷ 2 ∷ []) $ fjoin ! $ move ! (4 ∷ 1 ∷ 0 ∷ []) $ fjoin3 ! $ fpack ! (Cell S) (cell C.code γ r (chain C.code (rs ++ Some h ∷ []))) c $ frame ! $
+      fjoin ! $ fpack ! (Cell S) (past C.code γ (λ e. path C.code (length rs) a h e.1.0)) c $ done !)
 
   basic : (Q : SProp 𝓤) → upd 𝓤 Q ⊢ H.⇛ Q
   basic Q = qed 𝓛 (raw (upd 𝓤 Q) ∷ []) ∵ updating ! $ nothing ! $ use1 𝓛 (later (‵ (finv ftrue))) (𝓛.invs.inv_new ftrue) $ await ! tt $
       by ! (qed 𝓛 (‵ (finv ftrue) ∷ raw (upd 𝓤 Q) ∷ []) ∵ suffices ! _ (𝓛.invs.inv_acc ftrue Q) $ frame ! $ assume ! (‵ ftrue) $ move ! (1 ∷ []) $ settle 𝓛 (emp 𝓤 ∗ Q) (raw Q) $ suffices ! _ (upd_i 𝓤 (emp 𝓤 ∗ Q)) $ move ! (1 ∷ 0 ∷ []) $ done !)
 
-  pub entry_path_dup : (name i a : ℕ) (h : S) → ⟦ entry_path C name i a h ⟧ ⊢ ⟦ entry_path C name i a h ⟧ ∗ ⟦ entry_path C name i a h ⟧
+  pub entry_path_dup : (name i a : ℕ) (h : S) → ⟦ entry_path C.code name i a h ⟧ ⊢ ⟦ entry_path C.code name i a h ⟧ ∗ ⟦ entry_path C.code name i a h ⟧
   unfolding entry_path
   entry_path_dup name i a h = path_dup i a h name
 
@@ -132,39 +132,39 @@ module _ {S : Type 0} (C : Coded S) {M : Type 1} {𝓤 : Ura M} (𝓛 : Logic �
   tokens_in a = qed 𝓛 (‵ (flft (a ∷ []) full_share) ∷ []) ∵ fpack ! (Counts 63 full_share (2 ^ 63)) (λ _. flft (a ∷ []) full_share) (Counts-all 63) $ fpack ! Share (λ s. fex (Counts 63 s (2 ^ 63)) (λ _. flft (a ∷ []) s)) full_share $ done !
 
   -- a map that has a name
-  pub names : (name : ℕ) → ⟦ blank_owns name ⟧ ⊢ ⟦ map_owns C name [] ⟧
+  pub names : (name : ℕ) → ⟦ blank_owns name ⟧ ⊢ ⟦ map_owns C.code name [] ⟧
   unfolding blank_owns map_owns
   names name = id⊢ 𝓤 _
 
   -- a new entry
-  pub adds : (name : ℕ) (rs : List (Option S)) (h : S) → ⟦ map_owns C name rs ⟧ ⊢ H.⇛ (ex 𝓤 (λ (a : ℕ). ⟦ fsep (map_owns C name (rs ++ Some h ∷ [])) (entry_owns C name (length rs) a h) ⟧))
+  pub adds : (name : ℕ) (rs : List (Option S)) (h : S) → ⟦ map_owns C.code name rs ⟧ ⊢ H.⇛ (ex 𝓤 (λ (a : ℕ). ⟦ fsep (map_owns C.code name (rs ++ Some h ∷ [])) (entry_owns C.code name (length rs) a h) ⟧))
   unfolding map_owns entry_path
-  adds name rs h = qed 𝓛 (‵ (chain C rs name) ∷ []) ∵ updating ! $ name_new ! tt gnil (λ δ. fjoin ! $ lft_new ! tt (λ a. move ! (2 ∷ 1 ∷ []) $
-      use2 𝓛 (later (‵ (chain C (rs ++ Some h ∷ []) name) ⊛ ‵ (path C (length rs) a h name))) (via 𝓤 _ (entry_add rs a h δ name) (basic _)) $ await ! tt $ split ! $
+  adds name rs h = qed 𝓛 (‵ (chain C.code rs name) ∷ []) ∵ updating ! $ name_new ! tt gnil (λ δ. fjoin ! $ lft_new ! tt (λ a. move ! (2 ∷ 1 ∷ []) $
+      use2 𝓛 (later (‵ (chain C.code (rs ++ Some h ∷ []) name) ⊛ ‵ (path C.code (length rs) a h name))) (via 𝓤 _ (entry_add rs a h δ name) (basic _)) $ await ! tt $ split ! $
       move ! (2 ∷ []) $ use1 𝓛 (‵ (tokens a (2 ^ 63))) (tokens_in a) $ move ! (0 ∷ 2 ∷ []) $ fjoin ! $ move ! (1 ∷ 0 ∷ []) $ fjoin ! $ now ! $
-      show ! (λ (b : ℕ). ⟦ fsep (chain C (rs ++ Some h ∷ []) name) (entry_owns C name (length rs) b h) ⟧) a $ done !))
+      show ! (λ (b : ℕ). ⟦ fsep (chain C.code (rs ++ Some h ∷ []) name) (entry_owns C.code name (length rs) b h) ⟧) a $ done !))
 
   -- an entry that is lent is in the map, and isn't over
   pub seen : (name : ℕ) (rs : List (Option S)) (i a : ℕ) (h : S) (κ : Lft) (q : Share)
-      → ⟦ map_owns C name rs ⟧ ∗ ⟦ entry_shares C name i a h κ ⟧ ∗ A.lft κ q ⊢ H.⇛ (guard 𝓤 (Has rs i h) (⟦ map_owns C name rs ⟧ ∗ A.lft κ q))
+      → ⟦ map_owns C.code name rs ⟧ ∗ ⟦ entry_shares C.code name i a h κ ⟧ ∗ A.lft κ q ⊢ H.⇛ (guard 𝓤 (Has rs i h) (⟦ map_owns C.code name rs ⟧ ∗ A.lft κ q))
   unfolding map_owns entry_path
-  seen name rs i a h κ q = qed 𝓛 (‵ (chain C rs name) ∷ ‵ (entry_shares C name i a h κ) ∷ ‵ (flft κ q) ∷ []) ∵ updating ! $ move ! (1 ∷ []) $ fsplit ! $ move ! (0 ∷ 3 ∷ []) $
+  seen name rs i a h κ q = qed 𝓛 (‵ (chain C.code rs name) ∷ ‵ (entry_shares C.code name i a h κ) ∷ ‵ (flft κ q) ∷ []) ∵ updating ! $ move ! (1 ∷ []) $ fsplit ! $ move ! (0 ∷ 3 ∷ []) $
       shr_bor-open ! tt (tokens_halve 𝓛 (a ∷ [])) (λ r. move ! (3 ∷ 2 ∷ 1 ∷ []) $
-      use3 𝓛 (given (Has rs i h) (‵ (chain C rs name) ⊛ ‵ (flft (a ∷ []) r))) (sees rs i a h name r) $ learn ! (λ has. split ! $ move ! (2 ∷ 1 ∷ []) $ obor_close ! tt $
+      use3 𝓛 (given (Has rs i h) (‵ (chain C.code rs name) ⊛ ‵ (flft (a ∷ []) r))) (sees rs i a h name r) $ learn ! (λ has. split ! $ move ! (2 ∷ 1 ∷ []) $ obor_close ! tt $
       now ! $ check ! has $ move ! (2 ∷ 1 ∷ []) $ frame ! $ keep ! (0 ∷ []) $ done !))
 
   -- and one that comes back is over
   pub closes : (name : ℕ) (rs : List (Option S)) (i a : ℕ) (h : S)
-      → ⟦ map_owns C name rs ⟧ ∗ ⟦ entry_owns C name i a h ⟧ ⊢ H.⇛ (guard 𝓤 (Has rs i h) ⟦ map_owns C name (slice_set rs i None) ⟧)
+      → ⟦ map_owns C.code name rs ⟧ ∗ ⟦ entry_owns C.code name i a h ⟧ ⊢ H.⇛ (guard 𝓤 (Has rs i h) ⟦ map_owns C.code name (slice_set rs i None) ⟧)
   unfolding map_owns entry_path
-  closes name rs i a h = qed 𝓛 (‵ (chain C rs name) ∷ ‵ (entry_owns C name i a h) ∷ []) ∵ updating ! $ move ! (1 ∷ []) $ fsplit ! $ use1 𝓛 (‵ (flft (a ∷ []) full_share)) (tokens_whole 𝓛 a) $
-      move ! (1 ∷ []) $ use1 𝓛 (‵ (path C i a h name) ⊛ ‵ (path C i a h name)) (path_dup i a h name) $ split ! $ move ! (3 ∷ 0 ∷ 2 ∷ []) $
-      use3 𝓛 (given (Has rs i h) (‵ (chain C rs name) ⊛ ‵ (flft (a ∷ []) full_share))) (sees rs i a h name full_share) $ learn ! (λ has. split ! $ move ! (1 ∷ []) $ lft_end ! tt $
-      move ! (1 ∷ 2 ∷ 0 ∷ []) $ use3 𝓛 (‵ (chain C (slice_set rs i None) name)) (ends rs i a h name) $ now ! $ check ! has $ done !)
+  closes name rs i a h = qed 𝓛 (‵ (chain C.code rs name) ∷ ‵ (entry_owns C.code name i a h) ∷ []) ∵ updating ! $ move ! (1 ∷ []) $ fsplit ! $ use1 𝓛 (‵ (flft (a ∷ []) full_share)) (tokens_whole 𝓛 a) $
+      move ! (1 ∷ []) $ use1 𝓛 (‵ (path C.code i a h name) ⊛ ‵ (path C.code i a h name)) (path_dup i a h name) $ split ! $ move ! (3 ∷ 0 ∷ 2 ∷ []) $
+      use3 𝓛 (given (Has rs i h) (‵ (chain C.code rs name) ⊛ ‵ (flft (a ∷ []) full_share))) (sees rs i a h name full_share) $ learn ! (λ has. split ! $ move ! (1 ∷ []) $ lft_end ! tt $
+      move ! (1 ∷ 2 ∷ 0 ∷ []) $ use3 𝓛 (‵ (chain C.code (slice_set rs i None) name)) (ends rs i a h name) $ now ! $ check ! has $ done !)
 
 module _ {S : Type 0} (C : Coded S) (name i a : ℕ) (h : S) where
-  pub path_laws : ShrLaws (said (entry_path C name i a h))
-  path_laws = record { contraction = λ M 𝓤 𝓛 _. entry_path_dup C 𝓛 name i a h; mono = λ M 𝓤 𝓛 κ' κ. snd∗ 𝓤 (sem 𝓛 (before κ' κ)) (sem 𝓛 (entry_path C name i a h)) }
+  pub path_laws : ShrLaws (said (entry_path C.code name i a h))
+  path_laws = record { contraction = λ M 𝓤 𝓛 _. entry_path_dup C 𝓛 name i a h; mono = λ M 𝓤 𝓛 κ' κ. snd∗ 𝓤 (sem 𝓛 (before κ' κ)) (sem 𝓛 (entry_path C.code name i a h)) }
 
 -- a new map
 pub begins : {M : Type 1} {𝓤 : Ura M} (𝓛 : Logic 𝓤) → ent 𝓤 (emp 𝓤) (𝓛.H.⇛ (ex 𝓤 (λ (γ : ℕ). sem 𝓛 (blank_owns γ))))

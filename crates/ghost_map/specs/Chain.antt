@@ -1,6 +1,6 @@
 -- What a ghost map owns. Its entries lie in a chain of cells, and each cell names for good its entry's life, what the entry says, and the next cell. An entry's life is alive just as long as the entry is.
 use Rattle.std.specs.Prelude.{◌≡◌, ℕ, suc, zero, ◌^◌, List, [], ◌∷◌, Option, None, Some}
-use base.Stored.{Gv, Coded, gnil, coded×, coded_ℕ}
+use base.Stored.{Gv, gnil, gnum, gcons}
 use base.Fml.{Lft, Fml, ftrue, fsep, fex, fobs, fauth, fres, flft, fdead}
 use denote.Sharing.{beside, one, held, said}
 use Rattle.left_right.specs.Parted.{tokens}
@@ -23,9 +23,9 @@ module _ {A : Type 0} where
   abbrev pub this : ℕ → A → Cell A → Fml
   this a x c = fex ((c.0 ≡ a) × (c.1.1 ≡ x)) (λ _. ftrue)
 
-module _ {A : Type 0} (code : Coded A) where
+module _ {A : Type 0} (code : A → Gv) where
   unfoldable pub value : Cell A → Gv
-  value = (coded× coded_ℕ (coded× coded_ℕ code)).code
+  value c = gcons (gnum c.0) (gcons (gnum c.1.0) (code c.1.1))
 
   abbrev pub cell : ℕ → Option A → (ℕ → Fml) → Cell A → Fml
   cell γ e rest c = fsep (fauth γ (value c)) (fsep (fres γ (value c)) (fsep (state e c) (rest c.1.0)))

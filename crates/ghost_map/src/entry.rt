@@ -17,9 +17,9 @@ pub struct GhostEntry<N: Named, T> {
 }
 
 impl<N: Named, T> Model for GhostEntry<N, T> {
-    ghost also_owns = { λ e. entry_owns T.row.coded N.name e.at e.life e.value };
+    ghost also_owns = { λ e. entry_owns T.row.coded.code N.name e.at e.life e.value };
 
-    ghost also_shares = { λ e _ κ. entry_shares T.row.coded N.name e.at e.life e.value κ };
+    ghost also_shares = { λ e _ κ. entry_shares T.row.coded.code N.name e.at e.life e.value κ };
 }
 
 unsafe impl<N: Named, T> Send for GhostEntry<N, T> {}

@@ -35,7 +35,7 @@ pub struct GhostMap<N: Named, T> {
 }
 
 impl<N: Named, T> Model for GhostMap<N, T> {
-    ghost also_owns = { λ m. map_owns T.row.coded N.name m.entries };
+    ghost also_owns = { λ m. map_owns T.row.coded.code N.name m.entries };
 }
 
 impl Blank {

@@ -47,7 +47,7 @@ open_spec 𝓤 𝓛 𝓜 𝓡 wired N T _ _ g d _ =
     let y : (walk_of 𝓛 En hs c).Ghost = ((κs, qs, bounds, a, (token ∷ [], tt)), gh) in let Post : Val → SProp 𝓤 = (walk_of 𝓛 En hs c).post y in let m : A.Denot = record { marker = record {}; entries = [] } in
     qed 𝓛 ((raw (alive 𝓛 En.signature κs qs) ⊛ ‵ (owns (types_at En.signature.params κs) a y.0.4)) ∷ raw (fact 𝓤 _) ∷ raw (fact 𝓤 _) ∷ given _ (‵ ftrue) ∷ []) ∵ keep ! (3 ∷ 0 ∷ []) $ learn ! (λ asked. drop ! $ split ! $
     move ! (1 ∷ []) $ fsplit ! $ fsplit ! $ keep ! (1 ∷ 3 ∷ []) $ rewrite ! 0 (λ (n : ℕ). ‵ (blank_owns n)) {x = g.name} {y = a.0.name} asked refl $
-    use1 𝓛 (‵ (map_owns T'.coded g.name [])) (steps.names T'.coded 𝓛 g.name) $
+    use1 𝓛 (‵ (map_owns T'.coded.code g.name [])) (steps.names T'.coded 𝓛 g.name) $
     enter ! 𝓣.C 𝓣.Λ fn (token ∷ []) Post $ alloc_all ! (λ l. pass_all ! refl ((tt, (tt, tt)), tt) $ sets ! (agg ! (no_more !)) refl (tt, tt) $ sets ! (agg ! (and_then ! (get ! refl) (no_more !))) refl (tt, (tt, tt)) $
     use0 𝓛 (‵ ((Token Pair).own_val (record {}, tt) (token ∷ []))) (token_made Pair 𝓛) $ fjoin ! $ nothing ! $ nothing ! $ fjoin ! $
     returns ! (look_at ! 0 refl) $ free_all ! refl $ move ! (2 ∷ 0 ∷ 1 ∷ []) $ by ! (ends 𝓛 En hs c y token m (tt, tt) (tt, tt) (fact_i 𝓤 _ (base.Logic.emp 𝓤) refl)))))

@@ -48,7 +48,7 @@ insert_spec 𝓤 𝓛 𝓜 𝓡 wired N T _ _ g d _ =
     let y : (walk_of 𝓛 En hs c).Ghost = ((κs, qs, bounds, a, (u ∷ [], (token ∷ [], tt))), gh) in let Post : Val → SProp 𝓤 = (walk_of 𝓛 En hs c).post y in let rest : Fml = fsep (flft κs.1.0 qs.1.0) (fsep (flft κs.1.1.0 qs.1.1.0) ftrue) in
     qed 𝓛 (((‵ (flft κs.0 qs.0) ⊛ ‵ rest) ⊛ ‵ (owns (types_at En.signature.params κs) a y.0.4)) ∷ raw ((c κs a).requires gh) ∷ []) ∵ split ! $ split ! $ move ! (2 ∷ []) $ fsplit ! $ fsplit3 ! $ keep ! (1 ∷ 2 ∷ 4 ∷ 5 ∷ []) $
     enter ! 𝓣.C 𝓣.Λ fn (u ∷ token ∷ []) Post $ alloc_all ! (λ l. pass_all ! refl ((tt, tt), ((tt, (tt, tt)), tt)) $ opens ! tt A b o (λ cs. move ! (1 ∷ []) $ fsplit ! $ move ! (1 ∷ []) $
-    use1 𝓛 (later (some (λ (n : ℕ). ‵ (fsep (map_owns T'.coded g.name m'.entries) (entry_owns T'.coded g.name (length m.entries) n x))))) (steps.adds T'.coded 𝓛 g.name m.entries x) $ await ! tt $ pick ! (λ n. fsplit ! $
+    use1 𝓛 (later (some (λ (n : ℕ). ‵ (fsep (map_owns T'.coded.code g.name m'.entries) (entry_owns T'.coded.code g.name (length m.entries) n x))))) (steps.adds T'.coded 𝓛 g.name m.entries x) $ await ! tt $ pick ! (λ n. fsplit ! $
     let e : B.Denot = record { marker = record {}; at = length m.entries; life = n; value = x } in move ! (2 ∷ 0 ∷ []) $ fjoin ! $ move ! (2 ∷ 0 ∷ 3 ∷ 4 ∷ 5 ∷ []) $ closes ! tt A m' cs b o $
     sets ! (agg ! (no_more !)) refl (tt, tt) $ sets ! (agg ! (and_then ! (get ! refl) (no_more !))) refl (tt, (tt, tt)) $
     returns ! (look_at ! 0 refl) $ free_all ! refl $ feq_i ! (List Val) (u ∷ []) (u ∷ []) refl $ fjoin3 ! $ nothing ! $ nothing ! $ fjoin ! $ move ! (1 ∷ 0 ∷ []) $ fjoin ! $ move ! (2 ∷ []) $

@@ -49,7 +49,7 @@ look_spec 𝓤 𝓛 𝓜 𝓡 wired N T _ _ g d _ =
     qed 𝓛 (((‵ (flft κs.0 qs.0) ⊛ ‵ (flft κ₁ q₁) ⊛ ‵ rest) ⊛ ‵ (owns (types_at En.signature.params κs) a y.0.4)) ∷ raw ((c κs a).requires gh) ∷ []) ∵
     split ! $ split ! $ move ! (1 ∷ []) $ split ! $ move ! (3 ∷ []) $ fsplit ! $ fsplit3 ! $ drop ! $ move ! (2 ∷ []) $ fsplit ! $ fsplit ! $ drop ! $ unhide ! $ fsplit ! $ drop ! $ keep ! (2 ∷ 3 ∷ 6 ∷ 0 ∷ 4 ∷ 5 ∷ []) $
     enter ! 𝓣.C 𝓣.Λ fn (u ∷ v ∷ []) Post $ alloc_all ! (λ l. pass_all ! refl ((tt, tt), ((tt, tt), tt)) $ opens ! tt A b o (λ cs. move ! (1 ∷ []) $ fsplit ! $ move ! (1 ∷ 6 ∷ 7 ∷ []) $
-    use3 𝓛 (later (given (steps.Has m.entries e.at e.value) (‵ (map_owns T'.coded g.name m.entries) ⊛ ‵ (flft κ₁ q₁)))) (steps.seen T'.coded 𝓛 g.name m.entries e.at e.life e.value κ₁ q₁) $
+    use3 𝓛 (later (given (steps.Has m.entries e.at e.value) (‵ (map_owns T'.coded.code g.name m.entries) ⊛ ‵ (flft κ₁ q₁)))) (steps.seen T'.coded 𝓛 g.name m.entries e.at e.life e.value κ₁ q₁) $
     await ! tt $ learn ! (λ has. split ! $ move ! (2 ∷ 0 ∷ []) $ fjoin ! $ move ! (2 ∷ 0 ∷ 3 ∷ 4 ∷ 5 ∷ []) $ closes ! tt A m cs b o $
     sets ! (of_opd ! (unit_lit !)) refl (tt, tt) $ returns ! (look_at ! 0 refl) $ free_all ! refl $ feq_i ! (List Val) (u ∷ []) (u ∷ []) refl $ fjoin3 ! $ nothing ! $ nothing ! $ fjoin ! $ move ! (1 ∷ 0 ∷ []) $ fjoin ! $
     feq_i ! (List Val) (vunit ∷ []) (vunit ∷ []) refl $ move ! (1 ∷ 0 ∷ []) $ join ! $ move ! (2 ∷ 3 ∷ []) $ join ! $ move ! (2 ∷ 0 ∷ []) $ join ! $ move ! (1 ∷ []) $ split ! $ move ! (2 ∷ 0 ∷ 1 ∷ []) $

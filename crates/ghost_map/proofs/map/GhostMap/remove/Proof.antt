@@ -48,7 +48,7 @@ remove_spec 𝓤 𝓛 𝓜 𝓡 wired N T _ _ g d _ =
     let y : (walk_of 𝓛 En hs c).Ghost = ((κs, qs, bounds, a, (u ∷ [], (token ∷ [], tt))), gh) in let Post : Val → SProp 𝓤 = (walk_of 𝓛 En hs c).post y in let rest : Fml = fsep (flft κs.1.0 qs.1.0) (fsep (flft κs.1.1.0 qs.1.1.0) ftrue) in
     qed 𝓛 (((‵ (flft κs.0 qs.0) ⊛ ‵ rest) ⊛ ‵ (owns (types_at En.signature.params κs) a y.0.4)) ∷ raw ((c κs a).requires gh) ∷ []) ∵ split ! $ split ! $ move ! (2 ∷ []) $ fsplit ! $ fsplit3 ! $ move ! (3 ∷ []) $ fsplit ! $ fsplit ! $ keep ! (4 ∷ 5 ∷ 6 ∷ 1 ∷ 7 ∷ []) $
     enter ! 𝓣.C 𝓣.Λ fn (u ∷ token ∷ []) Post $ alloc_all ! (λ l. pass_all ! refl ((tt, tt), ((tt, (tt, tt)), tt)) $ opens ! tt A b o (λ cs. move ! (1 ∷ []) $ fsplit ! $ move ! (1 ∷ 6 ∷ []) $
-    use2 𝓛 (later (given (steps.Has m.entries e.at e.value) (‵ (map_owns T'.coded g.name m'.entries)))) (steps.closes T'.coded 𝓛 g.name m.entries e.at e.life e.value) $
+    use2 𝓛 (later (given (steps.Has m.entries e.at e.value) (‵ (map_owns T'.coded.code g.name m'.entries)))) (steps.closes T'.coded 𝓛 g.name m.entries e.at e.life e.value) $
     await ! tt $ learn ! (λ has. move ! (1 ∷ 0 ∷ []) $ fjoin ! $ move ! (1 ∷ 0 ∷ []) $ closes ! tt A m' cs b o $
     sets ! (of_opd ! (unit_lit !)) refl (tt, tt) $ returns ! (look_at ! 0 refl) $ free_all ! refl $ feq_i ! (List Val) (u ∷ []) (u ∷ []) refl $ fjoin3 ! $ nothing ! $ nothing ! $ fjoin ! $ move ! (1 ∷ 0 ∷ []) $ fjoin ! $
     feq_i ! (List Val) (vunit ∷ []) (vunit ∷ []) refl $ move ! (2 ∷ 3 ∷ 1 ∷ 0 ∷ []) $ join ! $ by ! (ends 𝓛 En hs c y vunit tt (m', (tt, tt)) (tt, (tt, tt))
