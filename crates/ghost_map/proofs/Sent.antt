@@ -1,5 +1,5 @@
 -- Nothing that a map or an entry owns belongs to one thread.
-use Rattle.std.proofs.Common.{ℕ, zero, suc, ◌^◌, List, [], ◌∷◌, Option, None, Some}
+use Rattle.std.proofs.Common.{ℕ, zero, suc, List, [], ◌∷◌, Option, None, Some}
 use base.Stored.{Gv}
 use base.Shift.{Keyless}
 use Rattle.left_right.specs.Parted.{tokens}

@@ -8,7 +8,7 @@ use base.Stored.{Gv, Coded, gnil, gnum, gcons, coded×, coded_ℕ}
 use base.Fml.{Lft, Share, Fml, ftrue, fsep, fex, fobs, fauth, fres, flft, fdead, finv}
 use base.Before.{before}
 use types.Logic.{Logic, sem}
-use types.Kit.{‵, raw, ◌⊛◌, some, given, later, ◌$◌, ◌∵◌, !, qed, by, move, keep, drop, split, join, fsplit, fsplit3, fjoin, fjoin3, fpick, fpack, learn, suffices, done, use0, use1, use2, use3, settle, frame, check, rewrite, await, updating, now, assume, show}
+use types.Kit.{‵, raw, ◌⊛◌, given, later, ◌$◌, ◌∵◌, !, qed, by, move, keep, drop, split, fsplit, fsplit3, fjoin, fjoin3, fpick, fpack, learn, suffices, done, use1, use2, use3, settle, frame, check, rewrite, await, updating, now, assume, show}
 use types.Tokens.{res_dup, lft_new, lft_end, name_new, shr_bor-open, obor_close}
 use types.Within.{tokens_halve}
 use denote.Sharing.{ShrLaws, said}
@@ -49,7 +49,6 @@ module _ {S : Type 0} (C : Coded S) {M : Type 1} {𝓤 : Ura M} (𝓛 : Logic �
 
   infix 26 ◌⊢◌
   infixr 35 ◌∗◌
-
   path_dup : (i a : ℕ) (h : S) (γ : ℕ) → ⟦ path C.code i a h γ ⟧ ⊢ ⟦ path C.code i a h γ ⟧ ∗ ⟦ path C.code i a h γ ⟧
   path_dup zero a h γ = qed 𝓛 (‵ (path C.code zero a h γ) ∷ []) ∵ fpick ! (λ c. fsplit ! $ res_dup ! $ move ! (2 ∷ []) $ fpick ! (λ is. drop ! $
       nothing ! $ fpack ! ((c.0 ≡ a) × (c.1.1 ≡ h)) (λ _. ftrue) is $ move ! (1 ∷ 0 ∷ []) $ fjoin ! $ fpack ! (Cell S) (past C.code γ (this a h)) c $ frame ! $

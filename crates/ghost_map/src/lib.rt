@@ -1,8 +1,11 @@
-//! A map that exists in proofs alone. Its types have no bytes, and its functions take no time.
+//! A map that exists in proofs alone. Who has an entry knows what the map says there, and only who has it can end it.
+//! All types here have no bytes, and all calls take no time.
 #![tactic(auto)]
 
 mod entry;
 mod map;
+#[cfg(test)]
+mod tests;
 mod value;
 
 pub use entry::GhostEntry;

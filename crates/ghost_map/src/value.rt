@@ -1,36 +1,36 @@
-//! A value of proofs alone.
+//! A value of proofs alone, and where it comes from.
 ghost use Rattle.std.specs.Prelude.{◌≡◌};
 ghost use base.Fml.{ftrue};
 ghost use denote.Sharing.{said};
 
 use std::marker::{Model, PhantomData};
 
-/// A value that only clauses see. It has no bytes and owns nothing.
+/// A value that clauses see and no program has. It owns nothing, so that only a clause ties it to anything.
 #[derive(Drop)]
 pub struct Ghost<T> {
     pub(crate) marker: PhantomData<T>,
     pub ghost value: { T },
 }
 
+// A struct may have a ghost field that is no fact where it owns something beside its fields, were it nothing.
 impl<T> Model for Ghost<T> {
-    // Nothing is owned; that there is an `also_owns` keeps other crates from making one.
     ghost also_owns = { λ _. ftrue };
 
     ghost also_shares = { λ _ _. said ftrue };
 }
 
-/// What a value of `X` tells.
+/// How a value of `X` tells a `T`.
 pub trait Tells<X, T> {
     ghost told: { X → T };
 }
 
-/// What a value of `X` and one of `Y` tell together.
+/// How a value of `X` and one of `Y` tell a `T` together.
 pub trait TellsPair<X, Y, T> {
     ghost told: { X → Y → T };
 }
 
 impl<T> Ghost<T> {
-    /// What `x` tells as it is now. Nothing is read at run time.
+    /// What `x` tells as it is now. It isn't read.
     #[inline(always)]
     pub fn of<X, M: Tells<X, T>>(x: &X) -> Ghost<T>
         ensures { result.value ≡ M.told x.now }
@@ -41,7 +41,7 @@ impl<T> Ghost<T> {
         }
     }
 
-    /// What `x` and `y` tell together as they are now. Nothing is read at run time.
+    /// What `x` and `y` tell together as they are now. Neither is read.
     #[inline(always)]
     pub fn of_pair<X, Y, M: TellsPair<X, Y, T>>(x: &X, y: &Y) -> Ghost<T>
         ensures { result.value ≡ M.told x.now y.now }

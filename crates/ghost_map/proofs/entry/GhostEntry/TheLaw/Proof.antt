@@ -1,5 +1,5 @@
 -- A `&` to an entry holds a share of its life, and where it stands. Assumes `Logic`.
-use Rattle.std.proofs.Common.{ℕ, ◌^◌, [], ◌∷◌}
+use Rattle.std.proofs.Common.{◌^◌, [], ◌∷◌}
 use denote.RattleType.{RattleType}
 use denote.Sharing.{said}
 use denote.Param.Laws.{Laws}

@@ -1,36 +1,28 @@
 -- `remove` ends the entry's life.
-use Rattle.std.proofs.Common.{◌≡◌, ℕ, List, [], ◌∷◌, ◌++◌, length, slice_set, Option, Some, None, refl}
+use Rattle.std.proofs.Common.{◌≡◌, ℕ, List, [], ◌∷◌, slice_set, None, refl}
 use mir.Syntax.{a_type, dcons, dnil, named}
 use mir.Val.{Val, vunit, vptr}
 use mir.MapTy.{inst_fn}
-use base.Logic.{SProp, id⊢}
+use base.Logic.{SProp}
 use base.Fml.{Fml, ftrue, fsep, flft}
-use types.Logic.{sem}
-use types.Kit.{‵, raw, ◌⊛◌, some, given, later, ◌$◌, ◌∵◌, !, qed, by, move, keep, drop, split, join, fsplit, fsplit3, fjoin, fjoin3, pick, learn, use0, use1, use2, use3, await, rewrite, feq_i}
-use types.Run.{unit_lit, of_opd, no_more, and_then, returns, enter}
-use types.ByLocal.{alloc_all, pass_all, free_all, look_at, get, sets}
-use types.Part.{agg}
+use types.Kit.{‵, raw, ◌⊛◌, given, later, ◌$◌, ◌∵◌, !, qed, by, move, keep, split, join, fsplit, fsplit3, fjoin, fjoin3, learn, use2, await, feq_i}
+use types.Run.{unit_lit, of_opd, returns, enter}
+use types.ByLocal.{alloc_all, pass_all, free_all, look_at, sets}
 use contract.Running.{tables}
-use contract.Monad.{fact, fact_i}
-use denote.Exit.{yes, no}
+use denote.Exit.{no}
 use denote.RattleType.{RattleType, owns}
 use denote.Signature.{types_at, plain}
-use denote.Builtin.{RefOf, unit}
-use denote.Ref.{mut_vals, mut_Tells, shr_vals, shr_Tells}
-use denote.Opens.{unhide}
+use denote.Ref.{mut_vals, mut_Tells}
 use denote.Steps.{nothing, opens, closes}
-use denote.Param.{param, bounded, layouts}
+use denote.Param.{param, bounded}
 use denote.Struct.Tuple.{Tuple}
-use denote.Triple.Entry.{alive}
 use denote.Triple.Walked.{Stays, stay_dropped, stay_ref, walk_of, Goes-dropped, Goes-ref}
 use Rattle.atomic_table.proofs.Walks.{proved}
-use Rattle.ghost_map.specs.Chain.{blank_owns, map_owns, entry_owns}
-use Rattle.ghost_map.specs.contracts.map.Blank as Blank
+use Rattle.ghost_map.specs.Chain.{map_owns}
 use Rattle.ghost_map.specs.contracts.map.GhostMap as GhostMap
 use Rattle.ghost_map.specs.contracts.entry.GhostEntry as GhostEntry
-use Rattle.ghost_map.specs.contracts.value.Ghost as Ghost
 use Rattle.ghost_map.proofs.Steps as steps
-use Rattle.ghost_map.proofs.Walks.{token, Token, token_told, token_made, ends, tells_all}
+use Rattle.ghost_map.proofs.Walks.{token, token_told, ends, tells_all}
 use Rattle.ghost_map.specs.contracts.map.GhostMap.remove.{ended, clauses}
 use Rattle.ghost_map.specs.contracts.map.GhostMap.remove.Key.{name as #self}
 use Rattle.ghost_map.proofs.map.GhostMap.remove.Statement.{statement}

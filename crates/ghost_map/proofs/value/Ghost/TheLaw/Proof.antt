@@ -2,10 +2,10 @@
 use Rattle.std.proofs.Common.{[], ◌∷◌}
 use seplogic.Ra.Ura.{Ura}
 use base.Logic.{snd∗}
-use base.Fml.{Lft, Fml, ftrue, fbor}
+use base.Fml.{Lft, ftrue, fbor}
 use base.Before.{before}
 use types.Logic.{Logic, sem, lfts}
-use types.Kit.{‵, raw, ◌$◌, ◌∵◌, !, qed, updating, now, move, drop, done}
+use types.Kit.{‵, raw, ◌$◌, ◌∵◌, !, qed, updating, now, drop, done}
 use denote.RattleType.{RattleType}
 use denote.Sharing.{said}
 use denote.Steps.{nothing}
