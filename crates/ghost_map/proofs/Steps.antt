@@ -8,7 +8,8 @@ use base.Stored.{Gv, Coded, gnil, gnum, gcons, coded×, coded_ℕ}
 use base.Fml.{Lft, Share, Fml, ftrue, fsep, fex, fobs, fauth, fres, flft, fdead, finv}
 use base.Before.{before}
 use types.Logic.{Logic, sem}
-use types.Kit.{‵, raw, ◌⊛◌, given, later, ◌$◌, ◌∵◌, !, qed, by, move, keep, drop, split, fsplit, fsplit3, fjoin, fjoin3, fpick, fpack, learn, suffices, done, use1, use2, use3, settle, frame, check, rewrite, await, updating, now, assume, show}
+use types.Kit.{‵, raw, ◌⊛◌, given, later, ◌$◌, ◌∵◌, !, qed, by, move, keep, drop, split, fsplit, fsplit3, fjoin}
+use types.Kit.{fjoin3, fpick, fpack, learn, suffices, done, use1, use2, use3, settle, frame, check, rewrite, await, updating, now, assume, show}
 use types.Tokens.{res_dup, lft_new, lft_end, name_new, shr_bor-open, obor_close}
 use types.Within.{tokens_halve}
 use denote.Sharing.{ShrLaws, said}
@@ -49,86 +50,112 @@ module _ {S : Type 0} (C : Coded S) {M : Type 1} {𝓤 : Ura M} (𝓛 : Logic �
 
   infix 26 ◌⊢◌
   infixr 35 ◌∗◌
-  path_dup : (i a : ℕ) (h : S) (γ : ℕ) → ⟦ path C.code i a h γ ⟧ ⊢ ⟦ path C.code i a h γ ⟧ ∗ ⟦ path C.code i a h γ ⟧
-  path_dup zero a h γ = qed 𝓛 (‵ (path C.code zero a h γ) ∷ []) ∵ fpick ! (λ c. fsplit ! $ res_dup ! $ move ! (2 ∷ []) $ fpick ! (λ is. drop ! $
-      nothing ! $ fpack ! ((c.0 ≡ a) × (c.1.1 ≡ h)) (λ _. ftrue) is $ move ! (1 ∷ 0 ∷ []) $ fjoin ! $ fpack ! (Cell S) (past C.code γ (this a h)) c $ frame ! $
-      nothing ! $ fpack ! ((c.0 ≡ a) × (c.1.1 ≡ h)) (λ _. ftrue) is $ move ! (1 ∷ 0 ∷ []) $ fjoin ! $ fpack ! (Cell S) (past C.code γ (this a h)) c $ done !))
-  path_dup (suc i) a h γ = qed 𝓛 (‵ (path C.code (suc i) a h γ) ∷ []) ∵ fpick ! (λ c. fsplit ! $ res_dup ! $ move ! (2 ∷ []) $
-      use1 𝓛 (‵ (path C.code i a h c.1.0) ⊛ ‵ (path C.code i a h c.1.0)) (path_dup i a h c.1.0) $ split ! $ move ! (2 ∷ 0 ∷ []) $ fjoin ! $ fpack ! (Cell S) (past C.code γ (λ d. path C.code i a h d.1.0)) c $ frame ! $
-      move ! (1 ∷ 0 ∷ []) $ fjoin ! $ fpack ! (Cell S) (past C.code γ (λ d. path C.code i a h d.1.0)) c $ done !)
+  path_dup : (i a : ℕ) (x : S) (γ : ℕ) → ⟦ path C.code i a x γ ⟧ ⊢ ⟦ path C.code i a x γ ⟧ ∗ ⟦ path C.code i a x γ ⟧
+  path_dup zero a x γ = qed 𝓛 (‵ (path C.code zero a x γ) ∷ []) ∵ fpick ! (λ c. fsplit ! $ res_dup ! $ move ! (2 ∷ []) $ fpick ! (λ is. drop ! $
+      nothing ! $ fpack ! ((c.0 ≡ a) × (c.1.1 ≡ x)) (λ _. ftrue) is $ move ! (1 ∷ 0 ∷ []) $ fjoin ! $ fpack ! (Cell S) (past C.code γ (this a x)) c $
+      frame ! $
+      nothing ! $ fpack ! ((c.0 ≡ a) × (c.1.1 ≡ x)) (λ _. ftrue) is $ move ! (1 ∷ 0 ∷ []) $ fjoin ! $ fpack ! (Cell S) (past C.code γ (this a x)) c $ done !))
+  path_dup (suc i) a x γ = qed 𝓛 (‵ (path C.code (suc i) a x γ) ∷ []) ∵ fpick ! (λ c. fsplit ! $ res_dup ! $ move ! (2 ∷ []) $
+      use1 𝓛 (‵ (path C.code i a x c.1.0) ⊛ ‵ (path C.code i a x c.1.0)) (path_dup i a x c.1.0) $ split ! $ move ! (2 ∷ 0 ∷ []) $ fjoin ! $
+      fpack ! (Cell S) (past C.code γ (λ d. path C.code i a x d.1.0)) c $ frame ! $
+      move ! (1 ∷ 0 ∷ []) $ fjoin ! $ fpack ! (Cell S) (past C.code γ (λ d. path C.code i a x d.1.0)) c $ done !)
 
   -- nothing is known past an open cell
-  past_open : (γ : ℕ) (F : (Cell S) → Fml) (X Z : SProp 𝓤) → ⟦ chain C.code [] γ ⟧ ∗ ⟦ fex (Cell S) (past C.code γ F) ⟧ ∗ X ⊢ Z
-  past_open γ F X Z = qed 𝓛 (‵ (chain C.code [] γ) ∷ ‵ (fex (Cell S) (past C.code γ F)) ∷ raw X ∷ []) ∵ fsplit ! $ move ! (2 ∷ []) $ fpick ! (λ c. fsplit ! $ move ! (0 ∷ 3 ∷ []) $
-      use2 𝓛 (given (value C.code c ≡ gnil) (‵ (fres γ (value C.code c)) ⊛ ‵ (fauth γ gnil))) (𝓛.names.res_agree γ (value C.code c) gnil) $ learn ! (λ e. absurd (value_not_nil C c e)))
+  past_open : (γ : ℕ) (F : Cell S → Fml) (X Z : SProp 𝓤) → ⟦ chain C.code [] γ ⟧ ∗ ⟦ fex (Cell S) (past C.code γ F) ⟧ ∗ X ⊢ Z
+  past_open γ F X Z = qed 𝓛 (‵ (chain C.code [] γ) ∷ ‵ (fex (Cell S) (past C.code γ F)) ∷ raw X ∷ []) ∵ fsplit ! $ move ! (2 ∷ []) $ fpick ! (λ c. fsplit ! $
+      move ! (0 ∷ 3 ∷ []) $
+      use2 𝓛 (given (value C.code c ≡ gnil) (‵ (fres γ (value C.code c)) ⊛ ‵ (fauth γ gnil))) (𝓛.names.res_agree γ (value C.code c) gnil) $
+      learn ! (λ e. absurd (value_not_nil C c e)))
 
   -- what is known past a cell is known of what the cell names
-  past_cell : (γ : ℕ) (r : Option S) (rest : ℕ → Fml) (F : (Cell S) → Fml) (X Z : SProp 𝓤)
-      → ((c : (Cell S)) → A.auth γ (value C.code c) ∗ A.res γ (value C.code c) ∗ ⟦ state r c ⟧ ∗ ⟦ rest c.1.0 ⟧ ∗ A.res γ (value C.code c) ∗ ⟦ F c ⟧ ∗ X ⊢ Z)
+  past_cell : (γ : ℕ) (r : Option S) (rest : ℕ → Fml) (F : Cell S → Fml) (X Z : SProp 𝓤)
+      → ((c : Cell S) → A.auth γ (value C.code c) ∗ A.res γ (value C.code c) ∗ ⟦ state r c ⟧ ∗ ⟦ rest c.1.0 ⟧ ∗ A.res γ (value C.code c) ∗ ⟦ F c ⟧ ∗ X ⊢ Z)
       → ⟦ fex (Cell S) (cell C.code γ r rest) ⟧ ∗ ⟦ fex (Cell S) (past C.code γ F) ⟧ ∗ X ⊢ Z
-  past_cell γ r rest F X Z k = qed 𝓛 (‵ (fex (Cell S) (cell C.code γ r rest)) ∷ ‵ (fex (Cell S) (past C.code γ F)) ∷ raw X ∷ []) ∵ fpick ! (λ c. fsplit3 ! $ move ! (2 ∷ []) $ fsplit ! $ move ! (4 ∷ []) $ fpick ! (λ d. fsplit ! $ move ! (0 ∷ 4 ∷ []) $
-      use2 𝓛 (given (value C.code d ≡ value C.code c) (‵ (fres γ (value C.code d)) ⊛ ‵ (fauth γ (value C.code c)))) (𝓛.names.res_agree γ (value C.code d) (value C.code c)) $ learn ! (λ e. split ! $
-      rewrite ! 0 (λ (u : (Cell S)). ‵ (fres γ (value C.code u))) (value_inj C d c e) refl $ rewrite ! 2 (λ (u : (Cell S)). ‵ (F u)) (value_inj C d c e) refl $ move ! (1 ∷ 5 ∷ 3 ∷ 4 ∷ 0 ∷ 2 ∷ []) $ by ! (k c))))
+  past_cell γ r rest F X Z k = qed 𝓛 (‵ (fex (Cell S) (cell C.code γ r rest)) ∷ ‵ (fex (Cell S) (past C.code γ F)) ∷ raw X ∷ []) ∵ fpick ! (λ c. fsplit3 ! $
+      move ! (2 ∷ []) $ fsplit ! $ move ! (4 ∷ []) $ fpick ! (λ d. fsplit ! $ move ! (0 ∷ 4 ∷ []) $
+      use2 𝓛 (given (value C.code d ≡ value C.code c) (‵ (fres γ (value C.code d)) ⊛ ‵ (fauth γ (value C.code c)))) (𝓛.names.res_agree γ (value C.code d)
+      (value C.code c)) $ learn ! (λ e. split ! $
+      rewrite ! 0 (λ (u : Cell S). ‵ (fres γ (value C.code u))) (value_inj C d c e) refl $ rewrite ! 2 (λ (u : Cell S). ‵ (F u)) (value_inj C d c e) refl $
+      move ! (1 ∷ 5 ∷ 3 ∷ 4 ∷ 0 ∷ 2 ∷ []) $ by ! (k c))))
 
   abbrev Sees : List (Option S) → ℕ → ℕ → S → ℕ → Share → SProp 𝓤
-  Sees rs i a h γ q = guard 𝓤 (Has rs i h) (⟦ chain C.code rs γ ⟧ ∗ A.lft (a ∷ []) q)
+  Sees es i a x γ q = guard 𝓤 (Has es i x) (⟦ chain C.code es γ ⟧ ∗ A.lft (a ∷ []) q)
 
   -- an entry whose life goes on is in the chain, and isn't over
-  sees : (rs : List (Option S)) (i a : ℕ) (h : S) (γ : ℕ) (q : Share) → ⟦ chain C.code rs γ ⟧ ∗ ⟦ path C.code i a h γ ⟧ ∗ A.lft (a ∷ []) q ⊢ Sees rs i a h γ q
-  sees [] zero a h γ q = past_open γ (this a h) (A.lft (a ∷ []) q) _
-  sees [] (suc i) a h γ q = past_open γ (λ c. path C.code i a h c.1.0) (A.lft (a ∷ []) q) _
-  sees (Some k ∷ rs) zero a h γ q = past_cell γ (Some k) (chain C.code rs) (this a h) (A.lft (a ∷ []) q) (Sees (Some k ∷ rs) zero a h γ q) (λ c.
-      qed 𝓛 (‵ (fauth γ (value C.code c)) ∷ ‵ (fres γ (value C.code c)) ∷ ‵ (state (Some k) c) ∷ ‵ (chain C.code rs c.1.0) ∷ ‵ (fres γ (value C.code c)) ∷ ‵ (this a h c) ∷ ‵ (flft (a ∷ []) q) ∷ []) ∵
+  sees : (es : List (Option S)) (i a : ℕ) (x : S) (γ : ℕ) (q : Share) → ⟦ chain C.code es γ ⟧ ∗ ⟦ path C.code i a x γ ⟧ ∗ A.lft (a ∷ []) q ⊢ Sees es i a x γ q
+  sees [] zero a x γ q = past_open γ (this a x) (A.lft (a ∷ []) q) _
+  sees [] (suc i) a x γ q = past_open γ (λ c. path C.code i a x c.1.0) (A.lft (a ∷ []) q) _
+  sees (Some k ∷ es) zero a x γ q = past_cell γ (Some k) (chain C.code es) (this a x) (A.lft (a ∷ []) q) (Sees (Some k ∷ es) zero a x γ q) (λ c.
+      qed 𝓛 (‵ (fauth γ (value C.code c)) ∷ ‵ (fres γ (value C.code c)) ∷ ‵ (state (Some k) c) ∷ ‵ (chain C.code es c.1.0) ∷ ‵ (fres γ (value C.code c))
+      ∷ ‵ (this a x c) ∷ ‵ (flft (a ∷ []) q) ∷ []) ∵
       move ! (5 ∷ []) $ fpick ! (λ is. drop ! $ move ! (2 ∷ []) $ fpick ! (λ same. drop ! $ check ! (ap (λ (x : S). Some (Some x)) (sym same ∙ is.1)) $
-      nothing ! $ fpack ! (c.1.1 ≡ k) (λ _. ftrue) same $ move ! (0 ∷ 3 ∷ []) $ fjoin ! $ move ! (1 ∷ 2 ∷ 0 ∷ []) $ fjoin3 ! $ fpack ! (Cell S) (cell C.code γ (Some k) (chain C.code rs)) c $ frame ! $ keep ! (1 ∷ []) $ done !)))
-  sees (None ∷ rs) zero a h γ q = past_cell γ None (chain C.code rs) (this a h) (A.lft (a ∷ []) q) (Sees (None ∷ rs) zero a h γ q) (λ c.
-      qed 𝓛 (‵ (fauth γ (value C.code c)) ∷ ‵ (fres γ (value C.code c)) ∷ ‵ (state None c) ∷ ‵ (chain C.code rs c.1.0) ∷ ‵ (fres γ (value C.code c)) ∷ ‵ (this a h c) ∷ ‵ (flft (a ∷ []) q) ∷ []) ∵
+      nothing ! $ fpack ! (c.1.1 ≡ k) (λ _. ftrue) same $ move ! (0 ∷ 3 ∷ []) $ fjoin ! $ move ! (1 ∷ 2 ∷ 0 ∷ []) $ fjoin3 ! $
+      fpack ! (Cell S) (cell C.code γ (Some k) (chain C.code es)) c $ frame ! $ keep ! (1 ∷ []) $ done !)))
+  sees (None ∷ es) zero a x γ q = past_cell γ None (chain C.code es) (this a x) (A.lft (a ∷ []) q) (Sees (None ∷ es) zero a x γ q) (λ c.
+      qed 𝓛 (‵ (fauth γ (value C.code c)) ∷ ‵ (fres γ (value C.code c)) ∷ ‵ (state None c) ∷ ‵ (chain C.code es c.1.0) ∷ ‵ (fres γ (value C.code c))
+      ∷ ‵ (this a x c) ∷ ‵ (flft (a ∷ []) q) ∷ []) ∵
       move ! (5 ∷ []) $ fpick ! (λ is. drop ! $ rewrite ! 2 (λ (u : ℕ). ‵ (fdead (u ∷ []))) is.0 refl $ move ! (5 ∷ 2 ∷ []) $
       use2 𝓛 (raw (never 𝓤)) (𝓛.lfts.lft-dead (a ∷ []) q) $ keep ! (0 ∷ []) $ by ! (never_e 𝓤 _)))
-  sees (r ∷ rs) (suc i) a h γ q = past_cell γ r (chain C.code rs) (λ c. path C.code i a h c.1.0) (A.lft (a ∷ []) q) (Sees (r ∷ rs) (suc i) a h γ q) (λ c.
-      qed 𝓛 (‵ (fauth γ (value C.code c)) ∷ ‵ (fres γ (value C.code c)) ∷ ‵ (state r c) ∷ ‵ (chain C.code rs c.1.0) ∷ ‵ (fres γ (value C.code c)) ∷ ‵ (path C.code i a h c.1.0) ∷ ‵ (flft (a ∷ []) q) ∷ []) ∵
-      move ! (3 ∷ 5 ∷ 6 ∷ []) $ use3 𝓛 (given (Has rs i h) (‵ (chain C.code rs c.1.0) ⊛ ‵ (flft (a ∷ []) q))) (sees rs i a h c.1.0 q) $ learn ! (λ has. split ! $ check ! has $
-      move ! (4 ∷ 0 ∷ []) $ fjoin ! $ move ! (2 ∷ 3 ∷ 0 ∷ []) $ fjoin3 ! $ fpack ! (Cell S) (cell C.code γ r (chain C.code rs)) c $ frame ! $ keep ! (0 ∷ []) $ done !))
+  sees (r ∷ es) (suc i) a x γ q = past_cell γ r (chain C.code es) (λ c. path C.code i a x c.1.0) (A.lft (a ∷ []) q) (Sees (r ∷ es) (suc i) a x γ q) (λ c.
+      qed 𝓛 (‵ (fauth γ (value C.code c)) ∷ ‵ (fres γ (value C.code c)) ∷ ‵ (state r c) ∷ ‵ (chain C.code es c.1.0) ∷ ‵ (fres γ (value C.code c))
+      ∷ ‵ (path C.code i a x c.1.0) ∷ ‵ (flft (a ∷ []) q) ∷ []) ∵
+      move ! (3 ∷ 5 ∷ 6 ∷ []) $ use3 𝓛 (given (Has es i x) (‵ (chain C.code es c.1.0) ⊛ ‵ (flft (a ∷ []) q))) (sees es i a x c.1.0 q) $
+      learn ! (λ has. split ! $ check ! has $
+      move ! (4 ∷ 0 ∷ []) $ fjoin ! $ move ! (2 ∷ 3 ∷ 0 ∷ []) $ fjoin3 ! $ fpack ! (Cell S) (cell C.code γ r (chain C.code es)) c $ frame ! $
+      keep ! (0 ∷ []) $ done !))
 
   -- an entry whose life has ended is over
-  ends : (rs : List (Option S)) (i a : ℕ) (h : S) (γ : ℕ) → ⟦ chain C.code rs γ ⟧ ∗ ⟦ path C.code i a h γ ⟧ ∗ A.dead (a ∷ []) ⊢ ⟦ chain C.code (slice_set rs i None) γ ⟧
-  ends [] zero a h γ = past_open γ (this a h) (A.dead (a ∷ [])) _
-  ends [] (suc i) a h γ = past_open γ (λ c. path C.code i a h c.1.0) (A.dead (a ∷ [])) _
-  ends (r ∷ rs) zero a h γ = past_cell γ r (chain C.code rs) (this a h) (A.dead (a ∷ [])) (⟦ chain C.code (None ∷ rs) γ ⟧) (λ c.
-      qed 𝓛 (‵ (fauth γ (value C.code c)) ∷ ‵ (fres γ (value C.code c)) ∷ ‵ (state r c) ∷ ‵ (chain C.code rs c.1.0) ∷ ‵ (fres γ (value C.code c)) ∷ ‵ (this a h c) ∷ ‵ (fdead (a ∷ [])) ∷ []) ∵
-      move ! (5 ∷ []) $ fpick ! (λ is. drop ! $ rewrite ! 5 (λ (u : ℕ). ‵ (fdead (u ∷ []))) (sym is.0) refl $ move ! (5 ∷ 3 ∷ []) $ fjoin ! $ move ! (1 ∷ 2 ∷ 0 ∷ []) $ fjoin3 ! $
-      fpack ! (Cell S) (cell C.code γ None (chain C.code rs)) c $ keep ! (0 ∷ []) $ done !))
-  ends (r ∷ rs) (suc i) a h γ = past_cell γ r (chain C.code rs) (λ c. path C.code i a h c.1.0) (A.dead (a ∷ [])) (⟦ chain C.code (r ∷ slice_set rs i None) γ ⟧) (λ c.
-      qed 𝓛 (‵ (fauth γ (value C.code c)) ∷ ‵ (fres γ (value C.code c)) ∷ ‵ (state r c) ∷ ‵ (chain C.code rs c.1.0) ∷ ‵ (fres γ (value C.code c)) ∷ ‵ (path C.code i a h c.1.0) ∷ ‵ (fdead (a ∷ [])) ∷ []) ∵
-      move ! (3 ∷ 5 ∷ 6 ∷ []) $ use3 𝓛 (‵ (chain C.code (slice_set rs i None) c.1.0)) (ends rs i a h c.1.0) $
-      move ! (3 ∷ 0 ∷ []) $ fjoin ! $ move ! (1 ∷ 2 ∷ 0 ∷ []) $ fjoin3 ! $ fpack ! (Cell S) (cell C.code γ r (chain C.code (slice_set rs i None))) c $ keep ! (0 ∷ []) $ done !)
+  ends : (es : List (Option S)) (i a : ℕ) (x : S) (γ : ℕ) → ⟦ chain C.code es γ ⟧ ∗ ⟦ path C.code i a x γ ⟧ ∗ A.dead (a
+      ∷ []) ⊢ ⟦ chain C.code (slice_set es i None) γ ⟧
+  ends [] zero a x γ = past_open γ (this a x) (A.dead (a ∷ [])) _
+  ends [] (suc i) a x γ = past_open γ (λ c. path C.code i a x c.1.0) (A.dead (a ∷ [])) _
+  ends (r ∷ es) zero a x γ = past_cell γ r (chain C.code es) (this a x) (A.dead (a ∷ [])) (⟦ chain C.code (None ∷ es) γ ⟧) (λ c.
+      qed 𝓛 (‵ (fauth γ (value C.code c)) ∷ ‵ (fres γ (value C.code c)) ∷ ‵ (state r c) ∷ ‵ (chain C.code es c.1.0) ∷ ‵ (fres γ (value C.code c))
+      ∷ ‵ (this a x c) ∷ ‵ (fdead (a ∷ [])) ∷ []) ∵
+      move ! (5 ∷ []) $ fpick ! (λ is. drop ! $ rewrite ! 5 (λ (u : ℕ). ‵ (fdead (u ∷ []))) (sym is.0) refl $ move ! (5 ∷ 3 ∷ []) $ fjoin ! $
+      move ! (1 ∷ 2 ∷ 0 ∷ []) $ fjoin3 ! $
+      fpack ! (Cell S) (cell C.code γ None (chain C.code es)) c $ keep ! (0 ∷ []) $ done !))
+  ends (r ∷ es) (suc i) a x γ = past_cell γ r (chain C.code es) (λ c. path C.code i a x c.1.0) (A.dead (a ∷ [])) (⟦ chain C.code (r
+      ∷ slice_set es i None) γ ⟧) (λ c.
+      qed 𝓛 (‵ (fauth γ (value C.code c)) ∷ ‵ (fres γ (value C.code c)) ∷ ‵ (state r c) ∷ ‵ (chain C.code es c.1.0) ∷ ‵ (fres γ (value C.code c))
+      ∷ ‵ (path C.code i a x c.1.0) ∷ ‵ (fdead (a ∷ [])) ∷ []) ∵
+      move ! (3 ∷ 5 ∷ 6 ∷ []) $ use3 𝓛 (‵ (chain C.code (slice_set es i None) c.1.0)) (ends es i a x c.1.0) $
+      move ! (3 ∷ 0 ∷ []) $ fjoin ! $ move ! (1 ∷ 2 ∷ 0 ∷ []) $ fjoin3 ! $ fpack ! (Cell S) (cell C.code γ r (chain C.code (slice_set es i None))) c $
+      keep ! (0 ∷ []) $ done !)
 
   -- a new entry, of a new life, and a new open cell
   abbrev Added : List (Option S) → ℕ → S → ℕ → SProp 𝓤
-  Added rs a h γ = ⟦ chain C.code (rs ++ Some h ∷ []) γ ⟧ ∗ ⟦ path C.code (length rs) a h γ ⟧
+  Added es a x γ = ⟦ chain C.code (es ++ Some x ∷ []) γ ⟧ ∗ ⟦ path C.code (length es) a x γ ⟧
 
-  entry_add : (rs : List (Option S)) (a : ℕ) (h : S) (δ γ : ℕ) → ⟦ chain C.code rs γ ⟧ ∗ ⟦ chain C.code [] δ ⟧ ⊢ upd 𝓤 (Added rs a h γ)
-  entry_add [] a h δ γ = let G : SProp 𝓤 = Added [] a h γ in let d : (Cell S) = (a, (δ, h)) in
-      qed 𝓛 (‵ (chain C.code [] γ) ∷ ‵ (chain C.code [] δ) ∷ []) ∵ use1 𝓛 (raw (upd 𝓤 (A.obs γ (value C.code d) ∗ A.auth γ (value C.code d)))) (𝓛.names.name_set_upd γ gnil gnil (value C.code d)) $ settle 𝓛 G (‵ (fobs γ (value C.code d)) ⊛ ‵ (fauth γ (value C.code d))) $ split ! $
+  entry_add : (es : List (Option S)) (a : ℕ) (x : S) (δ γ : ℕ) → ⟦ chain C.code es γ ⟧ ∗ ⟦ chain C.code [] δ ⟧ ⊢ upd 𝓤 (Added es a x γ)
+  entry_add [] a x δ γ = let G : SProp 𝓤 = Added [] a x γ in let d : Cell S = (a, (δ, x)) in
+      qed 𝓛 (‵ (chain C.code [] γ) ∷ ‵ (chain C.code [] δ) ∷ []) ∵ use1 𝓛 (raw (upd 𝓤 (A.obs γ (value C.code d) ∗ A.auth γ (value C.code d))))
+      (𝓛.names.name_set_upd γ gnil gnil (value C.code d)) $ settle 𝓛 G (‵ (fobs γ (value C.code d)) ⊛ ‵ (fauth γ (value C.code d))) $ split ! $
       use1 𝓛 (‵ (fres γ (value C.code d))) (𝓛.names.obs-res γ (value C.code d)) $ res_dup ! $ suffices ! G (upd_i 𝓤 G) $
-      nothing ! $ fpack ! (h ≡ h) (λ _. ftrue) refl $ move ! (0 ∷ 4 ∷ []) $ fjoin ! $ move ! (3 ∷ 2 ∷ 0 ∷ []) $ fjoin3 ! $ fpack ! (Cell S) (cell C.code γ (Some h) (chain C.code [])) d $ frame ! $
-      nothing ! $ fpack ! ((a ≡ a) × (h ≡ h)) (λ _. ftrue) (refl, refl) $ move ! (1 ∷ 0 ∷ []) $ fjoin ! $ fpack ! (Cell S) (past C.code γ (this a h)) d $ done !
-  entry_add (r ∷ rs) a h δ γ = let G : SProp 𝓤 = Added (r ∷ rs) a h γ in
-      qed 𝓛 (‵ (chain C.code (r ∷ rs) γ) ∷ ‵ (chain C.code [] δ) ∷ []) ∵ fpick ! (λ c. fsplit3 ! $ move ! (2 ∷ []) $ fsplit ! $ move ! (1 ∷ 4 ∷ []) $
-      use2 𝓛 (raw (upd 𝓤 (Added rs a h c.1.0))) (entry_add rs a h δ c.1.0) $ settle 𝓛 G (‵ (chain C.code (rs ++ Some h ∷ []) c.1.0) ⊛ ‵ (path C.code (length rs) a h c.1.0)) $ split ! $ suffices ! G (upd_i 𝓤 G) $
-      move ! (4 ∷ []) $ res_dup ! $ move ! (4 ∷ 2 ∷ []) $ fjoin ! $ move ! (4 ∷ 1 ∷ 0 ∷ []) $ fjoin3 ! $ fpack ! (Cell S) (cell C.code γ r (chain C.code (rs ++ Some h ∷ []))) c $ frame ! $
-      fjoin ! $ fpack ! (Cell S) (past C.code γ (λ e. path C.code (length rs) a h e.1.0)) c $ done !)
+      nothing ! $ fpack ! (x ≡ x) (λ _. ftrue) refl $ move ! (0 ∷ 4 ∷ []) $ fjoin ! $ move ! (3 ∷ 2 ∷ 0 ∷ []) $ fjoin3 ! $
+      fpack ! (Cell S) (cell C.code γ (Some x) (chain C.code [])) d $ frame ! $
+      nothing ! $ fpack ! ((a ≡ a) × (x ≡ x)) (λ _. ftrue) (refl, refl) $ move ! (1 ∷ 0 ∷ []) $ fjoin ! $ fpack ! (Cell S) (past C.code γ (this a x)) d $
+      done !
+  entry_add (r ∷ es) a x δ γ = let G : SProp 𝓤 = Added (r ∷ es) a x γ in
+      qed 𝓛 (‵ (chain C.code (r ∷ es) γ) ∷ ‵ (chain C.code [] δ) ∷ []) ∵ fpick ! (λ c. fsplit3 ! $ move ! (2 ∷ []) $ fsplit ! $ move ! (1 ∷ 4 ∷ []) $
+      use2 𝓛 (raw (upd 𝓤 (Added es a x c.1.0))) (entry_add es a x δ c.1.0) $
+      settle 𝓛 G (‵ (chain C.code (es ++ Some x ∷ []) c.1.0) ⊛ ‵ (path C.code (length es) a x c.1.0)) $ split ! $ suffices ! G (upd_i 𝓤 G) $
+      move ! (4 ∷ []) $ res_dup ! $ move ! (4 ∷ 2 ∷ []) $ fjoin ! $ move ! (4 ∷ 1 ∷ 0 ∷ []) $ fjoin3 ! $
+      fpack ! (Cell S) (cell C.code γ r (chain C.code (es ++ Some x ∷ []))) c $ frame ! $
+      fjoin ! $ fpack ! (Cell S) (past C.code γ (λ e. path C.code (length es) a x e.1.0)) c $ done !)
 
   basic : (Q : SProp 𝓤) → upd 𝓤 Q ⊢ H.⇛ Q
   basic Q = qed 𝓛 (raw (upd 𝓤 Q) ∷ []) ∵ updating ! $ nothing ! $ use1 𝓛 (later (‵ (finv ftrue))) (𝓛.invs.inv_new ftrue) $ await ! tt $
-      by ! (qed 𝓛 (‵ (finv ftrue) ∷ raw (upd 𝓤 Q) ∷ []) ∵ suffices ! _ (𝓛.invs.inv_acc ftrue Q) $ frame ! $ assume ! (‵ ftrue) $ move ! (1 ∷ []) $ settle 𝓛 (emp 𝓤 ∗ Q) (raw Q) $ suffices ! _ (upd_i 𝓤 (emp 𝓤 ∗ Q)) $ move ! (1 ∷ 0 ∷ []) $ done !)
+      by ! (qed 𝓛 (‵ (finv ftrue) ∷ raw (upd 𝓤 Q) ∷ []) ∵ suffices ! _ (𝓛.invs.inv_acc ftrue Q) $ frame ! $ assume ! (‵ ftrue) $ move ! (1 ∷ []) $
+      settle 𝓛 (emp 𝓤 ∗ Q) (raw Q) $ suffices ! _ (upd_i 𝓤 (emp 𝓤 ∗ Q)) $ move ! (1 ∷ 0 ∷ []) $ done !)
 
-  pub entry_path_dup : (name i a : ℕ) (h : S) → ⟦ entry_path C.code name i a h ⟧ ⊢ ⟦ entry_path C.code name i a h ⟧ ∗ ⟦ entry_path C.code name i a h ⟧
+  pub entry_path_dup : (name i a : ℕ) (x : S) → ⟦ entry_path C.code name i a x ⟧ ⊢ ⟦ entry_path C.code name i a x ⟧ ∗ ⟦ entry_path C.code name i a x ⟧
   unfolding entry_path
-  entry_path_dup name i a h = path_dup i a h name
+  entry_path_dup name i a x = path_dup i a x name
 
   tokens_in : (a : ℕ) → A.lft (a ∷ []) full_share ⊢ ⟦ tokens a (2 ^ 63) ⟧
-  tokens_in a = qed 𝓛 (‵ (flft (a ∷ []) full_share) ∷ []) ∵ fpack ! (Counts 63 full_share (2 ^ 63)) (λ _. flft (a ∷ []) full_share) (Counts-all 63) $ fpack ! Share (λ s. fex (Counts 63 s (2 ^ 63)) (λ _. flft (a ∷ []) s)) full_share $ done !
+  tokens_in a = qed 𝓛 (‵ (flft (a ∷ []) full_share) ∷ []) ∵ fpack ! (Counts 63 full_share (2 ^ 63)) (λ _. flft (a ∷ []) full_share) (Counts-all 63) $
+      fpack ! Share (λ s. fex (Counts 63 s (2 ^ 63)) (λ _. flft (a ∷ []) s)) full_share $ done !
 
   -- a map that has a name
   pub names : (name : ℕ) → ⟦ blank_owns name ⟧ ⊢ ⟦ map_owns C.code name [] ⟧
@@ -136,34 +163,44 @@ module _ {S : Type 0} (C : Coded S) {M : Type 1} {𝓤 : Ura M} (𝓛 : Logic �
   names name = id⊢ 𝓤 _
 
   -- a new entry
-  pub adds : (name : ℕ) (rs : List (Option S)) (h : S) → ⟦ map_owns C.code name rs ⟧ ⊢ H.⇛ (ex 𝓤 (λ (a : ℕ). ⟦ fsep (map_owns C.code name (rs ++ Some h ∷ [])) (entry_owns C.code name (length rs) a h) ⟧))
+  pub adds : (name : ℕ) (es : List (Option S)) (x : S) → ⟦ map_owns C.code name es ⟧ ⊢ H.⇛ (ex 𝓤 (λ (a : ℕ). ⟦ fsep (map_owns C.code name (es ++ Some x
+      ∷ [])) (entry_owns C.code name (length es) a x) ⟧))
   unfolding map_owns entry_path
-  adds name rs h = qed 𝓛 (‵ (chain C.code rs name) ∷ []) ∵ updating ! $ name_new ! tt gnil (λ δ. fjoin ! $ lft_new ! tt (λ a. move ! (2 ∷ 1 ∷ []) $
-      use2 𝓛 (later (‵ (chain C.code (rs ++ Some h ∷ []) name) ⊛ ‵ (path C.code (length rs) a h name))) (via 𝓤 _ (entry_add rs a h δ name) (basic _)) $ await ! tt $ split ! $
+  adds name es x = qed 𝓛 (‵ (chain C.code es name) ∷ []) ∵ updating ! $ name_new ! tt gnil (λ δ. fjoin ! $ lft_new ! tt (λ a. move ! (2 ∷ 1 ∷ []) $
+      use2 𝓛 (later (‵ (chain C.code (es ++ Some x ∷ []) name) ⊛ ‵ (path C.code (length es) a x name))) (via 𝓤 _ (entry_add es a x δ name) (basic _)) $
+      await ! tt $ split ! $
       move ! (2 ∷ []) $ use1 𝓛 (‵ (tokens a (2 ^ 63))) (tokens_in a) $ move ! (0 ∷ 2 ∷ []) $ fjoin ! $ move ! (1 ∷ 0 ∷ []) $ fjoin ! $ now ! $
-      show ! (λ (b : ℕ). ⟦ fsep (chain C.code (rs ++ Some h ∷ []) name) (entry_owns C.code name (length rs) b h) ⟧) a $ done !))
+      show ! (λ (b : ℕ). ⟦ fsep (chain C.code (es ++ Some x ∷ []) name) (entry_owns C.code name (length es) b x) ⟧) a $ done !))
 
   -- an entry that is lent is in the map, and isn't over
-  pub seen : (name : ℕ) (rs : List (Option S)) (i a : ℕ) (h : S) (κ : Lft) (q : Share)
-      → ⟦ map_owns C.code name rs ⟧ ∗ ⟦ entry_shares C.code name i a h κ ⟧ ∗ A.lft κ q ⊢ H.⇛ (guard 𝓤 (Has rs i h) (⟦ map_owns C.code name rs ⟧ ∗ A.lft κ q))
+  pub seen : (name : ℕ) (es : List (Option S)) (i a : ℕ) (x : S) (κ : Lft) (q : Share)
+      → ⟦ map_owns C.code name es ⟧ ∗ ⟦ entry_shares C.code name i a x κ ⟧ ∗ A.lft κ q ⊢ H.⇛ (guard 𝓤 (Has es i x) (⟦ map_owns C.code name es ⟧ ∗ A.lft κ q))
   unfolding map_owns entry_path
-  seen name rs i a h κ q = qed 𝓛 (‵ (chain C.code rs name) ∷ ‵ (entry_shares C.code name i a h κ) ∷ ‵ (flft κ q) ∷ []) ∵ updating ! $ move ! (1 ∷ []) $ fsplit ! $ move ! (0 ∷ 3 ∷ []) $
+  seen name es i a x κ q = qed 𝓛 (‵ (chain C.code es name) ∷ ‵ (entry_shares C.code name i a x κ) ∷ ‵ (flft κ q) ∷ []) ∵ updating ! $ move ! (1 ∷ []) $
+      fsplit ! $ move ! (0 ∷ 3 ∷ []) $
       shr_bor-open ! tt (tokens_halve 𝓛 (a ∷ [])) (λ r. move ! (3 ∷ 2 ∷ 1 ∷ []) $
-      use3 𝓛 (given (Has rs i h) (‵ (chain C.code rs name) ⊛ ‵ (flft (a ∷ []) r))) (sees rs i a h name r) $ learn ! (λ has. split ! $ move ! (2 ∷ 1 ∷ []) $ obor_close ! tt $
+      use3 𝓛 (given (Has es i x) (‵ (chain C.code es name) ⊛ ‵ (flft (a ∷ []) r))) (sees es i a x name r) $ learn ! (λ has. split ! $ move ! (2 ∷ 1 ∷ []) $
+      obor_close ! tt $
       now ! $ check ! has $ move ! (2 ∷ 1 ∷ []) $ frame ! $ keep ! (0 ∷ []) $ done !))
 
   -- and one that comes back is over
-  pub closes : (name : ℕ) (rs : List (Option S)) (i a : ℕ) (h : S)
-      → ⟦ map_owns C.code name rs ⟧ ∗ ⟦ entry_owns C.code name i a h ⟧ ⊢ H.⇛ (guard 𝓤 (Has rs i h) ⟦ map_owns C.code name (slice_set rs i None) ⟧)
+  pub closes : (name : ℕ) (es : List (Option S)) (i a : ℕ) (x : S)
+      → ⟦ map_owns C.code name es ⟧ ∗ ⟦ entry_owns C.code name i a x ⟧ ⊢ H.⇛ (guard 𝓤 (Has es i x) ⟦ map_owns C.code name (slice_set es i None) ⟧)
   unfolding map_owns entry_path
-  closes name rs i a h = qed 𝓛 (‵ (chain C.code rs name) ∷ ‵ (entry_owns C.code name i a h) ∷ []) ∵ updating ! $ move ! (1 ∷ []) $ fsplit ! $ use1 𝓛 (‵ (flft (a ∷ []) full_share)) (tokens_whole 𝓛 a) $
-      move ! (1 ∷ []) $ use1 𝓛 (‵ (path C.code i a h name) ⊛ ‵ (path C.code i a h name)) (path_dup i a h name) $ split ! $ move ! (3 ∷ 0 ∷ 2 ∷ []) $
-      use3 𝓛 (given (Has rs i h) (‵ (chain C.code rs name) ⊛ ‵ (flft (a ∷ []) full_share))) (sees rs i a h name full_share) $ learn ! (λ has. split ! $ move ! (1 ∷ []) $ lft_end ! tt $
-      move ! (1 ∷ 2 ∷ 0 ∷ []) $ use3 𝓛 (‵ (chain C.code (slice_set rs i None) name)) (ends rs i a h name) $ now ! $ check ! has $ done !)
+  closes name es i a x = qed 𝓛 (‵ (chain C.code es name) ∷ ‵ (entry_owns C.code name i a x) ∷ []) ∵ updating ! $ move ! (1 ∷ []) $ fsplit ! $
+      use1 𝓛 (‵ (flft (a ∷ []) full_share)) (tokens_whole 𝓛 a) $
+      move ! (1 ∷ []) $ use1 𝓛 (‵ (path C.code i a x name) ⊛ ‵ (path C.code i a x name)) (path_dup i a x name) $ split ! $ move ! (3 ∷ 0 ∷ 2 ∷ []) $
+      use3 𝓛 (given (Has es i x) (‵ (chain C.code es name) ⊛ ‵ (flft (a ∷ []) full_share))) (sees es i a x name full_share) $ learn ! (λ has. split ! $
+      move ! (1 ∷ []) $ lft_end ! tt $
+      move ! (1 ∷ 2 ∷ 0 ∷ []) $ use3 𝓛 (‵ (chain C.code (slice_set es i None) name)) (ends es i a x name) $ now ! $ check ! has $ done !)
 
-module _ {S : Type 0} (C : Coded S) (name i a : ℕ) (h : S) where
-  pub path_laws : ShrLaws (said (entry_path C.code name i a h))
-  path_laws = record { contraction = λ M 𝓤 𝓛 _. entry_path_dup C 𝓛 name i a h; mono = λ M 𝓤 𝓛 κ' κ. snd∗ 𝓤 (sem 𝓛 (before κ' κ)) (sem 𝓛 (entry_path C.code name i a h)) }
+module _ {S : Type 0} (C : Coded S) (name i a : ℕ) (x : S) where
+  pub path_laws : ShrLaws (said (entry_path C.code name i a x))
+  path_laws = record {
+    contraction = λ M 𝓤 𝓛 _. entry_path_dup C 𝓛 name i a x;
+    mono = λ M 𝓤 𝓛 κ' κ. snd∗ 𝓤 (sem 𝓛 (before κ' κ)) (sem 𝓛
+        (entry_path C.code name i a x));
+  }
 
 -- a new map
 pub begins : {M : Type 1} {𝓤 : Ura M} (𝓛 : Logic 𝓤) → ent 𝓤 (emp 𝓤) (𝓛.H.⇛ (ex 𝓤 (λ (γ : ℕ). sem 𝓛 (blank_owns γ))))

@@ -1,4 +1,5 @@
--- What a ghost map owns. Its entries lie in a chain of cells, and each cell names for good its entry's life, what the entry says, and the next cell. An entry's life is alive just as long as the entry is.
+-- What a ghost map owns. Its entries lie in a chain of cells, and each cell names for good its entry's life, what the
+-- entry says, and the next cell. An entry's life is alive just as long as the entry is.
 use Rattle.std.specs.Prelude.{◌≡◌, ℕ, suc, zero, ◌^◌, List, [], ◌∷◌, Option, None, Some}
 use base.Stored.{Gv, gnil, gnum, gcons}
 use base.Fml.{Lft, Fml, ftrue, fsep, fex, fobs, fauth, fres, flft, fdead}

@@ -20,4 +20,5 @@ shares N T g L L' = let Pair : RattleType = Tuple (N ∷ T ∷ []) in
     of_Lends (C.struct N T g) (C.the_codes N.Denot T.Denot N.coded T.coded (marker.the_row Pair).coded) (C.the_heap N T g) (C.the_lent N T g)
     (λ d p. lent_laws (said (entry_path T.coded.code g.name d.at d.life d.value)) (path_laws T.coded g.name d.at d.life d.value) d.life)
     (copy_shared (marker.the_field Pair) (field_copy (marker.the_type Pair) tt), tt)
-    (λ M 𝓤 𝓛 d p. Lends-part (said (entry_path T.coded.code g.name d.at d.life d.value)) (path_laws T.coded g.name d.at d.life d.value) 𝓛 d.life (2 ^ 63) (C.the_row N T g).lives)
+    (λ M 𝓤 𝓛 d p. Lends-part (said (entry_path T.coded.code g.name d.at d.life d.value)) (path_laws T.coded g.name d.at d.life d.value) 𝓛 d.life (2 ^ 63)
+    (C.the_row N T g).lives)

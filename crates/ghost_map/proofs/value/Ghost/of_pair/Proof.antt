@@ -29,15 +29,23 @@ use Rattle.ghost_map.proofs.value.Ghost.of_pair.Code as code
 
 pub of_pair_spec : {M : Type 1} → statement M
 of_pair_spec 𝓤 𝓛 𝓜 𝓡 wired T X Y F _ _ _ _ g d _ =
-    let H = 𝓛.H in let 𝓣 = tables 𝓤 H 𝓜 𝓡 𝓡.env in let En = ended T X Y F g d in let T' : RattleType = param 0 T in let X' : RattleType = param 1 X in let Y' : RattleType = param 2 Y in
+    let H = 𝓛.H in let 𝓣 = tables 𝓤 H 𝓜 𝓡 𝓡.env in let En = ended T X Y F g d in let T' : RattleType = param 0 T in let X' : RattleType = param 1 X in
+    let Y' : RattleType = param 2 Y in
     let R = RefOf (0 ∷ []) tt (plain (λ _. X')) (λ _. tt) in let S = RefOf (1 ∷ []) tt (plain (λ _. Y')) (λ _. tt) in
-    let inst = bounded (a_type ∷ a_type ∷ a_type ∷ a_type ∷ []) (T, (X, (Y, (F, tt)))) (dcons d dnil) in let fn = inst_fn inst code.function in let c = clauses T X Y F g d 𝓛 𝓜.mem 𝓡.returns in
+    let inst = bounded (a_type ∷ a_type ∷ a_type ∷ a_type ∷ []) (T, (X, (Y, (F, tt)))) (dcons d dnil) in let fn = inst_fn inst code.function in
+    let c = clauses T X Y F g d 𝓛 𝓜.mem 𝓡.returns in
     let hs : Stays En.signature.params En.kept = (stay_dropped R yes, (stay_dropped S yes, tt)) in
-    proved 𝓛 En hs c 𝓜 𝓡 (Goes-dropped 𝓛 6 R yes (λ κs x f. refl), (Goes-dropped 𝓛 6 S yes (λ κs x f. refl), tt)) (#self inst) fn (code.unfolded 𝓤 H 𝓜 𝓡 wired (T, (X, (Y, (F, tt)))) d)
+    proved 𝓛 En hs c 𝓜 𝓡 (Goes-dropped 𝓛 6 R yes (λ κs x f. refl), (Goes-dropped 𝓛 6 S yes (λ κs x f. refl), tt)) (#self inst) fn
+    (code.unfolded 𝓤 H 𝓜 𝓡 wired (T, (X, (Y, (F, tt)))) d)
     (λ κs. (shr_vals, (shr_vals, tt))) (λ κs. (shr_Tells (named 0) κs.0 X', (shr_Tells (named 1) κs.1.0 Y', tt))) (λ κs qs bounds a gh are.
-    let p : Val = vptr a.0.ref_ptr.0 a.0.ref_ptr.1 in let q : Val = vptr a.1.0.ref_ptr.0 a.1.0.ref_ptr.1 in let r : (Ghost.the_row T').Denot = record { marker = record {}; value = g.told a.0.now a.1.0.now } in
+    let p : Val = vptr a.0.ref_ptr.0 a.0.ref_ptr.1 in let q : Val = vptr a.1.0.ref_ptr.0 a.1.0.ref_ptr.1 in
+    let r : (Ghost.the_row T').Denot = record { marker = record {}; value = g.told a.0.now a.1.0.now } in
     let y : (walk_of 𝓛 En hs c).Ghost = ((κs, qs, bounds, a, (p ∷ [], (q ∷ [], tt))), gh) in let Post : Val → SProp 𝓤 = (walk_of 𝓛 En hs c).post y in
-    qed 𝓛 ((raw (alive 𝓛 En.signature κs qs) ⊛ ‵ (owns (types_at En.signature.params κs) a y.0.4)) ∷ raw ((c κs a).requires gh) ∷ []) ∵ split ! $ keep ! (0 ∷ []) $
-    enter ! 𝓣.C 𝓣.Λ fn (p ∷ q ∷ []) Post $ alloc_all ! (λ l. pass_all ! refl ((tt, tt), ((tt, tt), tt)) $ sets ! (agg ! (no_more !)) refl (tt, tt) $ sets ! (agg ! (and_then ! (get ! refl) (no_more !))) refl (tt, (tt, tt)) $
-    nothing ! $ use0 𝓛 (‵ ((Token T').own_val (record {}, tt) (token ∷ []))) (token_made T' 𝓛) $ fjoin ! $ nothing ! $ nothing ! $ fjoin ! $ nothing ! $ fjoin ! $
-    returns ! (look_at ! 0 refl) $ free_all ! refl $ move ! (2 ∷ 0 ∷ 1 ∷ []) $ by ! (ends 𝓛 En hs c y token r (tt, (tt, tt)) (tt, (tt, tt)) (fact_i 𝓤 _ (base.Logic.emp 𝓤) refl))))
+    qed 𝓛 ((raw (alive 𝓛 En.signature κs qs) ⊛ ‵ (owns (types_at En.signature.params κs) a y.0.4)) ∷ raw ((c κs a).requires gh) ∷ []) ∵ split ! $
+    keep ! (0 ∷ []) $
+    enter ! 𝓣.C 𝓣.Λ fn (p ∷ q ∷ []) Post $ alloc_all ! (λ l. pass_all ! refl ((tt, tt), ((tt, tt), tt)) $ sets ! (agg ! (no_more !)) refl (tt, tt) $
+    sets ! (agg ! (and_then ! (get ! refl) (no_more !))) refl (tt, (tt, tt)) $
+    nothing ! $ use0 𝓛 (‵ ((Token T').own_val (record {}, tt) (token ∷ []))) (token_made T' 𝓛) $ fjoin ! $ nothing ! $ nothing ! $ fjoin ! $ nothing ! $
+    fjoin ! $
+    returns ! (look_at ! 0 refl) $ free_all ! refl $ move ! (2 ∷ 0 ∷ 1 ∷ []) $
+    by ! (ends 𝓛 En hs c y token r (tt, (tt, tt)) (tt, (tt, tt)) (fact_i 𝓤 _ (base.Logic.emp 𝓤) refl))))
