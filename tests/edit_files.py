@@ -1,7 +1,8 @@
-"""Wrong bodies as files: crates/CRATE/wrong-bodies/NAME.edit, and crates/CRATE/must-fail/NAME.edit, which `rt ci` tries.
+"""Wrong bodies as files: crates/CRATE/wrong-bodies/NAME.edit, and crates/CRATE/must-fail/NAME.edit, which `rt
+ci` tries.
 
-Each has a line with the wrong body in words, then `file: src/FILE`, and pairs of lines `old: TEXT` and `new: TEXT`. In
-must-fail the line in words begins with `// `, as `rt` wants of a line that it shall not read.
+Each has a line with the wrong body in words, then `file: src/FILE`, and pairs of lines `old: TEXT` and `new:
+TEXT`. In must-fail the line in words begins with `// `, as `rt` wants of a line that it shall not read.
 """
 
 import re
@@ -33,7 +34,8 @@ class Edit:
     unread: tuple[str, ...]
 
     def applied(self, texts: dict[str, str]) -> dict[str, str] | None:
-        """The files' texts with this edit too, or None where a text of it doesn't stand in its file exactly once."""
+        """The files' texts with this edit too, or None where a text of it doesn't stand in its file exactly
+        once."""
         made = dict(texts)
         for replacement in self.replacements:
             if made[replacement.file].count(replacement.old) != 1:
@@ -62,5 +64,5 @@ def read_edit(crate: str, path: Path) -> Edit:
 
 def edit_paths(crate: str, *folders: str, root: Path = ROOT) -> list[Path]:
     """The files of a crate's edits, by name; those of both folders where none is named."""
-    home = root / "crates" / crate
-    return sorted(path for folder in folders or (WRONG_BODIES, MUST_FAIL) for path in (home / folder).glob("*.edit"))
+    homes = [root / "crates" / crate / folder for folder in folders or (WRONG_BODIES, MUST_FAIL)]
+    return sorted(path for home in homes for path in home.glob("*.edit"))

@@ -1,7 +1,8 @@
-"""How long checks will take: by what one run from nothing took, by what this run has measured so far, and by the load.
+"""How long checks will take: by what one run from nothing took, by what this run has measured so far, and by
+the load.
 
-gate_minutes.csv has the processor minutes of each crate, stage_seconds.csv the seconds by the clock of each stage that runs
-once all is proved. `tests/gate_times` writes both of one run."""
+gate_minutes.csv has the processor minutes of each crate, stage_seconds.csv the seconds by the clock of each
+stage that runs once all is proved. `tests/gate_times` writes both of one run."""
 
 import csv
 import os
@@ -19,7 +20,8 @@ PARTS = "proofs", "tests", "edits"
 MEMORY_OF_A_CHECK = 4 << 30
 # How many crates' wrong bodies are tried at a time.
 CRATES_AT_ONCE = 2
-# So many minutes of work count as if they had gone as the tables say, and so many by the clock as the load says.
+# So many minutes of work count as if they had gone as the tables say, and so many by the clock as the load
+# says.
 TRUST = 3.0
 # Seconds of a stage that no run has measured.
 UNKNOWN_STAGE = 10.0
@@ -60,14 +62,16 @@ def stage_name(title: str) -> str:
 
 
 class Pace:
-    """How work goes in this run: what it takes of what the tables say, and how much is done in a minute by the clock."""
+    """How work goes in this run: what it takes of what the tables say, and how much is done in a minute by
+    the clock."""
 
     def __init__(self, at_once: int, cost: float = 1.0):
         self.at_once, self.done, self.cost_before, self.share = at_once, 0.0, cost, share(at_once)
         self.start, self.ended_before = time.monotonic(), used_seconds()[0]
 
     def used(self) -> tuple[float, float, float]:
-        """Processor minutes of what has ended since this began, of all that is under way, and of the longest of it."""
+        """Processor minutes of what has ended since this began, of all that is under way, and of the longest
+        of it."""
         ended, under_way = used_seconds()
         return (ended - self.ended_before) / 60, sum(under_way) / 60, max(under_way, default=0.0) / 60
 
@@ -111,9 +115,16 @@ class Stages:
 
 
 class Plan:
-    """What is to be done: crates' proofs, tests and what `rt ci` tries, then the other wrong bodies, then stages."""
+    """What is to be done: crates' proofs, tests and what `rt ci` tries, then the other wrong bodies, then
+    stages."""
 
-    def __init__(self, below: dict[str, list[str]], crates: list[str], tried_by_rt: set[str], titles: Iterable[str]):
+    def __init__(
+        self,
+        below: dict[str, list[str]],
+        crates: list[str],
+        tried_by_rt: set[str],
+        titles: Iterable[str],
+    ):
         known = rows("gate_minutes.csv")
         # (a crate that has no row takes what the one in the middle does)
         middle = [statistics.median(column) for column in zip(*known.values())]
@@ -139,7 +150,8 @@ class Plan:
             self.edits_left.pop(part, None)
 
     def proofs_end(self):
-        """All that is left of `rt ci` is over, and the wrong bodies begin: at first as dear as the proofs were here."""
+        """All that is left of `rt ci` is over, and the wrong bodies begin: at first as dear as the proofs
+        were here."""
         self.done(*list(self.proofs_left))
         self.edits = Pace(min(CRATES_AT_ONCE, lanes()), self.proofs.cost())
 

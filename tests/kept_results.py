@@ -13,7 +13,8 @@ DAYS = 60
 
 
 class KeptResults:
-    """A folder of results for whoever runs this alone, under ~/.cache. One that can't be read counts for nothing."""
+    """A folder of results for whoever runs this alone, under ~/.cache. One that can't be read counts for
+    nothing."""
 
     def __init__(self, name: str):
         cache = os.environ.get("XDG_CACHE_HOME") or Path.home() / ".cache"
@@ -43,7 +44,8 @@ class KeptResults:
         if not self.folder:
             return
         try:
-            with tempfile.NamedTemporaryFile("w", dir=self.folder, prefix="new-", delete=False, encoding="utf-8") as file:
+            how = {"dir": self.folder, "prefix": "new-", "delete": False, "encoding": "utf-8"}
+            with tempfile.NamedTemporaryFile("w", **how) as file:
                 json.dump({"key": key, "text": text}, file)
             os.replace(file.name, self.folder / key)
         except OSError:

@@ -28,8 +28,8 @@ def processes() -> Iterator[tuple[int, int, float, float]]:
 
 
 def used_seconds() -> tuple[float, list[float]]:
-    """Of all below this process: what has ended, and what each that is under way has used so far. A child that runs others,
-    as `rt` runs the prover, is no work under way itself."""
+    """Of all below this process: what has ended, and what each that is under way has used so far. A child
+    that runs others, as `rt` runs the prover, is no work under way itself."""
     children, times = defaultdict(list), {}
     for process, parent, own, of_children in processes():
         children[parent].append(process)

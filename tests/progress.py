@@ -13,8 +13,8 @@ TRIED = re.compile(r"wrong bodies of (\w+) done: (\d+) rounds, .*; (.*)")
 
 
 class Progress:
-    """Says after each crate that `rt ci` or the wrong bodies are done with how many there are, and how long the rest
-    will take."""
+    """Says after each crate that `rt ci` or the wrong bodies are done with how many there are, and how long
+    the rest will take."""
 
     def __init__(self, names: list[str], plan: Plan):
         self.plan, self.names = plan, names
@@ -36,7 +36,8 @@ class Progress:
         elif proved:
             (self.tests if proved[2] else self.proofs).add(proved[1])
             self.plan.done((proved[1], "tests" if proved[2] else "proofs"))
-            done = f"{len(self.proofs)} of {len(self.names)} crates, {len(self.tests)} of {self.with_tests} with tests"
+            done = f"{len(self.proofs)} of {len(self.names)} crates"
+            done += f", {len(self.tests)} of {self.with_tests} with tests"
             say(f"{done}; left: {in_words(self.plan.minutes())}")
 
     def watch_wrong_bodies(self, line: str):

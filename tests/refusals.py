@@ -1,4 +1,5 @@
-"""What a check of a crate with wrong bodies says of each: whether the prover refuses it for its own function."""
+"""What a check of a crate with wrong bodies says of each: whether the prover refuses it for its own
+function."""
 
 import re
 from dataclasses import dataclass
@@ -18,7 +19,9 @@ GOAL_LEFT = "no proof: expected answers in "
 FOR_OTHERS = re.compile(r"was not admitted|depends? on `[^`]*`, which was rejected")
 # What an error says of a proof's file that names what the edit took away.
 OF_NAMES = re.compile(r"is not in scope|has no field|has no `|has no \w+ `")
-UNREAD = re.compile(r"is not in scope|has no field|is no name|operand is missing|expected the end|cannot continue")
+UNREAD = re.compile(
+    r"is not in scope|has no field|is no name|operand is missing|expected the end|cannot continue"
+)
 STALE_LIBRARY = re.compile(r"module .Rattle-(\w+)-.*Run the lower steps again")
 VERDICT = "logic=not-proved", "only="
 KILLED, AT_A_LIMIT = -9, 3
@@ -68,7 +71,8 @@ def stands_in(functions: Functions, crate: str, file: str, line: int) -> bool:
 
 
 def own_errors(functions: Functions, crate: str, lines: tuple[str, ...]) -> list[tuple[str, str, str]]:
-    """The lines that tell of an error in these functions or in their proofs, each with its file and its text."""
+    """The lines that tell of an error in these functions or in their proofs, each with its file and its
+    text."""
     found = []
     for line in lines:
         place = LOCATED.match(line)
@@ -80,8 +84,8 @@ def own_errors(functions: Functions, crate: str, lines: tuple[str, ...]) -> list
 
 
 def verdict_of(functions: Functions, crate: str, outcome: Outcome) -> Verdict | str:
-    """What a check says of the edit that turns these functions. Where it doesn't judge them, as one that they call is
-    refused, that line."""
+    """What a check says of the edit that turns these functions. Where it doesn't judge them, as one that they
+    call is refused, that line."""
     if outcome.status == 0:
         return Verdict(NOT_REFUSED, "all is proved with it")
     said = [found for found in map(STATUS.match, outcome.lines) if found and is_of(functions, found[1])]
@@ -112,7 +116,8 @@ def own_verdict(functions: Functions, crate: str, outcome: Outcome, said: list[s
         return Verdict(BAD, unread[0])
     if of_names:
         return Verdict(NOT_REFUSED, f"only a proof's file names what it takes away: {of_names[0]}")
-    # (a function whose whole proof is written by hand has no such proof for this body, which says nothing of it)
+    # (a function whose whole proof is written by hand has no such proof for this body, which says nothing of
+    # it)
     lacking = [line for line in said if ": no proof: expected " in line]
     if lacking:
         return Verdict(NOT_REFUSED, f"only a proof's file is wanting: {lacking[0]}")
@@ -123,7 +128,9 @@ def verdict_alone(functions: Functions, crate: str, outcome: Outcome) -> Verdict
     """What came of a check with one edit alone, which turns these functions."""
     if outcome.has_verdict():
         found = verdict_of(functions, crate, outcome)
-        return found if isinstance(found, Verdict) else Verdict(NOT_REFUSED, f"not for its own function: {found}")
+        if isinstance(found, Verdict):
+            return found
+        return Verdict(NOT_REFUSED, f"not for its own function: {found}")
     if not outcome.compiles():
         return Verdict(BAD, f"it doesn't compile: {outcome.first_error()}")
     why = ENDS.get(outcome.status, f"status {outcome.status}")

@@ -17,8 +17,9 @@ NAMELESS = "lib", "main", "mod"
 
 @dataclass(frozen=True)
 class Function:
-    """A function with a body: its file, its name, where its body begins and ends in the text, its lines, what `--only`
-    takes for it and for its file's module, and a pattern of the names that a check gives it and its closures."""
+    """A function with a body: its file, its name, where its body begins and ends in the text, its lines, what
+    `--only` takes for it and for its file's module, and a pattern of the names that a check gives it and its
+    closures."""
 
     file: str
     name: str
@@ -134,5 +135,6 @@ def functions_of(crate: str, file: str, text: str) -> list[Function]:
 def function_around(crate: str, file: str, text: str, part: str) -> Function | None:
     """The innermost function in whose body a part of a file's text lies."""
     begin = text.index(part)
-    around = [function for function in functions_of(crate, file, text) if function.holds(begin, begin + len(part))]
+    end = begin + len(part)
+    around = [function for function in functions_of(crate, file, text) if function.holds(begin, end)]
     return max(around, key=lambda function: function.body[0], default=None)

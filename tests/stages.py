@@ -12,7 +12,8 @@ from processor_time import ended_seconds
 
 ROOT = Path(__file__).resolve().parent.parent
 START = time.monotonic()
-# The prover's allocator keeps what is freed: a check takes 2 to 3 % less processor time so, and 1 to 3 % more memory.
+# The prover's allocator keeps what is freed: a check takes 2 to 3 % less processor time so, and 1 to 3 % more
+# memory.
 KEEPING_MEMORY = {"MIMALLOC_PURGE_DELAY": "-1"}
 COUNTS = re.compile(r"(?:\w+: )?(\d+) passed, (\d+) failed$")
 # What passed and what failed.
@@ -31,11 +32,12 @@ def in_words(minutes: float) -> str:
 def run(
     *command: str, folder: Path = ROOT, watch: Callable[[str], None] | None = None, unit: int = 1
 ) -> Result:
-    """Runs a command and passes its lines on, each to `watch` too. Returns what passed and what failed: as its own last
-    counts say, or else `unit` by its exit status. One that tested nothing has failed."""
+    """Runs a command and passes its lines on, each to `watch` too. Returns what passed and what failed: as
+    its own last counts say, or else `unit` by its exit status. One that tested nothing has failed."""
     counts = None
     to = {"stdin": subprocess.DEVNULL, "stdout": subprocess.PIPE, "stderr": subprocess.STDOUT}
-    # (a number of jobs that is given keeps `rt ci` from splitting a check, each part of which would read all libraries)
+    # (a number of jobs that is given keeps `rt ci` from splitting a check, each part of which would read all
+    # libraries)
     to["env"] = {"RT_JOBS": str(lanes()), **KEEPING_MEMORY, **os.environ}
     with subprocess.Popen(command, cwd=folder, text=True, errors="replace", **to) as ran:
         for line in ran.stdout:
@@ -58,11 +60,12 @@ def stage(title: str, *command: str, **how: object) -> Result:
 
 
 def stages(expected: Stages, listed: list[tuple[str, ...]]) -> Iterator[Result]:
-    """Runs stages one after another, each a title and a command, and says how long the rest will take. One whose build
-    isn't there has failed."""
+    """Runs stages one after another, each a title and a command, and says how long the rest will take. One
+    whose build isn't there has failed."""
     for title, *command in listed:
         begun = time.monotonic()
-        lacking = [word for word in command if word.startswith(f"{ROOT}/crates/") and not Path(word).is_file()]
+        builds = [word for word in command if word.startswith(f"{ROOT}/crates/")]
+        lacking = [build for build in builds if not Path(build).is_file()]
         if lacking:
             say(f"FAILED: {title}: there is no {lacking[0]}")
             yield 0, 1

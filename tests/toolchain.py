@@ -1,4 +1,5 @@
-"""What the toolchain's `rt` knows of a repository's crates: how it checks one, and which sums stand for what."""
+"""What the toolchain's `rt` knows of a repository's crates: how it checks one, and which sums stand for
+what."""
 
 import contextlib
 import hashlib
@@ -32,12 +33,14 @@ class Toolchain:
         self.crates = {crate.name: crate for crate in found}
 
     def command(self, crate: str, *words: str) -> list[str]:
-        """A check of a crate, from a folder that has its src, specs and proofs, over the libraries below as they stand."""
+        """A check of a crate, from a folder that has its src, specs and proofs, over the libraries below as
+        they stand."""
         given = self.crates[crate].words(["--jobs", "1"], keeps=False)
         return [*self.guard, self.rt.rtlib.RATTLE, "check", *given, *words]
 
     def own_sum(self, crate: str, folder: Path) -> str:
-        """The sum of the toolchain, HANDLES, the crate's line of crates.txt, and its sources as a folder has them."""
+        """The sum of the toolchain, HANDLES, the crate's line of crates.txt, and its sources as a folder has
+        them."""
         copy = self.rt.copy.copy(self.crates[crate])
         copy.folder = str(folder)
         return self.rt.own_sum(copy)
@@ -48,13 +51,15 @@ class Toolchain:
         return [(library.name, self.rt.rtlib.sum_of(f"{library.rlib}/format")) for library in below]
 
     def sources(self, crate: str, seen: dict[str, str] | None = None) -> str:
-        """The sum of all that a crate stands on: its own sources and those below. `seen` has sums that are known."""
+        """The sum of all that a crate stands on: its own sources and those below. `seen` has sums that are
+        known."""
         return self.rt.stamp_of(self.crates[crate], {} if seen is None else seen)
 
     @contextlib.contextmanager
     def own_libraries(self) -> Iterator[dict[str, str]]:
-        """Has the libraries that `rt ci` builds meanwhile stay, and gives the sums of the crates' sources as it begins.
-        Libraries that a session's checks left are set aside until the end: `rt ci` would put them in place of its own."""
+        """Has the libraries that `rt ci` builds meanwhile stay, and gives the sums of the crates' sources as
+        it begins. Libraries that a session's checks left are set aside until the end: `rt ci` would put them
+        in place of its own."""
         git = self.root / ".git"
         aside = git / "check-aside" if git.is_dir() else Path(tempfile.mkdtemp(prefix="check-aside-"))
         # (of a run of this that was killed)
@@ -70,7 +75,8 @@ class Toolchain:
 
     @staticmethod
     def set_aside(room: Path, to: Path):
-        """Moves a session's library away. One that an earlier `rt ci` left is of no use to a session, and goes."""
+        """Moves a session's library away. One that an earlier `rt ci` left is of no use to a session, and
+        goes."""
         if (room / "stamp").is_file():
             to.parent.mkdir(parents=True, exist_ok=True)
             shutil.move(room, to)
@@ -78,7 +84,8 @@ class Toolchain:
             shutil.rmtree(room, ignore_errors=True)
 
     def note_sources(self, sources: dict[str, str]):
-        """Notes beside each library that `rt ci` built the sources that it was built of, where they are the same still."""
+        """Notes beside each library that `rt ci` built the sources that it was built of, where they are the
+        same still."""
         seen = {}
         for name, crate in self.crates.items():
             room = Path(crate.rlib).parent
@@ -97,7 +104,8 @@ class Toolchain:
         shutil.rmtree(aside, ignore_errors=True)
 
     def fault_below(self, crate: str) -> str | None:
-        """What is wrong with the libraries below a crate: that one is missing, or was built of other sources."""
+        """What is wrong with the libraries below a crate: that one is missing, or was built of other
+        sources."""
         for library in self.crates[crate].below():
             shown = f"crates/{library.name}/out/rlib"
             if not Path(library.rlib).is_dir():
