@@ -65,7 +65,7 @@ def stages(expected: Stages, listed: list[tuple[str, ...]]) -> Iterator[Result]:
     for title, *command in listed:
         begun = time.monotonic()
         builds = [word for word in command if word.startswith(f"{ROOT}/crates/")]
-        lacking = [build for build in builds if not Path(build).is_file()]
+        lacking = [build for build in builds if not Path(build).exists()]
         if lacking:
             say(f"FAILED: {title}: there is no {lacking[0]}")
             yield 0, 1
