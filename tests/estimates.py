@@ -8,6 +8,7 @@ import csv
 import os
 import re
 import statistics
+import sys
 import time
 from collections.abc import Iterable
 from pathlib import Path
@@ -124,6 +125,7 @@ class Plan:
         crates: list[str],
         tried_by_rt: set[str],
         titles: Iterable[str],
+        at_once: int = sys.maxsize,
     ):
         known = rows("gate_minutes.csv")
         # (a crate that has no row takes what the one in the middle does)
@@ -134,7 +136,7 @@ class Plan:
             self.proofs_left |= {(crate, "proofs"): proofs, (crate, "tests"): tests}
             (self.proofs_left if crate in tried_by_rt else self.edits_left)[crate, "edits"] = edits
         self.below, self.stages = below, Stages(titles)
-        self.proofs, self.edits = Pace(lanes()), None
+        self.proofs, self.edits = Pace(min(at_once, lanes())), None
 
     def done(self, *parts: tuple[str, str]):
         """Notes that these parts of crates are over."""
