@@ -27,6 +27,7 @@ TRUST = 3.0
 # Seconds of a stage that no run has measured.
 UNKNOWN_STAGE = 10.0
 SEED = re.compile(r",? seed \d+,?")
+BUILDING = "building"
 
 
 def rows(name: str) -> dict[str, list[float]]:
@@ -58,8 +59,8 @@ def share(more: int) -> float:
 
 
 def stage_name(title: str) -> str:
-    """A stage's title without the day's seed."""
-    return SEED.sub("", title)
+    """A stage's title without the day's seed, and without what is built."""
+    return BUILDING if title.startswith(BUILDING) else SEED.sub("", title)
 
 
 class Pace:
