@@ -17,15 +17,14 @@ class KeptResults:
     nothing."""
 
     def __init__(self, name: str):
-        cache = os.environ.get("XDG_CACHE_HOME") or Path.home() / ".cache"
-        self.folder = Path(cache) / name
         try:
+            self.folder = Path(os.environ.get("XDG_CACHE_HOME") or Path.home() / ".cache") / name
             self.folder.mkdir(0o700, parents=True, exist_ok=True)
             found = self.folder.lstat()
             if not stat.S_ISDIR(found.st_mode) or found.st_uid != os.geteuid():
                 raise PermissionError(self.folder)
             self.folder.chmod(0o700)
-        except OSError:
+        except (OSError, RuntimeError):
             self.folder = None
 
     def get(self, key: str) -> str | None:

@@ -9,7 +9,7 @@ from stages import in_words, say
 PROVED = re.compile(r"rt: (\w+)(: its tests are)? (?:NOT PROVED|proved)")
 KEPT = re.compile(r"rt: (\w+) is kept: ")
 BEGUN = re.compile(r"rt: (\w+): trying its must-fail edits")
-TRIED = re.compile(r"wrong bodies of (\w+) done: (\d+) rounds, .*; (.*)")
+TRIED = re.compile(r"wrong bodies of (\w+) done: (?:(\d+) rounds?, )?.*; (.*)")
 
 
 class Progress:
@@ -44,5 +44,5 @@ class Progress:
         """Takes a line of tests/wrong_bodies."""
         tried = TRIED.match(line)
         if tried:
-            (self.plan.done if int(tried[2]) else self.plan.kept)((tried[1], "edits"))
+            (self.plan.done if int(tried[2] or 0) else self.plan.kept)((tried[1], "edits"))
             say(f"{tried[3]}; left: {in_words(self.plan.minutes())}")
