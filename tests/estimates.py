@@ -109,8 +109,10 @@ class Stages:
         self.ended, self.of_ended = 60 / share(1), 60.0
 
     def done(self, title: str, seconds: float):
-        """Notes that a stage is over, and what it took."""
-        self.ended, self.of_ended = self.ended + seconds, self.of_ended + self.expected.pop(title, 0.0)
+        """Notes that a stage is over, and what it took. What ended a minute before counts half as much."""
+        expected = self.expected.pop(title, 0.0)
+        weight = 0.5 ** (expected / 60)
+        self.ended, self.of_ended = self.ended * weight + seconds, self.of_ended * weight + expected
 
     def minutes(self) -> float:
         return sum(self.expected.values()) / 60 * self.ended / self.of_ended
