@@ -9,6 +9,7 @@ import tempfile
 from pathlib import Path
 
 from recorder import drawing, hook_headers, library, program, report, verdicts
+from recorder.receiving import Receiver
 from recorder.record_text import read
 
 LEAKED, REFUSED = 3, 125
@@ -128,10 +129,14 @@ def run(options, folder, path, reports):
         names['RECORDER_CHILDREN'] = '1'
     if options.now:
         names['RECORDER_SIGNAL'] = str(options.now)
-    process = program.start((path, [options.program, *options.arguments]), names)
-    if options.now:
-        say(f'record: kill -{signal.Signals(options.now).name[3:]} {process} asks for a report')
-    status = program.wait(process, reports.look)
+    with tempfile.TemporaryDirectory() as place, program.held_signals() as mask:
+        names['RECORDER_SOCKET'] = f'{place}/socket'
+        receiver = Receiver(names['RECORDER_SOCKET'], folder)
+        process = program.start((path, [options.program, *options.arguments]), names, mask)
+        if options.now:
+            say(f'record: kill -{signal.Signals(options.now).name[3:]} {process} asks for a report')
+        status = program.wait(process, reports.look)
+        receiver.finish()
     reports.look()
     if status < 0:
         say(f'record: the program was ended by {signal.Signals(-status).name}: what it left was not read')

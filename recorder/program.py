@@ -1,19 +1,26 @@
 """The program: whether anything can be told of it, and its run."""
+import contextlib
 import os
 import re
 import shutil
 import signal
 import subprocess
-import time
 from pathlib import Path
+
+from recorder import shared_libraries
 
 SANITIZERS = re.compile(r'lib(asan|lsan|tsan|hwasan|msan)\.so')
 SANITIZER_SYMBOLS = re.compile(r'__(asan|lsan|tsan|hwasan|msan)_init')
 
 
-# What ends a program from outside: it is passed on, and what keys send goes to the program anyway.
-PASSED_ON = signal.SIGTERM, signal.SIGHUP
-OF_KEYS = signal.SIGINT, signal.SIGQUIT
+# Signals that don't end who gets them, or can't be waited for; all others are the program's.
+NOT_PASSED_ON = {signal.SIGKILL, signal.SIGSTOP, signal.SIGTSTP, signal.SIGTTIN, signal.SIGTTOU, signal.SIGCONT}
+NOT_PASSED_ON |= {signal.SIGCHLD, signal.SIGURG, signal.SIGWINCH}
+PASSED_ON = signal.valid_signals() - NOT_PASSED_ON
+HELD = PASSED_ON | {signal.SIGCHLD}
+FROM_KERNEL = 0x80  # the code of signals that keys send: the program gets them too
+# What Python ignores, a program that it starts does not.
+HEARD = signal.SIGPIPE, signal.SIGXFSZ
 
 
 class Refusal(Exception):
@@ -68,14 +75,33 @@ def refuse_unreadable(path):
         raise Refusal('it has a malloc of its own')
     if re.search(r'\(NEEDED\).*libc\+\+(abi)?\.so', text):
         raise Refusal('it uses libc++, and only the handles of libstdc++ are known')
+    libraries = shared_libraries.libraries_of(path)
+    if any(SANITIZERS.search(it) for it in libraries):
+        raise Refusal('a sanitizer is loaded into it, which has a malloc of its own')
+    if other := shared_libraries.with_malloc(libraries):
+        raise Refusal(f'its library {os.path.basename(other)} has a malloc of its own')
 
 
-def start(command, names):
+@contextlib.contextmanager
+def held_signals():
+    """While it is open signals to this process wait, until `wait` hands them on to the program. Threads begin within,
+    as else they would take the signals. Gives the mask before."""
+    before = signal.pthread_sigmask(signal.SIG_BLOCK, HELD)
+    try:
+        yield before
+    finally:
+        signal.pthread_sigmask(signal.SIG_SETMASK, before)
+
+
+def start(command, names, mask):
     """Starts the program in a process of its own, with these variables and its own number in RECORDER_PROCESS."""
     process = os.fork()
     if process:
         return process
     try:
+        for number in HEARD:
+            signal.signal(number, signal.SIG_DFL)
+        signal.pthread_sigmask(signal.SIG_SETMASK, mask)
         os.execve(command[0], command[1], {**os.environ, **names, 'RECORDER_PROCESS': str(os.getpid())})
     except OSError as fault:
         os.write(2, f'record: {command[0]}: {fault.strerror}\n'.encode())
@@ -84,20 +110,16 @@ def start(command, names):
 
 def wait(process, look):
     """Waits for the end, calling `look` again and again. Signals that end a program are the program's."""
-    before = {it: signal.signal(it, signal.SIG_IGN) for it in OF_KEYS}
-    before |= {it: signal.signal(it, lambda number, _: os.kill(process, number)) for it in PASSED_ON}
-    try:
-        pause = 0.001
-        while True:
-            ended, status = os.waitpid(process, os.WNOHANG)
-            if ended:
-                return os.waitstatus_to_exitcode(status)
-            look()
-            time.sleep(pause)
-            pause = min(pause * 1.5, 0.05)
-    finally:
-        for number, handler in before.items():
-            signal.signal(number, handler)
+    pause = 0.001
+    while True:
+        ended, status = os.waitpid(process, os.WNOHANG)
+        if ended:
+            return os.waitstatus_to_exitcode(status)
+        look()
+        came = signal.sigtimedwait(HELD, pause)
+        if came and came.si_signo in PASSED_ON and came.si_code != FROM_KERNEL:
+            os.kill(process, came.si_signo)
+        pause = min(pause * 1.5, 0.05)
 
 
 def records(folder):

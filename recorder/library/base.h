@@ -11,9 +11,16 @@ namespace recorder {
 using Word = std::uintptr_t;
 constexpr std::size_t WORD = sizeof(Word);
 
+// The newest byte of this thread's stack.
+inline __attribute__((always_inline)) Word stack_here() {
+  Word here;
+  asm volatile("mov %%rsp, %0" : "=r"(here));
+  return here;
+}
+
 #define RECORDER_THREAD thread_local __attribute__((tls_model("initial-exec")))
 
-extern std::atomic<bool> recording;  // off in processes that nobody asked about
+extern std::atomic<bool> recording;  // off in processes that nobody asked about, and where it is refused
 extern std::atomic<bool> hooked;     // a hook of the program's headers has been called
 
 // While one lives, its thread runs the recorder's code: the memory that it takes isn't the program's, and where

@@ -4,14 +4,19 @@
 #include <semaphore.h>
 #include <signal.h>
 #include <sys/syscall.h>
+#include <sys/time.h>
 #include <unistd.h>
 #include <unwind.h>
 
-#include <cstdio>
+#include <cerrno>
 #include <cstdlib>
 #include <cstring>
+#include <initializer_list>
 
+#include "ending.h"
 #include "hook_tables.h"
+#include "next_malloc.h"
+#include "reading.h"
 #include "record_file.h"
 
 extern "C" int __cxa_atexit(void (*)(void*), void*, void*);
@@ -20,8 +25,8 @@ namespace recorder {
 namespace {
 
 pid_t recorded_process;
-char record_path[4096];
 bool with_children;
+bool is_wanted;  // this process is asked about
 std::atomic<pid_t> ended{0};  // the process that has read its memory: one after vfork shares this word
 Word exit_frame;              // where exit() was called; after main's return no frame of its thread lives
 pid_t exit_thread;
@@ -29,34 +34,64 @@ sem_t asked;
 
 Word frame_here() { return reinterpret_cast<Word>(__builtin_frame_address(0)); }
 
-const char* file_name(int snapshot) {
-  static char path[4200];
-  if (snapshot)
-    std::snprintf(path, sizeof path, "%s.%d.%d", record_path, getpid(), snapshot);
-  else
-    std::snprintf(path, sizeof path, "%s.%d", record_path, getpid());
-  return path;
+// What would end the process while it is read, after its own end.
+void stop_timers() {
+  itimerval none{};
+  for (auto it : {ITIMER_REAL, ITIMER_VIRTUAL, ITIMER_PROF}) setitimer(it, &none, nullptr);
 }
 
-bool is_recorded() { return recording && (getpid() == recorded_process || with_children); }
+bool is_asked_about() { return getpid() == recorded_process || with_children; }
 
-void read_memory(const char* when, Word from_frame, int snapshot) {
-  Inside inside;
-  if (dlsym(RTLD_DEFAULT, "malloc") != reinterpret_cast<void*>(&malloc)) {
-    write_refusal(file_name(snapshot), "it has a malloc of its own");
-    return;
-  }
+struct Question {
+  const char* when;
+  Word from_frame;  // where the frames of the reading thread begin; 0 where none live
+  int snapshot;
+};
+Question question;
+Lock one_at_a_time;
+
+void answer_question() {
   pid_t thread = static_cast<pid_t>(syscall(SYS_gettid));
-  Word end = from_frame ? end_of_stack(thread, from_frame) : 0;
-  Modules modules;
   OwnRegion region;
+  Word end = question.from_frame ? end_of_stack(thread, question.from_frame) : 0;
+  Modules modules;
   Outside outside(modules);
   AllStandStill still;
   auto stacks = still.stacks();
-  if (from_frame) stacks.push_back({thread, from_frame, end});
+  if (question.from_frame) stacks.push_back({thread, question.from_frame, end});
   Snapshot all(modules, outside, stacks);
-  write_record(file_name(snapshot), all, when);
+  write_record(question.snapshot, all, question.when);
 }
+
+void read_memory(const char* when, Word from_frame, int snapshot) {
+  std::lock_guard<Lock> guard(one_at_a_time);
+  int before = errno;
+  Inside inside;
+  question = {when, from_frame, snapshot};
+  const char* why = refusal ? refusal.load() : read_apart(answer_question);
+  if (why) {
+    AllStandStill::let_go();
+    OwnRegion::give_back();
+    write_refusal(snapshot, why);
+  }
+  errno = before;
+}
+
+}  // namespace
+
+void read_at_end(const char* when, Word stack) {
+  if (!is_wanted || !is_asked_about() || ended.exchange(getpid()) == getpid()) return;
+  if (!refusal) stop_timers();
+  read_memory(when, stack, 0);
+}
+
+void refuse_now(const char* why) {
+  if (!is_wanted) return;
+  stop_recording(why);
+  read_at_end("exit", 0);
+}
+
+namespace {
 
 // Whether frames of the program lie on this stack below the C library's, as where err or error ends it: more than the
 // one that called main.
@@ -74,11 +109,6 @@ bool has_frames_of_program() {
   return count > 1;
 }
 
-// Once in each process.
-void read_at_end(const char* when, Word from_frame) {
-  if (is_recorded() && ended.exchange(getpid()) != getpid()) read_memory(when, from_frame, 0);
-}
-
 void at_the_end(void*) {
   bool is_deep = exit_frame && exit_thread == static_cast<pid_t>(syscall(SYS_gettid));
   bool is_within = !exit_frame && has_frames_of_program();
@@ -91,7 +121,7 @@ void* answer(void*) {
   for (int snapshot = 1;; snapshot++) {
     while (sem_wait(&asked)) {
     }
-    if (is_recorded()) read_memory("now", 0, snapshot);
+    if (recording && is_asked_about()) read_memory("now", 0, snapshot);
   }
 }
 
@@ -122,21 +152,30 @@ void unlock_tables() { unlock_traces(), holdings.unlock_all(), births.unlock_all
 
 void unlock_in_child() {
   unlock_tables();
-  if (!with_children) recording = false;
+  if (with_children) {
+    open_way_out();
+    keep_threads_folder();
+  } else {
+    recording = is_wanted = false;
+    close_way_out();
+  }
 }
 
 // Before main. What is registered here without a library's handle comes after each destructor of a static.
 __attribute__((constructor(101))) void begin() {
   Inside inside;
-  const char* path = std::getenv("RECORDER_FILE");
   with_children = number_of("RECORDER_CHILDREN");
   recorded_process = number_of("RECORDER_PROCESS");
-  if (!path || std::strlen(path) >= sizeof record_path || (getpid() != recorded_process && !with_children)) {
+  is_wanted = is_asked_about() && know_way_out(std::getenv("RECORDER_SOCKET"), std::getenv("RECORDER_FILE"));
+  if (!is_wanted) {
     recording = false;
     return;
   }
-  std::strcpy(record_path, path);
-  know_thread_variables();
+  open_way_out();
+  keep_threads_folder();
+  refuse_own_malloc();
+  if (refusal) return read_at_end("exit", 0);
+  know_program();
   frames_wanted = number_of("RECORDER_FRAMES");
   trace_here();  // loads what it needs
   pthread_atfork(lock_tables, unlock_tables, unlock_in_child);
@@ -163,7 +202,8 @@ PUBLIC void exit(int status) {
 }
 
 PUBLIC void _exit(int status) {
-  read_at_end("_exit", frame_here());
+  __builtin_unwind_init();
+  read_at_end("_exit", stack_here());
   syscall(SYS_exit_group, status);
   __builtin_unreachable();
 }

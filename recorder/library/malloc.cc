@@ -1,21 +1,13 @@
 // malloc and its like, which the program finds here first. What they take is noted, and emptied: old bytes in
 // what a vector has not filled yet would look like handles.
-#include <malloc.h>
 #include <unistd.h>
 
 #include <cerrno>
 #include <cstring>
 
 #include "chunks.h"
+#include "next_malloc.h"
 #include "threads.h"
-
-extern "C" {
-void* __libc_malloc(std::size_t);
-void __libc_free(void*);
-void* __libc_calloc(std::size_t, std::size_t);
-void* __libc_realloc(void*, std::size_t);
-void* __libc_memalign(std::size_t, std::size_t);
-}
 
 namespace recorder {
 
@@ -49,7 +41,7 @@ bool is_fresh(void* memory) { return static_cast<std::size_t*>(memory)[-1] & 2; 
 
 // (of a chunk of a heap the word before tells it, with flags in its lowest bits)
 std::size_t usable_size(void* memory) {
-  return is_fresh(memory) ? malloc_usable_size(memory)
+  return is_fresh(memory) ? next_malloc.usable_size(memory)
                           : (static_cast<std::size_t*>(memory)[-1] & ~std::size_t(7)) - WORD;
 }
 
@@ -74,13 +66,13 @@ void* taken(void* memory, std::size_t alignment) {
 
 void* aligned(std::size_t alignment, std::size_t size) {
   if (OwnRegion::is_used()) return OwnRegion::take(size, alignment);
-  return taken(__libc_memalign(alignment, size), alignment);
+  return taken(next_malloc.memalign(alignment, size), alignment);
 }
 
 void* moved_to_own(void* memory, std::size_t size) {
   void* other = OwnRegion::take(size, 16);
   if (!other || !memory) return other;
-  std::size_t before = OwnRegion::has(memory) ? OwnRegion::size_of(memory) : malloc_usable_size(memory);
+  std::size_t before = OwnRegion::has(memory) ? OwnRegion::size_of(memory) : next_malloc.usable_size(memory);
   std::memcpy(other, memory, before < size ? before : size);
   return other;
 }
@@ -94,33 +86,33 @@ using namespace recorder;
 
 PUBLIC void* malloc(std::size_t size) {
   if (OwnRegion::is_used()) return OwnRegion::take(size, 16);
-  return taken(__libc_malloc(size), 0);
+  return taken(next_malloc.malloc(size), 0);
 }
 
 PUBLIC void* calloc(std::size_t count, std::size_t size) {
   if (OwnRegion::is_used()) return OwnRegion::take(count * size, 16);  // (pages of a new region are empty)
-  void* memory = __libc_calloc(count, size);
-  if (memory && is_noted()) note(memory, malloc_usable_size(memory), 0);
+  void* memory = next_malloc.calloc(count, size);
+  if (memory && is_noted()) note(memory, next_malloc.usable_size(memory), 0);
   return memory;
 }
 
 PUBLIC void free(void* memory) {
   if (!memory || OwnRegion::has(memory)) return;
   if (is_noted()) forget(memory);
-  __libc_free(memory);
+  next_malloc.free(memory);
 }
 
 PUBLIC void* realloc(void* memory, std::size_t size) {
   if (OwnRegion::is_used()) return moved_to_own(memory, size);
-  if (!is_noted()) return __libc_realloc(memory, size);
-  std::size_t before = memory ? malloc_usable_size(memory) : 0;
+  if (!is_noted()) return next_malloc.realloc(memory, size);
+  std::size_t before = memory ? next_malloc.usable_size(memory) : 0;
   if (memory) forget(memory);
-  void* other = __libc_realloc(memory, size);
+  void* other = next_malloc.realloc(memory, size);
   if (!other) {
     if (memory && size) note(memory, before, 0);  // it wasn't given back
     return nullptr;
   }
-  std::size_t after = malloc_usable_size(other);
+  std::size_t after = next_malloc.usable_size(other);
   if (after > before && !is_fresh(other)) std::memset(static_cast<char*>(other) + before, 0, after - before);
   note(other, after, 0);
   return other;

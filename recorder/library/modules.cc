@@ -11,6 +11,7 @@ namespace recorder {
 namespace {
 
 Word thread_from, thread_to;
+char program_path[4096];
 
 // What glibc keeps of a thread lies above its variables, and its own pointers with it.
 constexpr Word OF_A_THREAD = 2304;
@@ -18,10 +19,7 @@ constexpr Word OF_A_THREAD = 2304;
 Word as_word(const void* pointer) { return reinterpret_cast<Word>(pointer); }
 
 std::string path_of(const dl_phdr_info& info) {
-  if (info.dlpi_name && *info.dlpi_name) return info.dlpi_name;
-  char path[4096];
-  ssize_t size = readlink("/proc/self/exe", path, sizeof path);
-  return std::string(path, size > 0 ? size : 0);
+  return info.dlpi_name && *info.dlpi_name ? info.dlpi_name : program_path;
 }
 
 bool has_address(const dl_phdr_info& info, Word address) {
@@ -65,7 +63,9 @@ bool is_control_block(const char* type) {
 
 }  // namespace
 
-void know_thread_variables() {
+void know_program() {
+  ssize_t size = readlink("/proc/self/exe", program_path, sizeof program_path - 1);
+  program_path[size > 0 ? size : 0] = 0;
   thread_from = as_word(reinterpret_cast<void*>(pthread_self()));
   thread_to = thread_from + OF_A_THREAD;
   dl_iterate_phdr(add_thread_variables, nullptr);

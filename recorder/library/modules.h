@@ -55,6 +55,7 @@ private:
   VirtualTable none;
 };
 
-void know_thread_variables();  // of the main thread, which has to call it
+// Before main, by its thread: where the program's file and this thread's variables lie.
+void know_program();
 
 }  // namespace recorder

@@ -6,6 +6,8 @@
 #include <atomic>
 #include <iterator>
 
+#include "reading.h"
+
 namespace recorder {
 namespace {
 
@@ -59,7 +61,9 @@ OwnRegion::OwnRegion() {
   used = true;
 }
 
-OwnRegion::~OwnRegion() {
+OwnRegion::~OwnRegion() { give_back(); }
+
+void OwnRegion::give_back() {
   used = false;
   if (from) give_own_pages(reinterpret_cast<void*>(from), to - from);
   from = to = 0;
@@ -68,7 +72,7 @@ OwnRegion::~OwnRegion() {
 // Before each piece lies a word with its size.
 void* OwnRegion::take(std::size_t bytes, std::size_t alignment) {
   Word at = (next + WORD + alignment - 1) & ~(alignment - 1);
-  if (at + bytes > to) return nullptr;
+  if (at < next || at + bytes < at || at + bytes > to) give_up("no memory is left for reading it");
   next = at + bytes;
   reinterpret_cast<std::size_t*>(at)[-1] = bytes;
   return reinterpret_cast<void*>(at);

@@ -22,7 +22,8 @@ public:
   OwnRegion(const OwnRegion&) = delete;
 
   static bool is_used() { return used; }
-  static void* take(std::size_t bytes, std::size_t alignment);  // null where nothing is left
+  static void* take(std::size_t bytes, std::size_t alignment);  // gives up the reading where nothing is left
+  static void give_back();                                      // where its end isn't reached
   static bool has(const void* memory) { return reinterpret_cast<Word>(memory) - from < to - from; }
   static std::size_t size_of(const void* memory);
 

@@ -1,53 +1,103 @@
 #include "record_file.h"
 
 #include <fcntl.h>
+#include <sys/socket.h>
+#include <sys/un.h>
 #include <unistd.h>
 
+#include <algorithm>
+#include <cerrno>
 #include <cstdarg>
 #include <cstdio>
 #include <cstring>
 
+#include "kept_file.h"
+
 namespace recorder {
 namespace {
 
-// (without stdio, whose locks a thread that stands still may hold)
+KeptFile way_out;
+char socket_path[sizeof sockaddr_un::sun_path];
+char record_path[4096];
+char buffer[1 << 16];  // (in place of memory that may be used up)
+bool is_begun = false;
+
+// A connection to the socket; -1 where there is none.
+int connected() {
+  sockaddr_un address{AF_UNIX, {}};
+  std::strcpy(address.sun_path, socket_path);
+  int file = *socket_path ? socket(AF_UNIX, SOCK_STREAM | SOCK_CLOEXEC, 0) : -1;
+  if (file < 0 || !connect(file, reinterpret_cast<sockaddr*>(&address), sizeof address)) return file;
+  close(file);
+  return -1;
+}
+
+// One record. (It is written without stdio, whose locks a thread that stands still may hold.)
 class Output {
 public:
-  explicit Output(const char* path) : final(path), partial(final + ".part") {
-    file = open(partial.c_str(), O_WRONLY | O_CREAT | O_TRUNC | O_CLOEXEC, 0600);
+  explicit Output(int number) : file(way_out.number()), is_socket(file >= 0) {
+    name_files(number);
+    is_begun = true;
+    if (is_socket)
+      say("record %s\n", std::strrchr(final_path, '/') + 1);
+    else
+      file = open(partial_path, O_WRONLY | O_CREAT | O_TRUNC | O_CLOEXEC, 0600);
+    is_whole = file >= 0;
   }
+  // One that isn't whole stays away: it has no last line, or no name.
   ~Output() {
     flush();
-    close(file);
-    rename(partial.c_str(), final.c_str());
+    is_begun = false;
+    if (is_socket || file < 0) return;
+    is_whole &= !close(file);
+    if (!is_whole || rename(partial_path, final_path)) unlink(partial_path);
   }
   Output(const Output&) = delete;
 
+  // Of numbers and short words.
   __attribute__((format(printf, 2, 3))) void say(const char* format, ...) {
-    char line[1024];
+    if (sizeof buffer - used < MOST_OF_A_LINE) flush();
     va_list rest;
     va_start(rest, format);
-    int size = std::vsnprintf(line, sizeof line, format, rest);
+    int size = std::vsnprintf(buffer + used, MOST_OF_A_LINE, format, rest);
     va_end(rest);
-    text.append(line, size < int(sizeof line) ? size : int(sizeof line) - 1);
+    if (size < 0 || size >= static_cast<int>(MOST_OF_A_LINE))
+      is_whole = false;
+    else
+      used += size;
   }
-  void say_text(const char* it) {
-    text += it;
-    if (text.size() > 1 << 16) flush();
+  void say_text(const char* words) {
+    for (std::size_t left = std::strlen(words); left;) {
+      if (used == sizeof buffer) flush();
+      std::size_t part = std::min(left, sizeof buffer - used);
+      std::memcpy(buffer + used, words, part);
+      used += part, words += part, left -= part;
+    }
   }
 
 private:
+  static constexpr std::size_t MOST_OF_A_LINE = 256;
+
+  void name_files(int number) {
+    int size = std::snprintf(final_path, sizeof final_path, "%s.%d", record_path, getpid());
+    if (number) std::snprintf(final_path + size, sizeof final_path - size, ".%d", number);
+    std::snprintf(partial_path, sizeof partial_path, "%s.part", final_path);
+  }
   void flush() {
-    for (std::size_t done = 0; done < text.size();) {
-      ssize_t wrote = write(file, text.data() + done, text.size() - done);
-      if (wrote <= 0) break;
-      done += wrote;
+    for (std::size_t done = 0; is_whole && done < used;) {
+      ssize_t wrote = is_socket ? send(file, buffer + done, used - done, MSG_NOSIGNAL)
+                                : write(file, buffer + done, used - done);
+      if (wrote < 0 && errno == EINTR) continue;
+      is_whole = wrote > 0;
+      if (is_whole) done += wrote;
     }
-    text.clear();
+    used = 0;
   }
 
-  std::string final, partial, text;
+  char final_path[sizeof record_path + 32], partial_path[sizeof final_path + 8];
+  std::size_t used = 0;
   int file;
+  bool is_socket, is_whole = true;
 };
 
 void write_block(Output& out, const Snapshot& all, int number) {
@@ -97,26 +147,35 @@ void write_place(Output& out, const Snapshot& all, Word at) {
 
 }  // namespace
 
-void write_record(const char* path, const Snapshot& all, const char* when) {
+bool know_way_out(const char* socket, const char* path) {
+  if (!path || std::strlen(path) >= sizeof record_path || !std::strchr(path, '/')) return false;
+  std::strcpy(record_path, path);
+  if (socket && std::strlen(socket) < sizeof socket_path) std::strcpy(socket_path, socket);
+  return true;
+}
+
+void open_way_out() { way_out.keep(connected()); }
+
+void close_way_out() { way_out.close(); }
+
+void write_record(int number, const Snapshot& all, const char* when) {
   static const char* const KINDS[] = {"owner", "weak", "either"};
-  Output out(path);
+  Output out(number);
   out.say("recorded %s %s\n", hooked ? "hooks" : "scan", when);
   for (auto& it : all.modules.modules) {
     out.say("module %zx ", it.base);
     out.say_text(it.path.c_str());
     out.say_text("\n");
   }
-  for (std::size_t number = 0; number < all.blocks.size(); number++)
-    write_block(out, all, static_cast<int>(number));
+  for (std::size_t block = 0; block < all.blocks.size(); block++)
+    write_block(out, all, static_cast<int>(block));
   for (auto& it : all.handles) {
     out.say("handle %s %d", KINDS[it.kind], it.block);
     write_place(out, all, it.at);
-    out.say_text("");
   }
   for (auto& it : all.raw_pointers) {
     out.say("raw %d %zd", it.to, std::ptrdiff_t(it.word - all.blocks[it.to].object));
     write_place(out, all, it.at);
-    out.say_text("");
   }
   for (auto& it : all.links) {
     out.say("link %d", it.to);
@@ -127,9 +186,12 @@ void write_record(const char* path, const Snapshot& all, const char* when) {
   out.say("mapped_blocks %zu\nmapped_bytes %zu\nend\n", all.mapped_blocks, all.mapped_bytes);
 }
 
-void write_refusal(const char* path, const char* why) {
-  Output out(path);
-  out.say("refused %s\nend\n", why);
+void write_refusal(int number, const char* why) {
+  if (is_begun) way_out.close();  // a record was given up within
+  Output out(number);
+  out.say_text("refused ");
+  out.say_text(why);
+  out.say_text("\nend\n");
 }
 
 }  // namespace recorder

@@ -4,8 +4,17 @@
 
 namespace recorder {
 
-// Writes all to the file, or that nothing can be told and why.
-void write_record(const char* path, const Snapshot& all, const char* when);
-void write_refusal(const char* path, const char* why);
+// The names of ./record's socket, and of the files that records become where that can't be reached, without the
+// process's number. Returns whether they may be names.
+bool know_way_out(const char* socket, const char* path);
+
+// Connects to the socket: before main, so that neither limits nor rights that the program takes later prevent it,
+// and in a process that is new.
+void open_way_out();
+void close_way_out();
+
+// Writes all of the snapshot with this number, 0 for the last, or that nothing can be told and why.
+void write_record(int number, const Snapshot& all, const char* when);
+void write_refusal(int number, const char* why);
 
 }  // namespace recorder

@@ -44,7 +44,10 @@ Snapshot::Snapshot(const Modules& modules, const Outside& outside, const std::ve
     areas.push_back({Area::THREAD_LOCAL, 0, modules.thread_from, modules.thread_to, {}, false});
   for (auto& it : stacks) {
     Word from = (it.from + WORD - 1) & ~(WORD - 1);
-    if (from < it.to) areas.push_back({Area::STACK, it.thread, from, it.to, copied(from, it.to), false});
+    if (from >= it.to) continue;
+    auto words = copied(from, it.to);
+    Word to = from + words.size() * WORD;
+    areas.push_back({Area::STACK, it.thread, from, to, std::move(words), false});
   }
   recorder::chunks.each([&](Word from, const Chunk& it) {
     Word to = from + it.size;

@@ -5,6 +5,7 @@
 
 #include "base.h"
 #include "own_memory.h"
+#include "reading.h"
 
 namespace recorder {
 
@@ -25,7 +26,7 @@ public:
   }
 
   void put(Word key, const Value& value) {
-    if ((used + 1) * 4 > capacity * 3) grow();
+    if ((used + 1) * 4 > capacity * 3 && !grow()) return stop_recording("no memory was left for its records");
     Slot& slot = slots[place_of(key)];
     if (!slot.key) used++;
     slot = {key, value};
@@ -63,14 +64,17 @@ private:
     return at;
   }
 
-  void grow() {
+  bool grow() {
     Slot* old = slots;
-    std::size_t before = capacity;
-    capacity = before ? before * 2 : 64;
-    slots = static_cast<Slot*>(own_pages(capacity * sizeof(Slot)));
+    std::size_t before = capacity, after = before ? before * 2 : 64;
+    auto more = static_cast<Slot*>(own_pages(after * sizeof(Slot)));
+    if (!more) return false;
+    slots = more;
+    capacity = after;
     for (std::size_t at = 0; at < before; at++)
       if (old[at].key) slots[place_of(old[at].key)] = old[at];
     if (old) give_own_pages(old, before * sizeof(Slot));
+    return true;
   }
 
   Slot* slots = nullptr;

@@ -1,6 +1,7 @@
 #include "threads.h"
 
 #include <dirent.h>
+#include <fcntl.h>
 #include <pthread.h>
 #include <sched.h>
 #include <signal.h>
@@ -11,7 +12,11 @@
 #include <cerrno>
 #include <cstdio>
 #include <cstdlib>
+#include <cstring>
+#include <string>
 
+#include "kept_file.h"
+#include "reading.h"
 #include "table.h"
 
 namespace recorder {
@@ -28,6 +33,12 @@ struct Standing {
 };
 Standing standing[4096];
 std::atomic<int> places{0}, ready{0};
+
+KeptFile threads_folder;
+
+// A signal's frame takes some 4 KB, which a thread with a smaller stack may not have left.
+constexpr Word SMALL_STACK = 64 << 10;
+constexpr Word MOST_OF_A_STACK = 8 << 20;
 
 pid_t this_thread() { return static_cast<pid_t>(syscall(SYS_gettid)); }
 
@@ -56,7 +67,8 @@ void Lock::wait() {
 void Inside::stand_still() {
   int before = errno;
   int place = places++;
-  if (place < 4096) standing[place] = {this_thread(), reinterpret_cast<Word>(__builtin_frame_address(0))};
+  __builtin_unwind_init();  // (all that its registers hold lies on the stack now)
+  if (place < 4096) standing[place] = {this_thread(), stack_here()};
   ready++;
   while (stopping.load()) pause_shortly();
   errno = before;
@@ -70,15 +82,26 @@ void stop_here(int) {
   Inside inside;
 }
 
+// What a file has, up to so many bytes; '' where it can't be read. (While threads stand still nothing of stdio is
+// used: they may hold its locks.)
+std::size_t contents(int file, char* to, std::size_t most) {
+  std::size_t size = 0;
+  while (file >= 0 && size + 1 < most) {
+    ssize_t got = read(file, to + size, most - 1 - size);
+    if (got < 0 && errno == EINTR) continue;
+    if (got <= 0) break;
+    size += got;
+  }
+  to[size] = 0;
+  if (file >= 0) close(file);
+  return size;
+}
+
 // The stack pointer of a thread in a system call, as the kernel tells it; 0 where it runs.
-Word stack_in_a_call(pid_t thread) {
-  char path[64], text[512];
-  std::snprintf(path, sizeof path, "/proc/self/task/%d/syscall", thread);
-  FILE* file = std::fopen(path, "r");
-  if (!file) return 0;
-  const char* line = std::fgets(text, sizeof text, file);
-  std::fclose(file);
-  if (!line) return 0;
+Word stack_in_a_call(int folder, pid_t thread) {
+  char path[32], text[512];
+  std::snprintf(path, sizeof path, "%d/syscall", thread);
+  contents(openat(folder, path, O_RDONLY | O_CLOEXEC), text, sizeof text);
   Word words[16];
   int count = 0;
   for (char* at = text; count < 16; count++) {
@@ -91,15 +114,22 @@ Word stack_in_a_call(pid_t thread) {
   return count >= 3 ? words[count - 2] : 0;
 }
 
-std::vector<pid_t> other_threads() {
+// The folder of this process's threads; -1 where there is none.
+int open_threads_folder() { return open("/proc/self/task", O_RDONLY | O_DIRECTORY | O_CLOEXEC); }
+
+std::vector<pid_t> other_threads(int folder) {
   std::vector<pid_t> threads;
-  DIR* folder = opendir("/proc/self/task");
-  if (!folder) return threads;
-  while (dirent* entry = readdir(folder)) {
-    pid_t thread = std::atoi(entry->d_name);
-    if (thread > 0 && thread != this_thread()) threads.push_back(thread);
+  alignas(dirent64) char entries[4096];
+  if (lseek(folder, 0, SEEK_SET)) give_up("its threads can't be told");
+  while (long size = syscall(SYS_getdents64, folder, entries, sizeof entries)) {
+    if (size < 0) give_up("its threads can't be told");
+    for (long at = 0; at < size;) {
+      auto entry = reinterpret_cast<dirent64*>(entries + at);
+      pid_t thread = std::atoi(entry->d_name);
+      if (thread > 0 && thread != this_thread()) threads.push_back(thread);
+      at += entry->d_reclen;
+    }
   }
-  closedir(folder);
   return threads;
 }
 
@@ -135,17 +165,53 @@ bool is_on_this_stack(Word address) {
   return address - own_stack.from < own_stack.to - own_stack.from;
 }
 
+std::size_t room_on_stack() {
+  Word here = stack_here();
+  return is_on_this_stack(here) ? here - own_stack.from : ~std::size_t(0);
+}
+
+void keep_threads_folder() { threads_folder.keep(open_threads_folder()); }
+
 Word end_of_stack(pid_t thread, Word address) {
   Bounds* bounds = known_stacks.of(thread).find(thread);
   if (bounds && address >= bounds->from && address < bounds->to) return bounds->to;
-  FILE* maps = std::fopen("/proc/self/maps", "r");
-  if (!maps) return address;
-  char line[8192];
-  Word from, to, end = address;
-  while (std::fgets(line, sizeof line, maps))
-    if (std::sscanf(line, "%lx-%lx", &from, &to) == 2 && from <= address && address < to) end = to;
-  std::fclose(maps);
-  return end;
+  int file = open("/proc/self/maps", O_RDONLY | O_CLOEXEC);
+  if (file < 0) return address + MOST_OF_A_STACK;  // (reading it ends with the mapping)
+  std::string text(1 << 20, 0);
+  for (std::size_t size; (size = contents(dup(file), &text[0], text.size())) + 1 == text.size();) {
+    text.resize(2 * text.size());
+    lseek(file, 0, SEEK_SET);
+  }
+  close(file);
+  for (const char* line = text.c_str(); line && *line; line = std::strchr(line, '\n'), line += line != nullptr) {
+    char* dash;
+    Word from = std::strtoul(line, &dash, 16), to = std::strtoul(dash + 1, nullptr, 16);
+    if (from <= address && address < to) return to;
+  }
+  return address;
+}
+
+// The stack of a thread is taken whole where it is too small for a signal, which leaves the thread running.
+bool AllStandStill::has_small_stack(pid_t thread) {
+  Bounds* bounds = known_stacks.of(thread).find(thread);
+  if (!bounds || bounds->to - bounds->from >= SMALL_STACK) return false;
+  found.push_back({thread, bounds->from, bounds->to});
+  return true;
+}
+
+void AllStandStill::stop_others() {
+  int kept = threads_folder.number();
+  int folder = kept >= 0 ? kept : open_threads_folder();
+  if (folder < 0 && __libc_single_threaded) return;
+  int asked = 0;
+  for (pid_t thread : other_threads(folder)) {
+    if (Word stack = stack_in_a_call(folder, thread))
+      found.push_back({thread, stack, end_of_stack(thread, stack)});
+    else if (!has_small_stack(thread) && !syscall(SYS_tgkill, getpid(), thread, signal_to_stop()))
+      asked++;
+  }
+  if (folder != kept) close(folder);
+  for (int tries = 0; ready < asked && tries < 5000; tries++) pause_shortly();
 }
 
 void each_known_stack(void (*visit)(Word from, Word to, void* with), void* with) {
@@ -159,20 +225,15 @@ AllStandStill::AllStandStill() {
   action.sa_flags = SA_RESTART;
   sigaction(signal_to_stop(), &action, nullptr);
   Inside::stopping = true;
-  int asked = 0;
-  for (pid_t thread : other_threads()) {
-    if (Word stack = stack_in_a_call(thread))
-      found.push_back({thread, stack, end_of_stack(thread, stack)});
-    else if (!syscall(SYS_tgkill, getpid(), thread, signal_to_stop()))
-      asked++;
-  }
-  for (int tries = 0; ready < asked && tries < 5000; tries++) pause_shortly();
+  stop_others();
   for (int place = 0; place < places && place < 4096; place++) {
     auto [thread, stack] = standing[place];
     found.push_back({thread, stack, end_of_stack(thread, stack)});
   }
 }
 
-AllStandStill::~AllStandStill() { Inside::stopping = false; }
+AllStandStill::~AllStandStill() { let_go(); }
+
+void AllStandStill::let_go() { Inside::stopping = false; }
 
 }  // namespace recorder

@@ -21,6 +21,9 @@ inline void know_this_thread() {
 }
 
 bool is_on_this_stack(Word address);
+std::size_t room_on_stack();  // the greatest number where the stack isn't the thread's own
+
+void keep_threads_folder();  // before main, and in a process that is new
 
 // Where the stack ends that `address` lies in, for a thread that noted it; else the end of the mapping.
 Word end_of_stack(pid_t thread, Word address);
@@ -36,9 +39,14 @@ public:
   ~AllStandStill();
   AllStandStill(const AllStandStill&) = delete;
 
+  static void let_go();  // where its end isn't reached
+
   const std::vector<LivingStack>& stacks() const { return found; }
 
 private:
+  void stop_others();
+  bool has_small_stack(pid_t thread);
+
   std::vector<LivingStack> found;
 };
 

@@ -6,6 +6,7 @@
 #include <cstring>
 
 #include "table.h"
+#include "threads.h"
 
 namespace recorder {
 namespace {
@@ -46,7 +47,9 @@ void unlock_traces() {
   traces.unlock_all();
 }
 
+// (on a small stack the walk would have no room)
 const Trace* take_trace() {
+  if (room_on_stack() < 16384) return nullptr;
   void* frames[MOST_FRAMES];
   int count = backtrace(frames, std::min(frames_wanted, MOST_FRAMES));
   if (count <= 0) return nullptr;

@@ -1,0 +1,13 @@
+// The end of what can be told of this process.
+#pragma once
+#include "base.h"
+
+namespace recorder {
+
+// Reads memory, once in each process. `stack` is the newest byte of the frames that live in this thread, or 0.
+void read_at_end(const char* when, Word stack);
+
+// Tells now that nothing will be told, and why.
+void refuse_now(const char* why);
+
+}  // namespace recorder

@@ -1,0 +1,91 @@
+#include "kept_file.h"
+
+#include <dlfcn.h>
+#include <fcntl.h>
+#include <sys/resource.h>
+#include <sys/stat.h>
+#include <unistd.h>
+
+#include <algorithm>
+#include <cerrno>
+#include <climits>
+
+namespace recorder {
+namespace {
+
+constexpr int MOST_KEPT = 2;
+int kept[MOST_KEPT] = {-1, -1};  // by number
+
+bool is_kept(int file) { return file >= 0 && std::find(kept, kept + MOST_KEPT, file) != kept + MOST_KEPT; }
+
+void change_kept(int from, int to) {
+  int* place = std::find(kept, kept + MOST_KEPT, from);
+  if (place != kept + MOST_KEPT) *place = to;
+}
+
+int really_close(int file) {
+  static auto next = reinterpret_cast<int (*)(int)>(dlsym(RTLD_NEXT, "close"));
+  return next(file);
+}
+
+// A number near the limit, or the same where there is none.
+int moved_up(int file) {
+  rlimit limit;
+  if (getrlimit(RLIMIT_NOFILE, &limit)) return file;
+  int above = static_cast<int>(std::min<rlim_t>(limit.rlim_cur, 1024)) - 8;
+  int moved = above > file ? fcntl(file, F_DUPFD_CLOEXEC, above) : -1;
+  if (moved < 0) return file;
+  really_close(file);
+  return moved;
+}
+
+}  // namespace
+
+void KeptFile::keep(int other) {
+  close();
+  if (other < 0) return;
+  struct stat found;
+  file = moved_up(other);
+  change_kept(-1, file);
+  if (fstat(file, &found)) return close();
+  device = found.st_dev;
+  inode = found.st_ino;
+}
+
+void KeptFile::close() {
+  int open = number();
+  if (file >= 0) change_kept(file, -1);
+  if (open >= 0) really_close(open);
+  file = -1;
+}
+
+// (the program may have closed it, and opened another that has its number now)
+int KeptFile::number() const {
+  struct stat found;
+  bool is_there = file >= 0 && !fstat(file, &found) && found.st_dev == device && found.st_ino == inode;
+  return is_there ? file : -1;
+}
+
+}  // namespace recorder
+
+using namespace recorder;
+
+#define PUBLIC extern "C" __attribute__((visibility("default")))
+
+// (to the program these aren't open)
+PUBLIC int close(int file) { return is_kept(file) ? errno = EBADF, -1 : really_close(file); }
+
+PUBLIC int close_range(unsigned from, unsigned to, int flags) {
+  static auto next = reinterpret_cast<int (*)(unsigned, unsigned, int)>(dlsym(RTLD_NEXT, "close_range"));
+  int files[MOST_KEPT];
+  std::sort(files, std::copy(kept, kept + MOST_KEPT, files));
+  for (int it : files) {
+    auto file = static_cast<unsigned>(it);
+    if (it < 0 || file < from || file > to) continue;
+    if (file > from && next(from, file - 1, flags)) return -1;
+    from = file + 1;
+  }
+  return from <= to ? next(from, to, flags) : 0;
+}
+
+PUBLIC void closefrom(int from) { close_range(from < 0 ? 0 : from, UINT_MAX, 0); }

@@ -1,0 +1,19 @@
+// Files that are opened before main, as later they may be out of reach.
+#pragma once
+#include "base.h"
+
+namespace recorder {
+
+// Its number is a high one, out of the way of the program's own files, and the program's close() doesn't find it.
+class KeptFile {
+public:
+  void keep(int file);  // takes it, and gives up what was kept
+  void close();
+  int number() const;  // -1 where none is kept, or the program has closed it
+
+private:
+  int file = -1;
+  unsigned long device = 0, inode = 0;
+};
+
+}  // namespace recorder

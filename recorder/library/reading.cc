@@ -1,0 +1,126 @@
+#include "reading.h"
+
+#include <pthread.h>
+#include <signal.h>
+#include <sys/resource.h>
+#include <ucontext.h>
+
+#include <initializer_list>
+
+#include "own_memory.h"
+
+namespace recorder {
+
+std::atomic<const char*> refusal{nullptr};
+
+void stop_recording(const char* why) {
+  recording = false;
+  refusal = why;
+}
+
+namespace {
+
+constexpr std::size_t STACK_BYTES = 1 << 20;
+
+ucontext_t caller, reader;  // one reading at a time
+void (*work_of_reader)();
+const char* why_given_up;
+RECORDER_THREAD bool is_reading = false;
+
+// Limits that the program set for itself, raised as far as it may.
+class RaisedLimits {
+public:
+  RaisedLimits() {
+    for (int at = 0; at < COUNT; at++) {
+      is_changed[at] = !getrlimit(KINDS[at], &before[at]) && before[at].rlim_cur != before[at].rlim_max;
+      if (!is_changed[at]) continue;
+      rlimit all{before[at].rlim_max, before[at].rlim_max};
+      is_changed[at] = !setrlimit(KINDS[at], &all);
+    }
+  }
+  ~RaisedLimits() {
+    for (int at = 0; at < COUNT; at++)
+      if (is_changed[at]) setrlimit(KINDS[at], &before[at]);
+  }
+  RaisedLimits(const RaisedLimits&) = delete;
+
+private:
+  static constexpr int COUNT = 5;
+  static constexpr __rlimit_resource KINDS[COUNT] = {RLIMIT_AS, RLIMIT_DATA, RLIMIT_NOFILE, RLIMIT_FSIZE,
+                                                     RLIMIT_CPU};
+  rlimit before[COUNT];
+  bool is_changed[COUNT];
+};
+
+// Memory that vanishes while it is read ends the reading; a fault elsewhere is the program's own affair.
+class CaughtFaults {
+public:
+  CaughtFaults() {
+    struct sigaction action {};
+    action.sa_handler = [](int) {
+      if (is_reading) give_up("memory vanished while it was read");
+      restore();
+    };
+    sigfillset(&action.sa_mask);
+    for (int at = 0; at < 2; at++) sigaction(KINDS[at], &action, &before[at]);
+  }
+  ~CaughtFaults() { restore(); }
+  CaughtFaults(const CaughtFaults&) = delete;
+
+private:
+  static void restore() {
+    for (int at = 0; at < 2; at++) sigaction(KINDS[at], &before[at], nullptr);
+  }
+
+  static constexpr int KINDS[2] = {SIGSEGV, SIGBUS};
+  static struct sigaction before[2];
+};
+struct sigaction CaughtFaults::before[2];
+
+// No handler of the program runs in this thread meanwhile, on which it would find the reader's memory.
+class BlockedSignals {
+public:
+  BlockedSignals() {
+    sigset_t all;
+    sigfillset(&all);
+    for (int it : {SIGSEGV, SIGBUS, SIGILL, SIGFPE, SIGTRAP}) sigdelset(&all, it);
+    pthread_sigmask(SIG_SETMASK, &all, &before);
+  }
+  ~BlockedSignals() { pthread_sigmask(SIG_SETMASK, &before, nullptr); }
+  BlockedSignals(const BlockedSignals&) = delete;
+
+private:
+  sigset_t before;
+};
+
+void run_reader() { work_of_reader(); }
+
+}  // namespace
+
+const char* read_apart(void (*work)()) {
+  BlockedSignals blocked;
+  RaisedLimits raised;
+  void* stack = own_pages(STACK_BYTES);
+  if (!stack) return "no memory is left for reading it";
+  CaughtFaults caught;
+  work_of_reader = work;
+  why_given_up = nullptr;
+  getcontext(&reader);
+  reader.uc_stack.ss_sp = stack;
+  reader.uc_stack.ss_size = STACK_BYTES;
+  reader.uc_link = &caller;
+  makecontext(&reader, run_reader, 0);
+  is_reading = true;
+  swapcontext(&caller, &reader);
+  is_reading = false;
+  give_own_pages(stack, STACK_BYTES);
+  return why_given_up;
+}
+
+void give_up(const char* why) {
+  why_given_up = why;
+  setcontext(&caller);
+  __builtin_unreachable();
+}
+
+}  // namespace recorder
