@@ -18,29 +18,53 @@ inline __attribute__((always_inline)) Word stack_here() {
   return here;
 }
 
-#define RECORDER_THREAD thread_local __attribute__((tls_model("initial-exec")))
+// A variable of each thread, without a constructor.
+#define RECORDER_THREAD __thread __attribute__((tls_model("initial-exec")))
 
-extern std::atomic<bool> recording;  // off in processes that nobody asked about, and where it is refused
-extern std::atomic<bool> hooked;     // a hook of the program's headers has been called
+#define ALWAYS_INLINE inline __attribute__((always_inline))
+
+extern std::atomic<bool> hooked;  // a hook of the program's headers has been called
+
+// What sets the process apart from one whose threads note what they take; 0 where nothing does.
+namespace process_state {
+constexpr int NOT_RECORDED = 1;  // nobody asked about it, or it is refused
+constexpr int STOPPING = 2;      // all threads but one have to stand still
+}  // namespace process_state
+extern std::atomic<int> unusual_process;
+
+inline bool is_recording() {
+  return !(unusual_process.load(std::memory_order_relaxed) & process_state::NOT_RECORDED);
+}
+inline bool is_stopping() {
+  return unusual_process.load(std::memory_order_relaxed) & process_state::STOPPING;
+}
+inline void stop_noting() { unusual_process |= process_state::NOT_RECORDED; }
+
+// What sets a thread apart from one that notes what it takes; 0 where nothing does.
+namespace thread_state {
+constexpr int NEW = 1;            // where its stack lies isn't known
+constexpr int IN_OWN_REGION = 2;  // what it takes is the recorder's
+constexpr int INSIDE = 4;         // so many times within the recorder's code
+}  // namespace thread_state
+extern RECORDER_THREAD int unusual_thread;
 
 // While one lives, its thread runs the recorder's code: the memory that it takes isn't the program's, and where
 // all threads have to stand still it stands still before and after, never within.
 class Inside {
 public:
   Inside() {
-    if (depth++ == 0 && stopping.load(std::memory_order_relaxed)) stand_still();
+    if (!is() && is_stopping()) stand_still();
+    unusual_thread += thread_state::INSIDE;
   }
   ~Inside() {
-    if (--depth == 0 && stopping.load(std::memory_order_relaxed)) stand_still();
+    unusual_thread -= thread_state::INSIDE;
+    if (!is() && is_stopping()) stand_still();
   }
   Inside(const Inside&) = delete;
-  static bool is() { return depth > 0; }
-
-  static std::atomic<bool> stopping;
+  static bool is() { return unusual_thread >= thread_state::INSIDE; }
 
 private:
   static void stand_still();
-  static RECORDER_THREAD int depth;
 };
 
 // A spinning lock, which costs nothing atomic as long as there is one thread.

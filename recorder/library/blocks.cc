@@ -47,7 +47,7 @@ void Snapshot::add_block(Word at, int chunk, const VirtualTable& table) {
   if (Birth* birth = births.of(at).find(at)) {
     block.is_hooked = true;
     block.number = birth->number;
-    block.trace = birth->trace;
+    block.trace = trace_of(birth->trace);
     block.object = birth->object;
     block.object_end = birth->size ? birth->object + birth->size : 0;
     block.told = birth->type;

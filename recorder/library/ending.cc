@@ -6,7 +6,6 @@
 #include <sys/syscall.h>
 #include <sys/time.h>
 #include <unistd.h>
-#include <unwind.h>
 
 #include <cerrno>
 #include <cstdlib>
@@ -95,23 +94,22 @@ namespace {
 
 // Whether frames of the program lie on this stack below the C library's, as where err or error ends it: more than the
 // one that called main.
-bool has_frames_of_program() {
+bool has_frames_of_program(Frame frame) {
+  Inside inside;
   int count = 0;
-  auto visit = [](_Unwind_Context* context, void* to) {
-    Dl_info info{}, own{};
-    if (!dladdr(reinterpret_cast<void*>(_Unwind_GetIP(context)), &info)) return _URC_NO_REASON;
-    dladdr(reinterpret_cast<void*>(&has_frames_of_program), &own);
-    bool is_of_libc = std::strstr(info.dli_fname, "/libc.so") || std::strstr(info.dli_fname, "/ld-linux");
-    *static_cast<int*>(to) += info.dli_fbase != own.dli_fbase && !is_of_libc;
-    return _URC_NO_REASON;
-  };
-  _Unwind_Backtrace(visit, &count);
+  Place* place;
+  do {
+    Dl_info info;
+    if (dladdr(reinterpret_cast<void*>(frame.code - 1), &info))
+      count += !std::strstr(info.dli_fname, "/libc.so") && !std::strstr(info.dli_fname, "/ld-linux");
+    place = place_of(frame.code);
+  } while (place && step(frame, place->rule));
   return count > 1;
 }
 
 void at_the_end(void*) {
   bool is_deep = exit_frame && exit_thread == static_cast<pid_t>(syscall(SYS_gettid));
-  bool is_within = !exit_frame && has_frames_of_program();
+  bool is_within = !exit_frame && has_frames_of_program(CALLER_FRAME);
   read_at_end("exit", is_deep ? exit_frame : is_within ? frame_here() : 0);
 }
 
@@ -121,7 +119,7 @@ void* answer(void*) {
   for (int snapshot = 1;; snapshot++) {
     while (sem_wait(&asked)) {
     }
-    if (recording && is_asked_about()) read_memory("now", 0, snapshot);
+    if (is_recording() && is_asked_about()) read_memory("now", 0, snapshot);
   }
 }
 
@@ -147,8 +145,8 @@ int number_of(const char* variable) {
   return text ? std::atoi(text) : 0;
 }
 
-void lock_tables() { chunks.lock_all(), births.lock_all(), holdings.lock_all(), lock_traces(); }
-void unlock_tables() { unlock_traces(), holdings.unlock_all(), births.unlock_all(), chunks.unlock_all(); }
+void lock_tables() { lock_chunks(), births.lock_all(), holdings.lock_all(), lock_traces(); }
+void unlock_tables() { unlock_traces(), holdings.unlock_all(), births.unlock_all(), unlock_chunks(); }
 
 void unlock_in_child() {
   unlock_tables();
@@ -156,7 +154,8 @@ void unlock_in_child() {
     open_way_out();
     keep_threads_folder();
   } else {
-    recording = is_wanted = false;
+    is_wanted = false;
+    stop_noting();
     close_way_out();
   }
 }
@@ -168,7 +167,7 @@ __attribute__((constructor(101))) void begin() {
   recorded_process = number_of("RECORDER_PROCESS");
   is_wanted = is_asked_about() && know_way_out(std::getenv("RECORDER_SOCKET"), std::getenv("RECORDER_FILE"));
   if (!is_wanted) {
-    recording = false;
+    stop_noting();
     return;
   }
   open_way_out();
@@ -177,7 +176,6 @@ __attribute__((constructor(101))) void begin() {
   if (refusal) return read_at_end("exit", 0);
   know_program();
   frames_wanted = number_of("RECORDER_FRAMES");
-  trace_here();  // loads what it needs
   pthread_atfork(lock_tables, unlock_tables, unlock_in_child);
   __cxa_atexit(at_the_end, nullptr, nullptr);
   at_quick_exit(at_quick_exit_end);

@@ -1,12 +1,13 @@
 // What the hooks of the program's headers told.
 #pragma once
 #include "chunks.h"
+#include "table.h"
 
 namespace recorder {
 
 struct Birth {
   std::uint64_t number;
-  const Trace* trace;
+  TraceNumber trace;
   Word object;
   std::size_t size;  // 0 where it isn't known
   const char* type;  // the name of a function that has the object's type as its argument

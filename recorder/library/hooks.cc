@@ -13,7 +13,7 @@ Tables<Holding> holdings;
 
 namespace {
 
-bool is_noted() { return recording.load(std::memory_order_relaxed) && !Inside::is(); }
+bool is_noted() { return is_recording() && !Inside::is(); }
 Word as_word(const volatile void* pointer) { return reinterpret_cast<Word>(pointer); }
 
 }  // namespace
@@ -27,7 +27,8 @@ PUBLIC void sptr_recorder_born(void* block) noexcept {
   if (!is_noted()) return;
   Inside inside;
   hooked.store(true, std::memory_order_relaxed);
-  births.put(as_word(block), {next_number(), trace_here(), 0, 0, nullptr});
+  if (unusual_thread & thread_state::NEW) note_this_thread();
+  births.put(as_word(block), {numbers_of_thread.next(), trace_of_block(CALLER_FRAME), 0, 0, nullptr});
 }
 
 PUBLIC void sptr_recorder_object(void* block, const volatile void* object, unsigned long size,

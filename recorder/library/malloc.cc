@@ -7,33 +7,36 @@
 
 #include "chunks.h"
 #include "next_malloc.h"
+#include "own_memory.h"
+#include "reading.h"
+#include "samples.h"
 #include "threads.h"
 
 namespace recorder {
-
-Tables<Chunk> chunks;
-
-// Threads take numbers by the sixteen: within one they tell the order exactly, between two about.
-std::uint64_t next_number() {
-  static std::atomic<std::uint64_t> given{0};
-  static RECORDER_THREAD std::uint64_t next = 0, end = 0;
-  if (next == end) {
-    next = given.fetch_add(16, std::memory_order_relaxed);
-    end = next + 16;
-  }
-  return ++next;
-}
-
 namespace {
 
-bool is_noted() { return recording.load(std::memory_order_relaxed) && !Inside::is(); }
+// Nothing here holds a lock, so that a thread may stand still anywhere in it.
+ALWAYS_INLINE bool is_usual() { return !(unusual_thread | unusual_process.load(std::memory_order_relaxed)); }
 
-void empty(void* memory, std::size_t size) {
-  if (size > 64)
-    std::memset(memory, 0, size);
-  else
-    for (std::size_t at = 0; at < size; at += WORD)
-      *reinterpret_cast<volatile Word*>(static_cast<char*>(memory) + at) = 0;
+// Whether memory has to be noted; a thread that is unusual is asked once more.
+__attribute__((noinline)) bool is_noted_after_all() {
+  Inside inside;  // (it stands still here where all have to)
+  if (unusual_thread & thread_state::NEW) note_this_thread();
+  return is_recording() && unusual_thread == thread_state::INSIDE;
+}
+
+ALWAYS_INLINE bool is_noted() { return __builtin_expect(is_usual(), true) || (!Inside::is() && is_noted_after_all()); }
+
+Word as_word(const void* memory) { return reinterpret_cast<Word>(memory); }
+
+// (the first and the last bytes may overlap)
+ALWAYS_INLINE void empty(void* memory, std::size_t size) {
+  using Two = Word __attribute__((vector_size(2 * WORD), aligned(WORD), may_alias));
+  if (size > 96) return static_cast<void>(std::memset(memory, 0, size));
+  auto bytes = static_cast<char*>(memory);
+  for (std::size_t at = 0; at + 2 * WORD < size; at += 2 * WORD)
+    *reinterpret_cast<volatile Two*>(bytes + at) = Two{0, 0};
+  *reinterpret_cast<volatile Two*>(bytes + size - 2 * WORD) = Two{0, 0};
 }
 
 // Memory that the kernel gave for this chunk alone is empty already.
@@ -45,28 +48,50 @@ std::size_t usable_size(void* memory) {
                           : (static_cast<std::size_t*>(memory)[-1] & ~std::size_t(7)) - WORD;
 }
 
-void note(void* memory, std::size_t size, std::size_t alignment) {
-  Inside inside;
-  know_this_thread();
-  chunks.put(reinterpret_cast<Word>(memory), {size, next_number(), trace_here(), alignment});
+ALWAYS_INLINE void note_as(void* memory, TraceNumber trace, bool is_sample) {
+  if (!note_chunk(as_word(memory), trace, is_sample)) stop_recording("no memory was left for its records");
 }
 
-void forget(void* memory) {
+__attribute__((noinline)) void note_with_trace(void* memory, Frame frame) {
   Inside inside;
-  chunks.erase(reinterpret_cast<Word>(memory));
+  Taken taken = trace_of_memory(frame);
+  note_as(memory, taken.trace, taken.unknown != nullptr);
+  if (taken.unknown) add_sample(*taken.unknown, as_word(memory));
 }
 
-void* taken(void* memory, std::size_t alignment) {
-  if (!memory || !is_noted()) return memory;
-  std::size_t usable = usable_size(memory);
-  if (!is_fresh(memory)) empty(memory, usable);
-  note(memory, usable, alignment);
+ALWAYS_INLINE void note(void* memory, Frame frame) {
+  TraceNumber trace = frames_wanted ? known_trace_of_memory(frame.code, frame.stack, frame.base) : 0;
+  if (__builtin_expect(trace || !frames_wanted, true))
+    note_as(memory, trace, false);
+  else
+    note_with_trace(memory, frame);
+}
+
+__attribute__((noinline)) void learn_before_its_end(void* memory, const Note& note) {
+  Inside inside;
+  if (note.is_sample) learn_from(note.trace, static_cast<Word*>(memory), usable_size(memory));
+  if (note.is_aligned) forget_alignment(as_word(memory));
+}
+
+ALWAYS_INLINE void forget(void* memory) {
+  Note before = forget_chunk(as_word(memory));
+  if (__builtin_expect(before.is_sample || before.is_aligned, false)) learn_before_its_end(memory, before);
+}
+
+ALWAYS_INLINE void* taken(void* memory, Frame frame) {
+  if (!is_fresh(memory)) empty(memory, usable_size(memory));
+  note(memory, frame);
   return memory;
 }
 
-void* aligned(std::size_t alignment, std::size_t size) {
+void* aligned(std::size_t alignment, std::size_t size, Frame frame) {
   if (OwnRegion::is_used()) return OwnRegion::take(size, alignment);
-  return taken(next_malloc.memalign(alignment, size), alignment);
+  void* memory = next_malloc.memalign(alignment, size);
+  if (!memory || !is_noted()) return memory;
+  taken(memory, frame);
+  Inside inside;
+  note_alignment(as_word(memory), alignment);
+  return memory;
 }
 
 void* moved_to_own(void* memory, std::size_t size) {
@@ -77,6 +102,22 @@ void* moved_to_own(void* memory, std::size_t size) {
   return other;
 }
 
+void* resized(void* memory, std::size_t size, Frame frame) {
+  if (OwnRegion::is_used()) return moved_to_own(memory, size);
+  if (!is_noted()) return next_malloc.realloc(memory, size);
+  std::size_t before = memory ? usable_size(memory) : 0;
+  if (memory) forget(memory);
+  void* other = next_malloc.realloc(memory, size);
+  if (!other) {
+    if (memory && size) note(memory, frame);  // it wasn't given back
+    return nullptr;
+  }
+  std::size_t after = usable_size(other);
+  if (after > before && !is_fresh(other)) std::memset(static_cast<char*>(other) + before, 0, after - before);
+  note(other, frame);
+  return other;
+}
+
 }  // namespace
 }  // namespace recorder
 
@@ -84,53 +125,59 @@ using namespace recorder;
 
 #define PUBLIC extern "C" __attribute__((visibility("default")))
 
-PUBLIC void* malloc(std::size_t size) {
+namespace {
+
+__attribute__((noinline)) void* unusually_taken(std::size_t size, Frame frame) {
   if (OwnRegion::is_used()) return OwnRegion::take(size, 16);
-  return taken(next_malloc.malloc(size), 0);
+  void* memory = next_malloc.malloc(size);
+  return memory && is_noted() ? taken(memory, frame) : memory;
+}
+
+__attribute__((noinline)) void unusually_freed(void* memory) {
+  if (OwnRegion::has(memory)) return;
+  if (is_noted()) forget(memory);
+  next_malloc.free(memory);
+}
+
+}  // namespace
+
+PUBLIC void* malloc(std::size_t size) {
+  if (__builtin_expect(!is_usual(), false)) return unusually_taken(size, CALLER_FRAME);
+  void* memory = next_malloc.malloc(size);
+  return __builtin_expect(memory != nullptr, true) ? taken(memory, CALLER_FRAME) : nullptr;
+}
+
+PUBLIC void free(void* memory) {
+  if (!memory) return;
+  if (__builtin_expect(!is_usual(), false)) return unusually_freed(memory);
+  forget(memory);
+  next_malloc.free(memory);
 }
 
 PUBLIC void* calloc(std::size_t count, std::size_t size) {
   if (OwnRegion::is_used()) return OwnRegion::take(count * size, 16);  // (pages of a new region are empty)
   void* memory = next_malloc.calloc(count, size);
-  if (memory && is_noted()) note(memory, next_malloc.usable_size(memory), 0);
+  if (memory && is_noted()) note(memory, CALLER_FRAME);
   return memory;
 }
 
-PUBLIC void free(void* memory) {
-  if (!memory || OwnRegion::has(memory)) return;
-  if (is_noted()) forget(memory);
-  next_malloc.free(memory);
-}
-
-PUBLIC void* realloc(void* memory, std::size_t size) {
-  if (OwnRegion::is_used()) return moved_to_own(memory, size);
-  if (!is_noted()) return next_malloc.realloc(memory, size);
-  std::size_t before = memory ? next_malloc.usable_size(memory) : 0;
-  if (memory) forget(memory);
-  void* other = next_malloc.realloc(memory, size);
-  if (!other) {
-    if (memory && size) note(memory, before, 0);  // it wasn't given back
-    return nullptr;
-  }
-  std::size_t after = next_malloc.usable_size(other);
-  if (after > before && !is_fresh(other)) std::memset(static_cast<char*>(other) + before, 0, after - before);
-  note(other, after, 0);
-  return other;
-}
+PUBLIC void* realloc(void* memory, std::size_t size) { return resized(memory, size, CALLER_FRAME); }
 
 PUBLIC void* reallocarray(void* memory, std::size_t count, std::size_t size) {
   std::size_t bytes;
   if (__builtin_mul_overflow(count, size, &bytes)) return errno = ENOMEM, nullptr;
-  return realloc(memory, bytes);
+  return resized(memory, bytes, CALLER_FRAME);
 }
 
-PUBLIC void* memalign(std::size_t alignment, std::size_t size) { return aligned(alignment, size); }
-PUBLIC void* aligned_alloc(std::size_t alignment, std::size_t size) { return aligned(alignment, size); }
-PUBLIC void* valloc(std::size_t size) { return aligned(sysconf(_SC_PAGESIZE), size); }
+PUBLIC void* memalign(std::size_t alignment, std::size_t size) { return aligned(alignment, size, CALLER_FRAME); }
+PUBLIC void* aligned_alloc(std::size_t alignment, std::size_t size) { return aligned(alignment, size, CALLER_FRAME); }
+PUBLIC void* valloc(std::size_t size) {
+  return aligned(static_cast<std::size_t>(sysconf(_SC_PAGESIZE)), size, CALLER_FRAME);
+}
 
 PUBLIC int posix_memalign(void** to, std::size_t alignment, std::size_t size) {
   if (alignment % sizeof(void*) || !alignment || (alignment & (alignment - 1))) return EINVAL;
-  void* memory = aligned(alignment, size);
+  void* memory = aligned(alignment, size, CALLER_FRAME);
   if (!memory) return ENOMEM;
   *to = memory;
   return 0;

@@ -7,6 +7,8 @@
 #include <algorithm>
 #include <cstring>
 
+#include "control_blocks.h"
+
 namespace recorder {
 namespace {
 
@@ -33,7 +35,7 @@ bool has_address(const dl_phdr_info& info, Word address) {
 
 int add_module(dl_phdr_info* info, std::size_t, void* to) {
   auto& all = *static_cast<Modules*>(to);
-  if (has_address(*info, as_word(&thread_from))) return 0;  // the recorder itself
+  if (has_address(*info, as_word(&thread_from))) return all.add_own(*info), 0;
   int number = static_cast<int>(all.modules.size());
   all.modules.push_back({path_of(*info), info->dlpi_addr});
   for (int at = 0; at < info->dlpi_phnum; at++) {
@@ -52,15 +54,6 @@ int add_thread_variables(dl_phdr_info* info, std::size_t, void*) {
   return 0;
 }
 
-bool begins_with(const char* text, const char* with) { return !std::strncmp(text, with, std::strlen(with)); }
-
-bool is_control_block(const char* type) {
-  static const char* const BEGINNINGS[] = {"St23_Sp_counted_ptr_inplaceI", "St15_Sp_counted_ptrI",
-                                           "St19_Sp_counted_deleterI", "St17_Sp_counted_arrayI"};
-  return std::any_of(std::begin(BEGINNINGS), std::end(BEGINNINGS),
-                     [&](auto it) { return begins_with(type, it); });
-}
-
 }  // namespace
 
 void know_program() {
@@ -69,6 +62,16 @@ void know_program() {
   thread_from = as_word(reinterpret_cast<void*>(pthread_self()));
   thread_to = thread_from + OF_A_THREAD;
   dl_iterate_phdr(add_thread_variables, nullptr);
+}
+
+void Modules::add_own(const dl_phdr_info& info) {
+  constexpr Word PAGE = 4096;
+  own_from = info.dlpi_addr;
+  for (int at = 0; at < info.dlpi_phnum; at++) {
+    auto& part = info.dlpi_phdr[at];
+    if (part.p_type != PT_LOAD) continue;
+    own_to = std::max(own_to, (info.dlpi_addr + part.p_vaddr + part.p_memsz + PAGE - 1) & ~(PAGE - 1));
+  }
 }
 
 Modules::Modules() : thread_from(recorder::thread_from), thread_to(recorder::thread_to) {
@@ -98,7 +101,7 @@ VirtualTable VirtualTables::read(Word word) const {
   auto words = reinterpret_cast<const Word*>(word);
   table.to_top = static_cast<std::ptrdiff_t>(words[-2]);
   table.type = words[-1] ? name_at(words[-1]) : nullptr;
-  table.is_control_block = table.type && is_control_block(table.type);
+  table.is_control_block = table.type && is_control_block_type(table.type);
   if (words[-1] || words[-2] || word + 5 * WORD > segment->to) return table;
   table.is_untyped = std::all_of(words, words + 5, [&](Word function) {
     const Segment* code = modules.segment_of(function);

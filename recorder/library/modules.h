@@ -6,6 +6,8 @@
 
 #include "base.h"
 
+struct dl_phdr_info;
+
 namespace recorder {
 
 struct Module {
@@ -23,11 +25,14 @@ class Modules {
 public:
   Modules();  // reads what is loaded; no thread may stand still yet
 
+  void add_own(const dl_phdr_info& info);
+
   const Segment* segment_of(Word address) const;
   bool has(Word address) const { return segment_of(address) != nullptr; }
 
   std::vector<Module> modules;
   std::vector<Segment> segments;  // in the order of their addresses
+  Word own_from = 0, own_to = 0;  // the recorder itself, which is none of them
 
   // The thread-local variables of the main thread.
   Word thread_from = 0, thread_to = 0;

@@ -101,6 +101,7 @@ Outside::Outside(const Modules& modules) {
   find_epolls(kernel);
   mapped = anonymous();
   for (auto& it : modules.segments) take_out(mapped, it.from, it.to);
+  take_out(mapped, modules.own_from, modules.own_to);
   take_out(mapped, modules.thread_from, modules.thread_to);
   auto take_out_stack = [](Word from, Word to, void* ranges) {
     take_out(*static_cast<std::vector<Range>*>(ranges), from, to);

@@ -5,6 +5,7 @@
 #include <algorithm>
 #include <atomic>
 #include <iterator>
+#include <mutex>
 
 #include "reading.h"
 
@@ -19,9 +20,13 @@ struct Own {
 } own[1 << 16];
 std::atomic<std::size_t> own_count{0};
 
+constexpr std::size_t PIECE = 1 << 16;
+Lock room_lock;
+char* room = nullptr;
+std::size_t room_left = 0;
+
 }  // namespace
 
-RECORDER_THREAD bool OwnRegion::used = false;
 Word OwnRegion::from, OwnRegion::to;
 
 void* own_pages(std::size_t bytes) {
@@ -52,19 +57,35 @@ std::pair<Word, Word> own_range(std::size_t place) {
 
 std::size_t own_ranges() { return std::min(own_count.load(), std::size(own)); }
 
+void* own_room(std::size_t bytes) {
+  std::lock_guard<Lock> guard(room_lock);
+  bytes = (bytes + WORD - 1) & ~(WORD - 1);
+  if (room_left < bytes) {
+    room = static_cast<char*>(own_pages(PIECE));
+    room_left = room ? PIECE : 0;
+    if (!room) return nullptr;
+  }
+  room += bytes;
+  room_left -= bytes;
+  return room - bytes;
+}
+
+void lock_room() { room_lock.lock(); }
+void unlock_room() { room_lock.unlock(); }
+
 OwnRegion::OwnRegion() {
   std::size_t bytes = std::size_t(64) << 30;
   void* pages = own_pages(bytes);
   while (!pages && bytes > std::size_t(64) << 20) pages = own_pages(bytes /= 2);
   from = next = reinterpret_cast<Word>(pages);
   to = pages ? from + bytes : from;
-  used = true;
+  unusual_thread |= thread_state::IN_OWN_REGION;
 }
 
 OwnRegion::~OwnRegion() { give_back(); }
 
 void OwnRegion::give_back() {
-  used = false;
+  unusual_thread &= ~thread_state::IN_OWN_REGION;
   if (from) give_own_pages(reinterpret_cast<void*>(from), to - from);
   from = to = 0;
 }

@@ -14,7 +14,7 @@ namespace recorder {
 std::atomic<const char*> refusal{nullptr};
 
 void stop_recording(const char* why) {
-  recording = false;
+  stop_noting();
   refusal = why;
 }
 

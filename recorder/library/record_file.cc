@@ -109,7 +109,7 @@ void write_block(Output& out, const Snapshot& all, int number) {
   out.say_text(" ");
   out.say_text(it.dynamic ? it.dynamic : "-");
   for (int at = 0; it.trace && at < it.trace->count; at++)
-    out.say(" %zx", reinterpret_cast<Word>(it.trace->frames[at]));
+    out.say(" %zx", it.trace->frames[at]);
   out.say_text("\n");
   if (!it.told) return;
   out.say("told %d ", number);

@@ -5,6 +5,8 @@
 
 #include <algorithm>
 
+#include "next_malloc.h"
+
 namespace recorder {
 namespace {
 
@@ -49,11 +51,10 @@ Snapshot::Snapshot(const Modules& modules, const Outside& outside, const std::ve
     Word to = from + words.size() * WORD;
     areas.push_back({Area::STACK, it.thread, from, to, std::move(words), false});
   }
-  recorder::chunks.each([&](Word from, const Chunk& it) {
-    Word to = from + it.size;
-    chunks.push_back({from, to, to, it.number, it.trace, it.alignment, {}});
+  recorder::chunks.each([&](Word from, const Note& it) {
+    Word to = from + next_malloc.usable_size(reinterpret_cast<void*>(from));
+    chunks.push_back({from, to, to, it.number, trace_of(it.trace), alignment_of(from, it), {}});
   });
-  std::sort(chunks.begin(), chunks.end(), [](auto& a, auto& b) { return a.from < b.from; });
   add_outside(outside);
   find_blocks();
   find_handles();

@@ -22,9 +22,6 @@
 namespace recorder {
 namespace {
 
-struct Bounds {
-  Word from, to;
-};
 Tables<Bounds> known_stacks;  // by thread
 
 struct Standing {
@@ -32,7 +29,8 @@ struct Standing {
   Word stack;
 };
 Standing standing[4096];
-std::atomic<int> places{0}, ready{0};
+std::atomic<int> places{0}, answered{0};
+RECORDER_THREAD volatile bool is_asked = false, is_standing = false;
 
 KeptFile threads_folder;
 
@@ -51,10 +49,10 @@ void pause_shortly() {
 
 }  // namespace
 
-std::atomic<bool> recording{true};
 std::atomic<bool> hooked{false};
-std::atomic<bool> Inside::stopping{false};
-RECORDER_THREAD int Inside::depth = 0;
+std::atomic<int> unusual_process{0};
+RECORDER_THREAD int unusual_thread = thread_state::NEW;
+RECORDER_THREAD Bounds own_stack{0, 0};
 
 void Lock::wait() {
   int tries = 0;
@@ -64,13 +62,27 @@ void Lock::wait() {
   while (held.exchange(true, std::memory_order_acquire));
 }
 
+namespace {
+
+void answer_if_asked() {
+  if (!is_asked) return;
+  is_asked = false;
+  answered++;
+}
+
+}  // namespace
+
 void Inside::stand_still() {
   int before = errno;
+  unusual_thread += thread_state::INSIDE;
+  is_standing = true;
   int place = places++;
   __builtin_unwind_init();  // (all that its registers hold lies on the stack now)
   if (place < 4096) standing[place] = {this_thread(), stack_here()};
-  ready++;
-  while (stopping.load()) pause_shortly();
+  answer_if_asked();
+  while (is_stopping()) pause_shortly();
+  is_standing = false;
+  unusual_thread -= thread_state::INSIDE;
   errno = before;
 }
 
@@ -78,8 +90,11 @@ namespace {
 
 // (within the recorder's own code a thread goes on until it leaves that)
 void stop_here(int) {
+  is_asked = true;
+  if (is_standing) answer_if_asked();
   if (Inside::is()) return;
-  Inside inside;
+  { Inside inside; }
+  is_asked = false;
 }
 
 // What a file has, up to so many bytes; '' where it can't be read. (While threads stand still nothing of stdio is
@@ -135,16 +150,8 @@ std::vector<pid_t> other_threads(int folder) {
 
 }  // namespace
 
-namespace {
-
-RECORDER_THREAD Bounds own_stack{0, 0};
-
-}  // namespace
-
-RECORDER_THREAD bool is_known = false;
-
 void note_this_thread() {
-  is_known = true;
+  unusual_thread &= ~thread_state::NEW;
   pthread_attr_t attributes;
   void* from;
   std::size_t size;
@@ -155,19 +162,6 @@ void note_this_thread() {
     known_stacks.put(this_thread(), own_stack);
   }
   pthread_attr_destroy(&attributes);
-}
-
-bool is_on_this_stack(Word address) {
-  if (!is_known) {
-    Inside inside;
-    note_this_thread();
-  }
-  return address - own_stack.from < own_stack.to - own_stack.from;
-}
-
-std::size_t room_on_stack() {
-  Word here = stack_here();
-  return is_on_this_stack(here) ? here - own_stack.from : ~std::size_t(0);
 }
 
 void keep_threads_folder() { threads_folder.keep(open_threads_folder()); }
@@ -211,7 +205,7 @@ void AllStandStill::stop_others() {
       asked++;
   }
   if (folder != kept) close(folder);
-  for (int tries = 0; ready < asked && tries < 5000; tries++) pause_shortly();
+  for (int tries = 0; answered < asked && tries < 5000; tries++) pause_shortly();
 }
 
 void each_known_stack(void (*visit)(Word from, Word to, void* with), void* with) {
@@ -219,12 +213,12 @@ void each_known_stack(void (*visit)(Word from, Word to, void* with), void* with)
 }
 
 AllStandStill::AllStandStill() {
-  places = ready = 0;
+  places = answered = 0;
   struct sigaction action {};
   action.sa_handler = stop_here;
   action.sa_flags = SA_RESTART;
   sigaction(signal_to_stop(), &action, nullptr);
-  Inside::stopping = true;
+  unusual_process |= process_state::STOPPING;
   stop_others();
   for (int place = 0; place < places && place < 4096; place++) {
     auto [thread, stack] = standing[place];
@@ -234,6 +228,6 @@ AllStandStill::AllStandStill() {
 
 AllStandStill::~AllStandStill() { let_go(); }
 
-void AllStandStill::let_go() { Inside::stopping = false; }
+void AllStandStill::let_go() { unusual_process &= ~process_state::STOPPING; }
 
 }  // namespace recorder

@@ -13,15 +13,23 @@ struct LivingStack {
   Word from, to;  // from its newest frame up
 };
 
-// Notes where the stack of this thread lies; a thread does so at its first allocation.
-extern RECORDER_THREAD bool is_known;
-void note_this_thread();
-inline void know_this_thread() {
-  if (!is_known) note_this_thread();
-}
+struct Bounds {
+  Word from, to;
 
-bool is_on_this_stack(Word address);
-std::size_t room_on_stack();  // the greatest number where the stack isn't the thread's own
+  bool has(Word address) const { return address - from < to - from; }
+};
+
+// Where the stack of this thread lies, which notes it at its first allocation.
+extern RECORDER_THREAD Bounds own_stack;
+void note_this_thread();
+
+inline bool is_on_this_stack(Word address) { return own_stack.has(address); }
+
+// The greatest number where the stack isn't the thread's own.
+inline std::size_t room_on_stack() {
+  Word here = stack_here();
+  return own_stack.has(here) ? here - own_stack.from : ~std::size_t(0);
+}
 
 void keep_threads_folder();  // before main, and in a process that is new
 

@@ -1,73 +1,183 @@
 #include "traces.h"
 
-#include <execinfo.h>
-
 #include <algorithm>
 #include <cstring>
+#include <mutex>
+#include <new>
 
+#include "own_memory.h"
+#include "places.h"
+#include "samples.h"
 #include "table.h"
 #include "threads.h"
+#include "walks.h"
 
 namespace recorder {
 namespace {
 
-Tables<const Trace*> traces;
-Lock room_lock;
+// A walk and what it asks need some room on the stack.
+constexpr std::size_t ROOM = 4096;
+constexpr int MOST_THROUGH = 8;
 
-// Room for traces, taken by the page run and never given back.
-const Trace* kept(void* const* frames, int count) {
-  static char* next = nullptr;
-  static std::size_t left = 0;
-  std::size_t bytes = (sizeof(Trace) + (count - 1) * sizeof(void*) + 7) & ~std::size_t(7);
-  std::lock_guard<Lock> guard(room_lock);
-  if (left < bytes) {
-    left = 1 << 16;
-    next = static_cast<char*>(own_pages(left));
-    if (!next) return left = 0, nullptr;
-  }
-  auto trace = reinterpret_cast<Trace*>(next);
-  next += bytes;
-  left -= bytes;
+Tables<TraceNumber> numbers;  // by the traces' keys
+Lock adding;
+
+constexpr std::uint32_t PAGE = 1 << 12, PAGES = 1 << 12;
+std::atomic<const Trace**> pages[PAGES];  // all traces, in the order of their numbers
+std::uint32_t last_number = 0;
+
+TraceNumber kept(std::uint64_t key, Word maker, const Word* frames, int count) {
+  std::lock_guard<Lock> guard(adding);
+  std::uint32_t number = last_number + 1;
+  if (number >= PAGE * PAGES) return 0;
+  auto& page = pages[number / PAGE];
+  if (!page) page = static_cast<const Trace**>(own_pages(PAGE * sizeof(Trace*)));
+  std::size_t bytes = sizeof(Trace) + static_cast<std::size_t>(count - 1) * WORD;
+  auto trace = static_cast<Trace*>(page ? own_room(bytes) : nullptr);
+  if (!trace) return 0;
+  trace->key = key;
+  trace->maker = maker;
   trace->count = count;
-  std::memcpy(trace->frames, frames, count * sizeof(void*));
+  std::memcpy(trace->frames, frames, static_cast<std::size_t>(count) * WORD);
+  page[number % PAGE] = trace;
+  return last_number = number;
+}
+
+bool is_same(TraceNumber number, std::uint64_t key, const Word* frames, int count) {
+  const Trace* it = trace_of(number);
+  return it->key == key && it->count == count &&
+         !std::memcmp(it->frames, frames, static_cast<std::size_t>(count) * WORD);
+}
+
+// The numbers found last, without a lock.
+std::atomic<TraceNumber> latest[1 << 12];
+
+TraceNumber number_of(Word maker, const Word* frames, int count) {
+  std::uint64_t key = 0;
+  for (int at = 0; at < count; at++) key = (key ^ frames[at]) * 0x9E3779B97F4A7C15ull, key ^= key >> 29;
+  auto& last = latest[key >> 52];
+  TraceNumber number = last.load(std::memory_order_acquire);
+  if (number && is_same(number, key, frames, count)) return number;
+  for (Word at = key;; at++) {
+    if (!at) continue;
+    auto& table = numbers.of(at);
+    std::lock_guard<Lock> guard(table.lock);
+    TraceNumber* found = table.find(at);
+    if (found && !is_same(*found, key, frames, count)) continue;
+    number = found ? *found : kept(key, maker, frames, count);
+    if (!found && number) table.put(at, number);
+    last.store(number, std::memory_order_release);
+    return number;
+  }
+}
+
+// All frames that are wanted from here on, with what tells that it is the same walk again.
+TraceNumber walked(Frame frame, const Place* place, Walk& walk) {
+  Word frames[MOST_FRAMES], maker = frame.code;
+  int count = 0, most = std::min(frames_wanted, MOST_FRAMES);
+  while (place && count < most) {
+    frames[count++] = frame.code;
+    if (count == most || !walk.step(frame, place->rule)) break;
+    place = place_of(frame.code);
+  }
+  walk.is_told &= place != nullptr;
+  return walk.trace = count ? number_of(maker, frames, count) : 0;
+}
+
+KnownWalks* walks_of(Place& place) {
+  KnownWalks* walks = place.walks;
+  if (walks) return walks;
+  auto fresh = static_cast<KnownWalks*>(own_room(sizeof(KnownWalks)));
+  return fresh && place.walks.compare_exchange_strong(walks, fresh) ? fresh : walks;
+}
+
+void keep(KnownWalks& walks, const Walk& walk) {
+  int added = walks.added++;
+  void* room = walk.is_told && walk.trace && added < KnownWalks::MOST_ADDED ? own_room(sizeof(Walk)) : nullptr;
+  if (room) walks.walks[added % KnownWalks::COUNT] = new (room) Walk(walk);
+}
+
+TraceNumber known_or_walked(const Frame& frame, Place& place) {
+  KnownWalks* walks = walks_of(place);
+  if (TraceNumber known = walks ? walks->trace_from(frame.stack, frame.base) : 0) return known;
+  Walk walk(frame);
+  TraceNumber trace = walked(frame, &place, walk);
+  if (walks) keep(*walks, walk);
   return trace;
+}
+
+TraceNumber of_place_alone(Place& place) {
+  TraceNumber number = place.trace.load(std::memory_order_relaxed);
+  if (number) return number;
+  Word code = place.code;
+  number = number_of(code, &code, 1);
+  place.trace.store(number, std::memory_order_relaxed);
+  return number;
 }
 
 }  // namespace
 
 int frames_wanted = 0;
 
+const Trace* trace_of(TraceNumber number) {
+  return number ? pages[number / PAGE].load(std::memory_order_acquire)[number % PAGE] : nullptr;
+}
+
 void lock_traces() {
-  traces.lock_all();
-  room_lock.lock();
+  numbers.lock_all();
+  lock_places();
+  adding.lock();
+  lock_room();
 }
 
 void unlock_traces() {
-  room_lock.unlock();
-  traces.unlock_all();
+  unlock_room();
+  adding.unlock();
+  unlock_places();
+  numbers.unlock_all();
 }
 
-// (on a small stack the walk would have no room)
-const Trace* take_trace() {
-  if (room_on_stack() < 16384) return nullptr;
-  void* frames[MOST_FRAMES];
-  int count = backtrace(frames, std::min(frames_wanted, MOST_FRAMES));
-  if (count <= 0) return nullptr;
-  Word key = 0;
-  for (int at = 0; at < count; at++) key = (key ^ reinterpret_cast<Word>(frames[at])) * 0x100000001B3ull + 1;
-  for (;; key++) {
-    if (!key) continue;
-    auto& table = traces.of(key);
-    std::lock_guard<Lock> guard(table.lock);
-    const Trace** found = table.find(key);
-    if (!found) {
-      const Trace* trace = kept(frames, count);
-      if (trace) table.put(key, trace);
-      return trace;
-    }
-    if ((*found)->count == count && !std::memcmp((*found)->frames, frames, count * sizeof(void*)))
-      return *found;
+Taken trace_of_memory(Frame frame) {
+  if (!frames_wanted || room_on_stack() < ROOM) return {0, nullptr};
+  Place* place = place_of(frame.code);
+  for (int depth = 0; place && place->role == Place::THROUGH && depth < MOST_THROUGH; depth++) {
+    Frame caller = frame;
+    if (!step(caller, place->rule)) break;
+    frame = caller;
+    place = place_of(frame.code);
   }
+  if (!place) return {0, nullptr};
+  auto role = place->role.load(std::memory_order_relaxed);
+  if (role == Place::PLAIN) return {of_place_alone(*place), nullptr};
+  if (role == Place::UNKNOWN) look_at_samples(*place);
+  return {known_or_walked(frame, *place), role == Place::UNKNOWN ? place : nullptr};
+}
+
+TraceNumber known_trace_of_memory(Word code, Word stack, Word base) {
+  if (code == entrance.code.load(std::memory_order_acquire)) {
+    stack += entrance.caller_stack.load(std::memory_order_relaxed);
+    code = reinterpret_cast<const Word*>(stack)[-1];
+  }
+  Frame frame{code, stack, base};
+  Place* place = known_place(code);
+  if (place && place->role.load(std::memory_order_relaxed) == Place::THROUGH)
+    place = step(frame, place->rule) ? known_place(frame.code) : nullptr;
+  if (!place) return 0;
+  auto role = place->role.load(std::memory_order_relaxed);
+  if (role == Place::PLAIN) return place->trace.load(std::memory_order_relaxed);
+  KnownWalks* walks = role == Place::BLOCKS ? place->walks.load(std::memory_order_acquire) : nullptr;
+  return walks ? walks->trace_from(frame.stack, frame.base) : 0;
+}
+
+TraceNumber trace_of_block(Frame frame) {
+  Place* place = frames_wanted && room_on_stack() >= ROOM ? place_of(frame.code) : nullptr;
+  return place ? known_or_walked(frame, *place) : 0;
+}
+
+void learn_from(TraceNumber trace, const Word* memory, std::size_t bytes) {
+  const Trace* it = trace_of(trace);
+  Place* place = it ? known_place(it->maker) : nullptr;
+  if (place) learn(*place, memory, bytes);
 }
 
 }  // namespace recorder
