@@ -1,4 +1,5 @@
 """What a module's debug information says: by gdb of types and symbols, by addr2line of places."""
+import bisect
 import collections
 import json
 import os
@@ -7,6 +8,9 @@ import shutil
 import subprocess
 import tempfile
 from pathlib import Path
+
+from recorder.record_text import Block, Place, Record
+from recorder.type_names import short
 
 HERE = Path(__file__).resolve().parent
 OF_THE_SYSTEM = '/lib/', '/lib64/', '/usr/lib/'
@@ -17,51 +21,124 @@ OF_THE_LIBRARY = 'std::', '__gnu_cxx::', 'sptr_recorder', 'operator new', '__cxx
 
 
 class Answers:
-    """Members by type and byte, sizes by type, symbols by module and byte; each may be missing."""
+    """What gdb said of members and sizes by type, of symbols, callables and functions' names by module and byte; each may
+    be missing. Of a type there are several answers where units have classes of one name."""
 
     def __init__(self):
-        self.members, self.sizes, self.symbols = {}, {}, {}
+        self.members, self.sizes, self.symbols = collections.defaultdict(dict), collections.defaultdict(dict), {}
+        self.callables, self.names = {}, {}
 
-    def add(self, module, said):
-        for name, members in said['members'].items():
-            self.members.setdefault(name, {int(at): tuple(it) for at, it in members.items()})
-        for name, size in said['sizes'].items():
-            self.sizes.setdefault(name, size)
-        for at, it in said['symbols'].items():
-            self.symbols[module, int(at)] = tuple(it)
+    def add(self, module: int, said: dict):
+        for name, units in said["members"].items():
+            for address, places in units.items():
+                self.members[name][module, int(address)] = {(at, inner): found for at, inner, found in places}
+        for name, units in said["sizes"].items():
+            for address, size in units.items():
+                self.sizes[name][module, int(address)] = size
+        for kind, to in ("symbols", self.symbols), ("callables", self.callables), ("names", self.names):
+            to.update({(module, int(at)): found for at, found in said[kind].items()})
+
+    def of_unit(self, by_unit: dict, unit: tuple):
+        """What is said of a class in a unit, else what all modules say alike."""
+        if unit in by_unit:
+            return by_unit[unit]
+        found = [it for (_, address), it in by_unit.items() if not address]
+        return found[0] if found and all(it == found[0] for it in found) else None
+
+    def member(self, name: str, block: Block | None, offset: int, inner: int) -> list:
+        """The declaring class, the path and the declared type of what lies at a byte of a type, and the same of what a
+        unique pointer there points to; nothing where it isn't known."""
+        if block and (self.size(block) or 0) > block.size and block.kind != "array":
+            return []
+        return (self.of_unit(self.members[name], block.unit if block else ()) or {}).get((offset, inner), [])
+
+    def size(self, block: Block) -> int | None:
+        return self.of_unit(self.sizes[block.name], block.unit)
 
 
-def ask_gdb(path, types, symbols):
+def ask_gdb(path: str, questions: dict) -> dict | None:
     """What gdb answers about one module, or None."""
     with tempfile.TemporaryDirectory() as folder:
-        questions, answers = Path(folder, 'questions'), Path(folder, 'answers')
-        questions.write_text(json.dumps({'types': types, 'symbols': symbols}))
-        names = {'RECORDER_QUESTIONS': str(questions), 'RECORDER_ANSWERS': str(answers)}
-        command = ['gdb', '-batch', '-nx', '-iex', 'set auto-load off', '-iex', 'set debuginfod enabled off']
-        command += ['-ex', f'source {HERE}/members_in_gdb.py', path]
+        asked, answered = Path(folder, "questions"), Path(folder, "answers")
+        asked.write_text(json.dumps(questions))
+        names = {"RECORDER_QUESTIONS": str(asked), "RECORDER_ANSWERS": str(answered)}
+        command = ["gdb", "-batch", "-nx", "-iex", "set auto-load off", "-iex", "set debuginfod enabled off"]
+        command += ["-ex", f"source {HERE}/members_in_gdb.py", path]
         subprocess.run(command, env={**os.environ, **names}, stdin=subprocess.DEVNULL, capture_output=True)
-        return json.loads(answers.read_text()) if answers.exists() and answers.stat().st_size else None
+        return json.loads(answered.read_text()) if answered.exists() and answered.stat().st_size else None
 
 
-def ask_about(record):
-    """The answers to all that the record's places ask. Of the system's libraries only symbols are asked."""
+class Questions:
+    """All that the record's places ask."""
+
+    def __init__(self, record: Record):
+        self.record = record
+        self.places, self.units = collections.defaultdict(set), collections.defaultdict(set)
+        self.symbols, self.names = collections.defaultdict(set), collections.defaultdict(set)
+        self.callables = collections.defaultdict(lambda: collections.defaultdict(set))
+        self.modules = Modules(record)
+        for it in record.handles + record.raw_pointers + record.links:
+            self.ask(it.place)
+
+    def ask(self, place: Place):
+        if place.kind == "object":
+            block = self.record.blocks[place.number]
+            inner = place.inner if place.maker == "d" else -1
+            self.places[block.name].add((place.offset, inner))
+            self.units[block.name].add(block.unit)
+        elif place.kind == "static":
+            self.symbols[place.number].add(place.offset)
+        if place.maker.startswith("v:"):
+            self.places[self.record.plain[place.maker[2:]]].add((place.inner, -1))
+        elif place.maker.startswith(("f:", "c:", "a:")):
+            module, at = self.modules.place_of(int(place.maker[2:], 16))
+            if place.maker.startswith("a:"):
+                self.names[module].add(at)
+            else:
+                self.callables[module][at].add(place.inner)
+
+    def of_module(self, number: int, is_of_the_system: bool) -> dict:
+        """Of the system's libraries only symbols are asked."""
+        types = {
+            name: [sorted(places), [0, *sorted(at for module, at in filter(None, self.units[name]) if module == number)]]
+            for name, places in self.places.items()
+        }
+        callables = {at: sorted(inner) for at, inner in self.callables[number].items()}
+        return {
+            "types": {} if is_of_the_system else types,
+            "symbols": sorted(self.symbols[number]),
+            "callables": {} if is_of_the_system else callables,
+            "names": sorted(self.names[number]),
+        }
+
+
+def ask_about(record: Record) -> Answers:
+    """The answers to all that the record's places ask."""
     answers = Answers()
-    if not shutil.which('gdb'):
+    if not shutil.which("gdb"):
         return answers
-    types, symbols = collections.defaultdict(set), collections.defaultdict(set)
-    for it in record.handles + record.raw_pointers + record.links:
-        if it.place.kind == 'object':
-            types[record.blocks[it.place.number].name].add(it.place.offset)
-        elif it.place.kind == 'static':
-            symbols[it.place.number].add(it.place.offset)
+    questions = Questions(record)
     for number, (_, path) in enumerate(record.modules):
-        open_types = {name: sorted(at) for name, at in types.items() if name not in answers.members}
-        asked = {} if path.startswith(OF_THE_SYSTEM) and number else open_types
-        if os.path.exists(path) and (asked or symbols[number]):
-            said = ask_gdb(path, asked, sorted(symbols[number]))
+        asked = questions.of_module(number, path.startswith(OF_THE_SYSTEM) and number > 0)
+        if os.path.exists(path) and any(asked.values()):
+            said = ask_gdb(path, asked)
             if said:
                 answers.add(number, said)
     return answers
+
+
+class Modules:
+    """The program and its libraries, by where they lie."""
+
+    def __init__(self, record: Record):
+        self.record = record
+        self.bases = sorted((base, number) for number, (base, _) in enumerate(record.modules))
+
+    def place_of(self, address: int) -> tuple[int, int]:
+        """The number of the module that has an address, and the byte in it."""
+        place = bisect.bisect_right(self.bases, (address, len(self.bases))) - 1
+        base, number = self.bases[max(place, 0)]
+        return number, address - base
 
 
 def own_name(function):
@@ -108,34 +185,34 @@ def short_path(place):
     return f'{path if below.startswith("..") else below}:{line}'
 
 
-def first_place(frames):
-    """The first with a place that isn't the library's, else the first function alone."""
-    for place, name in frames:
+def first_place(frames: list[tuple]) -> tuple[str, tuple]:
+    """The first with a place that isn't the library's, else the first function alone; and the unit where it is known."""
+    for unit, place, name in frames:
         if not NOT_OURS.search(place):
-            return f'at {short_path(place)} in {name}'
-    return f'in {frames[0][1]}' if frames and frames[0][1] != '??' else ''
+            return f"at {short_path(place)} in {short(name)}", unit
+    return (f"in {short(frames[0][2])}" if frames and frames[0][2] != "??" else ""), ()
 
 
-def name_places(record):
+def name_places(record: Record):
     """Gives each block the place of its making: the first on the stack that isn't the library's."""
-    bases = sorted((base, path) for base, path in record.modules)
-    asked = collections.defaultdict(set)
-
-    def module_of(frame):
-        return max((it for it in bases if it[0] <= frame), default=None)
-
+    modules, asked = Modules(record), collections.defaultdict(set)
     for frames in {it.frames for it in record.blocks}:
         for frame in frames:
-            module = module_of(frame)
-            if module and not re.search(r'/lib(c|stdc\+\+|gcc_s)\.so', module[1]):
-                asked[module].add(frame - 1 - module[0])
+            number, at = modules.place_of(frame - 1)
+            if not re.search(r"/lib(c|stdc\+\+|gcc_s)\.so", record.modules[number][1]):
+                asked[number].add(at)
     said = {
-        base + at: it for (base, path), addresses in asked.items() for at, it in lines_of(path, addresses).items()
+        (number, at): places
+        for number, addresses in asked.items()
+        for at, places in lines_of(record.modules[number][1], addresses).items()
     }
     places = {}
     for block in record.blocks:
         frames = block.frames
         if frames not in places:
-            every = [(place, own_name(it)) for frame in frames for place, it in said.get(frame - 1, [])]
-            places[frames] = first_place([it for it in every if not it[1].startswith(OF_THE_LIBRARY)])
-        block.made = places[frames]
+            units = [modules.place_of(frame - 1) for frame in frames]
+            every = [(unit, place, own_name(it)) for unit in units for place, it in said.get(unit, [])]
+            ours = [it for it in every if not it[2].startswith(OF_THE_LIBRARY)]
+            stack = tuple(f"{short(name)} at {short_path(place)}" for _, place, name in ours if name != "??")
+            places[frames] = *first_place(ours), stack
+        block.made, block.unit, block.stack = places[frames]

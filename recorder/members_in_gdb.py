@@ -1,15 +1,19 @@
 """Run by gdb: reads questions from the file in RECORDER_QUESTIONS and writes answers to the one in
 RECORDER_ANSWERS.
 
-For each type and byte: the class that declares the member there, the member's path in it and its declared type.
-For each byte of a module: the symbol there.
+For each type and byte: the class that declares the member there, the member's path in it and its declared type; of what a
+std::unique_ptr there points to, the same. For each byte of a module: the symbol there. For each function that calls a
+callable or resumes a coroutine: where that is defined, and what it captures.
 """
 import json
 import os
+import re
 
 import gdb
 
-CONTAINERS_OF_MEMBERS = 'std::pair<', 'std::array<', 'std::tuple<', 'std::_Tuple_impl<', 'std::_Head_base<'
+CONTAINERS_OF_MEMBERS = "std::pair<", "std::array<", "std::tuple<", "std::_Tuple_impl<", "std::_Head_base<"
+OWN_CALLABLE = "__closure", "this", "frame_ptr"
+MOST_FUNCTIONS = 12  # that are looked through for a callable
 
 
 def size_of(type_):
@@ -21,37 +25,46 @@ def name_of(type_):
 
 
 def is_of_the_library(name):
-    return name.startswith('std::') and not name.startswith(CONTAINERS_OF_MEMBERS)
+    return name.startswith("std::") and not name.startswith(CONTAINERS_OF_MEMBERS)
+
+
+def begin_of(field):
+    """The byte where a field begins, or None where only the object itself knows, as of a virtual base."""
+    try:
+        return field.bitpos // 8
+    except (AttributeError, TypeError):
+        return None
 
 
 def field_at(type_, offset):
     """The field that the byte lies in, and where that begins."""
     found = None
     for field in type_.fields():
-        if getattr(field, 'bitpos', None) is None:
+        begin = begin_of(field)
+        if begin is None:
             continue
-        begin, size = field.bitpos // 8, size_of(field.type)
+        size = size_of(field.type)
         if begin <= offset and (offset < begin + size or size == 0) and (size or not found):
             found = field, begin
     return found
 
 
-def member_at(type_, offset):
-    """(declaring class, path, declared type) of what lies at a byte of a type."""
+def leaf_at(type_, offset):
+    """(declaring class, path, type) of what lies at a byte of a type."""
     type_ = type_.strip_typedefs()
     declaring, path = name_of(type_), []
     offset %= max(type_.sizeof, 1)  # (of an array's object)
     while True:
         name = name_of(type_)
         if is_of_the_library(name):
-            return declaring, '.'.join(path), name
+            return declaring, ".".join(path), type_
         if type_.code == gdb.TYPE_CODE_ARRAY:
             type_ = type_.target().strip_typedefs()
             offset %= max(type_.sizeof, 1)
             continue
         field = field_at(type_, offset) if type_.code in (gdb.TYPE_CODE_STRUCT, gdb.TYPE_CODE_UNION) else None
         if not field:
-            return declaring, '.'.join(path), name
+            return declaring, ".".join(path), type_
         (it, begin), type_ = field, field[0].type.strip_typedefs()
         offset -= begin
         if it.is_base_class and not is_of_the_library(name_of(type_)) and not path:
@@ -60,38 +73,165 @@ def member_at(type_, offset):
             path.append(it.name)
 
 
+def member_at(type_, offset, inner):
+    """(declaring class, path, declared type) at a byte; and of the byte `inner` of what a unique pointer there points
+    to, where it is one."""
+    declaring, path, leaf = leaf_at(type_, offset)
+    found = [declaring, path, name_of(leaf)]
+    if inner >= 0 and found[2].startswith("std::unique_ptr<"):
+        try:
+            declaring, path, leaf = leaf_at(leaf.template_argument(0), inner)
+        except (gdb.error, RuntimeError):
+            return found
+        found += [declaring, path, name_of(leaf)]
+    return found
+
+
 def symbol_at(offset):
-    text = gdb.execute(f'info symbol {offset:#x}', to_string=True)
-    return text.split(' in section')[0].split(' + ')[0] if ' in section' in text else ''
+    text = gdb.execute(f"info symbol {offset:#x}", to_string=True)
+    return text.split(" in section")[0].split(" + ")[0] if " in section" in text else ""
 
 
 def declared_as(symbol):
     try:
-        return str(gdb.parse_and_eval(f"'{symbol}'").type.strip_typedefs()) if symbol else ''
+        return str(gdb.parse_and_eval(f"'{symbol}'").type.strip_typedefs()) if symbol else ""
     except gdb.error:
-        return ''
+        return ""
+
+
+def unit_block(address):
+    """What is visible in the unit of a place of code."""
+    block = gdb.block_for_pc(address) if address else None
+    return block.static_block if block else None
+
+
+def places_of(name):
+    """Where classes of this name are defined: of some name each unit has its own."""
+    return {(it.symtab.filename if it.symtab else "", it.line) for it in gdb.lookup_static_symbols(name)}
+
+
+def types_by_unit(name, units):
+    """By unit, which is an address in it: the type of this name there; None where that isn't known."""
+    is_one = len(places_of(name)) <= 1
+    found = {}
+    for address in units:
+        block = unit_block(address)
+        try:
+            if is_one:
+                found[address] = gdb.lookup_type(name)
+            elif block:
+                symbol = gdb.lookup_symbol(name, block)[0]
+                is_there = symbol and any(same(symbol, it) for it in block)
+                found[address] = symbol.type if is_there else None
+        except gdb.error:
+            found[address] = None
+    return {address: type_ for address, type_ in found.items() if type_ and size_of(type_)}
+
+
+def same(one, other):
+    return one.name == other.name and one.line == other.line and one.symtab == other.symtab
+
+
+def calls_of(block):
+    """The functions that a function calls, by their addresses."""
+    architecture = gdb.selected_inferior().architecture()
+    for line in architecture.disassemble(block.start, block.end - 1):
+        target = re.match(r"(?:call|jmp)q?\s+(?:\*)?0x([0-9a-f]+)", line["asm"])
+        if target:
+            yield int(target[1], 16)
+
+
+def function_block(address):
+    """The block of the function that begins at an address."""
+    block, found = gdb.block_for_pc(address), None
+    while block:
+        if block.function and block.start == address:
+            found = block
+        block = block.superblock
+    return found
+
+
+def callable_in(block):
+    """(type, file, line, address) of the callable whose own code lies in a function, itself or inlined."""
+    architecture, found = gdb.selected_inferior().architecture(), None
+    for line in architecture.disassemble(block.start, block.end - 1):
+        at = line["addr"]
+        inner = gdb.block_for_pc(at)
+        while inner and not (inner.function and has_callable(inner)):
+            inner = inner.superblock if inner != block else None
+        if not inner:
+            continue
+        place = gdb.find_pc_line(at)
+        if inner == block:
+            return callable_type(inner), inner.function.symtab.filename, inner.function.line, at
+        if place.symtab and not re.search(r"/include/c\+\+/", place.symtab.filename):
+            if not found or place.line < found[2]:
+                found = callable_type(inner), place.symtab.filename, place.line, at
+    return found
+
+
+def has_callable(block):
+    name = str(block.function)
+    return re.search(r"operator\(\)|Frame|actor", name) and not name.startswith("std::") and callable_type(block)
+
+
+def callable_type(block):
+    """The type of the object whose own function a block is."""
+    for symbol in block:
+        if symbol.is_argument and symbol.name in OWN_CALLABLE and symbol.type.code == gdb.TYPE_CODE_PTR:
+            return symbol.type.target().strip_typedefs()
+    return None
+
+
+def callable_at(address):
+    """The callable that the function at an address calls, in it or in what it calls."""
+    todo, seen = [address], set()
+    while todo and len(seen) < MOST_FUNCTIONS:
+        at = todo.pop(0)
+        block = function_block(at) if at not in seen else None
+        seen.add(at)
+        if not block:
+            continue
+        found = callable_in(block)
+        if found:
+            return found
+        todo += calls_of(block)
+    return None
+
+
+def captured(address, offsets):
+    """Where a callable is defined; and by byte the name of what it captures there and its declared type."""
+    try:
+        type_, file, line, at = callable_at(address)
+    except (gdb.error, RuntimeError, TypeError):
+        return None
+    found = {}
+    for offset in offsets:
+        _, path, leaf = leaf_at(type_, offset)
+        found[offset] = re.sub(r"^_+(?=\w)", "", path), name_of(leaf)
+    return {"file": file, "line": line, "address": at, "captures": found}
 
 
 def answers(questions):
     members, sizes = {}, {}
-    for name, offsets in questions['types'].items():
-        try:
-            type_ = gdb.lookup_type(name)
-        except gdb.error:
-            continue
-        if not type_.strip_typedefs().sizeof:
-            continue
-        sizes[name] = type_.strip_typedefs().sizeof
-        members[name] = {offset: member_at(type_, offset) for offset in offsets}
-    symbols = {offset: symbol_at(offset) for offset in questions['symbols']}
+    for name, (places, units) in questions["types"].items():
+        types = types_by_unit(name, units)
+        members[name] = {
+            address: [(offset, inner, member_at(type_, offset, inner)) for offset, inner in places]
+            for address, type_ in types.items()
+        }
+        sizes[name] = {address: size_of(type_) for address, type_ in types.items()}
+    symbols = {offset: symbol_at(offset) for offset in questions["symbols"]}
     return {
-        'members': members,
-        'sizes': sizes,
-        'symbols': {at: (it, declared_as(it)) for at, it in symbols.items()},
+        "members": members,
+        "sizes": sizes,
+        "symbols": {at: (it, declared_as(it)) for at, it in symbols.items()},
+        "callables": {at: captured(int(at), offsets) for at, offsets in questions["callables"].items()},
+        "names": {at: symbol_at(at) for at in questions["names"]},
     }
 
 
-with open(os.environ['RECORDER_QUESTIONS']) as file:
+with open(os.environ["RECORDER_QUESTIONS"]) as file:
     asked = json.load(file)
-with open(os.environ['RECORDER_ANSWERS'], 'w') as file:
+with open(os.environ["RECORDER_ANSWERS"], "w") as file:
     json.dump(answers(asked), file)

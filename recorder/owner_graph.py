@@ -21,6 +21,7 @@ class Graph:
     roots: list = field(default_factory=list)
     lost: list = field(default_factory=list)
     undecided: set = field(default_factory=set)
+    changes: dict = field(default_factory=dict)  # by owner: what to change where its label can't be a weak pointer
 
     def text(self):
         lines = [f'object {number} {label}' for number, label in enumerate(self.objects, 1)]
@@ -96,6 +97,8 @@ def graph_of(record, counts):
                 graph.weaks.append((owner[0], to, plain(owner[1])))
         elif owner:
             graph.owners.append((owner[0], to, plain(owner[1])))
+            if it.change:
+                graph.changes[graph.owners[-1]] = it.change
         elif memories.is_lost(it.place):
             graph.lost.append((to, memories.root_label(it.place, it.label)))
         else:

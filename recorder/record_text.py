@@ -31,6 +31,8 @@ class Block:
     told_type: str = ''
     name: str = ''
     made: str = ''
+    stack: tuple = ()  # the places and functions of its frames
+    unit: tuple = ()  # the module and the byte of the first that is the user's
 
     @property
     def is_live(self):
@@ -44,6 +46,7 @@ class Handle:
     place: Place
     label: str = ''
     declared: str = ''
+    change: str = ''  # what to change where that isn't the labelled member itself
     guess: str = ''  # of `owner` or `weak`, where its kind stays `either`
 
 
@@ -54,6 +57,7 @@ class RawPointer:
     place: Place
     label: str = ''
     declared: str = ''
+    change: str = ''
 
 
 @dataclass(slots=True)
@@ -64,6 +68,7 @@ class Link:
     place: Place
     label: str = ''
     declared: str = ''
+    change: str = ''
 
 
 @dataclass
@@ -76,6 +81,7 @@ class Record:
     handles: list = field(default_factory=list)
     raw_pointers: list = field(default_factory=list)
     links: list = field(default_factory=list)
+    plain: dict = field(default_factory=dict)  # names of types by their mangled ones
     untyped: int = 0
     lost: int = 0
     mapped_blocks: int = 0  # in memory that the program mapped itself, which aren't told

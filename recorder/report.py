@@ -6,6 +6,7 @@ from recorder import owner_graph, verdicts
 from recorder.type_names import short
 
 MOST_PAIRS = 6
+MOST_CHANGES = 3
 
 
 def counted(counter):
@@ -38,11 +39,21 @@ def reached_lines(told):
     return [text.format(count, kind_text(kind), label) for (kind, label), count in counts.most_common()]
 
 
+def change_text(told, knot, label):
+    """What to make weak for the owners of one label: the member, or what lies behind it."""
+    changes = {told.graph.changes.get(tie, ""): None for tie in knot.ties if tie[2] == label}
+    texts = list(changes)
+    if "" in changes:
+        return label
+    more = [f"{len(texts) - MOST_CHANGES} more"] if len(texts) > MOST_CHANGES else []
+    return " and ".join(texts[:MOST_CHANGES] + more)
+
+
 def weaken_lines(told, knot):
     if told.is_owned_from_outside(knot):
         return ['weaken the knot that owns this one']
     ordered = verdicts.ordered_weakens(knot)
-    lines = [f'weaken {" and ".join(it)}' for it in ordered[:MOST_PAIRS]]
+    lines = [f'weaken {" and ".join(change_text(told, knot, label) for label in it)}' for it in ordered[:MOST_PAIRS]]
     if len(ordered) > MOST_PAIRS:
         lines.append(f'weaken or one of {len(ordered) - MOST_PAIRS} more pairs')
     return lines or ['weaken more than two members: no single one suffices, and no two']

@@ -61,10 +61,13 @@ def told(function):
     return re.split(r'; \w+ = ', found[1])[0] if found else ''
 
 
-def name_blocks(blocks):
+def name_blocks(record):
     """Gives each block its object's type: what it really is where it has virtual functions, else what its maker
-    said."""
-    plain = demangled({it for block in blocks for it in (block.control_type, block.dynamic_type) if it != '-'})
+    said; and the record the plain names of types of other memory."""
+    blocks = record.blocks
+    names = {it for block in blocks for it in (block.control_type, block.dynamic_type) if it != '-'}
+    names |= {it.place.maker[2:] for it in record.handles + record.raw_pointers + record.links if it.place.maker.startswith('v:')}
+    plain = record.plain = demangled(names)
     declared = functools.lru_cache(maxsize=None)(declared_type)
     for block in blocks:
         if block.dynamic_type != '-':

@@ -49,7 +49,8 @@ class Told:
 
 def tell(record):
     """All that can be told of a record that isn't refused."""
-    type_names.name_blocks(record.blocks)
+    type_names.name_blocks(record)
+    debug_information.name_places(record)
     answers = debug_information.ask_about(record)
     labels.drop_beyond(record, answers)
     labels.label_places(record, answers)
@@ -61,7 +62,6 @@ def tell(record):
     if kinds.drop_from_storage(record, counts, leaked):
         graph, numbers, memories = owner_graph.graph_of(record, counts)
         answer = owner_graph.ask(graph)
-    debug_information.name_places(record)
     blocks = [record.blocks[at] for at in numbers]
     told = Told(record, graph, answer, blocks, sum(it.are_met for it in counts))
     told.reached = reached_by_raw_pointers(record, numbers, graph, answer, memories)

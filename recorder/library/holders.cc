@@ -236,7 +236,8 @@ int Spreading::memory_of(int chunk, bool is_apart) const {
 }
 
 // What says of which type a chunk is: its own table of virtual functions (`v`), else a function that knows: the first of a
-// coroutine's frame (`c`), the manager in a std::function (`f`) or an any (`a`) that leads here. `-` where nothing does.
+// coroutine's frame (`c`), the invoker of a std::function (`f`) or the manager of an any (`a`) that leads here. `d` where
+// it is what its holder's own pointer points to, `-` where nothing says it.
 std::string Snapshot::maker_of(int chunk) const {
   auto& it = chunks[chunk];
   auto words = reinterpret_cast<const Word*>(it.from);
@@ -258,8 +259,9 @@ std::string Snapshot::maker_of(int chunk) const {
   if (!it.pointer || is_copied) return "-";
   auto pointer = reinterpret_cast<const Word*>(it.pointer);
   if (pointer[0] != it.from) return "-";
-  if (is_code(pointer[2]) && is_code(pointer[3])) return told('f', pointer[2]);
-  return is_code(pointer[-1]) ? told('a', pointer[-1]) : "-";
+  if (is_code(pointer[2]) && is_code(pointer[3])) return told('f', pointer[3]);
+  if (is_code(pointer[-1])) return told('a', pointer[-1]);
+  return it.before < 0 ? "d" : "-";
 }
 
 void Snapshot::find_holders() {
