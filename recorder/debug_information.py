@@ -1,6 +1,7 @@
 """What a module's debug information says: by gdb of types and symbols, by addr2line of places."""
 import bisect
 import collections
+import functools
 import json
 import os
 import re
@@ -31,15 +32,19 @@ class Answers:
     def add(self, module: int, said: dict):
         for name, units in said["members"].items():
             for address, places in units.items():
-                self.members[name][module, int(address)] = {(at, inner): found for at, inner, found in places}
+                self.members[name][module, int(address)] = {
+                    at: {int(inner): member for inner, member in found.items()} for at, found in places
+                }
         for name, units in said["sizes"].items():
             for address, size in units.items():
                 self.sizes[name][module, int(address)] = size
         for kind, to in ("symbols", self.symbols), ("callables", self.callables), ("names", self.names):
             to.update({(module, int(at)): found for at, found in said[kind].items()})
 
-    def of_unit(self, by_unit: dict, unit: tuple):
+    @functools.lru_cache(maxsize=None)
+    def of_unit(self, what: str, name: str, unit: tuple):
         """What is said of a class in a unit, else what all modules say alike."""
+        by_unit = getattr(self, what)[name]
         if unit in by_unit:
             return by_unit[unit]
         found = [it for (_, address), it in by_unit.items() if not address]
@@ -50,10 +55,11 @@ class Answers:
         unique pointer there points to; nothing where it isn't known."""
         if block and (self.size(block) or 0) > block.size and block.kind != "array":
             return []
-        return (self.of_unit(self.members[name], block.unit if block else ()) or {}).get((offset, inner), [])
+        found = (self.of_unit("members", name, block.unit if block else ()) or {}).get(offset, {})
+        return found.get(inner) or found.get(-1, [])
 
     def size(self, block: Block) -> int | None:
-        return self.of_unit(self.sizes[block.name], block.unit)
+        return self.of_unit("sizes", block.name, block.unit)
 
 
 def ask_gdb(path: str, questions: dict) -> dict | None:
@@ -73,7 +79,7 @@ class Questions:
 
     def __init__(self, record: Record):
         self.record = record
-        self.places, self.units = collections.defaultdict(set), collections.defaultdict(set)
+        self.places, self.units = collections.defaultdict(lambda: collections.defaultdict(set)), collections.defaultdict(set)
         self.symbols, self.names = collections.defaultdict(set), collections.defaultdict(set)
         self.callables = collections.defaultdict(lambda: collections.defaultdict(set))
         self.modules = Modules(record)
@@ -83,27 +89,26 @@ class Questions:
     def ask(self, place: Place):
         if place.kind == "object":
             block = self.record.blocks[place.number]
-            inner = place.inner if place.maker == "d" else -1
-            self.places[block.name].add((place.offset, inner))
+            self.places[block.name][place.offset].add(place.inner if place.maker == "d" else -1)
             self.units[block.name].add(block.unit)
         elif place.kind == "static":
             self.symbols[place.number].add(place.offset)
         if place.maker.startswith("v:"):
-            self.places[self.record.plain[place.maker[2:]]].add((place.inner, -1))
+            self.places[self.record.plain[place.maker[2:]]][place.inner].add(-1)
         elif place.maker.startswith(("f:", "c:", "a:")):
             module, at = self.modules.place_of(int(place.maker[2:], 16))
             if place.maker.startswith("a:"):
                 self.names[module].add(at)
             else:
-                self.callables[module][at].add(place.inner)
+                self.callables[module][at, place.maker[0] == "c"].add(place.inner)
 
     def of_module(self, number: int, is_of_the_system: bool) -> dict:
         """Of the system's libraries only symbols are asked."""
-        types = {
-            name: [sorted(places), [0, *sorted(at for module, at in filter(None, self.units[name]) if module == number)]]
-            for name, places in self.places.items()
-        }
-        callables = {at: sorted(inner) for at, inner in self.callables[number].items()}
+        types = {}
+        for name, places in self.places.items():
+            units = sorted(at for module, at in filter(None, self.units[name]) if module == number)
+            types[name] = [(at, sorted(inner)) for at, inner in sorted(places.items())], [0, *units]
+        callables = {at: (is_coroutine, sorted(it)) for (at, is_coroutine), it in self.callables[number].items()}
         return {
             "types": {} if is_of_the_system else types,
             "symbols": sorted(self.symbols[number]),

@@ -1,5 +1,8 @@
 """The graph as Graphviz draws it, in the manner of `sptr left --dot`."""
+from recorder import owner_search
 from recorder.type_names import short
+
+MOST_CUTS = 2000  # objects up to which it is shown which owner alone cuts a knot
 
 
 def quoted(text):
@@ -25,7 +28,8 @@ def dot(told):
     it alone cuts it."""
     in_knots = {it for knot in told.answer.knots for it in knot.objects}
     ties = {tie for knot in told.answer.knots for tie in knot.ties}
-    cuts = {cut for knot in told.answer.knots for cut in knot.cuts}
+    knots = told.answer.knots if len(told.blocks) <= MOST_CUTS else []
+    cuts = {cut for knot in knots if not knot.is_owned for cut in owner_search.cuts(knot.objects, knot.ties)}
     lines = ['digraph record {', 'node [style=filled, fillcolor=white];']
     for number, block in enumerate(told.blocks, 1):
         label = quoted(f'{number} {short(block.name)}')

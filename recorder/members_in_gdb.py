@@ -12,7 +12,8 @@ import re
 import gdb
 
 CONTAINERS_OF_MEMBERS = "std::pair<", "std::array<", "std::tuple<", "std::_Tuple_impl<", "std::_Head_base<"
-OWN_CALLABLE = "__closure", "this", "frame_ptr"
+OWN_CALLABLE = "__closure", "this"
+FRAMES = "frame_ptr", "__coro_frame"
 MOST_FUNCTIONS = 12  # that are looked through for a callable
 
 
@@ -73,17 +74,19 @@ def leaf_at(type_, offset):
             path.append(it.name)
 
 
-def member_at(type_, offset, inner):
-    """(declaring class, path, declared type) at a byte; and of the byte `inner` of what a unique pointer there points
-    to, where it is one."""
+def members_at(type_, offset, inner_bytes):
+    """By -1: (declaring class, path, declared type) at a byte. Where that is a unique pointer also by each byte of what it
+    points to: the same, and these three of what lies there."""
     declaring, path, leaf = leaf_at(type_, offset)
-    found = [declaring, path, name_of(leaf)]
-    if inner >= 0 and found[2].startswith("std::unique_ptr<"):
-        try:
-            declaring, path, leaf = leaf_at(leaf.template_argument(0), inner)
-        except (gdb.error, RuntimeError):
-            return found
-        found += [declaring, path, name_of(leaf)]
+    own = declaring, path, name_of(leaf)
+    found = {-1: own}
+    if own[2].startswith("std::unique_ptr<"):
+        for inner in inner_bytes:
+            try:
+                declaring, path, pointed = leaf_at(leaf.template_argument(0), inner)
+                found[inner] = *own, declaring, path, name_of(pointed)
+            except (gdb.error, RuntimeError):
+                pass
     return found
 
 
@@ -99,37 +102,28 @@ def declared_as(symbol):
         return ""
 
 
-def unit_block(address):
-    """What is visible in the unit of a place of code."""
+def type_in_unit(name, address):
+    """The type of this name in the unit of a place of code, None where that has none."""
     block = gdb.block_for_pc(address) if address else None
-    return block.static_block if block else None
-
-
-def places_of(name):
-    """Where classes of this name are defined: of some name each unit has its own."""
-    return {(it.symtab.filename if it.symtab else "", it.line) for it in gdb.lookup_static_symbols(name)}
+    for scope in (block.static_block, block.global_block) if block else ():
+        for symbol in scope:
+            if symbol.name == name and symbol.addr_class == gdb.SYMBOL_LOC_TYPEDEF:
+                return symbol.type
+    return None
 
 
 def types_by_unit(name, units):
-    """By unit, which is an address in it: the type of this name there; None where that isn't known."""
-    is_one = len(places_of(name)) <= 1
+    """By unit, which is an address in it: the type of this name there. Each unit may have its own. One that isn't known
+    has that of any, but in a namespace without a name, where the others' is another."""
     found = {}
     for address in units:
-        block = unit_block(address)
         try:
-            if is_one:
+            found[address] = type_in_unit(name, address)
+            if not found[address] and "(anonymous namespace)" not in name:
                 found[address] = gdb.lookup_type(name)
-            elif block:
-                symbol = gdb.lookup_symbol(name, block)[0]
-                is_there = symbol and any(same(symbol, it) for it in block)
-                found[address] = symbol.type if is_there else None
         except gdb.error:
-            found[address] = None
+            pass
     return {address: type_ for address, type_ in found.items() if type_ and size_of(type_)}
-
-
-def same(one, other):
-    return one.name == other.name and one.line == other.line and one.symtab == other.symtab
 
 
 def calls_of(block):
@@ -142,17 +136,17 @@ def calls_of(block):
 
 
 def function_block(address):
-    """The block of the function that begins at an address."""
-    block, found = gdb.block_for_pc(address), None
+    """The block of the function that begins at an address: that of a lambda lies within its own function's."""
+    blocks, block = [], gdb.block_for_pc(address)
     while block:
-        if block.function and block.start == address:
-            found = block
+        blocks += [block] if block.function else []
         block = block.superblock
-    return found
+    begun = [it for it in blocks if it.start == address]
+    return (begun or blocks or [None])[-1]
 
 
 def callable_in(block):
-    """(type, file, line, address) of the callable whose own code lies in a function, itself or inlined."""
+    """(type, file, line) of the callable whose own code lies in a function, itself or inlined."""
     architecture, found = gdb.selected_inferior().architecture(), None
     for line in architecture.disassemble(block.start, block.end - 1):
         at = line["addr"]
@@ -163,16 +157,16 @@ def callable_in(block):
             continue
         place = gdb.find_pc_line(at)
         if inner == block:
-            return callable_type(inner), inner.function.symtab.filename, inner.function.line, at
+            return callable_type(inner), inner.function.symtab.filename, inner.function.line
         if place.symtab and not re.search(r"/include/c\+\+/", place.symtab.filename):
             if not found or place.line < found[2]:
-                found = callable_type(inner), place.symtab.filename, place.line, at
+                found = callable_type(inner), place.symtab.filename, place.line
     return found
 
 
 def has_callable(block):
     name = str(block.function)
-    return re.search(r"operator\(\)|Frame|actor", name) and not name.startswith("std::") and callable_type(block)
+    return re.search(r"operator\(\)", name) and not name.startswith("std::") and callable_type(block)
 
 
 def callable_type(block):
@@ -199,17 +193,29 @@ def callable_at(address):
     return None
 
 
-def captured(address, offsets):
+def coroutine_at(address):
+    """The frame that the function at an address resumes, and where that is defined."""
+    block = function_block(address)
+    for symbol in block or ():
+        if symbol.name in FRAMES:
+            type_ = symbol.type.target() if symbol.type.code == gdb.TYPE_CODE_PTR else symbol.type
+            place = gdb.find_pc_line(address)
+            return type_.strip_typedefs(), place.symtab.filename, block.function.line or place.line
+    return None
+
+
+def captured(address, is_coroutine, offsets):
     """Where a callable is defined; and by byte the name of what it captures there and its declared type."""
     try:
-        type_, file, line, at = callable_at(address)
+        type_, file, line = coroutine_at(address) if is_coroutine else callable_at(address)
     except (gdb.error, RuntimeError, TypeError):
         return None
     found = {}
     for offset in offsets:
         _, path, leaf = leaf_at(type_, offset)
-        found[offset] = re.sub(r"^_+(?=\w)", "", path), name_of(leaf)
-    return {"file": file, "line": line, "address": at, "captures": found}
+        if "_ptr<" in name_of(leaf):
+            found[offset] = re.sub(r"^_+(?=\w)", "", path), name_of(leaf)
+    return {"file": file, "line": line, "captures": found}
 
 
 def answers(questions):
@@ -217,7 +223,7 @@ def answers(questions):
     for name, (places, units) in questions["types"].items():
         types = types_by_unit(name, units)
         members[name] = {
-            address: [(offset, inner, member_at(type_, offset, inner)) for offset, inner in places]
+            address: [(offset, members_at(type_, offset, inner_bytes)) for offset, inner_bytes in places]
             for address, type_ in types.items()
         }
         sizes[name] = {address: size_of(type_) for address, type_ in types.items()}
@@ -226,7 +232,7 @@ def answers(questions):
         "members": members,
         "sizes": sizes,
         "symbols": {at: (it, declared_as(it)) for at, it in symbols.items()},
-        "callables": {at: captured(int(at), offsets) for at, offsets in questions["callables"].items()},
+        "callables": {at: captured(int(at), *asked) for at, asked in questions["callables"].items()},
         "names": {at: symbol_at(at) for at in questions["names"]},
     }
 

@@ -7,7 +7,6 @@ from recorder import owner_search
 from recorder.memories import Memories
 
 LONGEST_LABEL = 1000
-MOST_CUTS = 2000  # objects up to which the search tells single cuts, which only drawings show
 
 
 @dataclass
@@ -35,8 +34,8 @@ class Graph:
 @dataclass
 class Knot:
     objects: list
-    ties: list = field(default_factory=list)
-    cuts: list = field(default_factory=list)
+    ties: list
+    is_owned: bool  # by another object
     weakens: list = field(default_factory=list)
 
 
@@ -70,11 +69,9 @@ def ask(graph):
         {it for it in numbers if lost and verdicts[it] == 'kept' and it not in kept},
     )
     for objects, ties, is_owned in owner_search.knots(verdicts, graph.owners):
-        knot = Knot(objects, ties)
+        knot = Knot(objects, ties, is_owned)
         if not is_owned:
             knot.weakens = owner_search.weakens(objects, ties)
-            if len(graph.objects) <= MOST_CUTS:
-                knot.cuts = owner_search.cuts(objects, ties)
         answer.knots.append(knot)
     return answer
 

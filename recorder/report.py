@@ -110,7 +110,8 @@ def doubt_lines(told):
         why = 'as they have no RTTI; see --flags'
         yield f'record: {record.untyped} control blocks tell no type and are left out, {why}'
     if record.mapped_blocks:
-        yield f'record: not looked at: {record.mapped_blocks} control blocks in memory that the program mapped itself'
+        blocks = f'{record.mapped_blocks} control block{"s"[: record.mapped_blocks != 1]}'
+        yield f'record: not looked at: {blocks} in memory that the program mapped itself'
     if record.mapped_bytes:
         size = record.mapped_bytes >> 20
         yield f'record: not looked at: {size} MB of memory that the program mapped itself'
