@@ -3,6 +3,7 @@ use Rattle.std.specs.Prelude.{◌≡◌, ℕ, List, [], ◌∷◌, Option, None,
 use Rattle.control_word.specs.declared.shape.Shape.{Shape}
 use Rattle.control_block.specs.Census.{CensusNow}
 use Rattle.control_block.specs.Desks.{IsFirstDesk, DeskNow, DomainNow}
+use Rattle.control_block.specs.Own.{IsSole}
 use Rattle.handle_table.specs.Parting.{IsNew, WindsUp}
 use Rattle.handle_table.specs.Programs.{IsClosed, IsManned, NumberedWork, Works}
 use Rattle.handle_table.specs.Tables.{TableNow}
@@ -79,3 +80,12 @@ module _ {V P : Type 0} where
     pub last : DeskNow V
     pub led : LeadsIn leads did domain slots p q last
     pub closed : IsClosed last shape c
+
+  -- a leader led in a new domain, and the desk that had all in the end had not the whole allowance
+  pub record LeadsParted (leads : Lead V P) (did : P → NumberedWork V) (shape : Shape) (slots : ℕ) (p q : P)
+      : Type 0 where
+    pub domain : DomainNow
+    pub of : domain.shape ≡ shape
+    pub last : DeskNow V
+    pub led : LeadsIn leads did domain slots p q last
+    pub parted : IsSole last → ⊥

@@ -5,7 +5,8 @@ use Rattle.control_word.specs.declared.refusal.Refusal.TheVariants.{Memory}
 use Rattle.control_word.specs.declared.shape.Shape.{Shape}
 use Rattle.control_word.specs.Histories.{IsLegal}
 use Rattle.control_block.specs.Census.{CensusNow, TellsAll}
-use Rattle.control_block.specs.Desks.{IsFirstDesk, DeskNow, DomainNow, bag_of, endings_of, state_of}
+use Rattle.control_block.specs.Desks.{IsFirstDesk, DeskNow, DomainNow, allowance_of, bag_of, endings_of}
+use Rattle.control_block.specs.Desks.{state_of}
 use Rattle.control_block.specs.Own.{IsSole}
 use Rattle.control_block.specs.Rule.{opening_of}
 use Rattle.handle_table.specs.Parting.{AbsorbsAll, IsNew, IsPartedInto, WhyFewer, WindsUp}
@@ -32,6 +33,10 @@ module _ {V : Type 0} where
   -- nothing is said of it
   abbrev pub any_work : NumberedWork V
   any_work n t u = Unit {0}
+
+  -- whoever works so leaves its table the allowance that it had
+  abbrev pub AllKeepAllowance : NumberedWork V → Type 0
+  AllKeepAllowance did = (n : ℕ) (t u : TableNow V) → did n t u → allowance_of u.desk ≡ allowance_of t.desk
 
   -- it is so of each worker from this number on, and of the table that it had
   abbrev pub EachWorks : NumberedWork V → ℕ → List (TableNow V) → List (TableNow V) → Type 0
@@ -99,3 +104,12 @@ module _ (V : Type 0) where
     pub last : DeskNow V
     pub works : WorksIn did domain team manned last
     pub closed : IsClosed last shape c
+
+  -- a team worked in a new domain, and the desk that had all that its workers left had not the whole allowance
+  pub record RunsParted (did : NumberedWork V) (shape : Shape) (team : Team) : Type 0 where
+    pub domain : DomainNow
+    pub of : domain.shape ≡ shape
+    pub last : DeskNow V
+    pub manned : Manned
+    pub works : WorksIn did domain team manned last
+    pub parted : IsSole last → ⊥

@@ -2,7 +2,7 @@
 ghost use Rattle.std.specs.Prelude.{◌≡◌, ◌⊎◌, ◌↔◌, length, IfErr, IfNone, IfOk, IfSome, None};
 ghost use Rattle.control_word.specs.Layout.{IsWithinLimits};
 ghost use Rattle.handle_table.specs.Openings.{GoesOn, IsFirstPart};
-ghost use Rattle.handle_table.specs.Leading.{LeadsDomain, LeadsOn, StartsTeam};
+ghost use Rattle.handle_table.specs.Leading.{LeadsDomain, LeadsOn, LeadsParted, StartsTeam};
 
 use crate::closing::close_bare;
 use crate::opening::{first_table, open_domain};
@@ -105,7 +105,7 @@ fn lead_in<V: Drop + Send, H: Home + Send + Sync, R: Threads + Wait + Sync, P: L
 /// `run` has it. Where no further team is started the handles in the first table leave, what is left to end does so,
 /// and the domain is closed (own). Nothing bounds how often `lead` is called but the leader. It is refused `Shape` just
 /// where the shape is outside the limits, `Memory` only where a growth was really refused, both before the first call
-/// of `lead`, and `NotSole` where a table was kept. What the calls of `lead` did the clauses say, and of the teams what
+/// of `lead`, and `NotSole` only where a table was kept. What the calls of `lead` did the clauses say, and of the teams what
 /// they say of `run`'s, by the leader that started it.
 pub fn run_leader<V: Drop + Send, R: Threads + Wait + Sync, P: Leader<V, R> + Sync>(
     rt: &R,
@@ -120,6 +120,8 @@ pub fn run_leader<V: Drop + Send, R: Threads + Wait + Sync, P: Leader<V, R> + Sy
     ensures refused { IfErr result
         (λ why. (why ≡ Refusal.Shape) ⊎ ((why ≡ Refusal.Memory) ⊎ (why ≡ Refusal.NotSole))) }
     ensures same { IfErr result (λ why. (why ≡ Refusal.NotSole) ⊎ (leader.new ≡ leader.old)) }
+    ensures parted { IfErr result
+        (λ why. why ≡ Refusal.NotSole → LeadsParted P.leads P.works shape slots leader.old leader.new) }
 {
     let (domain, part) = open_domain::<V>(alloc, shape, slots)?;
     let desk = lead_in::<V, Brand, R, P>(rt, alloc, &domain, part, leader);

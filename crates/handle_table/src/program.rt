@@ -4,7 +4,7 @@ ghost use Rattle.std.specs.Prelude.{length, vec_capacity, IfErr, IfOk, IfSome};
 ghost use Rattle.control_word.specs.Layout.{IsWithinLimits};
 ghost use Rattle.handle_table.specs.Openings.{GoesOn, IsFirstPart};
 ghost use Rattle.handle_table.specs.Parting.{AbsorbsAll, IsNew, IsPartedInto, WhyFewer};
-ghost use Rattle.handle_table.specs.Programs.{HaveWorked, IsManned, Runs, Works};
+ghost use Rattle.handle_table.specs.Programs.{AllKeepAllowance, HaveWorked, IsManned, Runs, RunsParted, Works};
 
 use crate::closing::close_bare;
 use crate::opening::{first_table, open_domain};
@@ -210,7 +210,7 @@ fn run_in<V: Drop + Send, H: Home + Send + Sync, R: Threads + Wait + Sync, P: Pr
 /// The workers' tables are parts of a first one, which has all again at the end: what each had and what it left is in
 /// `runs`, and that each worked once, as `works` has it. It is refused `Shape` just where the shape is outside the
 /// limits, `Memory` only where a growth or the start of a thread was really refused, and then no worker works; and
-/// `NotSole` where a worker kept a table for itself.
+/// `NotSole` only where a worker kept a table for itself: then they have worked all the same.
 pub fn run<V: Drop + Send, R: Threads + Wait + Sync, P: Program<V, R> + Sync>(
     rt: &R,
     alloc: Global,
@@ -226,6 +226,9 @@ pub fn run<V: Drop + Send, R: Threads + Wait + Sync, P: Program<V, R> + Sync>(
     ensures shape { IfErr result (λ why. why ≡ Refusal.Shape ↔ (IsWithinLimits shape → ⊥)) }
     ensures refused { IfErr result
         (λ why. (why ≡ Refusal.Shape) ⊎ ((why ≡ Refusal.Memory) ⊎ (why ≡ Refusal.NotSole))) }
+    ensures parted { IfErr result
+        (λ why. why ≡ Refusal.NotSole → RunsParted V (P.works program.now) shape team) }
+    ensures sole { AllKeepAllowance (P.works program.now) → IfErr result (λ why. why ≡ Refusal.NotSole → ⊥) }
 {
     let (domain, part) = open_domain::<V>(alloc, shape, team.slots)?;
     let (desk, manned) = run_in::<V, Brand, R, P>(rt, alloc, &domain, part, team, program);
