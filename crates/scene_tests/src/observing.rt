@@ -29,3 +29,22 @@ fn six_handles_must_be_free_to_attach_and_to_tell(rt: HostRuntime) {
     alone(&rt, rt.alloc(), 2, 7, &ATTACHED);
     alone(&rt, rt.alloc(), 2, 6, &NEAR);
 }
+
+/// One of two subjects ends, and its observer goes out.
+const PRUNED: [(Call, Answer); 10] = [
+    (Call::Make(Seat::A, 10), Answer::Done),
+    (Call::Make(Seat::B, 20), Answer::Done),
+    (Call::Attach(Seat::A), Answer::Done),
+    (Call::Attach(Seat::B), Answer::Done),
+    (Call::Prune, Answer::Count(0)),
+    (Call::Reset(Seat::A), Answer::Done),
+    (Call::Prune, Answer::Count(1)),
+    (Call::Vacant, Answer::Count(2)),
+    (Call::Each, Answer::Told(1, 20, 20)),
+    (Call::Reset(Seat::B), Answer::Done),
+];
+
+#[test]
+fn an_observer_goes_when_its_subject_has_ended(rt: HostRuntime) {
+    alone(&rt, rt.alloc(), 4, 16, &PRUNED);
+}

@@ -17,3 +17,24 @@ const ORDER: [(Call, Answer); 7] = [
 fn values_come_in_the_order_of_the_ends(rt: HostRuntime) {
     alone(&rt, rt.alloc(), 4, 16, &ORDER);
 }
+
+/// A root 1 gets the children 2 and 3, and 2 goes out from behind 3.
+const PARTED: [(Call, Answer); 12] = [
+    (Call::Make(Seat::A, 1), Answer::Done),
+    (Call::AddChild(Seat::A, 2, Seat::B), Answer::Done),
+    (Call::AddChild(Seat::A, 3, Seat::C), Answer::Done),
+    (Call::Parent(Seat::B), Answer::Field(1)),
+    (Call::Parent(Seat::A), Answer::Nobody),
+    (Call::Detach(Seat::B), Answer::Done),
+    (Call::Parent(Seat::B), Answer::Nobody),
+    (Call::Parent(Seat::C), Answer::Field(1)),
+    (Call::Reset(Seat::C), Answer::Done),
+    (Call::Teardown(Seat::A), Answer::Values(13)),
+    (Call::Reset(Seat::B), Answer::Done),
+    (Call::Vacant, Answer::Count(3)),
+];
+
+#[test]
+fn a_node_has_a_parent_until_it_is_detached(rt: HostRuntime) {
+    alone(&rt, rt.alloc(), 3, 16, &PARTED);
+}

@@ -42,7 +42,8 @@ pub(crate) fn ran<R: Threads + Wait + Sync, P: Program<u64, R> + Sync>(
     }
 }
 
-/// The program's one worker has a table, and so many blocks are vacant when it is done, where nothing is refused.
+/// The program's one worker has a table, and so many blocks are vacant when it is done. It is run again where it was
+/// refused for memory, since none has worked then.
 pub(crate) fn ends<R: Abort + Threads + Wait + Sync, P: Program<u64, R> + Sync>(
     rt: &R,
     alloc: Global,
@@ -51,7 +52,11 @@ pub(crate) fn ends<R: Abort + Threads + Wait + Sync, P: Program<u64, R> + Sync>(
     program: &P,
     vacant: u32,
 ) -> Result<(), Fail> {
-    is_told(rt, ran(rt, alloc, shape, team, program), (1, vacant))
+    let told = match ran(rt, alloc, shape, team, program) {
+        Err(Refusal::Memory) => ran(rt, alloc, shape, team, program),
+        told => told,
+    };
+    is_told(rt, told, (1, vacant))
 }
 
 /// The same, and nothing is refused.

@@ -1,7 +1,7 @@
 //! Calls as data, each with what it answers: a test is a list of them.
 use crate::listed::looks::look;
 use control_word::Place;
-use handle_table::{Cell, Fault, Gone, HandleTable, Home, Returned, Round};
+use handle_table::{Cell, Fault, Gone, HandleTable, Home, Remains, Returned, Round};
 use shared_handle::Member;
 use std::process::Abort;
 use std::sync::Wait;
@@ -33,6 +33,8 @@ pub(crate) enum Call {
     /// Rounds, so many at most.
     NextValue(u32),
     Settle,
+    SettleWith,
+    Remains,
     Reaches(Cell),
     Load(Cell, usize),
     Store(usize, Cell),
@@ -70,6 +72,10 @@ pub(crate) enum Answer {
     Value(Option<u64>),
     /// A value that came out in rounds, and how many are left of these.
     Next(Option<u64>, u32),
+    /// The values that came out, as digits.
+    Values(u64),
+    /// What the object was made as that was last left to end.
+    Made(Option<Remains>),
 }
 
 /// What is told of a handle that left a member.
@@ -136,6 +142,16 @@ fn next<H: Home>(table: &mut HandleTable<'_, u64, H>, most: u32) -> Answer {
     let mut rounds = most;
     let value = table.next_value(&mut rounds);
     Answer::Next(value, rounds)
+}
+
+/// Of the end of all that is left.
+fn settled<R: Wait, H: Home>(rt: &R, table: &mut HandleTable<'_, u64, H>) -> Answer {
+    let mut digits = 0u64;
+    table.settle_with(
+        rt,
+        |value| digits = digits.wrapping_mul(10).wrapping_add(value),
+    );
+    Answer::Values(digits)
 }
 
 /// Of a call that was handed this value.
@@ -256,6 +272,8 @@ fn end<R: Wait, H: Home>(
             table.settle(rt);
             Answer::Done
         }
+        Call::SettleWith => settled(rt, table),
+        Call::Remains => Answer::Made(table.remains()),
         _ => return look(rt, table, call),
     })
 }

@@ -1,7 +1,6 @@
 //! Growths that are refused. `tests/refuse_allocations` runs these with each allocation refused in turn.
 use crate::alone::{Listed, ends, led, ran};
 use crate::listed::{Answer, Call, all};
-use crate::parting::joins::come_together;
 use crate::same::{is_told, same};
 use crate::shapes::{alone, shape};
 use control_word::Refusal;
@@ -12,7 +11,7 @@ use std::sync::Wait;
 use std::test::Fail;
 use std::thread::Threads;
 
-mod structures;
+mod growths;
 
 /// Slots 0 and 2 get owners of one object.
 pub(crate) const BEGIN: [(Call, Answer); 2] = [
@@ -28,35 +27,6 @@ pub(crate) const HAS_ALL: [(Call, Answer); 5] = [
     (Call::Copy(0, 3), Answer::Done),
     (Call::Copy(0, 4), Answer::Not(Fault::Call(Refusal::Limit))),
 ];
-
-#[derive(Drop)]
-struct Splits {
-    alloc: Global,
-}
-
-impl<R: Abort + Threads + Wait + Sync> Program<u64, R> for Splits {
-    fn work<H: Home>(&self, rt: &R, _number: usize, table: &mut HandleTable<'_, u64, H>) {
-        all(rt, table, &BEGIN);
-        match table.split(self.alloc, 2, 2, 1) {
-            Ok(other) => come_together(rt, table, other),
-            Err(why) => same(rt, why, Fault::Call(Refusal::Memory)),
-        }
-        all(rt, table, &HAS_ALL);
-    }
-}
-
-#[test]
-fn a_refused_split_changes_nothing(rt: HostRuntime) -> Result<(), Fail> {
-    let program = Splits { alloc: rt.alloc() };
-    ends(
-        &rt,
-        rt.alloc(),
-        shape(3, 0, 0, 6),
-        alone(5, 4, 2),
-        &program,
-        3,
-    )
-}
 
 /// A worker that makes no call.
 const IDLE: Listed<'static> = Listed { lists: &[] };
@@ -115,13 +85,18 @@ fn a_first_table_is_refused(rt: HostRuntime) -> Result<(), Fail> {
         unmanned(&rt, rt.alloc(), usize::MAX),
         Err(Refusal::Memory),
     );
-    is_told(&rt, unmanned(&rt, rt.alloc(), 1), (0, 1))
+    let told = match unmanned(&rt, rt.alloc(), 1) {
+        Err(Refusal::Memory) => unmanned(&rt, rt.alloc(), 1),
+        told => told,
+    };
+    is_told(&rt, told, (0, 1))
 }
 
-/// A leader that starts so many teams of one worker, and has its own after each.
+/// A leader that starts so many teams of one worker, has its own after each, and tells how many teams worked.
 #[derive(Drop)]
 struct Tries {
     left: u32,
+    worked: usize,
 }
 
 impl<R: Abort + Threads + Wait + Sync> Program<u64, R> for Tries {
@@ -150,6 +125,7 @@ impl<R: Abort + Threads + Wait + Sync> Leader<u64, R> for Tries {
                     Some(Refusal::Memory)
                 };
                 same(rt, fewer, wanted);
+                self.worked = self.worked.saturating_add(workers);
             }
         }
         if self.left == 0 {
@@ -161,14 +137,23 @@ impl<R: Abort + Threads + Wait + Sync> Leader<u64, R> for Tries {
     }
 }
 
+/// A leader of two teams: how many blocks are vacant then, where one of them worked at least.
+fn tried<R: Abort + Threads + Wait + Sync>(rt: &R, alloc: Global) -> Result<u32, Refusal> {
+    let mut leader = Tries { left: 2, worked: 0 };
+    match led(rt, alloc, shape(3, 0, 0, 4), 5, &mut leader) {
+        Ok(vacant) if leader.worked > 0 => Ok(vacant),
+        Ok(_) => Err(Refusal::Memory),
+        Err(why) => Err(why),
+    }
+}
+
 #[test]
 fn a_leader_is_told_that_its_team_was_refused(rt: HostRuntime) -> Result<(), Fail> {
-    let mut leader = Tries { left: 2 };
-    let told = match led(&rt, rt.alloc(), shape(3, 0, 0, 4), 5, &mut leader) {
-        Ok(vacant) => Ok((leader.left, vacant)),
-        Err(why) => Err(why),
+    let told = match tried(&rt, rt.alloc()) {
+        Err(Refusal::Memory) => tried(&rt, rt.alloc()),
+        told => told,
     };
-    is_told(&rt, told, (0, 3))
+    is_told(&rt, told, 3)
 }
 
 /// What tests ask for whose calls take no memory.

@@ -25,8 +25,13 @@ pub(crate) enum Call {
     /// A node with value 9 is attached to the subject.
     Attach(Seat),
     Each,
+    /// How many observers go out.
+    Prune,
     /// A new child of the first with this field and value.
     AddChild(Seat, u64, Seat),
+    /// The field of the node's parent, or nobody.
+    Parent(Seat),
+    Detach(Seat),
     Teardown(Seat),
 }
 

@@ -7,7 +7,7 @@ use crate::calls::listed::{Answer, Seat};
 use crate::calls::seats::{keep, load, spend};
 use control_block::desk::Desk;
 use control_block::domain::Domain;
-use control_word::Refused;
+use control_word::{Refusal, Refused};
 use scene_structures::{Observers, Stack};
 use shared_handle::{Pile, read};
 use std::sync::Wait;
@@ -133,6 +133,27 @@ pub(crate) fn each<R: Wait>(
     let each = observers.each(rt, domain, desk, |field: u64| sums.add(field));
     match each {
         Ok(()) => Answer::Told(sums.nodes, sums.sum, sums.digits),
+        Err(why) => Answer::Not(why),
+    }
+}
+
+/// How many observers `prune` takes out. A desk that isn't sole may not ask.
+pub(crate) fn prune<R: Wait>(
+    rt: &R,
+    domain: &Domain<u64>,
+    desk: &mut Desk<u64>,
+    observers: &mut Observers<u64>,
+) -> Answer
+    requires domain { Belongs desk.old domain.now }
+    requires stands { StandsIn observers.old domain.now }
+    ensures stands { StandsIn observers.new domain.now }
+    ensures desk { IsSameDesk desk.old desk.new }
+{
+    if !desk.is_sole(domain) {
+        return Answer::Not(Refusal::NotSole);
+    }
+    match observers.prune(rt, domain, desk) {
+        Ok(count) => Answer::Count(count),
         Err(why) => Answer::Not(why),
     }
 }

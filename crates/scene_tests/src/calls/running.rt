@@ -6,7 +6,7 @@ ghost use Rattle.scene_structures.specs.Stacks.{ServesDomain, StandsIn};
 use crate::calls::handles::on_handles;
 use crate::calls::kits::{Kit, kit_again, opened, put_away, shut};
 use crate::calls::listed::{Answer, Call};
-use crate::calls::lists::{attach, each, pop, push};
+use crate::calls::lists::{attach, each, pop, prune, push};
 use crate::calls::scenes::on_scene;
 use control_block::desk::Desk;
 use control_block::domain::Domain;
@@ -35,6 +35,7 @@ fn on_lists<R: Wait>(
         Call::Pop(seat) => pop(rt, domain, desk, &mut kit.stack, seat, &mut kit.pile),
         Call::Attach(seat) => { attach(rt, domain, desk, &mut kit.observers, seat, &mut kit.pile) }
         Call::Each => each(rt, domain, desk, &mut kit.observers),
+        Call::Prune => prune(rt, domain, desk, &mut kit.observers),
         _ => return None,
     })
 }

@@ -8,7 +8,7 @@ use std::alloc::Global;
 use std::process::Abort;
 
 /// An owner with a label, in one of two vertices, on one of them.
-fn owner(from: u32, to: u32, slot: u32, label: u32) -> Holding
+pub(crate) fn owner(from: u32, to: u32, slot: u32, label: u32) -> Holding
     requires { (from ≤ 2) × (to ≤ 2) }
     ensures { IsAmong 2 result }
 {

@@ -2,7 +2,7 @@
 use crate::alone::answers;
 use crate::listed::{Answer, Call};
 use crate::shapes::{alone, shape};
-use handle_table::Cell;
+use handle_table::{Cell, Remains};
 
 const SHARED: Cell = Cell::Shared(0);
 
@@ -38,5 +38,32 @@ fn each_call_works(rt: HostRuntime) {
         alone(4, 8, 3),
         &[&CALLS],
         3,
+    );
+}
+
+/// An object and an owned null are left to end, the null on top.
+const LEFT: [(Call, Answer); 8] = [
+    (Call::Remains, Answer::Made(None)),
+    (Call::Make(0, [7, 8, 9, 10], false, 7), Answer::Done),
+    (Call::MakeNull(1, 5), Answer::Done),
+    (Call::Reset(0), Answer::WasLast),
+    (
+        Call::Remains,
+        Answer::Made(Some(Remains::Fields([7, 8, 9, 10]))),
+    ),
+    (Call::Reset(1), Answer::WasLast),
+    (Call::Remains, Answer::Made(Some(Remains::Null))),
+    (Call::SettleWith, Answer::Values(57)),
+];
+
+#[test]
+fn what_is_left_to_end_is_told_and_ended(rt: HostRuntime) {
+    answers(
+        &rt,
+        rt.alloc(),
+        shape(2, 0, 0, 8),
+        alone(2, 4, 2),
+        &[&LEFT],
+        2,
     );
 }
