@@ -1,7 +1,7 @@
 -- Blocks that go between a desk's store and the shelf.
 use Rattle.std.proofs.Common.{◌≡◌, ◌≢◌, ℕ, suc, ◌+◌, ◌-◌, ◌/◌, ◌%◌, ◌^◌, ◌<◌, ◌≤◌, Bool, true, false, cond}
 use Rattle.std.proofs.Common.{[], ◌∷◌, ◌++◌, map}
-use Rattle.std.proofs.Common.{length-append, None, refl, sym, ap, subst, ◌∙◌, ⊎_elim, arith}
+use Rattle.std.proofs.Common.{length-append, None, Some, refl, sym, ap, subst, ◌∙◌, ⊎_elim, arith}
 use Rattle.std.proofs.lemmas.Bool.{cases_eq, cases_lt}
 use Rattle.std.proofs.lemmas.List.{map-append}
 use Rattle.std.proofs.lemmas.Nat.{and_le_l}
@@ -18,7 +18,8 @@ use Rattle.control_word.proofs.words.Banks.{sum_all}
 use Rattle.control_word.specs.Events.{after, unshelves}
 use Rattle.control_word.specs.Histories.{IsLegal, leads, value}
 use Rattle.control_word.specs.Layout.{bit_of}
-use Rattle.control_word.specs.State.{State, on_shelf, put, sum_below}
+use Rattle.control_word.specs.Handles.{handle}
+use Rattle.control_word.specs.State.{Has, State, on_shelf, put, sum_below}
 use Rattle.control_word.specs.declared.model.event.Event.{Event}
 use Rattle.control_word.specs.declared.model.event.Event.TheVariants.{Shelve, Unshelve}
 use Rattle.control_word.specs.declared.place.Block.{Block}
@@ -35,6 +36,7 @@ use Rattle.control_block.specs.declared.table.SeatView.{SeatView}
 use Rattle.control_block.specs.declared.desk.Desk.TheInside.{Inside}
 use Rattle.control_block.proofs.desks.DeskBags.{IsCalm, adds_of, bag_stays, before, ends_still, legal_now, now_of, quiet_spares, same_desk}
 use Rattle.control_block.proofs.desks.DeskSteps.{came, ending_same}
+use Rattle.control_block.proofs.Latest.{calls_keep_latest}
 use Rattle.control_block.proofs.Own.{goes_by_call, goes_by_none, goes_in_turn}
 use Rattle.control_block.proofs.Sole.{comes_next}
 
@@ -78,6 +80,7 @@ module _ {V : Type 0} where
         same = still_same d;
         bag = refl;
         held = refl;
+        latest = λ k p b has. refl;
         endings = λ b x ends. record { ends = ends; members = λ k. refl };
         count = refl;
       }
@@ -97,6 +100,7 @@ module _ {V : Type 0} where
         };
         bag = b.bag ∙ a.bag;
         held = b.held ∙ a.held;
+        latest = λ q p c has. b.latest q p c (subst (Has (handle q (Some c) p)) (sym a.bag) has) ∙ a.latest q p c has;
         endings = endings_on d m f a.endings b.endings;
         count = b.count ∙ a.count;
       }
@@ -146,6 +150,7 @@ module _ {V : Type 0} where
           same = same_desk d w (x b) h a id d.held (desk_now d) refl table allowances;
           bag = bag_stays d w (x b) h a (hands (leads z hist) n);
           held = refl;
+          latest = calls_keep_latest (desk_now d) (x b) (now_of id w d.held) (adds_of d (desk_now d) w id d.held (λ _. x b) refl table a);
           endings = λ c y ends. ends_still d w (x b) h a id d.held c y (desk_now d) refl
               (λ p. quiet_spares z (leads z hist) (value z hist) n (x b) c calm (sound z hist now.0) now.1.asks p) ends;
           count = ending_same v w (x b) (came v w Idle None (x b) a) calm.quiet;

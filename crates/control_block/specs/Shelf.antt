@@ -5,10 +5,10 @@ use Rattle.control_word.specs.declared.model.event.Event.TheVariants.{Shelve, Un
 use Rattle.control_word.specs.declared.place.Block.{Block}
 use Rattle.control_word.specs.State.{on_shelf, sum_below}
 use Rattle.control_block.specs.Desks.{DeskNow, IsSameDesk, KeepsEndings, bag_of, endings_of, state_of, stock_of}
-use Rattle.control_block.specs.Own.{Goes, IsSole}
+use Rattle.control_block.specs.Own.{Goes, IsSole, KeepsLatest}
 
 module _ {V : Type 0} where
-  -- n blocks went one way, each by an event of the desk's own, and what else it has is as it was
+  -- n blocks went one way, each by an event of the desk's own, and what else it has is as it was, of the same objects
   pub record Passes (e : Block → Event V) (n : ℕ) (d f : DeskNow V) : Type 0 where
     pub blocks : List Block
     pub many : length blocks ≡ n
@@ -16,6 +16,7 @@ module _ {V : Type 0} where
     pub same : IsSameDesk d f
     pub bag : bag_of f ≡ bag_of d
     pub held : f.held ≡ d.held
+    pub latest : KeepsLatest d f
     pub endings : KeepsEndings d f
     pub count : endings_of f ≡ endings_of d
 

@@ -3,7 +3,7 @@ use Rattle.std.proofs.Common.{◌≡◌, ℕ, ◌+◌, ◌-◌, List, [], ◌∷
 use Rattle.std.specs.Prelude.{option_to_list}
 use Rattle.std.proofs.lemmas.List.{append-nil}
 use Rattle.std.proofs.Common.{refl, sym, ap, subst, ◌∙◌}
-use Rattle.control_block.specs.Desks.{DeskNow}
+use Rattle.control_block.specs.Desks.{DeskNow, bag_of}
 use Rattle.shared_handle.specs.Endings.{IsClearing, with_clear}
 use Rattle.shared_handle.specs.Piles.{AreRounds, CameLast, IsRound, Past, gone_of, next_member, piled, value_of, values_of}
 use Rattle.shared_handle.specs.declared.endings.Ending.{Ending}
@@ -51,9 +51,9 @@ module _ {V : Type 0} where
 
   -- a member of the one in hand is emptied
   pub clears_in_hand : (d e : DeskNow V) (below zs : List (Ending V)) (x y : Ending V) (m : Member) (left : Left V) → next_member x ≡ Some m
-      → IsClearing d x m left e → y ≡ with_clear m x → zs ≡ piled (below ++ y ∷ []) left
+      → IsClearing d x m left e → y ≡ with_clear m x → zs ≡ piled (below ++ y ∷ []) left → bag_of e ≡ bag_of d
       → IsRound d (below ++ x ∷ []) (Cleared m (gone_of left)) e zs
-  clears_in_hand d e below zs x y m left next clears noted are =
+  clears_in_hand d e below zs x y m left next clears noted are bag =
       record {
         below = below;
         top = x;
@@ -63,4 +63,5 @@ module _ {V : Type 0} where
         clears = clears;
         told = refl;
         are = are ∙ ap (λ (z : Ending V). piled (below ++ z ∷ []) left) noted;
+        bag = bag;
       }

@@ -5,7 +5,7 @@ use Rattle.control_word.specs.declared.model.event.Event.{Event}
 use Rattle.control_word.specs.declared.model.event.Event.TheVariants.{ClearMember, Finish, Leave, WeakLeave}
 use Rattle.control_word.specs.declared.place.Block.{Block}
 use Rattle.control_word.specs.declared.place.Place.{Place}
-use Rattle.control_block.specs.Desks.{AddsEvent, Belongs, DeskNow, DomainNow, endings_of, latest_of, stock_of}
+use Rattle.control_block.specs.Desks.{AddsEvent, Belongs, DeskNow, DomainNow, bag_of, endings_of, latest_of, stock_of}
 use Rattle.shared_handle.specs.Endings.{EndsInHand, IsAllClear, IsClearing, IsLeft, with_clear}
 use Rattle.shared_handle.specs.declared.endings.Ending.{Ending}
 use Rattle.shared_handle.specs.declared.endings.Left.{Left}
@@ -107,7 +107,8 @@ module _ {V : Type 0} where
     pub event : AddsEvent d (Finish (latest_of d x.block.0) vacant v) e
     pub stock : length (stock_of e) ≡ length (stock_of d) + cond vacant 1 0
 
-  -- the first member of the top that isn't cleared is emptied, and what ends for it lies above the top
+  -- the first member of the top that isn't cleared is emptied, and what ends for it lies above the top; what was in the
+  -- member is no more in the desk's hands
   pub record ClearsTop (d : DeskNow V) (ys : List (Ending V)) (m : Member) (gone : Gone) (e : DeskNow V)
       (zs : List (Ending V)) : Type 0 where
     pub below : List (Ending V)
@@ -118,6 +119,7 @@ module _ {V : Type 0} where
     pub clears : IsClearing d top m left e
     pub told : gone ≡ gone_of left
     pub are : zs ≡ piled (below ++ with_clear m top ∷ []) left
+    pub bag : bag_of e ≡ bag_of d
 
   -- the top is finished
   pub record FinishesTop (d : DeskNow V) (ys : List (Ending V)) (v : V) (e : DeskNow V)
@@ -125,6 +127,7 @@ module _ {V : Type 0} where
     pub top : Ending V
     pub were : ys ≡ zs ++ top ∷ []
     pub finish : IsFinish d top v e
+    pub bag : bag_of e ≡ bag_of d
 
   -- a round of the pile: nothing where it is empty
   abbrev pub IsRound : DeskNow V → List (Ending V) → Round V → DeskNow V → List (Ending V) → Type 0

@@ -42,7 +42,7 @@ loop-rounds-preserved-in-Empty g c =
           e.clears e.endings e.count e.beside e.object.0 e.ends refl),
       (
         record { round = Cleared m (gone_of {V = g.row.V.Denot} Empty); desk = l.desk; pile = xs ++ l.top ∷ [] } ∷ i.2.0,
-        (i.2.1, clears_in_hand l.desk t.new.desk xs (xs ++ t.new.self ∷ []) l.top t.new.self m Empty (sym c.in-Some.ensures) e.clears e.noted refl),
+        (i.2.1, clears_in_hand l.desk t.new.desk xs (xs ++ t.new.self ∷ []) l.top t.new.self m Empty (sym c.in-Some.ensures) e.clears e.noted refl e.bag),
         (let a = i.2.2 in let b = c.loop-rounds-test.true in omega arith),
         i.2.3,
       ),
@@ -64,7 +64,7 @@ loop-rounds-preserved-in-Others g c =
           e.clears e.endings e.count e.beside e.object.0 e.ends refl),
       (
         record { round = Cleared m (gone_of {V = g.row.V.Denot} Others); desk = l.desk; pile = xs ++ l.top ∷ [] } ∷ i.2.0,
-        (i.2.1, clears_in_hand l.desk t.new.desk xs (xs ++ t.new.self ∷ []) l.top t.new.self m Others (sym c.in-Some.ensures) e.clears e.noted refl),
+        (i.2.1, clears_in_hand l.desk t.new.desk xs (xs ++ t.new.self ∷ []) l.top t.new.self m Others (sym c.in-Some.ensures) e.clears e.noted refl e.bag),
         (let a = i.2.2 in let b = c.loop-rounds-test.true in omega arith),
         i.2.3,
       ),
@@ -95,7 +95,7 @@ loop-rounds-preserved g c =
           e.clears e.endings e.count e.beside e.object.0 e.ends above),
       (
         record { round = Cleared m (gone_of (Last next)); desk = l.desk; pile = xs ++ l.top ∷ [] } ∷ i.2.0,
-        (i.2.1, clears_in_hand l.desk t.new.desk xs (ys ++ next ∷ []) l.top t.new.self m (Last next) (sym c.in-Some.ensures) e.clears e.noted above),
+        (i.2.1, clears_in_hand l.desk t.new.desk xs (ys ++ next ∷ []) l.top t.new.self m (Last next) (sym c.in-Some.ensures) e.clears e.noted above e.bag),
         (let a = i.2.2 in let b = c.loop-rounds-test.true in omega arith),
         i.2.3,
       ),
@@ -139,6 +139,7 @@ returns-in_default-clause-rounds g c =
             event = e.event.1;
             stock = e.event.2;
           };
+          bag = e.bag;
         },
       ),
       (let a = i.2 in let b = c.loop-rounds-test.true in omega arith),

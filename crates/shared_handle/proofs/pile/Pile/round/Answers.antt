@@ -46,6 +46,7 @@ returns-in_default-next_member-clause-round g c =
         event = e.event.1;
         stock = e.event.2;
       };
+      bag = e.bag;
     }
 
 pub returns-in_default-next_member-clause-parting : goal.returns-in_default-next_member-clause-parting
@@ -98,6 +99,7 @@ returns-clause-round g c =
       told = c.of-gone.ensures;
       are = c.put.ensures.endings ∙ (ap (λ l. piled l t.result) (o.set t.new.self)
           ∙ ap (λ (y : Ending g.row.V.Denot). piled (o.below ++ y ∷ []) t.result) t.ensures.noted);
+      bag = t.ensures.bag;
     }
 
 pub returns-clause-parting : goal.returns-clause-parting
