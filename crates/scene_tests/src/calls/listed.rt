@@ -29,8 +29,7 @@ pub(crate) enum Call {
     Prune,
     /// A new child of the first with this field and value.
     AddChild(Seat, u64, Seat),
-    /// The field of the node's parent, or nobody.
-    Parent(Seat),
+    /// The node goes out of its parent's children.
     Detach(Seat),
     Teardown(Seat),
 }

@@ -10,7 +10,7 @@ use control_block::desk::Desk;
 use control_block::domain::Domain;
 use control_word::Refused;
 use scene_structures::Scene;
-use shared_handle::{Pile, read};
+use shared_handle::Pile;
 use std::alloc::Global;
 use std::sync::Wait;
 
@@ -48,39 +48,6 @@ fn add_child<R: Wait>(
             let Refused { why, back } = refused;
             Answer::Back(why, back)
         }
-    }
-}
-
-/// The field of the parent of the node in a seat, or nobody.
-fn parent<R: Wait>(
-    rt: &R,
-    domain: &Domain<u64>,
-    desk: &mut Desk<u64>,
-    scene: &Scene<u64>,
-    of: Seat,
-    pile: &mut Pile<u64>,
-) -> Answer
-    requires domain { Belongs desk.old domain.now }
-    requires cells { domain.now.shape.shared_cells ≡ 5 }
-    requires serves { ServesDomain domain.now pile.old }
-    ensures serves { ServesDomain domain.now pile.new }
-    ensures desk { IsSameDesk desk.old desk.new }
-{
-    let node = match load(rt, domain, desk, of) {
-        Ok(node) => node,
-        Err(why) => return Answer::Not(why),
-    };
-    let told = scene.parent(rt, domain, desk, &node);
-    spend(rt, domain, desk, node, pile);
-    let owner = match told {
-        Ok(owner) => owner,
-        Err(why) => return Answer::Not(why),
-    };
-    let field = read(domain, desk, &owner);
-    spend(rt, domain, desk, owner, pile);
-    match field {
-        Ok(field) => Answer::Field(field),
-        Err(_) => Answer::Nobody,
     }
 }
 
@@ -194,7 +161,6 @@ pub(crate) fn on_scene<R: Wait>(
 {
     Some(match call {
         Call::AddChild(of, value, to) => add_child(rt, domain, desk, scene, of, value, to, pile),
-        Call::Parent(of) => parent(rt, domain, desk, scene, of, pile),
         Call::Detach(of) => detach(rt, domain, desk, scene, of, pile),
         Call::Teardown(seat) => ended(tear_down(rt, alloc, domain, desk, scene, seat, pile)),
         _ => return None,
