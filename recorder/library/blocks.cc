@@ -58,7 +58,7 @@ void Snapshot::add_block(Word at, int chunk, const VirtualTable& table) {
 }
 
 void Snapshot::find_blocks() {
-  std::vector<std::pair<Word, int>> untyped;
+  std::map<Word, int> untyped;  // with the sum of their counts
   for (std::size_t chunk = 0; chunk < chunks.size(); chunk++)
     each_word(chunks[chunk].from, chunks[chunk].to - WORD, [&](Word at, Word word) {
       const VirtualTable& table = tables.of(word);
@@ -69,39 +69,38 @@ void Snapshot::find_blocks() {
       if (table.is_control_block || is_hooked)
         add_block(at, static_cast<int>(chunk), table);
       else if (uses)
-        untyped.push_back({at, uses + weaks});
+        untyped[at] = uses + weaks;
     });
   std::sort(blocks.begin(), blocks.end(),
             [](auto& a, auto& b) { return a.number != b.number ? a.number < b.number : a.at < b.at; });
+  std::vector<BlockIndex::Entry> entries;
+  entries.reserve(blocks.size());
   for (std::size_t number = 0; number < blocks.size(); number++) {
     auto& chunk = chunks[blocks[number].chunk];
     bool is_alone =
         !chunk.has_blocks && (blocks[number].at == chunk.from || blocks[number].kind == ControlBlock::ARRAY);
     chunk.is_pool |= !is_alone;
     chunk.has_blocks = true;
-    block_at[blocks[number].at] = static_cast<int>(number);
+    entries.push_back({blocks[number].at, static_cast<int>(number)});
   }
   for (auto& it : blocks)
     if (chunks[it.chunk].is_pool && !it.is_hooked) it.trace = nullptr;  // which tells of the pool's making
-  for (auto& it : untyped) block_at.emplace(it.first, -it.second);
-  if (!untyped.empty()) find_untyped();
-  block_of.insert(block_at.begin(), block_at.end());
+  block_index.fill(std::move(entries));
+  if (!untyped.empty()) find_untyped(untyped);
 }
 
 // Of those that may be blocks without a type: how many have a handle, and no more than their counts say.
-void Snapshot::find_untyped() {
+void Snapshot::find_untyped(const std::map<Word, int>& counted) {
   std::map<Word, int> found;
   Word before = 0;
   auto visit = [&](Word, Word word) {
-    auto it = block_at.find(word & ~Word(1));
-    if (it != block_at.end() && it->second < 0 && before && is_pointer(before)) found[it->first]++;
+    auto it = counted.find(word & ~Word(1));
+    if (it != counted.end() && before && is_pointer(before)) found[it->first]++;
     before = word;
   };
   for (auto& it : chunks) before = 0, each_word(it.from, it.to, visit);
   for (auto& it : areas) before = 0, each_word(it, visit);
-  for (auto& it : found) untyped_blocks += it.second <= -block_at[it.first];
-  for (auto it = block_at.begin(); it != block_at.end();)
-    it = it->second < 0 ? block_at.erase(it) : std::next(it);
+  for (auto& it : found) untyped_blocks += it.second <= counted.at(it.first);
 }
 
 void Snapshot::find_objects() {
@@ -171,8 +170,8 @@ void Snapshot::place_object(ControlBlock& block, const std::vector<Word>& stored
     if (block.kind != ControlBlock::IN_PLACE && chunk_of(top) == chunk) block.object = top;
   }
   if (block.object_end <= block.object) block.object_end = chunks[chunk].to;
-  auto next = block_at.upper_bound(block.object);
-  if (next != block_at.end()) block.object_end = std::min(block.object_end, next->first);
+  auto next = block_index.first_after(block.object);
+  if (next) block.object_end = std::min(block.object_end, next->first);
 }
 
 }  // namespace recorder

@@ -9,43 +9,42 @@ namespace recorder {
 bool Snapshot::is_dead(Word at) const {
   int chunk = chunk_of(at);
   if (chunk < 0 || !chunks[chunk].has_blocks) return false;
-  auto next = block_at.upper_bound(at);
-  if (next != block_at.end()) {
+  if (auto next = block_index.first_after(at)) {
     auto& block = blocks[next->second];
     if (block.chunk == chunk && block.kind == ControlBlock::ARRAY) return !block.is_live();
   }
-  if (next == block_at.begin()) return false;
-  auto& block = blocks[std::prev(next)->second];
+  auto before = block_index.last_up_to(at);
+  if (!before) return false;
+  auto& block = blocks[before->second];
   return block.chunk == chunk && block.kind == ControlBlock::IN_PLACE && !block.is_live();
 }
 
 // Whether a word is the address of a block; an atomic pointer's lock is the lowest bit.
 bool Snapshot::is_block(Word word) const {
   word &= ~Word(1);
-  if (!word || word % WORD || block_at.empty()) return false;
-  return word >= block_at.begin()->first && word <= block_at.rbegin()->first && block_of.count(word);
+  return word % WORD == 0 && block_index.at(word) >= 0;
 }
 
 // `before` is the word before it, in which a handle has the pointer to its object.
 void Snapshot::add_candidate(Word at, Word before, Word word) {
   if (!is_block(word) || (before && !is_pointer(before)) || is_dead(at)) return;
   if (hooked && !handle_at.emplace(at, true).second) return;
-  handles.push_back({Handle::EITHER, at, block_of[word & ~Word(1)], before});
+  handles.push_back({Handle::EITHER, at, block_index.at(word & ~Word(1)), before});
 }
 
 void Snapshot::find_handles() {
   std::vector<int> owners(blocks.size()), weaks(blocks.size());
   holdings.each([&](Word at, const Holding& it) {
-    auto block = block_at.find(it.block);
+    int block = block_index.at(it.block);
     bool is_there = chunk_of(at) >= 0 || area_of(at) >= 0;
     auto words = reinterpret_cast<const Word*>(at);
-    if (block == block_at.end() || !is_there || (*words & ~Word(1)) != it.block) {
+    if (block < 0 || !is_there || (*words & ~Word(1)) != it.block) {
       lost_handles++;
       return;
     }
-    handles.push_back({it.is_weak ? Handle::WEAK : Handle::OWNER, at, block->second, words[-1]});
+    handles.push_back({it.is_weak ? Handle::WEAK : Handle::OWNER, at, block, words[-1]});
     handle_at.emplace(at, true);
-    (it.is_weak ? weaks : owners)[block->second]++;
+    (it.is_weak ? weaks : owners)[block]++;
   });
   bool all_met = hooked;
   for (std::size_t number = 0; number < blocks.size(); number++) {

@@ -134,7 +134,7 @@ __attribute__((noinline)) void* unusually_taken(std::size_t size, Frame frame) {
 }
 
 __attribute__((noinline)) void unusually_freed(void* memory) {
-  if (OwnRegion::has(memory)) return;
+  if (OwnRegion::has(memory)) return OwnRegion::give(memory);
   if (is_noted()) forget(memory);
   next_malloc.free(memory);
 }

@@ -99,6 +99,13 @@ void* OwnRegion::take(std::size_t bytes, std::size_t alignment) {
   return reinterpret_cast<void*>(at);
 }
 
+void OwnRegion::give(void* memory) {
+  constexpr Word PAGE = 4096;
+  Word begin = (reinterpret_cast<Word>(memory) + PAGE - 1) & ~(PAGE - 1);
+  Word end = (reinterpret_cast<Word>(memory) + size_of(memory)) & ~(PAGE - 1);
+  if (end > begin + 16 * PAGE) madvise(reinterpret_cast<void*>(begin), end - begin, MADV_DONTNEED);
+}
+
 std::size_t OwnRegion::size_of(const void* memory) { return static_cast<const std::size_t*>(memory)[-1]; }
 
 }  // namespace recorder

@@ -33,6 +33,7 @@ public:
   static void give_back();                                      // where its end isn't reached
   static bool has(const void* memory) { return reinterpret_cast<Word>(memory) - from < to - from; }
   static std::size_t size_of(const void* memory);
+  static void give(void* memory);  // the pages of what is large
 
 private:
   static Word from, to;

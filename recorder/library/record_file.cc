@@ -10,6 +10,7 @@
 #include <cstdarg>
 #include <cstdio>
 #include <cstring>
+#include <initializer_list>
 
 #include "kept_file.h"
 
@@ -66,6 +67,12 @@ public:
     else
       used += size;
   }
+  // Each number after a space; of such lines there are many.
+  void say_number(std::ptrdiff_t number) {
+    if (number >= 0) return say_digits(static_cast<Word>(number), 10, "");
+    say_digits(-static_cast<Word>(number), 10, "-");
+  }
+  void say_address(Word address) { say_digits(address, 16, ""); }
   void say_text(const char* words) {
     for (std::size_t left = std::strlen(words); left;) {
       if (used == sizeof buffer) flush();
@@ -77,6 +84,18 @@ public:
 
 private:
   static constexpr std::size_t MOST_OF_A_LINE = 256;
+
+  void say_digits(Word number, Word base, const char* sign) {
+    char digits[24];
+    char* at = digits + sizeof digits - 1;
+    *at = 0;
+    do
+      *--at = "0123456789abcdef"[number % base];
+    while (number /= base);
+    say_text(" ");
+    say_text(sign);
+    say_text(at);
+  }
 
   void name_files(int number) {
     int size = std::snprintf(final_path, sizeof final_path, "%s.%d", record_path, getpid());
@@ -103,13 +122,19 @@ private:
 void write_block(Output& out, const Snapshot& all, int number) {
   static const char* const KINDS[] = {"in-place", "plain", "deleter", "array"};
   auto& it = all.blocks[number];
-  out.say("block %d %zx %zx %zu %d %d %s %d ", number, it.at, it.object, it.object_end - it.object, it.uses,
-          it.weaks, KINDS[it.kind], all.chunks[it.chunk].is_pool);
+  out.say_text("block");
+  out.say_number(number);
+  out.say_address(it.at);
+  out.say_address(it.object);
+  for (Word word : {it.object_end - it.object, Word(it.uses), Word(it.weaks)}) out.say_number(std::ptrdiff_t(word));
+  out.say_text(" ");
+  out.say_text(KINDS[it.kind]);
+  out.say_text(all.chunks[it.chunk].is_pool ? " 1 " : " 0 ");
   out.say_text(it.type ? it.type : "-");
   out.say_text(" ");
   out.say_text(it.dynamic ? it.dynamic : "-");
   for (int at = 0; it.trace && at < it.trace->count; at++)
-    out.say(" %zx", it.trace->frames[at]);
+    out.say_address(it.trace->frames[at]);
   out.say_text("\n");
   if (!it.told) return;
   out.say("told %d ", number);
@@ -128,19 +153,23 @@ void write_place(Output& out, const Snapshot& all, Word at) {
   if (holder.kind == Holder::OBJECT) {
     auto& block = all.blocks[holder.number];
     bool is_in_object = origin >= block.object && origin < block.object_end;
-    out.say(" %s %d %zd", is_in_object ? "object" : "deleter", holder.number,
-            origin - (is_in_object ? block.object : block.at));
+    out.say_text(is_in_object ? " object" : " deleter");
+    out.say_number(holder.number);
+    out.say_number(std::ptrdiff_t(origin - (is_in_object ? block.object : block.at)));
   } else if (holder.kind == Holder::AREA) {
-    static const char* const KINDS[] = {"static", "thread-local", "stack", "mapped", "kernel"};
+    static const char* const KINDS[] = {" static", " thread-local", " stack", " mapped", " kernel"};
     auto& area = all.areas[holder.number];
     bool is_static = area.kind == Area::STATIC;
-    out.say(" %s %d %zd", KINDS[area.kind], area.number,
-            origin - (is_static ? all.modules.modules[area.number].base : area.from));
+    out.say_text(KINDS[area.kind]);
+    out.say_number(area.number);
+    out.say_number(std::ptrdiff_t(origin - (is_static ? all.modules.modules[area.number].base : area.from)));
   } else {
-    out.say(" heap 0 0");
+    out.say_text(" heap 0 0");
   }
   bool is_apart = is_inner || (chunk >= 0 && all.chunks[chunk].memory >= 0);
-  out.say(" %zd %d ", is_apart ? std::ptrdiff_t(inner) : -1, chunk < 0 ? -1 : all.chunks[chunk].memory);
+  out.say_number(is_apart ? std::ptrdiff_t(inner) : -1);
+  out.say_number(chunk < 0 ? -1 : all.chunks[chunk].memory);
+  out.say_text(" ");
   out.say_text(chunk < 0 ? "-" : all.maker_of(chunk).c_str());
   out.say_text("\n");
 }
@@ -170,17 +199,21 @@ void write_record(int number, const Snapshot& all, const char* when) {
   for (std::size_t block = 0; block < all.blocks.size(); block++)
     write_block(out, all, static_cast<int>(block));
   for (auto& it : all.handles) {
-    out.say("handle %s %d", KINDS[it.kind], it.block);
+    out.say_text("handle ");
+    out.say_text(KINDS[it.kind]);
+    out.say_number(it.block);
     write_place(out, all, it.at);
   }
   for (auto& it : all.raw_pointers) {
-    out.say("raw %d %zd", it.to, std::ptrdiff_t(it.word - all.blocks[it.to].object));
+    out.say_text("raw");
+    out.say_number(it.to);
+    out.say_number(std::ptrdiff_t(it.word - all.blocks[it.to].object));
     write_place(out, all, it.at);
   }
   for (auto& it : all.links) {
-    out.say("link %d", it.to);
+    out.say_text("link");
+    out.say_number(it.to);
     write_place(out, all, it.at);
-    out.say_text("");
   }
   out.say("untyped %zu\nlost %zu\n", all.untyped_blocks, all.lost_handles);
   out.say("mapped_blocks %zu\nmapped_bytes %zu\nend\n", all.mapped_blocks, all.mapped_bytes);

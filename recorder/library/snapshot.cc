@@ -27,13 +27,6 @@ bool is_of_libc(const std::string& path) {
   return path.compare(name == path.npos ? 0 : name + 1, 5, "libc.") == 0;
 }
 
-template <typename Sorted>
-int place_below(const Sorted& sorted, Word address) {
-  auto after = std::upper_bound(sorted.begin(), sorted.end(), address,
-                                [](Word word, const auto& it) { return word < it.from; });
-  return static_cast<int>(after - sorted.begin()) - 1;
-}
-
 }  // namespace
 
 Snapshot::Snapshot(const Modules& modules, const Outside& outside, const std::vector<LivingStack>& stacks)
@@ -55,6 +48,8 @@ Snapshot::Snapshot(const Modules& modules, const Outside& outside, const std::ve
     Word to = from + next_malloc.usable_size(reinterpret_cast<void*>(from));
     chunks.push_back({from, to, to, it.number, trace_of(it.trace), alignment_of(from, it), {}});
   });
+  chunk_begins.reserve(chunks.size());
+  for (auto& it : chunks) chunk_begins.push_back(it.from);
   add_outside(outside);
   find_blocks();
   find_handles();
@@ -86,8 +81,9 @@ void Snapshot::add_outside(const Outside& outside) {
 
 int Snapshot::chunk_of(Word address) const {
   if (chunks.empty() || address < chunks.front().from || address >= chunks.back().to) return -1;
-  int place = place_below(chunks, address);
-  return place >= 0 && address < chunks[place].to ? place : -1;
+  auto after = std::upper_bound(chunk_begins.begin(), chunk_begins.end(), address);
+  int place = static_cast<int>(after - chunk_begins.begin()) - 1;
+  return address < chunks[place].to ? place : -1;
 }
 
 int Snapshot::object_of(Word address) const {

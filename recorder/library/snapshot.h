@@ -2,9 +2,9 @@
 #pragma once
 #include <map>
 #include <string>
-#include <unordered_map>
 #include <vector>
 
+#include "block_index.h"
 #include "chunks.h"
 #include "modules.h"
 #include "outside.h"
@@ -119,7 +119,7 @@ private:
 
   void add_outside(const Outside& outside);
   void find_blocks();
-  void find_untyped();
+  void find_untyped(const std::map<Word, int>& counted);
   void add_block(Word at, int chunk, const VirtualTable& table);
   void find_handles();
   void add_candidate(Word at, Word before, Word word);
@@ -131,8 +131,8 @@ private:
   void find_holders();
   void find_raw_pointers();
 
-  std::map<Word, int> block_at;
-  std::unordered_map<Word, int> block_of;  // the same unordered, in which each word of memory is looked up
+  std::vector<Word> chunk_begins;  // (close together, as each word of memory is looked up)
+  BlockIndex block_index;
   std::vector<std::pair<Word, int>> objects;  // by address
   std::map<Word, bool> handle_at;             // (only where hooks tell of handles)
 };

@@ -19,9 +19,10 @@ public:
 
   Lock lock;
 
-  Value* find(Word key) {
+  Value* find(Word key) { return const_cast<Value*>(static_cast<const Table*>(this)->find(key)); }
+  const Value* find(Word key) const {
     if (!slots) return nullptr;
-    Slot& slot = slots[place_of(key)];
+    const Slot& slot = slots[place_of(key)];
     return slot.key ? &slot.value : nullptr;
   }
 
@@ -52,6 +53,12 @@ public:
   void each(Visit visit) {
     for (std::size_t at = 0; at < capacity; at++)
       if (slots[at].key) visit(slots[at].key, slots[at].value);
+  }
+
+  void clear() {
+    if (slots) give_own_pages(slots, capacity * sizeof(Slot));
+    slots = nullptr;
+    capacity = used = 0;
   }
 
 private:
