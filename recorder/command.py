@@ -1,63 +1,45 @@
 """The command line of ./record."""
-import argparse
 import gc
 import os
 import signal
 import subprocess
 import sys
 import tempfile
+from argparse import Namespace
 from pathlib import Path
 
-from recorder import drawing, hook_headers, library, program, report, verdicts
+from recorder import drawing, hook_headers, library, options, program, proved, report, suppressions, verdicts
 from recorder.receiving import Receiver
 from recorder.record_text import read
 
-LEAKED, REFUSED = 3, 125
+REFUSED = 125
+WHEN = {
+    "_exit": "the program ended by _exit: no destructor of a static has run",
+    "quick_exit": "the program ended by quick_exit: no destructor of a static has run",
+    "SIGTERM": "the program was ended by SIGTERM: no destructor has run",
+    "SIGINT": "the program was ended by SIGINT: no destructor has run",
+    "now": "while the program runs",
+}
 
 
-def signal_number(name):
-    """The number of a signal, by its name with or without SIG, or by its number."""
-    named = getattr(signal, name if name.startswith('SIG') else f'SIG{name}', None)
-    return int(named) if named else int(signal.Signals(int(name)))
-
-
-def parse(words):
-    text = 'Runs a C++ program, and tells which of its shared_ptr objects leak and which member to make weak.'
-    parser = argparse.ArgumentParser('record', description=text, allow_abbrev=False)
-    parser.add_argument('--json', metavar='FILE', help='write all of it to FILE, for other programs')
-    parser.add_argument(
-        '--frames', metavar='N', type=int, default=16, help='frames kept of each making (16; 0 is fast)'
-    )
-    parser.add_argument(
-        '--now',
-        metavar='SIGNAL',
-        type=signal_number,
-        help='also tell what is there whenever the program gets SIGNAL',
-    )
-    parser.add_argument('--dot', metavar='FILE', help='draw the graph of owners, for Graphviz')
-    parser.add_argument('--keep', metavar='DIR', help='keep what was read of memory, the graph and the map')
-    parser.add_argument('--flags', action='store_true', help='print the flags for exact handles, for CXXFLAGS')
-    parser.add_argument('--children', action='store_true', help='tell of processes that the program starts, too')
-    parser.add_argument('program', nargs='?', metavar='PROGRAM')
-    parser.add_argument('arguments', nargs=argparse.REMAINDER, metavar='ARG')
-    options = parser.parse_args(words)
-    if not options.program and not options.flags:
-        parser.error('which program?')
-    return options
-
-
-def say(line):
+def say(line: str):
     print(line, file=sys.stderr, flush=True)
 
 
 class Reports:
     """Tells each record once, and keeps what is asked for."""
 
-    def __init__(self, options, folder):
-        self.options, self.folder = options, folder
-        self.seen, self.told, self.refused, self.leaks = set(), [], [], False
+    def __init__(self, asked: Namespace, folder: str, suppressed: list):
+        self.asked, self.folder, self.suppressed = asked, folder, suppressed
+        self.seen, self.as_json, self.refused, self.leaks = set(), [], [], False
+        self.is_whole = False  # a record of an end is there
+        self.before = None  # the report of the snapshot before
+        self.file = open(asked.report, "w") if asked.report else None
         for path in program.records(folder):
             path.unlink()  # of an earlier run
+
+    def say(self, line: str):
+        print(line, file=self.file or sys.stderr, flush=True)
 
     def look(self):
         for path in program.records(self.folder):
@@ -65,51 +47,60 @@ class Reports:
                 self.seen.add(path)
                 self.tell(path)
 
-    def tell(self, path):
+    def tell(self, path: Path):
         try:
             record = read(path)
         except ValueError as why:
-            return self.refuse(f'of its record: {why}')
+            return self.refuse(f"of its record: {why}")
+        self.is_whole |= record.when != "now"
         if record.refused:
             return self.refuse(record.refused)
         if record.untyped and not record.blocks:
             return self.refuse(
-                'it is compiled without RTTI: control blocks are there, and tell no type; see --flags'
+                "it is compiled without RTTI: control blocks are there, and tell no type; see --flags"
             )
-        if self.options.children and not record.blocks:
+        if self.asked.children and not record.blocks:
             return None
-        told = verdicts.tell(record)
-        if record.when != 'exit':
-            say(f'record: {WHEN[record.when]}')
-        if self.options.children:
-            say(f'record: process {path.suffixes[0][1:]}')
-        for line in report.lines(told):
-            say(line)
-        self.leaks |= bool(told.alarming)
-        if self.options.json:
-            self.told.append(report.as_json(told))
-        if self.options.dot:
-            Path(self.options.dot).write_text(drawing.dot(told))
-        if self.options.keep:
-            Path(f'{path}.graph').write_text(told.graph.text())
-            Path(f'{path}.map').write_text(report.map_text(told))
+        findings = verdicts.tell(record, self.suppressed)
+        if self.asked.proved:
+            findings.compared = proved.difference(findings.graph, findings.answer) or "the same"
+        leaks = bool(findings.alarming or self.asked.strict and findings.undecided)
+        self.leaks |= leaks
+        if leaks or not self.asked.quiet:
+            self.say_all(findings, path)
+        self.keep(findings, path)
         return None
 
-    def refuse(self, why):
+    def say_all(self, findings: verdicts.Findings, path: Path):
+        when = findings.record.when
+        if when != "exit":
+            self.say(f"record: {WHEN[when]}")
+        if self.asked.children:
+            self.say(f"record: process {path.suffixes[0][1:]}")
+        for line in report.lines(findings, self.asked.stack, self.before if when == "now" else None):
+            self.say(line)
+        if when == "now":
+            self.before = findings
+        for line in report.annotations(findings) if self.asked.github else ():
+            print(line, flush=True)
+
+    def keep(self, findings: verdicts.Findings, path: Path):
+        if self.asked.json:
+            self.as_json.append(report.as_json(findings))
+        if self.asked.dot:
+            Path(self.asked.dot).write_text(drawing.dot(findings))
+        if self.asked.keep:
+            Path(f"{path}.graph").write_text(findings.graph.text())
+            Path(f"{path}.map").write_text(report.map_text(findings))
+
+    def refuse(self, why: str):
         self.refused.append(why)
-        say(f'record: refused: {why}')
+        self.say(f"record: refused: {why}")
 
-    def status(self, of_program):
+    def status(self, of_program: int) -> int:
         if self.leaks:
-            return LEAKED
+            return self.asked.exit
         return REFUSED if self.refused else of_program
-
-
-WHEN = {
-    '_exit': 'the program ended by _exit: no destructor of a static has run',
-    'quick_exit': 'the program ended by quick_exit: no destructor of a static has run',
-    'now': 'while the program runs',
-}
 
 
 def built_library():
@@ -121,73 +112,86 @@ def built_library():
         raise program.Refusal(f'the library could not be built: {fault}') from fault
 
 
-def run(options, folder, path, reports):
+def run(asked: Namespace, folder: str, path: str, reports: Reports) -> int:
     """Runs the program under the library. Returns its exit status, as shells have it."""
-    names = {'RECORDER_FILE': f'{folder}/record', 'RECORDER_FRAMES': str(options.frames)}
+    names = {'RECORDER_FILE': f'{folder}/record', 'RECORDER_FRAMES': str(asked.frames)}
     names['LD_PRELOAD'] = ':'.join(filter(None, [built_library(), os.environ.get('LD_PRELOAD')]))
-    if options.children:
+    if asked.children:
         names['RECORDER_CHILDREN'] = '1'
-    if options.now:
-        names['RECORDER_SIGNAL'] = str(options.now)
+    if asked.now:
+        names['RECORDER_SIGNAL'] = str(asked.now)
     with tempfile.TemporaryDirectory() as place, program.held_signals() as mask:
         names['RECORDER_SOCKET'] = f'{place}/socket'
         receiver = Receiver(names['RECORDER_SOCKET'], folder)
-        process = program.start((path, [options.program, *options.arguments]), names, mask)
-        if options.now:
-            say(f'record: kill -{signal.Signals(options.now).name[3:]} {process} asks for a report')
+        process = program.start((path, [asked.program, *asked.arguments]), names, mask)
+        if asked.now:
+            say(f'record: kill -{signal.Signals(asked.now).name[3:]} {process} asks for a report')
         status = program.wait(process, reports.look)
         receiver.finish()
     reports.look()
-    if status < 0:
-        say(f'record: the program was ended by {signal.Signals(-status).name}: what it left was not read')
+    if status < 0 and not reports.is_whole:
+        reports.say(f"record: the program was ended by {signal.Signals(-status).name}: what it left was not read")
     elif not reports.seen:
         reports.refuse('it wrote no record: it may have other rights than yours, or have become another program')
     return 128 - status if status < 0 else status
 
 
-def check_writable(options):
-    """Opens what is asked for, so that what can't be written is told before the program runs."""
-    for path in filter(None, [options.json, options.dot]):
-        with open(path, 'a'):
-            pass
-    if options.keep:
-        Path(options.keep).mkdir(parents=True, exist_ok=True)
+def check_writable(asked: Namespace):
+    """Opens what is asked for, so that what can't be written is told before the program runs. The paths stay what they
+    are wherever the program goes."""
+    for name in "json", "dot", "report":
+        path = getattr(asked, name)
+        if path:
+            with open(path, "a"):
+                pass
+    if asked.keep:
+        asked.keep = os.path.abspath(asked.keep)
+        Path(asked.keep).mkdir(parents=True, exist_ok=True)
 
 
-def told(options, path):
+def run_and_tell(asked: Namespace, path: str, suppressed: list) -> int:
     """Runs the program and tells. Returns the exit status."""
     with tempfile.TemporaryDirectory() as scratch:
-        folder = options.keep or scratch
-        reports = Reports(options, folder)
+        folder = asked.keep or scratch
+        reports = Reports(asked, folder, suppressed)
         status = REFUSED
         try:
             program.refuse_unreadable(program.interpreter_of(path))
-            status = run(options, folder, path, reports)
-        except program.Refusal as why:
+            status = run(asked, folder, path, reports)
+        except (program.Refusal, proved.Refusal) as why:
             reports.refuse(str(why))
-    if options.json:
-        report.write_json(options.json, reports.told, reports.refused)
+    for it in suppressed:
+        if not it.is_used and not asked.quiet:
+            reports.say(f"record: nothing was left that {it.pattern} suppresses")
+    if asked.json:
+        report.write_json(asked.json, reports.as_json, reports.refused)
     return reports.status(status)
 
 
-def main():
+def main() -> int:
     gc.disable()  # all that is read is needed to the end
-    options = parse(sys.argv[1:])
-    if options.flags:
+    asked = options.parse(sys.argv[1:])
+    if asked.flags:
         try:
             print(hook_headers.flags())
         except hook_headers.Refusal as why:
-            say(f'record: refused: {why}')
+            say(f"record: refused: {why}")
             return REFUSED
         return 0
     try:
-        path = program.find(options.program)
+        path = program.find(asked.program)
     except program.NotFound as why:
-        say(f'record: {options.program}: {why}')
+        say(f"record: {asked.program}: {why}")
         return 127
     try:
-        check_writable(options)
+        check_writable(asked)
+        suppressed = suppressions.read(asked.suppress)
+        if asked.proved:
+            proved.refuse_unbuilt()
     except OSError as fault:
-        say(f'record: refused: {fault.filename}: {fault.strerror}')
+        say(f"record: refused: {fault.filename}: {fault.strerror}")
         return REFUSED
-    return told(options, path)
+    except (suppressions.Refusal, proved.Refusal) as why:
+        say(f"record: refused: {why}")
+        return REFUSED
+    return run_and_tell(asked, path, suppressed)

@@ -169,6 +169,8 @@ def symbolizer():
 
 def lines_of(path, addresses):
     """Of each address in a module: the functions there and their places, the innermost first."""
+    if not shutil.which(symbolizer()[0]) or not shutil.which('c++filt'):
+        return {}
     text = ''.join(f'{it:#x}\n' for it in addresses)
     how = {'capture_output': True, 'text': True, 'errors': 'replace'}
     said = subprocess.run([*symbolizer(), path], input=text, **how).stdout
@@ -218,6 +220,6 @@ def name_places(record: Record):
             units = [modules.place_of(frame - 1) for frame in frames]
             every = [(unit, place, own_name(it)) for unit in units for place, it in said.get(unit, [])]
             ours = [it for it in every if not it[2].startswith(OF_THE_LIBRARY)]
-            stack = tuple(f"{short(name)} at {short_path(place)}" for _, place, name in ours if name != "??")
+            stack = tuple(f"{short(name)} at {short_path(place)}" for _, place, name in ours if not place.startswith("??"))
             places[frames] = *first_place(ours), stack
         block.made, block.unit, block.stack = places[frames]

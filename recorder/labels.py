@@ -12,6 +12,8 @@ PLACES = {
     "kernel": "the kernel, by an epoll",
     "mapped": "memory that the program mapped itself",
 }
+# Types that have no room for a handle: where one seems to lie in such a member, the object is another.
+NO_HANDLE = re.compile(r"(unsigned |signed )?(bool|short|int|long|long long|float|double|wchar_t)|[^(]*\*")
 WORD = 8  # a handle is told by its second, the first is the pointer to its object
 
 
@@ -65,7 +67,8 @@ class Labels:
         block = self.record.blocks[place.number]
         inner = place.inner if place.maker == "d" else -1
         found = self.answers.member(block.name, block, place.offset, inner)
-        if not found or not found[1]:
+        is_handle = before and place.inner < 0
+        if not found or not found[1] or is_handle and NO_HANDLE.fullmatch(found[2]):
             return f"{short(block.name)} at byte {place.offset - before * (place.inner < 0)}", "", ""
         declaring, path, declared, *pointed = found
         if not pointed:

@@ -5,9 +5,11 @@ For each type and byte: the class that declares the member there, the member's p
 std::unique_ptr there points to, the same. For each byte of a module: the symbol there. For each function that calls a
 callable or resumes a coroutine: where that is defined, and what it captures.
 """
+import functools
 import json
 import os
 import re
+import struct
 
 import gdb
 
@@ -37,16 +39,65 @@ def begin_of(field):
         return None
 
 
-def field_at(type_, offset):
-    """The field that the byte lies in, and where that begins."""
-    found = None
+def virtual_bases(type_, found=None):
+    """The names of a class's virtual bases, its bases' own too, in their order."""
+    found = {} if found is None else found
+    for field in type_.fields():
+        if field.is_base_class:
+            virtual_bases(field.type.strip_typedefs(), found)
+            if begin_of(field) is None:
+                found.setdefault(name_of(field.type), None)
+    return list(found)
+
+
+@functools.lru_cache(maxsize=None)
+def begins_of_virtual_bases(name):
+    """By name: where each begins in a whole object of a class. Its table of virtual functions has them backwards, before
+    the first 0, which is where the object itself begins."""
+    bases, found = virtual_bases(gdb.lookup_type(name).strip_typedefs()), {}
+    try:
+        at = int(gdb.parse_and_eval(f"(long)&'vtable for {name}'"))
+        words = struct.unpack("<16q", gdb.selected_inferior().read_memory(at, 128).tobytes())
+    except gdb.error:
+        return found
+    before = words[: words.index(0)] if 0 in words else ()
+    return dict(zip(bases, reversed(before)))
+
+
+def direct_fields(type_):
     for field in type_.fields():
         begin = begin_of(field)
-        if begin is None:
-            continue
+        if begin is not None:
+            yield field, begin
+
+
+def all_fields(type_):
+    """Each field and where it begins; virtual bases too, which all lie in the whole object, and before other bases, which
+    seem to reach as far as these do."""
+    if any(it.is_base_class for it in type_.fields()):
+        for base, begin in begins_of_virtual_bases(name_of(type_)).items() if virtual_bases(type_) else ():
+            yield VirtualBase(gdb.lookup_type(base)), begin
+    yield from direct_fields(type_)
+
+
+class VirtualBase:
+    """A field that is a virtual base, at any depth."""
+
+    is_base_class, name = True, None
+
+    def __init__(self, type_):
+        self.type = type_
+
+
+def field_at(type_, offset, is_whole=False):
+    """The field that the byte lies in, and where that begins; virtual bases of a whole object come last in it."""
+    found = None
+    for field, begin in all_fields(type_) if is_whole else direct_fields(type_):
         size = size_of(field.type)
         if begin <= offset and (offset < begin + size or size == 0) and (size or not found):
             found = field, begin
+            if isinstance(field, VirtualBase):
+                return found
     return found
 
 
@@ -55,6 +106,7 @@ def leaf_at(type_, offset):
     type_ = type_.strip_typedefs()
     declaring, path = name_of(type_), []
     offset %= max(type_.sizeof, 1)  # (of an array's object)
+    is_whole = True
     while True:
         name = name_of(type_)
         if is_of_the_library(name):
@@ -63,11 +115,13 @@ def leaf_at(type_, offset):
             type_ = type_.target().strip_typedefs()
             offset %= max(type_.sizeof, 1)
             continue
-        field = field_at(type_, offset) if type_.code in (gdb.TYPE_CODE_STRUCT, gdb.TYPE_CODE_UNION) else None
+        has_fields = type_.code in (gdb.TYPE_CODE_STRUCT, gdb.TYPE_CODE_UNION)
+        field = field_at(type_, offset, is_whole) if has_fields else None
         if not field:
             return declaring, ".".join(path), type_
         (it, begin), type_ = field, field[0].type.strip_typedefs()
         offset -= begin
+        is_whole = not it.is_base_class
         if it.is_base_class and not is_of_the_library(name_of(type_)) and not path:
             declaring = name_of(type_)
         elif not it.is_base_class and it.name and not name.startswith(CONTAINERS_OF_MEMBERS):

@@ -65,6 +65,8 @@ def refuse_unreadable(path):
         raise Refusal('it is no program of this machine')
     if start[4] != 2:
         raise Refusal('it is a 32-bit program')
+    if not shutil.which('readelf'):
+        return  # (the report says so)
     command = ['readelf', '-W', '-l', '-d', '--dyn-syms', path]
     text = subprocess.run(command, capture_output=True, text=True, errors='replace').stdout
     if not re.search(r'^\s+INTERP ', text, re.M):

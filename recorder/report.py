@@ -1,8 +1,11 @@
 """The report in words, and the same for other programs."""
 import collections
 import json
+import re
+import shutil
 
 from recorder import owner_graph, verdicts
+from recorder.options import VERSION
 from recorder.type_names import short
 
 MOST_PAIRS = 6
@@ -18,25 +21,65 @@ def kind_text(kind):
     return f'{name}, made {made}' if made else name
 
 
-def leaked_lines(told):
+def stack_lines(told, numbers, wanted):
+    """Of objects of one kind: by which functions they were made, the most often first."""
+    stacks = collections.Counter(told.blocks[it - 1].stack for it in numbers) if wanted else {}
+    for stack, count in stacks.most_common() if wanted else ():
+        if len(stacks) > 1:
+            yield f'  {count} of them:'
+        yield from (f'  by {it}' for it in stack)
+
+
+def by_kind(told, numbers, more=None):
+    """Objects by their kind, and by what `more` says of them, the most first."""
+    found = collections.defaultdict(list)
+    for it in sorted(numbers):
+        found[told.kind(it), more[it] if more else ''].append(it)
+    return sorted(found.items(), key=lambda it: -len(it[1]))
+
+
+def leaked_lines(told, with_stack):
     lost = {to: label for to, label in told.graph.lost if to in told.alarming}
-    counts = collections.Counter(told.kind(it) for it in sorted(told.alarming - set(lost)))
-    yield from [f'leaked {count} {kind_text(kind)}' for kind, count in counts.most_common()]
-    counts = collections.Counter((told.kind(it), label) for it, label in sorted(lost.items()))
-    for (kind, label), count in counts.most_common():
-        yield f'lost {count} {kind_text(kind)}, by an owner in {label}'
+    for (kind, _), numbers in by_kind(told, told.alarming - set(lost)):
+        yield f'leaked {len(numbers)} {kind_text(kind)}'
+        yield from stack_lines(told, numbers, with_stack)
+    for (kind, label), numbers in by_kind(told, lost, lost):
+        yield f'lost {len(numbers)} {kind_text(kind)}, by an owner in {label}'
+        yield from stack_lines(told, numbers, with_stack)
 
 
-def undecided_lines(told):
-    counts = collections.Counter(told.kind(it) for it in sorted(told.undecided))
-    for kind, count in counts.most_common():
-        yield f'undecided {count} {kind_text(kind)}: compile with -g, or with the flags of ./record --flags'
+def undecided_lines(told, with_stack):
+    for (kind, _), numbers in by_kind(told, told.undecided):
+        advice = 'compile with -g, or with the flags of ./record --flags'
+        yield f'undecided {len(numbers)} {kind_text(kind)}: {advice}'
+        yield from stack_lines(told, numbers, with_stack)
 
 
 def reached_lines(told):
-    counts = collections.Counter((told.kind(it), told.reached[it]) for it in sorted(told.reached))
-    text = 'reached {} {}, by a raw pointer from {}'
-    return [text.format(count, kind_text(kind), label) for (kind, label), count in counts.most_common()]
+    for (kind, label), numbers in by_kind(told, told.reached, told.reached):
+        yield f'reached {len(numbers)} {kind_text(kind)}, by a raw pointer from {label}'
+
+
+def suppressed_lines(told):
+    for (kind, reason), numbers in by_kind(told, told.suppressed, told.suppressed):
+        yield f'suppressed {len(numbers)} {kind_text(kind)}: {reason}'
+
+
+def grown_lines(before, now):
+    """Of which kinds there are more objects than at the snapshot before."""
+    counts = [collections.Counter(map(it.kind, range(1, len(it.blocks) + 1))) for it in (before, now)]
+    for kind, count in (counts[1] - counts[0]).most_common():
+        yield f'grown {count} {kind_text(kind)}'
+
+
+def annotations(told):
+    """Commands to GitHub, which shows them at their lines."""
+    lost = {to: label for to, label in told.graph.lost if to in told.alarming}
+    for (kind, label), numbers in by_kind(told, told.alarming, {it: lost.get(it, '') for it in told.alarming}):
+        place = re.match(r'at (.*):(\d+) in ', kind[1])
+        where = f' file={place[1]},line={place[2]}' if place else ''
+        text = f'lost {len(numbers)} {kind_text(kind)}, by an owner in {label}' if label else f'leaked {len(numbers)} {kind_text(kind)}'
+        yield f'::error{where}::{text}'
 
 
 def change_text(told, knot, label):
@@ -79,26 +122,45 @@ def kept_by_unknown(told):
     return sum(labels <= unknown for labels in by.values())
 
 
+def missing_tools(told):
+    """What can't be told for want of a program."""
+    if not told.record.blocks:
+        return
+    if not shutil.which('gdb'):
+        yield 'record: without gdb members and statics have no names: apt-get install gdb'
+    if not all(map(shutil.which, ('readelf', 'addr2line', 'c++filt'))):
+        what = 'places have no names, and programs of some kinds are not refused'
+        yield f'record: without binutils {what}: apt-get install binutils'
+
+
 def advice_lines(told):
     knots = [it for it in told.alarming_knots() if not told.is_owned_from_outside(it)]
     if any(len(verdicts.ordered_weakens(it)) > 1 for it in knots):
         yield 'record: each weaken line mends its knot by itself; take the first'
-    if any(' at byte ' in label for it in knots for label in owner_graph.tied_by(it)):
+    yield from missing_tools(told)
+    if shutil.which('gdb') and any(' at byte ' in label for it in knots for label in owner_graph.tied_by(it)):
         yield 'record: members are told by their names where the program is compiled with -g'
 
 
 def trust_line(told):
     met = f'the pointers found explain the counts of {told.met} of {len(told.record.blocks)} control blocks'
+    if told.compared == 'the same':
+        return f'record: {met}; the answer is that of the proved ./sptr owners, and the reading of memory is not proved'
+    if told.compared:
+        return f'record: {met}; this is the search in Python. The proved ./sptr owners says otherwise: {told.compared}'
     return f'record: {met}; neither the reading of memory nor the answer is proved'
 
 
-def lines(told):
+def lines(told, with_stack=False, before=None):
     count = len(told.graph.objects)
     first = f'record: {count} object{"s"[:count != 1]} that shared pointers own '
     first += f'{"is" if count == 1 else "are"} left, {len(told.alarming)} leaked'
+    if told.undecided:
+        first += f', {len(told.undecided)} undecided'
     if told.reached:
         first += f', {len(told.reached)} that raw pointers reach'
-    found = [first, *leaked_lines(told), *knot_texts(told), *undecided_lines(told), *reached_lines(told)]
+    found = [first, *leaked_lines(told, with_stack), *knot_texts(told), *undecided_lines(told, with_stack)]
+    found += [*reached_lines(told), *suppressed_lines(told), *(grown_lines(before, told) if before else ())]
     return [*found, *advice_lines(told), *doubt_lines(told), trust_line(told)]
 
 
@@ -121,15 +183,21 @@ def doubt_lines(told):
 
 def objects_as_json(told):
     def verdict(number):
-        return 'reached' if number in told.reached else told.answer.verdicts[number]
+        for name, of in (('reached', told.reached), ('undecided', told.undecided), ('lost', told.answer.lost)):
+            if number in of:
+                return name
+        return told.answer.verdicts[number]
 
     return [
         {
             'number': number,
             'type': short(block.name),
             'made': block.made,
+            'stack': block.stack,
+            'bytes': block.size,
             'verdict': verdict(number),
             'reached_from': told.reached.get(number),
+            'suppressed': told.suppressed.get(number),
             'owners': block.uses,
             'weaks': block.weaks - 1,
         }
@@ -147,6 +215,7 @@ def knots_as_json(told):
             'objects': knot.objects,
             'ties': handles_as_json(knot.ties),
             'weaken': [list(it) for it in verdicts.ordered_weakens(knot)],
+            'change': [[change_text(told, knot, it) for it in labels] for labels in verdicts.ordered_weakens(knot)],
             'owned_by_another': told.is_owned_from_outside(knot),
             'reached': knot.objects[0] in told.reached,
         }
@@ -161,6 +230,8 @@ def as_json(told):
         'how': told.record.how,
         'left': len(told.blocks),
         'leaked': len(told.alarming),
+        'leaked_bytes': sum(told.blocks[it - 1].size for it in told.alarming),
+        'undecided': len(told.undecided),
         'counts': {'blocks': len(told.record.blocks), 'met': told.met},
         'objects': objects_as_json(told),
         'owners': handles_as_json(told.graph.owners),
@@ -178,5 +249,5 @@ def map_text(told):
 
 def write_json(path, reports, refused):
     with open(path, 'w') as file:
-        json.dump({'reports': reports, 'refused': refused}, file, indent=1)
+        json.dump({'version': VERSION, 'reports': reports, 'refused': refused}, file, indent=1)
         file.write('\n')

@@ -1,6 +1,8 @@
 """Names of types, as a C++ programmer would write them."""
+import ctypes
 import functools
 import re
+import shutil
 import subprocess
 
 OPENING, CLOSING = '<([{', '>)]}'
@@ -10,9 +12,23 @@ STRING = 'std::basic_string<char, std::char_traits<char>, std::allocator<char> >
 def demangled(names):
     """A dictionary from mangled names of types to plain ones."""
     names = sorted(names)
-    text = '\n'.join(names) + '\n'
-    ran = subprocess.run(['c++filt', '-t'], input=text, capture_output=True, text=True, check=True)
-    return dict(zip(names, ran.stdout.split('\n')))
+    if not shutil.which("c++filt"):
+        return {name: demangled_by_library(name) for name in names}
+    text = "\n".join(names) + "\n"
+    ran = subprocess.run(["c++filt", "-t"], input=text, capture_output=True, text=True, check=True)
+    return dict(zip(names, ran.stdout.split("\n")))
+
+
+def demangled_by_library(name):
+    """The same by the C++ library's own function."""
+    try:
+        library = ctypes.CDLL("libstdc++.so.6")
+    except OSError:
+        return name
+    library.__cxa_demangle.restype = ctypes.c_void_p
+    status = ctypes.c_int()
+    found = library.__cxa_demangle(name.encode(), None, None, ctypes.byref(status))
+    return ctypes.string_at(found).decode() if found else name
 
 
 def arguments(name):

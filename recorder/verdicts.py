@@ -8,7 +8,7 @@ from recorder import debug_information, kinds, labels, owner_graph, type_names
 
 
 @dataclass
-class Told:
+class Findings:
     """Objects are numbered as in the graph, from 1. `reached` has from where a raw pointer leads to a leaked
     object; `met` is how many blocks count just the handles that were found."""
 
@@ -18,15 +18,17 @@ class Told:
     blocks: list
     met: int
     reached: dict = field(default_factory=dict)
+    suppressed: dict = field(default_factory=dict)  # by object, why it is left out
+    compared: str = ''  # how the proved answer differs, or `the same`; nothing where it wasn't asked
 
     @functools.cached_property
     def alarming(self):
         """What is leaked or lost for certain."""
-        return (self.answer.leaked | self.answer.lost) - set(self.reached) - self.graph.undecided
+        return (self.answer.leaked | self.answer.lost) - set(self.reached) - self.graph.undecided - set(self.suppressed)
 
     @property
     def undecided(self):
-        return self.graph.undecided - set(self.reached)
+        return self.graph.undecided - set(self.reached) - set(self.suppressed)
 
     def kind(self, number):
         """An object's type and the place of its making."""
@@ -47,8 +49,8 @@ class Told:
         return knot.objects[0] in self.owned_knots
 
 
-def tell(record):
-    """All that can be told of a record that isn't refused."""
+def tell(record, suppressed=()):
+    """All that can be told of a record that isn't refused, without what is suppressed."""
     type_names.name_blocks(record)
     debug_information.name_places(record)
     answers = debug_information.ask_about(record)
@@ -63,9 +65,22 @@ def tell(record):
         graph, numbers, memories = owner_graph.graph_of(record, counts)
         answer = owner_graph.ask(graph)
     blocks = [record.blocks[at] for at in numbers]
-    told = Told(record, graph, answer, blocks, sum(it.are_met for it in counts))
-    told.reached = reached_by_raw_pointers(record, numbers, graph, answer, memories)
-    return told
+    found = Findings(record, graph, answer, blocks, sum(it.are_met for it in counts))
+    found.reached = reached_by_raw_pointers(record, numbers, graph, answer, memories)
+    found.suppressed = reasons(found, suppressed)
+    return found
+
+
+def reasons(found, suppressed):
+    """By object: why a user's file leaves it out."""
+    left_out = {}
+    for number in sorted(found.alarming | found.undecided) if suppressed else ():
+        for it in suppressed:
+            if it.names(*found.kind(number)):
+                it.is_used = True
+                left_out.setdefault(number, it.reason)
+    found.__dict__.pop('alarming', None)  # (which was asked without these)
+    return left_out
 
 
 def reached_by_raw_pointers(record, numbers, graph, answer, memories):

@@ -2,6 +2,7 @@
 import json
 import os
 import re
+import shutil
 import signal
 import subprocess
 import tempfile
@@ -101,8 +102,9 @@ def a_signal_to_it_is_the_programs():
             process.stdout.readline()
             process.terminate()
             told = process.communicate(timeout=30)[1]
-    wanted = 'record: the program was ended by SIGTERM: what it left was not read\n'
-    return differences(told=(told, wanted), status=(process.returncode, 128 + signal.SIGTERM))
+    wanted = ['record: the program was ended by SIGTERM: no destructor has run']
+    wanted += ['record: 0 objects that shared pointers own are left, 0 leaked']
+    return differences(told=(told.splitlines()[:2], wanted), status=(process.returncode, 128 + signal.SIGTERM))
 
 
 def no_frames():
@@ -181,6 +183,174 @@ def a_snapshot_by_signal():
     )
 
 
+GROWING = """
+#include <memory>
+#include <vector>
+#include <cstdio>
+#include <signal.h>
+#include <unistd.h>
+struct Session { int number = 0; };
+int main() {
+  auto& sessions = *new std::vector<std::shared_ptr<Session>>;
+  char go;
+  std::puts("ready"); std::fflush(stdout);
+  while (read(0, &go, 1) == 1 && go != 'x')
+    for (int i = 0; i < 40; i++) sessions.push_back(std::make_shared<Session>());
+}
+"""
+
+
+def growth_between_snapshots():
+    """What is still reachable grows all the same."""
+    with tempfile.TemporaryDirectory() as folder:
+        command = [ROOT / 'record', '--now', 'USR1', built(folder, 'growing', GROWING)]
+        pipes = {'stdin': subprocess.PIPE, 'stdout': subprocess.PIPE, 'stderr': subprocess.PIPE, 'text': True}
+        with subprocess.Popen(command, cwd=folder, **pipes) as ran:
+            ran.stdout.readline()
+            (child,) = Path(f'/proc/{ran.pid}/task/{ran.pid}/children').read_text().split()
+            lines = [ran.stderr.readline()]
+            for _ in range(2):
+                ran.stdin.write('a')
+                ran.stdin.flush()
+                time.sleep(1)
+                os.kill(int(child), signal.SIGUSR1)
+                while not lines[-1].startswith('record: the pointers found'):
+                    lines.append(ran.stderr.readline())
+                lines.append('')
+            ran.communicate("x")
+    grown = [it for it in lines if it.startswith('grown')]
+    return differences(grown=([it.strip() for it in grown], ['grown 40 Session, made at growing.cc:13 in main']))
+
+
+def leaks_of_a_server_that_ends_by_a_signal():
+    text = '#include <memory>\n#include <signal.h>\nstruct Node { std::shared_ptr<Node> next; };\n'
+    text += 'void leak() { auto node = std::make_shared<Node>(); node->next = node; }\n'
+    found = {}
+    with tempfile.TemporaryDirectory() as folder:
+        for name in 'SIGTERM', 'SIGINT':
+            program = built(folder, 'server', f'{text}int main() {{ leak(); raise({name}); }}\n')
+            ran = subprocess.run([ROOT / 'record', program], capture_output=True, text=True, cwd=folder)
+            found[name] = (ran.stderr.splitlines()[:3], ran.returncode), (
+                [
+                    f'record: the program was ended by {name}: no destructor has run',
+                    'record: 1 object that shared pointers own is left, 1 leaked',
+                    'leaked 1 Node, made at server.cc:4 in leak',
+                ],
+                3,
+            )
+    return differences(**found)
+
+
+def the_report_goes_where_it_is_wanted():
+    """--report, --quiet, --exit and --github."""
+    with tempfile.TemporaryDirectory() as folder:
+        leaking, sound = built(folder, 'circle'), built(folder, 'weak_parent')
+        ran = record('--report', f'{folder}/a report: one', '--exit', '7', leaking)
+        written = Path(folder, 'a report: one').read_text().splitlines()
+        silent = record('--quiet', sound)
+        noted = record('--github', leaking).stdout.splitlines()
+    notes = [f'::error file=circle.cc,line={line}::leaked 1 Node, made at circle.cc:{line} in main' for line in (10, 11)]
+    return differences(
+        report=(ran.stderr, ''),
+        written=(written[1], 'leaked 1 Node, made at circle.cc:10 in main'),
+        exit=(ran.returncode, 7),
+        quiet=((silent.stderr, silent.returncode), ('', 0)),
+        notes=(noted, notes),
+    )
+
+
+def stacks():
+    with tempfile.TemporaryDirectory() as folder:
+        lines = record('--stack', built(folder, 'tree')).stderr.splitlines()
+    wanted = [
+        'leaked 6 Item, made at tree.cc:14 in add',
+        '  3 of them:',
+        '  by add at tree.cc:14',
+        '  by main at tree.cc:23',
+        '  3 of them:',
+        '  by add at tree.cc:14',
+        '  by main at tree.cc:24',
+        'leaked 1 Item, made at tree.cc:21 in main',
+        '  by main at tree.cc:21',
+    ]
+    return differences(lines=(lines[1:10], wanted))
+
+
+def suppressions():
+    """By type, by place, by function; a pattern that names nothing is told, one without a reason is refused."""
+    with tempfile.TemporaryDirectory() as folder:
+        program, file = built(folder, 'two_knots'), Path(folder, 'known')
+        file.write_text('# known leaks\nLoop # a cache for ever\ntwo_knots.cc:1[67] # to be mended\nNone* # old\n')
+        ran = record('--suppress', file, program)
+        file.write_text('Loop\n')
+        refused = record('--suppress', file, program)
+    wanted = [
+        'record: 52 objects that shared pointers own are left, 0 leaked',
+        'suppressed 50 Loop, made at two_knots.cc:21 in main: a cache for ever',
+        'suppressed 1 Man, made at two_knots.cc:16 in main: to be mended',
+        'suppressed 1 Wife, made at two_knots.cc:17 in main: to be mended',
+    ]
+    lines = ran.stderr.splitlines()
+    why = f'record: refused: {file}: line 1: wanted is PATTERN # REASON\n'
+    return differences(
+        lines=(lines[:4], wanted),
+        last=(lines[-1], 'record: nothing was left that None* suppresses'),
+        status=(ran.returncode, 0),
+        refused=((refused.stderr, refused.returncode), (why, 125)),
+    )
+
+
+def what_is_undecided():
+    """It is no leak, but where --strict is given."""
+    with tempfile.TemporaryDirectory() as folder:
+        program = Path(folder, 'undecided')
+        subprocess.run(['g++', 'undecided.cc', '-s', '-o', program], check=True, cwd=PROGRAMS)
+        found = [record(program).returncode, record('--strict', program).returncode]
+    return differences(status=(found, [0, 3]))
+
+
+def in_another_folder():
+    """A program that changes its folder, with relative paths, spaces and colons in names, and without a home."""
+    text = '#include <memory>\n#include <unistd.h>\nstruct Node { std::shared_ptr<Node> next; };\n'
+    text += 'int main() { auto node = std::make_shared<Node>(); node->next = node; return chdir("/"); }\n'
+    with tempfile.TemporaryDirectory() as folder:
+        place = Path(folder, 'a folder: one')
+        place.mkdir()
+        built(place, 'a program', text)
+        names = {name: value for name, value in os.environ.items() if name not in ('HOME', 'XDG_CACHE_HOME')}
+        words = [ROOT / 'record', '--keep', 'kept', '--json', 'report', './a program']
+        ran = subprocess.run(words, cwd=place, env=names, capture_output=True, text=True)
+        kept = sorted(re.sub(r'\d+', 'N', it.name) for it in (place / 'kept').iterdir())
+        (report,) = json.loads((place / 'report').read_text())['reports']
+    return differences(
+        leaked=(ran.stderr.splitlines()[1:2], ['leaked 1 Node, made at a program.cc:4 in main']),
+        kept=(kept, ['record.N', 'record.N.graph', 'record.N.map']),
+        bytes=(report['leaked_bytes'], report['objects'][0]['bytes']),
+    )
+
+
+def without_tools():
+    """Without gdb and binutils the leak is told all the same, and what isn't known is said."""
+    with tempfile.TemporaryDirectory() as folder:
+        program = built(folder, 'circle')
+        tools = Path(folder, 'tools')
+        tools.mkdir()
+        for name in 'python3', 'env', 'g++', 'sh', 'bash':
+            (tools / name).symlink_to(shutil.which(name))
+        ran = subprocess.run([ROOT / 'record', program], env={**os.environ, 'PATH': str(tools)}, capture_output=True, text=True)
+    wanted = [
+        'record: 2 objects that shared pointers own are left, 2 leaked',
+        'leaked 2 Node',
+        'knot 2 Node, tied by Node at byte 0 1, Node at byte 16 1',
+        'weaken Node at byte 16',
+        'weaken Node at byte 0',
+        'record: each weaken line mends its knot by itself; take the first',
+        'record: without gdb members and statics have no names: apt-get install gdb',
+        'record: without binutils places have no names, and programs of some kinds are not refused: apt-get install binutils',
+    ]
+    return differences(lines=(ran.stderr.splitlines()[:8], wanted), status=(ran.returncode, 3))
+
+
 def children_are_told():
     text = """
 #include <memory>
@@ -252,5 +422,13 @@ CHECKS = [
     no_debug_information,
     streams_and_status,
     a_snapshot_by_signal,
+    growth_between_snapshots,
+    leaks_of_a_server_that_ends_by_a_signal,
+    the_report_goes_where_it_is_wanted,
+    stacks,
+    suppressions,
+    what_is_undecided,
+    in_another_folder,
+    without_tools,
     children_are_told,
 ]

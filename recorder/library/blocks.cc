@@ -131,14 +131,21 @@ Word owned_by(const ControlBlock& block, const Snapshot& all, const std::vector<
   return found;
 }
 
-Word in_place(const ControlBlock& block, const Snapshot& all, const std::vector<Word>& stored) {
+// Where the object begins that has a base at an address, by its table of virtual functions.
+Word beginning(Word base, VirtualTables& tables) {
+  auto& table = tables.of(*reinterpret_cast<const Word*>(base));
+  return table.type && table.to_top < 0 && table.to_top > -(1 << 16) ? base + table.to_top : base;
+}
+
+Word in_place(const ControlBlock& block, const Snapshot& all, VirtualTables& tables, const std::vector<Word>& stored) {
   auto& chunk = all.chunks[block.chunk];
   Word first = block.at + std::max<Word>(2 * WORD, chunk.is_pool ? 0 : chunk.alignment);
-  if (has_plain_allocator(block.type)) return first;
+  auto& table = tables.of(*reinterpret_cast<const Word*>(first));
+  if (has_plain_allocator(block.type) || (table.type && !table.to_top)) return first;
   Word found = 0;  // an allocator with a state lies before the object
   for (Word it : stored)
-    if (it >= first && it < first + 64 && (!found || it < found)) found = it;
-  return found ? found : first;
+    if (it >= first && it < first + 64 && it % WORD == 0 && (!found || it < found)) found = it;
+  return found ? std::max(first, beginning(found, tables)) : first;
 }
 
 }  // namespace
@@ -151,7 +158,7 @@ void Snapshot::place_object(ControlBlock& block, const std::vector<Word>& stored
   } else if (!block.object) {
     if (block.kind == ControlBlock::PLAIN) block.object = words[2];
     if (block.kind == ControlBlock::DELETER) block.object = owned_by(block, *this, stored);
-    if (block.kind == ControlBlock::IN_PLACE) block.object = in_place(block, *this, stored);
+    if (block.kind == ControlBlock::IN_PLACE) block.object = in_place(block, *this, tables, stored);
   }
   int chunk = chunk_of(block.object);
   if (chunk < 0 || !block.is_live()) {

@@ -8,6 +8,7 @@
 #include <unistd.h>
 
 #include <cerrno>
+#include <csignal>
 #include <cstdlib>
 #include <cstring>
 #include <initializer_list>
@@ -140,6 +141,23 @@ void answer_signal(int number) {
   sigaction(number, &action, nullptr);
 }
 
+// Where nothing else takes a signal that ends servers, the process is read and then ends by it.
+void read_and_end(int number) {
+  if (!Inside::is()) read_at_end(number == SIGTERM ? "SIGTERM" : "SIGINT", stack_here());
+  std::signal(number, SIG_DFL);
+  kill(getpid(), number);
+}
+
+void end_by_signals() {
+  for (int number : {SIGTERM, SIGINT}) {
+    struct sigaction before {}, action {};
+    if (sigaction(number, nullptr, &before) || before.sa_handler != SIG_DFL) continue;
+    action.sa_handler = read_and_end;
+    action.sa_flags = SA_RESTART;
+    sigaction(number, &action, nullptr);
+  }
+}
+
 int number_of(const char* variable) {
   const char* text = std::getenv(variable);
   return text ? std::atoi(text) : 0;
@@ -179,6 +197,7 @@ __attribute__((constructor(101))) void begin() {
   pthread_atfork(lock_tables, unlock_tables, unlock_in_child);
   __cxa_atexit(at_the_end, nullptr, nullptr);
   at_quick_exit(at_quick_exit_end);
+  end_by_signals();
   if (int number = number_of("RECORDER_SIGNAL")) answer_signal(number);
 }
 

@@ -1,4 +1,4 @@
-// A signal ends the program.
+// A signal ends the program, and what its frames own is kept.
 #include <signal.h>
 
 #include <memory>

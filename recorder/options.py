@@ -1,0 +1,51 @@
+"""The options of ./record."""
+import argparse
+import signal
+
+LEAKED = 3
+VERSION = "1.2.0"
+EPILOG = """
+Where something leaks the exit status is 3, or that of --exit; 125 where it is refused, 127 where there is no such program,
+128 and the signal where one ended it, else the program's own. recorder/README.md has the rest.
+"""
+
+
+def signal_number(name: str) -> int:
+    """The number of a signal, by its name with or without SIG, or by its number."""
+    named = getattr(signal, name if name.startswith("SIG") else f"SIG{name}", None)
+    return int(named) if named else int(signal.Signals(int(name)))
+
+
+def exit_status(text: str) -> int:
+    number = int(text)
+    if not 0 <= number <= 255:
+        raise ValueError
+    return number
+
+
+def parse(words: list[str]) -> argparse.Namespace:
+    text = "Runs a C++ program, and tells which of its shared_ptr objects leak and which member to make weak."
+    parser = argparse.ArgumentParser("record", description=text, epilog=EPILOG, allow_abbrev=False)
+    add = parser.add_argument
+    add("--version", action="version", version=f"record {VERSION}")
+    add("--report", metavar="FILE", help="write the report to FILE, and not to standard error")
+    add("--json", metavar="FILE", help="write all of it to FILE, for other programs")
+    add("--dot", metavar="FILE", help="draw the graph of owners, for Graphviz")
+    add("--github", action="store_true", help="also write annotations for GitHub's pages")
+    add("--stack", action="store_true", help="tell by which functions each leaked object was made")
+    add("--quiet", action="store_true", help="say no word where nothing leaks")
+    add("--strict", action="store_true", help="what can't be decided counts as leaked")
+    add("--exit", metavar="N", type=exit_status, default=LEAKED, help="the exit status where something leaks (3)")
+    add("--suppress", metavar="FILE", help="leave out what a line `PATTERN # REASON` of FILE names, by type or by place")
+    add("--frames", metavar="N", type=int, default=16, help="frames kept of each making (16; 0 is fast)")
+    add("--now", metavar="SIGNAL", type=signal_number, help="also tell what is there, and what has grown, at each SIGNAL")
+    add("--keep", metavar="DIR", help="keep what was read of memory, the graph and the map")
+    add("--proved", action="store_true", help="ask the proved ./sptr owners too, and compare its answer")
+    add("--flags", action="store_true", help="print the flags for exact handles, for CXXFLAGS")
+    add("--children", action="store_true", help="tell of processes that the program starts, too")
+    add("program", nargs="?", metavar="PROGRAM")
+    add("arguments", nargs=argparse.REMAINDER, metavar="ARG")
+    options = parser.parse_args(words)
+    if not options.program and not options.flags:
+        parser.error("which program?")
+    return options
