@@ -219,7 +219,7 @@ def name_places(record: Record):
         if frames not in places:
             units = [modules.place_of(frame - 1) for frame in frames]
             every = [(unit, place, own_name(it)) for unit in units for place, it in said.get(unit, [])]
-            ours = [it for it in every if not it[2].startswith(OF_THE_LIBRARY)]
+            ours = [it for it in every if not it[2].startswith(OF_THE_LIBRARY) and "std::_Sp_counted_" not in it[2]]
             stack = tuple(f"{short(name)} at {short_path(place)}" for _, place, name in ours if not place.startswith("??"))
             places[frames] = *first_place(ours), stack
         block.made, block.unit, block.stack = places[frames]
