@@ -84,6 +84,7 @@ class Record:
     plain: dict = field(default_factory=dict)  # names of types by their mangled ones
     untyped: int = 0
     lost: int = 0
+    closed: list = field(default_factory=list)  # (how many control blocks, of which closed library)
     mapped_blocks: int = 0  # in memory that the program mapped itself, which aren't told
     mapped_bytes: int = 0  # of such memory that was not looked at
 
@@ -118,6 +119,8 @@ def read(path):
                 record.blocks.append(block_of(words[1:], known))
             elif kind == 'told':
                 record.blocks[int(words[0])].told_type = line.split(' ', 2)[2].strip()
+            elif kind == 'closed':
+                record.closed.append((int(words[0]), line.split(' ', 2)[2].rstrip('\n')))
             elif kind == 'module':
                 record.modules.append((int(words[0], 16), line.split(' ', 2)[2].rstrip('\n')))
             elif kind == 'recorded':

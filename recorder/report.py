@@ -164,6 +164,10 @@ def lines(told, with_stack=False, before=None):
     return [*found, *advice_lines(told), *doubt_lines(told), trust_line(told)]
 
 
+def blocks(count):
+    return f'{count} control block{"s"[: count != 1]}'
+
+
 def doubt_lines(told):
     unknown, record = kept_by_unknown(told), told.record
     if unknown:
@@ -171,9 +175,10 @@ def doubt_lines(told):
     if record.untyped:
         why = 'as they have no RTTI; see --flags'
         yield f'record: {record.untyped} control blocks tell no type and are left out, {why}'
+    for count, path in record.closed:
+        yield f'record: not looked at: {blocks(count)} of {path}, which was closed'
     if record.mapped_blocks:
-        blocks = f'{record.mapped_blocks} control block{"s"[: record.mapped_blocks != 1]}'
-        yield f'record: not looked at: {blocks} in memory that the program mapped itself'
+        yield f'record: not looked at: {blocks(record.mapped_blocks)} in memory that the program mapped itself'
     if record.mapped_bytes:
         size = record.mapped_bytes >> 20
         yield f'record: not looked at: {size} MB of memory that the program mapped itself'

@@ -329,6 +329,24 @@ def in_another_folder():
     )
 
 
+def a_closed_plug_in():
+    """Its objects can't be told any more, and that is said."""
+    part = '#include <memory>\nstruct Node { std::shared_ptr<Node> next; };\n'
+    part += 'extern "C" void leak() { auto node = std::make_shared<Node>(); node->next = node; }\n'
+    text = '#include <dlfcn.h>\nint main(int, char** words) {\n  void* part = dlopen(words[1], RTLD_NOW);\n'
+    text += '  reinterpret_cast<void (*)()>(dlsym(part, "leak"))();\n  return dlclose(part);\n}\n'
+    with tempfile.TemporaryDirectory() as folder:
+        library, source = Path(folder, 'plug-in.so'), Path(folder, 'part.cc')
+        source.write_text(part)
+        subprocess.run(['g++', '-g', '-fPIC', '-shared', '-fno-gnu-unique', source, '-o', library], check=True)
+        lines = record(built(folder, 'closing', text), library).stderr.splitlines()
+    wanted = [
+        'record: 0 objects that shared pointers own are left, 0 leaked',
+        f'record: not looked at: 1 control block of {library}, which was closed',
+    ]
+    return differences(lines=(lines[:2], wanted))
+
+
 def without_tools():
     """Without gdb and binutils the leak is told all the same, and what isn't known is said."""
     with tempfile.TemporaryDirectory() as folder:
@@ -429,6 +447,7 @@ CHECKS = [
     suppressions,
     what_is_undecided,
     in_another_folder,
+    a_closed_plug_in,
     without_tools,
     children_are_told,
 ]

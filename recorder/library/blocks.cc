@@ -2,6 +2,7 @@
 #include <algorithm>
 #include <cstring>
 
+#include "closed.h"
 #include "hook_tables.h"
 #include "snapshot.h"
 
@@ -55,6 +56,21 @@ void Snapshot::add_block(Word at, int chunk, const VirtualTable& table) {
       block.kind = ControlBlock::IN_PLACE;
   }
   blocks.push_back(block);
+}
+
+// Control blocks whose virtual functions lay in a library that was closed.
+void Snapshot::count_closed() {
+  closed_blocks.resize(closed_libraries());
+  for (auto& it : chunks) {
+    if (closed_blocks.empty() || it.to - it.from < 3 * WORD || modules.has(*reinterpret_cast<const Word*>(it.from)))
+      continue;
+    Word word = *reinterpret_cast<const Word*>(it.from);
+    int uses, weaks;
+    for (std::size_t place = 0; place < closed_blocks.size(); place++) {
+      auto& library = closed_library(place);
+      closed_blocks[place] += word >= library.from && word < library.to && has_counts(it.from, uses, weaks) && uses;
+    }
+  }
 }
 
 void Snapshot::find_blocks() {

@@ -6,6 +6,7 @@
 #include <iterator>
 #include <mutex>
 
+#include "closed.h"
 #include "own_memory.h"
 
 namespace recorder {
@@ -91,7 +92,9 @@ using namespace recorder;
 // (what is known of a module's code is asked for anew)
 extern "C" __attribute__((visibility("default"))) int dlclose(void* module) {
   static auto next = reinterpret_cast<int (*)(void*)>(dlsym(RTLD_NEXT, "dlclose"));
+  recorder::ClosedLibrary library = recorder::library_of(module);
   int failed = next(module);
+  if (!failed && library.to) recorder::note_closed(library);
   entrance.code = 0;
   module_closings++;
   return failed;

@@ -12,6 +12,7 @@
 #include <cstring>
 #include <initializer_list>
 
+#include "closed.h"
 #include "kept_file.h"
 
 namespace recorder {
@@ -215,6 +216,8 @@ void write_record(int number, const Snapshot& all, const char* when) {
     out.say_number(it.to);
     write_place(out, all, it.at);
   }
+  for (std::size_t place = 0; place < all.closed_blocks.size(); place++)
+    if (all.closed_blocks[place]) out.say("closed %zu %s\n", all.closed_blocks[place], closed_library(place).path);
   out.say("untyped %zu\nlost %zu\n", all.untyped_blocks, all.lost_handles);
   out.say("mapped_blocks %zu\nmapped_bytes %zu\nend\n", all.mapped_blocks, all.mapped_bytes);
 }

@@ -51,6 +51,7 @@ Snapshot::Snapshot(const Modules& modules, const Outside& outside, const std::ve
   chunk_begins.reserve(chunks.size());
   for (auto& it : chunks) chunk_begins.push_back(it.from);
   add_outside(outside);
+  count_closed();
   find_blocks();
   find_handles();
   find_objects();

@@ -106,6 +106,7 @@ public:
   std::vector<RawPointer> raw_pointers;
   std::vector<Link> links;
   std::size_t untyped_blocks = 0;
+  std::vector<std::size_t> closed_blocks;  // of each library that was closed
   std::size_t mapped_blocks = 0;  // that lie in memory which the program mapped itself
   std::size_t mapped_bytes = 0;   // of such memory, where it wasn't looked at
   std::size_t lost_handles = 0;  // that hooks told of, and that aren't there any more
@@ -118,6 +119,7 @@ private:
   mutable VirtualTables tables;
 
   void add_outside(const Outside& outside);
+  void count_closed();
   void find_blocks();
   void find_untyped(const std::map<Word, int>& counted);
   void add_block(Word at, int chunk, const VirtualTable& table);
