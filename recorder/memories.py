@@ -102,8 +102,10 @@ class Memories:
         return owner if owner and (owner[0] in self.kept_by_owners or not is_kept) else None
 
     def is_lost(self, place: Place) -> bool:
-        """Whether nothing that is kept leads to it, and no object owns it. Memory that was not looked at may lead there."""
-        return not self.record.mapped_bytes and place.memory >= 0 and place.memory not in self.kept_memories and place.memory not in self.owners
+        """Whether nothing that is kept leads to it, and no object owns it. Memory that was not looked at may lead there, and
+        so may registers that were not read."""
+        is_all_read = not self.record.mapped_bytes and not self.record.unread
+        return is_all_read and place.memory >= 0 and place.memory not in self.kept_memories and place.memory not in self.owners
 
     def root_label(self, place: Place, label: str) -> str:
         """By what an owner there is kept, or what is known of its memory where it is lost."""
@@ -112,4 +114,6 @@ class Memories:
         from_ = self.pointed_from.get(place.memory)
         if self.is_lost(place):
             return f"memory that only {from_} points to" if from_ else "memory that nothing points to"
+        if place.memory not in self.kept_memories:
+            return NOBODY
         return f"memory that {from_} points to" if from_ else NOBODY

@@ -84,6 +84,7 @@ class Record:
     plain: dict = field(default_factory=dict)  # names of types by their mangled ones
     untyped: int = 0
     lost: int = 0
+    unread: int = 0  # threads whose registers were not read
     closed: list = field(default_factory=list)  # (how many control blocks, of which closed library)
     mapped_blocks: int = 0  # in memory that the program mapped itself, which aren't told
     mapped_bytes: int = 0  # of such memory that was not looked at
@@ -127,7 +128,7 @@ def read(path):
                 record.how, record.when = words
             elif kind == 'refused':
                 record.refused = line.split(' ', 1)[1].strip()
-            elif kind in ('untyped', 'lost', 'mapped_blocks', 'mapped_bytes'):
+            elif kind in ('untyped', 'lost', 'unread', 'mapped_blocks', 'mapped_bytes'):
                 setattr(record, kind, int(words[0]))
     if line.strip() != 'end':
         raise ValueError('it is not whole')

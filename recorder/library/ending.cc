@@ -60,6 +60,7 @@ void answer_question() {
   auto stacks = still.stacks();
   if (question.from_frame) stacks.push_back({thread, question.from_frame, end});
   Snapshot all(modules, outside, stacks);
+  all.unread_threads = still.without_registers();
   write_record(question.snapshot, all, question.when);
 }
 

@@ -219,6 +219,7 @@ void write_record(int number, const Snapshot& all, const char* when) {
   for (std::size_t place = 0; place < all.closed_blocks.size(); place++)
     if (all.closed_blocks[place]) out.say("closed %zu %s\n", all.closed_blocks[place], closed_library(place).path);
   out.say("untyped %zu\nlost %zu\n", all.untyped_blocks, all.lost_handles);
+  out.say("unread %zu\n", all.unread_threads);
   out.say("mapped_blocks %zu\nmapped_bytes %zu\nend\n", all.mapped_blocks, all.mapped_bytes);
 }
 

@@ -109,6 +109,7 @@ public:
   std::vector<std::size_t> closed_blocks;  // of each library that was closed
   std::size_t mapped_blocks = 0;  // that lie in memory which the program mapped itself
   std::size_t mapped_bytes = 0;   // of such memory, where it wasn't looked at
+  std::size_t unread_threads = 0;  // whose registers may hold what nothing else does
   std::size_t lost_handles = 0;  // that hooks told of, and that aren't there any more
 
   const Modules& modules;

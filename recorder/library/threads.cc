@@ -190,6 +190,7 @@ bool AllStandStill::has_small_stack(pid_t thread) {
   Bounds* bounds = known_stacks.of(thread).find(thread);
   if (!bounds || bounds->to - bounds->from >= SMALL_STACK) return false;
   found.push_back({thread, bounds->from, bounds->to});
+  unread++;
   return true;
 }
 
@@ -200,7 +201,7 @@ void AllStandStill::stop_others() {
   int asked = 0;
   for (pid_t thread : other_threads(folder)) {
     if (Word stack = stack_in_a_call(folder, thread))
-      found.push_back({thread, stack, end_of_stack(thread, stack)});
+      found.push_back({thread, stack, end_of_stack(thread, stack)}), unread++;
     else if (!has_small_stack(thread) && !syscall(SYS_tgkill, getpid(), thread, signal_to_stop()))
       asked++;
   }

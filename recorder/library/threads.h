@@ -50,12 +50,14 @@ public:
   static void let_go();  // where its end isn't reached
 
   const std::vector<LivingStack>& stacks() const { return found; }
+  std::size_t without_registers() const { return unread; }  // how many threads' registers are not on their stacks
 
 private:
   void stop_others();
   bool has_small_stack(pid_t thread);
 
   std::vector<LivingStack> found;
+  std::size_t unread = 0;
 };
 
 }  // namespace recorder
