@@ -61,7 +61,7 @@ class Reports:
             )
         if self.asked.children and not record.blocks:
             return None
-        findings = verdicts.tell(record, self.suppressed)
+        findings = verdicts.findings_of(record, self.suppressed)
         if self.asked.proved:
             findings.compared = proved.difference(findings.graph, findings.answer) or "the same"
         leaks = bool(findings.alarming or self.asked.strict and findings.undecided)
@@ -106,39 +106,43 @@ class Reports:
 def built_library():
     try:
         if not library.is_built() and sys.stderr.isatty():
-            say('record: building its library, which takes some seconds, this once')
+            say("record: building its library, which takes some seconds, this once")
         return str(library.build())
     except (OSError, subprocess.CalledProcessError) as fault:
-        raise program.Refusal(f'the library could not be built: {fault}') from fault
+        raise program.Refusal(f"the library could not be built: {fault}") from fault
 
 
 def run(asked: Namespace, folder: str, path: str, reports: Reports) -> int:
     """Runs the program under the library. Returns its exit status, as shells have it."""
-    names = {'RECORDER_FILE': f'{folder}/record', 'RECORDER_FRAMES': str(asked.frames)}
-    names['LD_PRELOAD'] = ':'.join(filter(None, [built_library(), os.environ.get('LD_PRELOAD')]))
+    names = {"RECORDER_FILE": f"{folder}/record", "RECORDER_FRAMES": str(asked.frames)}
+    names["LD_PRELOAD"] = ":".join(filter(None, [built_library(), os.environ.get("LD_PRELOAD")]))
     if asked.children:
-        names['RECORDER_CHILDREN'] = '1'
+        names["RECORDER_CHILDREN"] = "1"
     if asked.now:
-        names['RECORDER_SIGNAL'] = str(asked.now)
+        names["RECORDER_SIGNAL"] = str(asked.now)
     with tempfile.TemporaryDirectory() as place, program.held_signals() as mask:
-        names['RECORDER_SOCKET'] = f'{place}/socket'
-        receiver = Receiver(names['RECORDER_SOCKET'], folder)
+        names["RECORDER_SOCKET"] = f"{place}/socket"
+        receiver = Receiver(names["RECORDER_SOCKET"], folder)
         process = program.start((path, [asked.program, *asked.arguments]), names, mask)
         if asked.now:
-            say(f'record: kill -{signal.Signals(asked.now).name[3:]} {process} asks for a report')
+            say(f"record: kill -{signal.Signals(asked.now).name[3:]} {process} asks for a report")
         status = program.wait(process, reports.look)
         receiver.finish()
     reports.look()
     if status < 0 and not reports.is_whole:
-        reports.say(f"record: the program was ended by {signal.Signals(-status).name}: what it left was not read")
+        reports.say(
+            f"record: the program was ended by {signal.Signals(-status).name}: what it left was not read"
+        )
     elif not reports.seen:
-        reports.refuse('it wrote no record: it may have other rights than yours, or have become another program')
+        reports.refuse(
+            "it wrote no record: it may have other rights than yours, or have become another program"
+        )
     return 128 - status if status < 0 else status
 
 
 def check_writable(asked: Namespace):
-    """Opens what is asked for, so that what can't be written is told before the program runs. The paths stay what they
-    are wherever the program goes."""
+    """Opens what is asked for, so that what can't be written is told before the program runs. The paths stay
+    what they are wherever the program goes."""
     for name in "json", "dot", "report":
         path = getattr(asked, name)
         if path:

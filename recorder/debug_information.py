@@ -14,19 +14,25 @@ from recorder.record_text import Block, Place, Record
 from recorder.type_names import short
 
 HERE = Path(__file__).resolve().parent
-OF_THE_SYSTEM = '/lib/', '/lib64/', '/usr/lib/'
-NOT_OURS = re.compile(r'/include/c\+\+/|/recorder/library/|sptr_recorder|^\?\?')
+OF_THE_SYSTEM = "/lib/", "/lib64/", "/usr/lib/"
+NOT_OURS = re.compile(r"/include/c\+\+/|/recorder/library/|sptr_recorder|^\?\?")
 # What has brackets or spaces in a function's name that enclose nothing.
-WITH_BRACKETS = re.compile(r'operator(\(\)|[^\w\s(]+ ?| (?=\w))|\(anonymous namespace\)|\{lambda\(.*?\)#\d+\}|->')
-OF_THE_LIBRARY = 'std::', '__gnu_cxx::', 'sptr_recorder', 'operator new', '__cxx_global_var_init'
+WITH_BRACKETS = re.compile(
+    r"operator(\(\)|[^\w\s(]+ ?| (?=\w))|\(anonymous namespace\)|\{lambda\(.*?\)#\d+\}|->"
+)
+OF_THE_LIBRARY = "std::", "__gnu_cxx::", "sptr_recorder", "operator new", "__cxx_global_var_init"
 
 
 class Answers:
-    """What gdb said of members and sizes by type, of symbols, callables and functions' names by module and byte; each may
-    be missing. Of a type there are several answers where units have classes of one name."""
+    """What gdb said of members and sizes by type, of symbols, callables and functions' names by module and
+    byte; each may be missing. Of a type there are several answers where units have classes of one name."""
 
     def __init__(self):
-        self.members, self.sizes, self.symbols = collections.defaultdict(dict), collections.defaultdict(dict), {}
+        self.members, self.sizes, self.symbols = (
+            collections.defaultdict(dict),
+            collections.defaultdict(dict),
+            {},
+        )
         self.callables, self.names = {}, {}
 
     def add(self, module: int, said: dict):
@@ -51,8 +57,8 @@ class Answers:
         return found[0] if found and all(it == found[0] for it in found) else None
 
     def member(self, name: str, block: Block | None, offset: int, inner: int) -> list:
-        """The declaring class, the path and the declared type of what lies at a byte of a type, and the same of what a
-        unique pointer there points to; nothing where it isn't known."""
+        """The declaring class, the path and the declared type of what lies at a byte of a type, and the same
+        of what a unique pointer there points to; nothing where it isn't known."""
         if block and (self.size(block) or 0) > block.size and block.kind != "array":
             return []
         found = (self.of_unit("members", name, block.unit if block else ()) or {}).get(offset, {})
@@ -79,7 +85,9 @@ class Questions:
 
     def __init__(self, record: Record):
         self.record = record
-        self.places, self.units = collections.defaultdict(lambda: collections.defaultdict(set)), collections.defaultdict(set)
+        self.places, self.units = collections.defaultdict(
+            lambda: collections.defaultdict(set)
+        ), collections.defaultdict(set)
         self.symbols, self.names = collections.defaultdict(set), collections.defaultdict(set)
         self.callables = collections.defaultdict(lambda: collections.defaultdict(set))
         self.modules = Modules(record)
@@ -108,7 +116,9 @@ class Questions:
         for name, places in self.places.items():
             units = sorted(at for module, at in filter(None, self.units[name]) if module == number)
             types[name] = [(at, sorted(inner)) for at, inner in sorted(places.items())], [0, *units]
-        callables = {at: (is_coroutine, sorted(it)) for (at, is_coroutine), it in self.callables[number].items()}
+        callables = {
+            at: (is_coroutine, sorted(it)) for (at, is_coroutine), it in self.callables[number].items()
+        }
         return {
             "types": {} if is_of_the_system else types,
             "symbols": sorted(self.symbols[number]),
@@ -146,54 +156,57 @@ class Modules:
         return number, address - base
 
 
-def own_name(function):
+def own_name(function: str) -> str:
     """A function's name without its result, its arguments and what follows these."""
-    masked = WITH_BRACKETS.sub(lambda it: '_' * len(it[0]), function)
+    masked = WITH_BRACKETS.sub(lambda it: "_" * len(it[0]), function)
     depth, begin, end = 0, 0, len(masked)
     for at, letter in enumerate(masked):
-        depth -= letter in ')}>'
-        if depth == 0 and letter == ' ':
+        depth -= letter in ")}>"
+        if depth == 0 and letter == " ":
             begin = at + 1
-        if depth == 0 and letter == '(':
+        if depth == 0 and letter == "(":
             end = at
             break
-        depth += letter in '({<'
+        depth += letter in "({<"
     return function[begin:end]
 
 
 def symbolizer():
     """What tells of addresses: LLVM's where it is there, as binutils' reads clang's inlined calls wrongly."""
-    llvm = shutil.which('llvm-symbolizer')
-    return [llvm, '--output-style=GNU', '-C', '-f', '-i', '-a', '-e'] if llvm else ['addr2line', '-Cfia', '-e']
+    llvm = shutil.which("llvm-symbolizer")
+    return (
+        [llvm, "--output-style=GNU", "-C", "-f", "-i", "-a", "-e"] if llvm else ["addr2line", "-Cfia", "-e"]
+    )
 
 
-def lines_of(path, addresses):
+def lines_of(path: str, addresses: set[int]) -> dict[int, list[tuple]]:
     """Of each address in a module: the functions there and their places, the innermost first."""
-    if not shutil.which(symbolizer()[0]) or not shutil.which('c++filt'):
+    if not shutil.which(symbolizer()[0]) or not shutil.which("c++filt"):
         return {}
-    text = ''.join(f'{it:#x}\n' for it in addresses)
-    how = {'capture_output': True, 'text': True, 'errors': 'replace'}
+    text = "".join(f"{it:#x}\n" for it in addresses)
+    how = {"capture_output": True, "text": True, "errors": "replace"}
     said = subprocess.run([*symbolizer(), path], input=text, **how).stdout
-    lines = subprocess.run(['c++filt'], input=said, **how).stdout.split('\n')
+    lines = subprocess.run(["c++filt"], input=said, **how).stdout.split("\n")
     found = {}
     at = None
     for line in lines:
-        if re.fullmatch(r'0x[0-9a-f]+', line):
+        if re.fullmatch(r"0x[0-9a-f]+", line):
             at = found.setdefault(int(line, 16), [])
         elif line and at is not None:
             at.append(line)
     return {it: list(zip(said[1::2], said[0::2])) for it, said in found.items()}
 
 
-def short_path(place):
+def short_path(place: str) -> str:
     """A place, from the current folder where it lies below that."""
-    path, _, line = place.split(' (')[0].rpartition(':')
-    below = os.path.relpath(path) if path.startswith('/') else path
+    path, _, line = place.split(" (")[0].rpartition(":")
+    below = os.path.relpath(path) if path.startswith("/") else path
     return f'{path if below.startswith("..") else below}:{line}'
 
 
 def first_place(frames: list[tuple]) -> tuple[str, tuple]:
-    """The first with a place that isn't the library's, else the first function alone; and the unit where it is known."""
+    """The first with a place that isn't the library's, else the first function alone; and the unit where it
+    is known."""
     for unit, place, name in frames:
         if not NOT_OURS.search(place):
             return f"at {short_path(place)} in {short(name)}", unit
@@ -219,7 +232,15 @@ def name_places(record: Record):
         if frames not in places:
             units = [modules.place_of(frame - 1) for frame in frames]
             every = [(unit, place, own_name(it)) for unit in units for place, it in said.get(unit, [])]
-            ours = [it for it in every if not it[2].startswith(OF_THE_LIBRARY) and "std::_Sp_counted_" not in it[2]]
-            stack = tuple(f"{short(name)} at {short_path(place)}" for _, place, name in ours if not place.startswith("??"))
+            ours = [
+                it
+                for it in every
+                if not it[2].startswith(OF_THE_LIBRARY) and "std::_Sp_counted_" not in it[2]
+            ]
+            stack = tuple(
+                f"{short(name)} at {short_path(place)}"
+                for _, place, name in ours
+                if not place.startswith("??")
+            )
             places[frames] = *first_place(ours), stack
         block.made, block.unit, block.stack = places[frames]

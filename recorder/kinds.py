@@ -1,5 +1,5 @@
-"""Whether a handle owns or watches, where only memory told of it: by what the counts leave, by the declared type, by other
-handles in the same member, and by all these together."""
+"""Whether a handle owns or watches, where only memory told of it: by what the counts leave, by the declared
+type, by other handles in the same member, and by all these together."""
 import collections
 import re
 from collections.abc import Iterable
@@ -80,8 +80,8 @@ def is_storage(handle: Handle) -> bool:
 
 
 def drop_from_storage(record: Record, counts: list[Counts], leaked: set[int]) -> bool:
-    """Where more owners are found than a block counts, those that lie in mere bytes of leaked objects are old ones.
-    What leaks is the same without them. Returns whether there were some."""
+    """Where more owners are found than a block counts, those that lie in mere bytes of leaked objects are old
+    ones. What leaks is the same without them. Returns whether there were some."""
     dropped = False
     for it in counts:
         if it.owners_missing >= 0:
@@ -170,9 +170,9 @@ def is_of_itself(handle: Handle) -> bool:
 
 
 class Together:
-    """The members whose handles are open: all handles in one member are of one kind, and each block has as many owners
-    among them as it counts. Where one answer alone fits, it is that. Where several do, the handles stay open, and
-    `guess` is the kind that each would have in the likeliest."""
+    """The members whose handles are open: all handles in one member are of one kind, and each block has as
+    many owners among them as it counts. Where one answer alone fits, it is that. Where several do, the
+    handles stay open, and `guess` is the kind that each would have in the likeliest."""
 
     def __init__(self, record: Record, undecided: list[Counts]):
         self.record, self.undecided = record, undecided
@@ -184,7 +184,9 @@ class Together:
         self.own_members = {member_of(it.place, record) for it in open_ if is_of_itself(it)}
 
     def open_members(self, counts: Counts):
-        return collections.Counter(member_of(it.place, self.record) for it in counts.handles if it.kind == "either")
+        return collections.Counter(
+            member_of(it.place, self.record) for it in counts.handles if it.kind == "either"
+        )
 
     def row_of(self, counts: Counts):
         return frozenset(self.open_members(counts).items()), counts.least_owners, counts.most_owners
@@ -228,7 +230,8 @@ class Together:
             yield part
 
     def answers(self, members: list) -> list[tuple]:
-        """Each choice of kinds that fits all rows, the likeliest first; none where there are too many members."""
+        """Each choice of kinds that fits all rows, the likeliest first; none where there are too many
+        members."""
         if len(members) > MOST_MEMBERS:
             return []
         rows = {row for member in members for row in self.rows_of[member]}
@@ -241,13 +244,14 @@ class Together:
         return likely if len(found) <= MOST_ANSWERS else []
 
     def strangeness(self, members: list, kinds: tuple) -> int:
-        """How many objects would own themselves by a member of their own, as enable_shared_from_this watches them."""
+        """How many objects would own themselves by a member of their own, as enable_shared_from_this watches
+        them."""
         return sum(kind == "owner" and member in self.own_members for member, kind in zip(members, kinds))
 
 
 def guess_the_rest(counts: Counts):
-    """The open handles of one block are guessed to be as many owners as it counts, those first that own nothing of
-    themselves."""
+    """The open handles of one block are guessed to be as many owners as it counts, those first that own
+    nothing of themselves."""
     open_ = [it for it in counts.handles if it.kind == "either"]
     owners = sum(it.guess == "owner" for it in open_)
     if counts.least_owners <= owners <= counts.most_owners:

@@ -18,8 +18,8 @@ WORD = 8  # a handle is told by its second, the first is the pointer to its obje
 
 
 def label_places(record: Record, answers: Answers):
-    """Gives each handle, raw pointer and link the name of its place, its declared type where that is known, and what
-    else is to be changed where the named member can't be a weak pointer."""
+    """Gives each handle, raw pointer and link the name of its place, its declared type where that is known,
+    and what else is to be changed where the named member can't be a weak pointer."""
     labels = Labels(record, answers)
     for it in record.handles + record.raw_pointers + record.links:
         it.label, it.declared, it.change = labels.of(it.place, WORD if isinstance(it, Handle) else 0)
@@ -87,7 +87,9 @@ class Labels:
         at = self.modules.place_of(int(maker, 16))
         if kind == "a":
             held = re.search(r"_Manager_external<(.*)>::_S_manage", self.answers.names.get(at) or "")
-            return (held[1].strip(), f"in {label}, which holds a {short(held[1].strip())}") if held else ("", "")
+            return (
+                (held[1].strip(), f"in {label}, which holds a {short(held[1].strip())}") if held else ("", "")
+            )
         found = self.answers.callables.get(at)
         if not found:
             return "", ""
@@ -99,7 +101,8 @@ class Labels:
 
 
 def is_raw(declared: str) -> bool:
-    """Whether a type is a raw pointer or a reference, an iterator, or a container of such: what owns nothing."""
+    """Whether a type is a raw pointer or a reference, an iterator, or a container of such: what owns
+    nothing."""
     if declared.endswith(("*", "&")) or re.search(r"_iterator\b|::iterator\b", declared):
         return True
     owns = re.search(r"_ptr<|std::(function|any|optional|variant)\b|coroutine_handle|\)", declared)

@@ -7,56 +7,56 @@ from concurrent.futures import ThreadPoolExecutor
 from pathlib import Path
 
 HERE = Path(__file__).resolve().parent
-SOURCES = HERE / 'library'
-# By its name a program that was linked with an older one takes the one that is loaded already. It brings its own
-# libstdc++, so that programs which have none get none.
-LINKING = ['-shared', '-pthread', '-Wl,-soname,librecorder.so', '-static-libstdc++', '-static-libgcc']
-LINKING += [f'-Wl,--version-script={SOURCES}/exported.map']
-FLAGS = ['-std=c++17', '-O2', '-g1', '-fPIC', '-fvisibility=hidden', '-fno-exceptions', '-pthread']
+SOURCES = HERE / "library"
+# By its name a program that was linked with an older one takes the one that is loaded already. It brings its
+# own libstdc++, so that programs which have none get none.
+LINKING = ["-shared", "-pthread", "-Wl,-soname,librecorder.so", "-static-libstdc++", "-static-libgcc"]
+LINKING += [f"-Wl,--version-script={SOURCES}/exported.map"]
+FLAGS = ["-std=c++17", "-O2", "-g1", "-fPIC", "-fvisibility=hidden", "-fno-exceptions", "-pthread"]
 
 
-def home():
+def home() -> Path:
     """Where built things lie: the ignored folder `out`, or the user's cache where that can't be written."""
-    folder = HERE / 'out'
+    folder = HERE / "out"
     if not os.access(HERE, os.W_OK) and not os.access(folder, os.W_OK):
-        folder = Path(os.environ.get('XDG_CACHE_HOME') or Path.home() / '.cache') / 'shared_pointer_recorder'
+        folder = Path(os.environ.get("XDG_CACHE_HOME") or Path.home() / ".cache") / "shared_pointer_recorder"
     folder.mkdir(parents=True, exist_ok=True)
     return folder
 
 
 def sources():
-    return sorted(SOURCES.glob('*.cc'))
+    return sorted(SOURCES.glob("*.cc"))
 
 
 def key():
     """What the built library depends on."""
-    made_of = hashlib.sha256(' '.join([*FLAGS, *LINKING[:-1]]).encode())
+    made_of = hashlib.sha256(" ".join([*FLAGS, *LINKING[:-1]]).encode())
     for path in sorted(SOURCES.iterdir()):
         made_of.update(path.read_bytes())
     return made_of.hexdigest()[:16]
 
 
-def path():
-    return home() / key() / 'librecorder.so'
+def path() -> Path:
+    return home() / key() / "librecorder.so"
 
 
-def is_built():
+def is_built() -> bool:
     return path().exists()
 
 
-def build():
+def build() -> Path:
     """The built library's path."""
     library = path()
     folder = library.parent
     folder.mkdir(exist_ok=True)
-    with open(folder / 'lock', 'w') as lock:
+    with open(folder / "lock", "w") as lock:
         fcntl.flock(lock, fcntl.LOCK_EX)
         if not library.exists():
-            partial = folder / 'librecorder.so.part'
-            objects = [folder / f'{it.stem}.o' for it in sources()]
+            partial = folder / "librecorder.so.part"
+            objects = [folder / f"{it.stem}.o" for it in sources()]
             with ThreadPoolExecutor(len(os.sched_getaffinity(0))) as pool:
                 list(pool.map(compile_one, sources(), objects))
-            subprocess.run(['g++', *LINKING, '-o', partial, *objects, '-ldl'], check=True)
+            subprocess.run(["g++", *LINKING, "-o", partial, *objects, "-ldl"], check=True)
             partial.rename(library)
             for it in objects:
                 it.unlink()
@@ -64,4 +64,4 @@ def build():
 
 
 def compile_one(source, to):
-    subprocess.run(['g++', *FLAGS, '-c', '-o', to, source], check=True)
+    subprocess.run(["g++", *FLAGS, "-c", "-o", to, source], check=True)

@@ -1,10 +1,9 @@
 """Run by gdb: reads questions from the file in RECORDER_QUESTIONS and writes answers to the one in
 RECORDER_ANSWERS.
 
-For each type and byte: the class that declares the member there, the member's path in it and its declared type; of what a
-std::unique_ptr there points to, the same. For each byte of a module: the symbol there. For each function that calls a
-callable or resumes a coroutine: where that is defined, and what it captures.
-"""
+For each type and byte: the class that declares the member there, the member's path in it and its declared
+type; of what a std::unique_ptr there points to, the same. For each byte of a module: the symbol there. For
+each function that calls a callable or resumes a coroutine: where that is defined, and what it captures."""
 import functools
 import json
 import os
@@ -52,8 +51,8 @@ def virtual_bases(type_, found=None):
 
 @functools.lru_cache(maxsize=None)
 def begins_of_virtual_bases(name):
-    """By name: where each begins in a whole object of a class. Its table of virtual functions has them backwards, before
-    the first 0, which is where the object itself begins."""
+    """By name: where each begins in a whole object of a class. Its table of virtual functions has them
+    backwards, before the first 0, which is where the object itself begins."""
     bases, found = virtual_bases(gdb.lookup_type(name).strip_typedefs()), {}
     try:
         at = int(gdb.parse_and_eval(f"(long)&'vtable for {name}'"))
@@ -72,8 +71,8 @@ def direct_fields(type_):
 
 
 def all_fields(type_):
-    """Each field and where it begins; virtual bases too, which all lie in the whole object, and before other bases, which
-    seem to reach as far as these do."""
+    """Each field and where it begins; virtual bases too, which all lie in the whole object, and before other
+    bases, which seem to reach as far as these do."""
     if any(it.is_base_class for it in type_.fields()):
         for base, begin in begins_of_virtual_bases(name_of(type_)).items() if virtual_bases(type_) else ():
             yield VirtualBase(gdb.lookup_type(base)), begin
@@ -90,7 +89,8 @@ class VirtualBase:
 
 
 def field_at(type_, offset, is_whole=False):
-    """The field that the byte lies in, and where that begins; virtual bases of a whole object come last in it."""
+    """The field that the byte lies in, and where that begins; virtual bases of a whole object come last in
+    it."""
     found = None
     for field, begin in all_fields(type_) if is_whole else direct_fields(type_):
         size = size_of(field.type)
@@ -129,8 +129,8 @@ def leaf_at(type_, offset):
 
 
 def members_at(type_, offset, inner_bytes):
-    """By -1: (declaring class, path, declared type) at a byte. Where that is a unique pointer also by each byte of what it
-    points to: the same, and these three of what lies there."""
+    """By -1: (declaring class, path, declared type) at a byte. Where that is a unique pointer also by each
+    byte of what it points to: the same, and these three of what lies there."""
     declaring, path, leaf = leaf_at(type_, offset)
     own = declaring, path, name_of(leaf)
     found = {-1: own}
@@ -167,8 +167,8 @@ def type_in_unit(name, address):
 
 
 def types_by_unit(name, units):
-    """By unit, which is an address in it: the type of this name there. Each unit may have its own. One that isn't known
-    has that of any, but in a namespace without a name, where the others' is another."""
+    """By unit, which is an address in it: the type of this name there. Each unit may have its own. One that
+    isn't known has that of any, but in a namespace without a name, where the others' is another."""
     found = {}
     for address in units:
         try:
@@ -190,7 +190,8 @@ def calls_of(block):
 
 
 def function_block(address):
-    """The block of the function that begins at an address: that of a lambda lies within its own function's."""
+    """The block of the function that begins at an address: that of a lambda lies within its own
+    function's."""
     blocks, block = [], gdb.block_for_pc(address)
     while block:
         blocks += [block] if block.function else []

@@ -1,5 +1,5 @@
-"""Memory behind plain pointers, of which it isn't certain whose it is: who owns it as far as debug information can say, and
-whether anything that is kept leads there."""
+"""Memory behind plain pointers, of which it isn't certain whose it is: who owns it as far as debug
+information can say, and whether anything that is kept leads there."""
 import collections
 
 from recorder.kinds import Counts
@@ -12,9 +12,9 @@ OWNERS_PLACES = "object", "deleter"
 class Memories:
     """Objects are numbers from 1, memory is the number of its first chunk.
 
-    `owners` has of each memory that an object owns that object and by what. `kept` and `kept_memories` are what a path
-    of owners and pointers may lead to from a root, and `kept_by_owners` what one of owners alone; `surely_kept` are the
-    objects to which one leads whatever the open handles are."""
+    `owners` has of each memory that an object owns that object and by what. `kept` and `kept_memories` are
+    what a path of owners and pointers may lead to from a root, and `kept_by_owners` what one of owners alone;
+    `surely_kept` are the objects to which one leads whatever the open handles are."""
 
     def __init__(self, record: Record, numbers: dict[int, int], counts: list[Counts]):
         self.record, self.numbers = record, numbers
@@ -51,9 +51,12 @@ class Memories:
                     todo.append(to)
         return found
 
-    def reached(self, counts: list[Counts], surely: bool, by_owners: bool = False) -> tuple[set[int], set[int]]:
-        """The objects and the memory that roots lead to, `by_owners` alone or by pointers too. An open handle counts as an
-        owner; or, where that has to be sure, only with so many others that all of them can't be weak."""
+    def reached(
+        self, counts: list[Counts], surely: bool, by_owners: bool = False
+    ) -> tuple[set[int], set[int]]:
+        """The objects and the memory that roots lead to, `by_owners` alone or by pointers too. An open handle
+        counts as an owner; or, where that has to be sure, only with so many others that all of them can't be
+        weak."""
         leads, enough = collections.defaultdict(list), {}
         roots = [("object", number) for at, number in self.numbers.items() if counts[at].owners_nowhere]
         for handle in self.record.handles:
@@ -102,10 +105,15 @@ class Memories:
         return owner if owner and (owner[0] in self.kept_by_owners or not is_kept) else None
 
     def is_lost(self, place: Place) -> bool:
-        """Whether nothing that is kept leads to it, and no object owns it. Memory that was not looked at may lead there, and
-        so may registers that were not read."""
+        """Whether nothing that is kept leads to it, and no object owns it. Memory that was not looked at may
+        lead there, and so may registers that were not read."""
         is_all_read = not self.record.mapped_bytes and not self.record.unread
-        return is_all_read and place.memory >= 0 and place.memory not in self.kept_memories and place.memory not in self.owners
+        return (
+            is_all_read
+            and place.memory >= 0
+            and place.memory not in self.kept_memories
+            and place.memory not in self.owners
+        )
 
     def root_label(self, place: Place, label: str) -> str:
         """By what an owner there is kept, or what is known of its memory where it is lost."""

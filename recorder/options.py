@@ -5,8 +5,8 @@ import signal
 LEAKED = 3
 VERSION = "1.2.0"
 EPILOG = """
-Where something leaks the exit status is 3, or that of --exit; 125 where it is refused, 127 where there is no such program,
-128 and the signal where one ended it, else the program's own. recorder/README.md has the rest.
+The exit status is 3, or that of --exit, where something leaks; 125 where it is refused; 127 where there is no
+such program; 128 and the signal where one ended it; else the program's own. recorder/README.md has the rest.
 """
 
 
@@ -35,10 +35,25 @@ def parse(words: list[str]) -> argparse.Namespace:
     add("--stack", action="store_true", help="tell by which functions each leaked object was made")
     add("--quiet", action="store_true", help="say no word where nothing leaks")
     add("--strict", action="store_true", help="what can't be decided counts as leaked")
-    add("--exit", metavar="N", type=exit_status, default=LEAKED, help="the exit status where something leaks (3)")
-    add("--suppress", metavar="FILE", help="leave out what a line `PATTERN # REASON` of FILE names, by type or by place")
+    add(
+        "--exit",
+        metavar="N",
+        type=exit_status,
+        default=LEAKED,
+        help="the exit status where something leaks (3)",
+    )
+    add(
+        "--suppress",
+        metavar="FILE",
+        help="leave out what a line `PATTERN # REASON` of FILE names, by type or by place",
+    )
     add("--frames", metavar="N", type=int, default=16, help="frames kept of each making (16; 0 is fast)")
-    add("--now", metavar="SIGNAL", type=signal_number, help="also tell what is there, and what has grown, at each SIGNAL")
+    add(
+        "--now",
+        metavar="SIGNAL",
+        type=signal_number,
+        help="also tell what is there, and what has grown, at each SIGNAL",
+    )
     add("--keep", metavar="DIR", help="keep what was read of memory, the graph and the map")
     add("--proved", action="store_true", help="ask the proved ./sptr owners too, and compare its answer")
     add("--flags", action="store_true", help="print the flags for exact handles, for CXXFLAGS")

@@ -4,15 +4,17 @@ import functools
 from dataclasses import dataclass, field
 
 from recorder import owner_search
+from recorder.kinds import Counts
 from recorder.memories import Memories
+from recorder.record_text import Record
 
 LONGEST_LABEL = 1000
 
 
 @dataclass
 class Graph:
-    """Objects by number from 1; owners and weak ones as (from, to, label), roots as (to, label). `lost` are owners in
-    memory that nothing leads to: in the graph's text they are roots."""
+    """Objects by number from 1; owners and weak ones as (from, to, label), roots as (to, label). `lost` are
+    owners in memory that nothing leads to: in the graph's text they are roots."""
 
     objects: list = field(default_factory=list)
     owners: list = field(default_factory=list)
@@ -20,15 +22,17 @@ class Graph:
     roots: list = field(default_factory=list)
     lost: list = field(default_factory=list)
     undecided: set = field(default_factory=set)
-    changes: dict = field(default_factory=dict)  # by owner: what to change where its label can't be a weak pointer
+    changes: dict = field(
+        default_factory=dict
+    )  # by owner: what to change where its label can't be a weak pointer
 
-    def text(self):
-        lines = [f'object {number} {label}' for number, label in enumerate(self.objects, 1)]
-        lines += [f'owner {a} {b} {label}' for a, b, label in self.owners]
-        lines += [f'weak {a} {b} {label}' for a, b, label in self.weaks]
-        lines += [f'root {to} {label}' for to, label in self.roots]
-        lines += [f'root {to} an owner in {label}' for to, label in self.lost]
-        return ''.join(f'{line.rstrip()}\n' for line in lines)
+    def text(self) -> str:
+        lines = [f"object {number} {label}" for number, label in enumerate(self.objects, 1)]
+        lines += [f"owner {a} {b} {label}" for a, b, label in self.owners]
+        lines += [f"weak {a} {b} {label}" for a, b, label in self.weaks]
+        lines += [f"root {to} {label}" for to, label in self.roots]
+        lines += [f"root {to} an owner in {label}" for to, label in self.lost]
+        return "".join(f"{line.rstrip()}\n" for line in lines)
 
 
 @dataclass
@@ -50,13 +54,13 @@ class Answer:
 
 
 @functools.lru_cache(maxsize=None)
-def plain(label):
+def plain(label: str) -> str:
     """A label of the bytes that the graph's text may have."""
-    text = ''.join(it if '!' <= it <= '~' else ' ' if it == ' ' else '?' for it in label)
-    return ' '.join(text.split())[:LONGEST_LABEL].strip()
+    text = "".join(it if "!" <= it <= "~" else " " if it == " " else "?" for it in label)
+    return " ".join(text.split())[:LONGEST_LABEL].strip()
 
 
-def ask(graph):
+def ask(graph: Graph) -> Answer:
     """The answer to a graph. A knot that another object owns has nothing to cut or to weaken."""
     roots, lost = [to for to, _ in graph.roots], [to for to, _ in graph.lost]
     count = len(graph.objects)
@@ -65,8 +69,8 @@ def ask(graph):
     numbers = range(1, count + 1)
     answer = Answer(
         verdicts,
-        {it for it in numbers if verdicts[it] == 'leaked'},
-        {it for it in numbers if lost and verdicts[it] == 'kept' and it not in kept},
+        {it for it in numbers if verdicts[it] == "leaked"},
+        {it for it in numbers if lost and verdicts[it] == "kept" and it not in kept},
     )
     for objects, ties, is_owned in owner_search.knots(verdicts, graph.owners):
         knot = Knot(objects, ties, is_owned)
@@ -76,9 +80,10 @@ def ask(graph):
     return answer
 
 
-def graph_of(record, counts):
-    """The graph of the objects that are left, and in it the number of each block's object. An owner that a block
-    counts and nobody found is a root; where it isn't certain whether a handle owns, it is what it most likely is."""
+def graph_of(record: Record, counts: list[Counts]) -> tuple[Graph, dict[int, int], Memories]:
+    """The graph of the objects that are left, in it the number of each block's object, and the uncertain
+    memory. An owner that a block counts and nobody found is a root; where it isn't certain whether a handle
+    owns, it is what it most likely is."""
     graph, numbers = Graph(), {}
     for at, block in enumerate(record.blocks):
         if block.is_live:
@@ -89,7 +94,7 @@ def graph_of(record, counts):
         if it.block not in numbers:
             continue
         to, owner = numbers[it.block], memories.owner_at(it.place, it.label)
-        if (it.guess or it.kind) == 'weak':
+        if (it.guess or it.kind) == "weak":
             if owner:
                 graph.weaks.append((owner[0], to, plain(owner[1])))
         elif owner:
@@ -101,10 +106,10 @@ def graph_of(record, counts):
         else:
             graph.roots.append((to, plain(memories.root_label(it.place, it.label))))
     for at, number in numbers.items():
-        graph.roots += [(number, 'an owner that was not found')] * counts[at].owners_nowhere
+        graph.roots += [(number, "an owner that was not found")] * counts[at].owners_nowhere
     graph.undecided = memories.kept - memories.surely_kept
     return graph, numbers, memories
 
 
-def tied_by(knot):
+def tied_by(knot: Knot) -> collections.Counter:
     return collections.Counter(label for _, _, label in knot.ties)

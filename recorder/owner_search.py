@@ -1,12 +1,12 @@
-"""Which objects of a graph of owners leak, and the knots of these, by a plain search. Objects are numbers from 1;
-owners are (from, to, label)."""
+"""Which objects of a graph of owners leak, and the knots of these, by a plain search. Objects are numbers
+from 1; owners are (from, to, label)."""
 import collections
 from itertools import combinations
 
 MOST_LABELS = 20  # of a knot, for pairs of them to be tried
 
 
-def lists_of(count, owners):
+def lists_of(count: int, owners: list[tuple]) -> list[list[int]]:
     """For each object those that it owns."""
     owns = [[] for _ in range(count + 1)]
     for holder, to, _ in owners:
@@ -25,7 +25,7 @@ def without_owners(owns, owned):
     return ended
 
 
-def reached(owns, roots):
+def reached(owns: list[list[int]], roots: list[int]) -> set[int]:
     found = set(roots)
     todo = list(found)
     while todo:
@@ -36,18 +36,18 @@ def reached(owns, roots):
     return found
 
 
-def verdicts(count, owners, roots):
+def verdicts(count: int, owners: list[tuple], roots: list[int]) -> list[str]:
     """By number, from 1: `kept`, `ended` or `leaked`."""
     owns, owned = lists_of(count, owners), [0] * (count + 1)
     for _, to, _ in owners:
         owned[to] += 1
     for to in roots:
         owned[to] += 1
-    found = ['leaked'] * (count + 1)
+    found = ["leaked"] * (count + 1)
     for it in reached(owns, roots):
-        found[it] = 'kept'
+        found[it] = "kept"
     for it in without_owners(owns, owned):
-        found[it] = 'ended'
+        found[it] = "ended"
     return found
 
 
@@ -120,13 +120,13 @@ class Ties:
         return len(ended) == self.count
 
 
-def cuts(objects, ties):
+def cuts(objects: list[int], ties: list[tuple]) -> list[tuple]:
     """The ties without each of which alone the knot ends."""
     single = Ties(objects, [(a, b, at) for at, (a, b, _) in enumerate(ties)])
     return [it for at, it in enumerate(ties) if single.all_end_without({at})]
 
 
-def weakens(objects, ties):
+def weakens(objects: list[int], ties: list[tuple]) -> list[tuple]:
     """Each label without whose owners all of a knot ends; where there is none, each pair of labels."""
     found = Ties(objects, ties)
     labels = list(dict.fromkeys(label for _, _, label in ties))
@@ -136,10 +136,11 @@ def weakens(objects, ties):
     return [it for it in combinations(labels, 2) if found.all_end_without(set(it))]
 
 
-def knots(verdict, owners):
-    """The knots of the leaked, in the order of their least: (objects, ties, whether another object owns into it)."""
-    leaked = [it for it in range(1, len(verdict)) if verdict[it] == 'leaked']
-    inner = [it for it in owners if verdict[it[0]] == verdict[it[1]] == 'leaked']
+def knots(verdict: list[str], owners: list[tuple]) -> list[tuple]:
+    """The knots of the leaked, in the order of their least: (objects, ties, whether another object owns into
+    it)."""
+    leaked = [it for it in range(1, len(verdict)) if verdict[it] == "leaked"]
+    inner = [it for it in owners if verdict[it[0]] == verdict[it[1]] == "leaked"]
     parts = [sorted(it) for it in strong_parts(leaked, lists_of(len(verdict) - 1, inner))]
     part_of = [0] * len(verdict)
     for at, part in enumerate(parts):

@@ -1,5 +1,5 @@
-"""The socket to which programs send their records: it is open before their main, whatever limits or rights they take
-later."""
+"""The socket to which programs send their records: it is open before their main, whatever limits or rights
+they take later."""
 import os
 import re
 import selectors
@@ -8,7 +8,7 @@ import threading
 from pathlib import Path
 
 PIECE = 1 << 20
-END = b'\nend\n'
+END = b"\nend\n"
 
 
 class Sender:
@@ -16,7 +16,7 @@ class Sender:
 
     def __init__(self, connection: socket.socket, folder: Path):
         self.connection, self.folder = connection, folder
-        self.text, self.file, self.name = b'', None, ''
+        self.text, self.file, self.name = b"", None, ""
 
     def take(self, piece: bytes):
         self.text += piece
@@ -33,18 +33,18 @@ class Sender:
             self.text = self.text[end + len(END) :]
             self.file.close()
             self.file = None
-            os.rename(self.folder / f'{self.name}.part', self.folder / self.name)
+            os.rename(self.folder / f"{self.name}.part", self.folder / self.name)
 
     def begin(self) -> bool:
         """Reads the line `record NAME`, if it is there."""
-        line, found, rest = self.text.partition(b'\n')
+        line, found, rest = self.text.partition(b"\n")
         if not found:
             return False
-        named = re.fullmatch(r'record (record(\.\d+)+)', line.decode(errors='replace'))
-        self.text = rest if named else b''
+        named = re.fullmatch(r"record (record(\.\d+)+)", line.decode(errors="replace"))
+        self.text = rest if named else b""
         if named:
             self.name = named[1]
-            self.file = open(self.folder / f'{self.name}.part', 'wb')
+            self.file = open(self.folder / f"{self.name}.part", "wb")
         return bool(named)
 
 
@@ -86,7 +86,7 @@ class Receiver:
 
     def finish(self):
         """Takes all that was sent until now, and closes the socket."""
-        self.waker.send(b'.')
+        self.waker.send(b".")
         self.thread.join()
         self.listening.close()
         os.unlink(self.path)

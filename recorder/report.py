@@ -3,88 +3,96 @@ import collections
 import json
 import re
 import shutil
+from collections.abc import Iterator
 
 from recorder import owner_graph, verdicts
 from recorder.options import VERSION
 from recorder.type_names import short
+from recorder.verdicts import Findings
 
 MOST_PAIRS = 6
 MOST_CHANGES = 3
 
 
 def counted(counter):
-    return ', '.join(f'{count} {what}' for what, count in counter.most_common())
+    return ", ".join(f"{count} {what}" for what, count in counter.most_common())
 
 
 def kind_text(kind):
     name, made = kind
-    return f'{name}, made {made}' if made else name
+    return f"{name}, made {made}" if made else name
 
 
-def stack_lines(told, numbers, wanted):
+def stack_lines(findings, numbers, wanted):
     """Of objects of one kind: by which functions they were made, the most often first."""
-    stacks = collections.Counter(told.blocks[it - 1].stack for it in numbers) if wanted else {}
+    stacks = collections.Counter(findings.blocks[it - 1].stack for it in numbers) if wanted else {}
     for stack, count in stacks.most_common() if wanted else ():
         if len(stacks) > 1:
-            yield f'  {count} of them:'
-        yield from (f'  by {it}' for it in stack)
+            yield f"  {count} of them:"
+        yield from (f"  by {it}" for it in stack)
 
 
-def by_kind(told, numbers, more=None):
+def by_kind(findings, numbers, more=None):
     """Objects by their kind, and by what `more` says of them, the most first."""
     found = collections.defaultdict(list)
     for it in sorted(numbers):
-        found[told.kind(it), more[it] if more else ''].append(it)
+        found[findings.kind(it), more[it] if more else ""].append(it)
     return sorted(found.items(), key=lambda it: -len(it[1]))
 
 
-def leaked_lines(told, with_stack):
-    lost = {to: label for to, label in told.graph.lost if to in told.alarming}
-    for (kind, _), numbers in by_kind(told, told.alarming - set(lost)):
-        yield f'leaked {len(numbers)} {kind_text(kind)}'
-        yield from stack_lines(told, numbers, with_stack)
-    for (kind, label), numbers in by_kind(told, lost, lost):
-        yield f'lost {len(numbers)} {kind_text(kind)}, by an owner in {label}'
-        yield from stack_lines(told, numbers, with_stack)
+def leaked_lines(findings, with_stack):
+    lost = {to: label for to, label in findings.graph.lost if to in findings.alarming}
+    for (kind, _), numbers in by_kind(findings, findings.alarming - set(lost)):
+        yield f"leaked {len(numbers)} {kind_text(kind)}"
+        yield from stack_lines(findings, numbers, with_stack)
+    for (kind, label), numbers in by_kind(findings, lost, lost):
+        yield f"lost {len(numbers)} {kind_text(kind)}, by an owner in {label}"
+        yield from stack_lines(findings, numbers, with_stack)
 
 
-def undecided_lines(told, with_stack):
-    for (kind, _), numbers in by_kind(told, told.undecided):
-        advice = 'compile with -g, or with the flags of ./record --flags'
-        yield f'undecided {len(numbers)} {kind_text(kind)}: {advice}'
-        yield from stack_lines(told, numbers, with_stack)
+def undecided_lines(findings, with_stack):
+    for (kind, _), numbers in by_kind(findings, findings.undecided):
+        advice = "compile with -g, or with the flags of ./record --flags"
+        yield f"undecided {len(numbers)} {kind_text(kind)}: {advice}"
+        yield from stack_lines(findings, numbers, with_stack)
 
 
-def reached_lines(told):
-    for (kind, label), numbers in by_kind(told, told.reached, told.reached):
-        yield f'reached {len(numbers)} {kind_text(kind)}, by a raw pointer from {label}'
+def reached_lines(findings):
+    for (kind, label), numbers in by_kind(findings, findings.reached, findings.reached):
+        yield f"reached {len(numbers)} {kind_text(kind)}, by a raw pointer from {label}"
 
 
-def suppressed_lines(told):
-    for (kind, reason), numbers in by_kind(told, told.suppressed, told.suppressed):
-        yield f'suppressed {len(numbers)} {kind_text(kind)}: {reason}'
+def suppressed_lines(findings):
+    for (kind, reason), numbers in by_kind(findings, findings.suppressed, findings.suppressed):
+        yield f"suppressed {len(numbers)} {kind_text(kind)}: {reason}"
 
 
 def grown_lines(before, now):
     """Of which kinds there are more objects than at the snapshot before."""
     counts = [collections.Counter(map(it.kind, range(1, len(it.blocks) + 1))) for it in (before, now)]
     for kind, count in (counts[1] - counts[0]).most_common():
-        yield f'grown {count} {kind_text(kind)}'
+        yield f"grown {count} {kind_text(kind)}"
 
 
-def annotations(told):
+def annotations(findings: Findings) -> Iterator[str]:
     """Commands to GitHub, which shows them at their lines."""
-    lost = {to: label for to, label in told.graph.lost if to in told.alarming}
-    for (kind, label), numbers in by_kind(told, told.alarming, {it: lost.get(it, '') for it in told.alarming}):
-        place = re.match(r'at (.*):(\d+) in ', kind[1])
-        where = f' file={place[1]},line={place[2]}' if place else ''
-        text = f'lost {len(numbers)} {kind_text(kind)}, by an owner in {label}' if label else f'leaked {len(numbers)} {kind_text(kind)}'
-        yield f'::error{where}::{text}'
+    lost = {to: label for to, label in findings.graph.lost if to in findings.alarming}
+    for (kind, label), numbers in by_kind(
+        findings, findings.alarming, {it: lost.get(it, "") for it in findings.alarming}
+    ):
+        place = re.match(r"at (.*):(\d+) in ", kind[1])
+        where = f" file={place[1]},line={place[2]}" if place else ""
+        text = (
+            f"lost {len(numbers)} {kind_text(kind)}, by an owner in {label}"
+            if label
+            else f"leaked {len(numbers)} {kind_text(kind)}"
+        )
+        yield f"::error{where}::{text}"
 
 
-def change_text(told, knot, label):
+def change_text(findings, knot, label):
     """What to make weak for the owners of one label: the member, or what lies behind it."""
-    changes = {told.graph.changes.get(tie, ""): None for tie in knot.ties if tie[2] == label}
+    changes = {findings.graph.changes.get(tie, ""): None for tie in knot.ties if tie[2] == label}
     texts = list(changes)
     if "" in changes:
         return label
@@ -92,167 +100,194 @@ def change_text(told, knot, label):
     return " and ".join(texts[:MOST_CHANGES] + more)
 
 
-def weaken_lines(told, knot):
-    if told.is_owned_from_outside(knot):
-        return ['weaken the knot that owns this one']
+def weaken_lines(findings, knot):
+    if findings.is_owned_from_outside(knot):
+        return ["weaken the knot that owns this one"]
     ordered = verdicts.ordered_weakens(knot)
-    lines = [f'weaken {" and ".join(change_text(told, knot, label) for label in it)}' for it in ordered[:MOST_PAIRS]]
+    lines = [
+        f'weaken {" and ".join(change_text(findings, knot, label) for label in it)}'
+        for it in ordered[:MOST_PAIRS]
+    ]
     if len(ordered) > MOST_PAIRS:
-        lines.append(f'weaken or one of {len(ordered) - MOST_PAIRS} more pairs')
-    return lines or ['weaken more than two members: no single one suffices, and no two']
+        lines.append(f"weaken or one of {len(ordered) - MOST_PAIRS} more pairs")
+    return lines or ["weaken more than two members: no single one suffices, and no two"]
 
 
-def knot_texts(told):
+def knot_texts(findings):
     """The lines of each knot, equal ones once, with how many there are."""
     texts = collections.Counter()
-    for knot in told.alarming_knots():
-        types = collections.Counter(told.kind(it)[0] for it in knot.objects)
-        ties = ', '.join(f'{label} {count}' for label, count in owner_graph.tied_by(knot).most_common())
-        texts[(f'knot {counted(types)}, tied by {ties}', *weaken_lines(told, knot))] += 1
+    for knot in findings.alarming_knots():
+        types = collections.Counter(findings.kind(it)[0] for it in knot.objects)
+        ties = ", ".join(f"{label} {count}" for label, count in owner_graph.tied_by(knot).most_common())
+        texts[(f"knot {counted(types)}, tied by {ties}", *weaken_lines(findings, knot))] += 1
     for (first, *rest), count in texts.items():
-        yield from [first if count == 1 else f'{first}, {count} times', *rest]
+        yield from [first if count == 1 else f"{first}, {count} times", *rest]
 
 
-def kept_by_unknown(told):
+def kept_by_unknown(findings):
     """How many objects are kept by what nobody points to or was not found, alone."""
     by = collections.defaultdict(set)
-    for to, label in told.graph.roots:
+    for to, label in findings.graph.roots:
         by[to].add(label)
-    unknown = {'an owner that was not found', 'heap memory that nothing points to'}
+    unknown = {"an owner that was not found", "heap memory that nothing points to"}
     return sum(labels <= unknown for labels in by.values())
 
 
-def missing_tools(told):
-    """What can't be told for want of a program."""
-    if not told.record.blocks:
+def missing_tools(findings):
+    """What can't be findings for want of a program."""
+    if not findings.record.blocks:
         return
-    if not shutil.which('gdb'):
-        yield 'record: without gdb members and statics have no names: apt-get install gdb'
-    if not all(map(shutil.which, ('readelf', 'addr2line', 'c++filt'))):
-        what = 'places have no names, and programs of some kinds are not refused'
-        yield f'record: without binutils {what}: apt-get install binutils'
+    if not shutil.which("gdb"):
+        yield "record: without gdb members and statics have no names: apt-get install gdb"
+    if not all(map(shutil.which, ("readelf", "addr2line", "c++filt"))):
+        what = "places have no names, and programs of some kinds are not refused"
+        yield f"record: without binutils {what}: apt-get install binutils"
 
 
-def advice_lines(told):
-    knots = [it for it in told.alarming_knots() if not told.is_owned_from_outside(it)]
+def advice_lines(findings):
+    knots = [it for it in findings.alarming_knots() if not findings.is_owned_from_outside(it)]
     if any(len(verdicts.ordered_weakens(it)) > 1 for it in knots):
-        yield 'record: each weaken line mends its knot by itself; take the first'
-    yield from missing_tools(told)
-    if shutil.which('gdb') and any(' at byte ' in label for it in knots for label in owner_graph.tied_by(it)):
-        yield 'record: members are told by their names where the program is compiled with -g'
+        yield "record: each weaken line mends its knot by itself; take the first"
+    yield from missing_tools(findings)
+    if shutil.which("gdb") and any(" at byte " in label for it in knots for label in owner_graph.tied_by(it)):
+        yield "record: members are findings by their names where the program is compiled with -g"
 
 
-def trust_line(told):
-    met = f'the pointers found explain the counts of {told.met} of {len(told.record.blocks)} control blocks'
-    if told.compared == 'the same':
-        return f'record: {met}; the answer is that of the proved ./sptr owners, and the reading of memory is not proved'
-    if told.compared:
-        return f'record: {met}; this is the search in Python. The proved ./sptr owners says otherwise: {told.compared}'
-    return f'record: {met}; neither the reading of memory nor the answer is proved'
+def trust_line(findings):
+    blocks_met = f"{findings.met} of {len(findings.record.blocks)} control blocks"
+    met = f"the pointers found explain the counts of {blocks_met}"
+    if findings.compared == "the same":
+        proved = "the answer is that of the proved ./sptr owners, and the reading of memory is not proved"
+        return f"record: {met}; {proved}"
+    if findings.compared:
+        own = "this is the search in Python. The proved ./sptr owners says otherwise"
+        return f"record: {met}; {own}: {findings.compared}"
+    return f"record: {met}; neither the reading of memory nor the answer is proved"
 
 
-def lines(told, with_stack=False, before=None):
-    count = len(told.graph.objects)
+def lines(findings: Findings, with_stack: bool = False, before: Findings | None = None) -> list[str]:
+    count = len(findings.graph.objects)
     first = f'record: {count} object{"s"[:count != 1]} that shared pointers own '
-    first += f'{"is" if count == 1 else "are"} left, {len(told.alarming)} leaked'
-    if told.undecided:
-        first += f', {len(told.undecided)} undecided'
-    if told.reached:
-        first += f', {len(told.reached)} that raw pointers reach'
-    found = [first, *leaked_lines(told, with_stack), *knot_texts(told), *undecided_lines(told, with_stack)]
-    found += [*reached_lines(told), *suppressed_lines(told), *(grown_lines(before, told) if before else ())]
-    return [*found, *advice_lines(told), *doubt_lines(told), trust_line(told)]
+    first += f'{"is" if count == 1 else "are"} left, {len(findings.alarming)} leaked'
+    if findings.undecided:
+        first += f", {len(findings.undecided)} undecided"
+    if findings.reached:
+        first += f", {len(findings.reached)} that raw pointers reach"
+    found = [
+        first,
+        *leaked_lines(findings, with_stack),
+        *knot_texts(findings),
+        *undecided_lines(findings, with_stack),
+    ]
+    found += [
+        *reached_lines(findings),
+        *suppressed_lines(findings),
+        *(grown_lines(before, findings) if before else ()),
+    ]
+    return [*found, *advice_lines(findings), *doubt_lines(findings), trust_line(findings)]
 
 
 def blocks(count):
     return f'{count} control block{"s"[: count != 1]}'
 
 
-def doubt_lines(told):
-    unknown, record = kept_by_unknown(told), told.record
+def doubt_lines(findings):
+    unknown, record = kept_by_unknown(findings), findings.record
     if unknown:
-        yield f'record: {unknown} kept by owners whose place is not known'
+        yield f"record: {unknown} kept by owners whose place is not known"
     if record.untyped:
-        why = 'as they have no RTTI; see --flags'
-        yield f'record: {record.untyped} control blocks tell no type and are left out, {why}'
+        why = "as they have no RTTI; see --flags"
+        yield f"record: {record.untyped} control blocks tell no type and are left out, {why}"
     for count, path in record.closed:
-        yield f'record: not looked at: {blocks(count)} of {path}, which was closed'
+        yield f"record: not looked at: {blocks(count)} of {path}, which was closed"
     if record.mapped_blocks:
-        yield f'record: not looked at: {blocks(record.mapped_blocks)} in memory that the program mapped itself'
+        count = blocks(record.mapped_blocks)
+        yield f"record: not looked at: {count} in memory that the program mapped itself"
     if record.mapped_bytes:
         size = record.mapped_bytes >> 20
-        yield f'record: not looked at: {size} MB of memory that the program mapped itself'
-    if not record.blocks and not any('libstdc++' in path for _, path in record.modules):
-        yield 'record: it loads no libstdc++; what it starts is told with --children'
+        yield f"record: not looked at: {size} MB of memory that the program mapped itself"
+    if not record.blocks and not any("libstdc++" in path for _, path in record.modules):
+        yield "record: it loads no libstdc++; what it starts is findings with --children"
 
 
-def objects_as_json(told):
+def objects_as_json(findings):
     def verdict(number):
-        for name, of in (('reached', told.reached), ('undecided', told.undecided), ('lost', told.answer.lost)):
+        for name, of in (
+            ("reached", findings.reached),
+            ("undecided", findings.undecided),
+            ("lost", findings.answer.lost),
+        ):
             if number in of:
                 return name
-        return told.answer.verdicts[number]
+        return findings.answer.verdicts[number]
 
     return [
         {
-            'number': number,
-            'type': short(block.name),
-            'made': block.made,
-            'stack': block.stack,
-            'bytes': block.size,
-            'verdict': verdict(number),
-            'reached_from': told.reached.get(number),
-            'suppressed': told.suppressed.get(number),
-            'owners': block.uses,
-            'weaks': block.weaks - 1,
+            "number": number,
+            "type": short(block.name),
+            "made": block.made,
+            "stack": block.stack,
+            "bytes": block.size,
+            "verdict": verdict(number),
+            "reached_from": findings.reached.get(number),
+            "suppressed": findings.suppressed.get(number),
+            "owners": block.uses,
+            "weaks": block.weaks - 1,
         }
-        for number, block in enumerate(told.blocks, 1)
+        for number, block in enumerate(findings.blocks, 1)
     ]
 
 
 def handles_as_json(handles):
-    return [{'from': a, 'to': b, 'member': label} for a, b, label in handles]
+    return [{"from": a, "to": b, "member": label} for a, b, label in handles]
 
 
-def knots_as_json(told):
+def knots_as_json(findings):
     return [
         {
-            'objects': knot.objects,
-            'ties': handles_as_json(knot.ties),
-            'weaken': [list(it) for it in verdicts.ordered_weakens(knot)],
-            'change': [[change_text(told, knot, it) for it in labels] for labels in verdicts.ordered_weakens(knot)],
-            'owned_by_another': told.is_owned_from_outside(knot),
-            'reached': knot.objects[0] in told.reached,
+            "objects": knot.objects,
+            "ties": handles_as_json(knot.ties),
+            "weaken": [list(it) for it in verdicts.ordered_weakens(knot)],
+            "change": [
+                [change_text(findings, knot, it) for it in labels]
+                for labels in verdicts.ordered_weakens(knot)
+            ],
+            "owned_by_another": findings.is_owned_from_outside(knot),
+            "reached": knot.objects[0] in findings.reached,
         }
-        for knot in told.answer.knots
+        for knot in findings.answer.knots
     ]
 
 
-def as_json(told):
+def as_json(findings: Findings) -> dict:
     """All of a report as plain data."""
     return {
-        'when': told.record.when,
-        'how': told.record.how,
-        'left': len(told.blocks),
-        'leaked': len(told.alarming),
-        'leaked_bytes': sum(told.blocks[it - 1].size for it in told.alarming),
-        'undecided': len(told.undecided),
-        'counts': {'blocks': len(told.record.blocks), 'met': told.met},
-        'objects': objects_as_json(told),
-        'owners': handles_as_json(told.graph.owners),
-        'weak': handles_as_json(told.graph.weaks),
-        'roots': [{'to': to, 'from': label} for to, label in told.graph.roots],
-        'knots': knots_as_json(told),
+        "when": findings.record.when,
+        "how": findings.record.how,
+        "left": len(findings.blocks),
+        "leaked": len(findings.alarming),
+        "leaked_bytes": sum(findings.blocks[it - 1].size for it in findings.alarming),
+        "undecided": len(findings.undecided),
+        "counts": {"blocks": len(findings.record.blocks), "met": findings.met},
+        "objects": objects_as_json(findings),
+        "owners": handles_as_json(findings.graph.owners),
+        "weak": handles_as_json(findings.graph.weaks),
+        "roots": [{"to": to, "from": label} for to, label in findings.graph.roots],
+        "knots": knots_as_json(findings),
     }
 
 
-def map_text(told):
-    """What each number of the graph is in the program: its type, the place of its making, its control block."""
-    lines = (f'{number} {kind_text(told.kind(number))}, at {it.at:#x}' for number, it in enumerate(told.blocks, 1))
-    return ''.join(f'{line}\n' for line in lines)
+def map_text(findings: Findings) -> str:
+    """What each number of the graph is in the program: its type, the place of its making, its control
+    block."""
+    lines = (
+        f"{number} {kind_text(findings.kind(number))}, at {it.at:#x}"
+        for number, it in enumerate(findings.blocks, 1)
+    )
+    return "".join(f"{line}\n" for line in lines)
 
 
-def write_json(path, reports, refused):
-    with open(path, 'w') as file:
-        json.dump({'version': VERSION, 'reports': reports, 'refused': refused}, file, indent=1)
-        file.write('\n')
+def write_json(path: str, reports: list[dict], refused: list[str]):
+    with open(path, "w") as file:
+        json.dump({"version": VERSION, "reports": reports, "refused": refused}, file, indent=1)
+        file.write("\n")

@@ -1,4 +1,5 @@
-"""What a user's file leaves out of the report: lines `PATTERN # REASON`, of a type or of the place of making."""
+"""What a user's file leaves out of the report: lines `PATTERN # REASON`, of a type or of the place of
+making."""
 import fnmatch
 from dataclasses import dataclass
 from pathlib import Path
@@ -15,7 +16,8 @@ class Suppression:
     is_used: bool = False
 
     def names(self, type_: str, made: str) -> bool:
-        """Whether it names an object by its type, by the place, as `model.cc:9`, or by the function of its making."""
+        """Whether it names an object by its type, by the place, as `model.cc:9`, or by the function of its
+        making."""
         place, _, function = made.removeprefix("at ").removeprefix("in ").partition(" in ")
         return any(fnmatch.fnmatchcase(text, self.pattern) for text in (type_, made, place, function) if text)
 

@@ -5,11 +5,13 @@ import re
 import shutil
 import subprocess
 
-OPENING, CLOSING = '<([{', '>)]}'
-STRING = 'std::basic_string<char, std::char_traits<char>, std::allocator<char> >'
+from recorder.record_text import Record
+
+OPENING, CLOSING = "<([{", ">)]}"
+STRING = "std::basic_string<char, std::char_traits<char>, std::allocator<char> >"
 
 
-def demangled(names):
+def demangled(names: set[str]) -> dict[str, str]:
     """A dictionary from mangled names of types to plain ones."""
     names = sorted(names)
     if not shutil.which("c++filt"):
@@ -31,16 +33,16 @@ def demangled_by_library(name):
     return ctypes.string_at(found).decode() if found else name
 
 
-def arguments(name):
+def arguments(name: str) -> list[str]:
     """The template arguments of a type's name."""
     found, depth, begin = [], 0, 0
     for at, letter in enumerate(name):
-        if letter in CLOSING and not name.endswith('-', 0, at):
+        if letter in CLOSING and not name.endswith("-", 0, at):
             depth -= 1
             if depth == 0:
                 found.append(name[begin:at].strip())
                 break
-        if letter == ',' and depth == 1:
+        if letter == "," and depth == 1:
             found.append(name[begin:at].strip())
             begin = at + 1
         if letter in OPENING:
@@ -52,10 +54,10 @@ def arguments(name):
 
 def without_allocators(name):
     """A name without its `, std::allocator<..>`."""
-    while (begin := name.find(', std::allocator<')) >= 0:
-        depth, at = 0, name.index('<', begin)
+    while (begin := name.find(", std::allocator<")) >= 0:
+        depth, at = 0, name.index("<", begin)
         while True:
-            depth += (name[at] == '<') - (name[at] == '>')
+            depth += (name[at] == "<") - (name[at] == ">")
             at += 1
             if depth == 0 or at == len(name):
                 break
@@ -64,41 +66,45 @@ def without_allocators(name):
 
 
 @functools.lru_cache(maxsize=None)
-def short(name):
+def short(name: str) -> str:
     """The same type in fewer letters."""
-    name = name.replace('std::__cxx11::', 'std::').replace('std::__debug::', 'std::')
-    name = without_allocators(name.replace(STRING, 'std::string'))
-    return re.sub(r' +>', '>', name)
+    name = name.replace("std::__cxx11::", "std::").replace("std::__debug::", "std::")
+    name = without_allocators(name.replace(STRING, "std::string"))
+    return re.sub(r" +>", ">", name)
 
 
-def told(function):
+def hooked_type(function: str) -> str:
     """The type in the text of a hook's own function, as in `void f(void*, Object*) [with Object = Node]`."""
-    found = re.search(r'\[(?:with )?Object = (.*)\]$', function)
-    return re.split(r'; \w+ = ', found[1])[0] if found else ''
+    found = re.search(r"\[(?:with )?Object = (.*)\]$", function)
+    return re.split(r"; \w+ = ", found[1])[0] if found else ""
 
 
-def name_blocks(record):
-    """Gives each block its object's type: what it really is where it has virtual functions, else what its maker
-    said; and the record the plain names of types of other memory."""
+def name_blocks(record: Record):
+    """Gives each block its object's type: what it really is where it has virtual functions, else what its
+    maker said; and the record the plain names of types of other memory."""
     blocks = record.blocks
-    names = {it for block in blocks for it in (block.control_type, block.dynamic_type) if it != '-'}
-    names |= {it.place.maker[2:] for it in record.handles + record.raw_pointers + record.links if it.place.maker.startswith('v:')}
+    names = {it for block in blocks for it in (block.control_type, block.dynamic_type) if it != "-"}
+    names |= {
+        it.place.maker[2:]
+        for it in record.handles + record.raw_pointers + record.links
+        if it.place.maker.startswith("v:")
+    }
     plain = record.plain = demangled(names)
     declared = functools.lru_cache(maxsize=None)(declared_type)
     for block in blocks:
-        if block.dynamic_type != '-':
+        if block.dynamic_type != "-":
             block.name = plain[block.dynamic_type]
-        elif block.control_type != '-':
+        elif block.control_type != "-":
             block.name = declared(block.kind, plain[block.control_type])
         else:
-            block.name = told(block.told_type) or 'an object without a type'
+            block.name = hooked_type(block.told_type) or "an object without a type"
 
 
 def declared_type(kind, control):
     given = arguments(control)
     name = given[0] if given else control
-    if kind == 'array':
+    if kind == "array":
         name = (arguments(name) or [name])[0]
-    if kind in ('plain', 'deleter') and name.endswith('*'):
+    if kind in ("plain", "deleter") and name.endswith("*"):
         name = name[:-1].strip()
-    return re.sub(r'^(const|volatile) |( const| volatile)$', '', name)
+    return re.sub(r"^(const|volatile) |( const| volatile)$", "", name)

@@ -2,9 +2,13 @@
 import collections
 import functools
 import operator
+from collections.abc import Iterable
 from dataclasses import dataclass, field
 
 from recorder import debug_information, kinds, labels, owner_graph, type_names
+from recorder.owner_graph import Answer, Graph, Knot
+from recorder.record_text import Record
+from recorder.suppressions import Suppression
 
 
 @dataclass
@@ -12,51 +16,58 @@ class Findings:
     """Objects are numbered as in the graph, from 1. `reached` has from where a raw pointer leads to a leaked
     object; `met` is how many blocks count just the handles that were found."""
 
-    record: object
-    graph: object
-    answer: object
+    record: Record
+    graph: Graph
+    answer: Answer
     blocks: list
     met: int
     reached: dict = field(default_factory=dict)
     suppressed: dict = field(default_factory=dict)  # by object, why it is left out
-    compared: str = ''  # how the proved answer differs, or `the same`; nothing where it wasn't asked
+    compared: str = ""  # how the proved answer differs, or `the same`; nothing where it wasn't asked
 
     @functools.cached_property
-    def alarming(self):
+    def alarming(self) -> set[int]:
         """What is leaked or lost for certain."""
-        return (self.answer.leaked | self.answer.lost) - set(self.reached) - self.graph.undecided - set(self.suppressed)
+        return (
+            (self.answer.leaked | self.answer.lost)
+            - set(self.reached)
+            - self.graph.undecided
+            - set(self.suppressed)
+        )
 
     @property
-    def undecided(self):
+    def undecided(self) -> set[int]:
         return self.graph.undecided - set(self.reached) - set(self.suppressed)
 
-    def kind(self, number):
+    def kind(self, number: int) -> tuple[str, str]:
         """An object's type and the place of its making."""
         block = self.blocks[number - 1]
         return type_names.short(block.name), block.made
 
-    def alarming_knots(self):
+    def alarming_knots(self) -> list[Knot]:
         return [it for it in self.answer.knots if it.objects[0] in self.alarming]
 
     @functools.cached_property
     def owned_knots(self):
         """Of the knots, by their least object, those that another leaked object owns."""
         knot_of = {it: knot.objects[0] for knot in self.answer.knots for it in knot.objects}
-        owners = ((knot_of.get(a), knot_of.get(b)) for a, b, _ in self.graph.owners if a in self.answer.leaked)
+        owners = (
+            (knot_of.get(a), knot_of.get(b)) for a, b, _ in self.graph.owners if a in self.answer.leaked
+        )
         return {b for a, b in owners if b and a != b}
 
-    def is_owned_from_outside(self, knot):
+    def is_owned_from_outside(self, knot: Knot) -> bool:
         return knot.objects[0] in self.owned_knots
 
 
-def tell(record, suppressed=()):
+def findings_of(record: Record, suppressed: Iterable[Suppression] = ()) -> Findings:
     """All that can be told of a record that isn't refused, without what is suppressed."""
     type_names.name_blocks(record)
     debug_information.name_places(record)
     answers = debug_information.ask_about(record)
     labels.drop_beyond(record, answers)
     labels.label_places(record, answers)
-    record.handles.sort(key=operator.attrgetter('place'))
+    record.handles.sort(key=operator.attrgetter("place"))
     counts = kinds.decide_kinds(record)
     graph, numbers, memories = owner_graph.graph_of(record, counts)
     answer = owner_graph.ask(graph)
@@ -79,7 +90,7 @@ def reasons(found, suppressed):
             if it.names(*found.kind(number)):
                 it.is_used = True
                 left_out.setdefault(number, it.reason)
-    found.__dict__.pop('alarming', None)  # (which was asked without these)
+    found.__dict__.pop("alarming", None)  # (which was asked without these)
     return left_out
 
 
@@ -99,7 +110,7 @@ def reached_by_raw_pointers(record, numbers, graph, answer, memories):
                 raw[holder].append(to)
         elif holder in unreached:
             raw[holder].append(to)
-        elif holder or it.place.kind in ('static', 'thread-local', 'stack', 'mapped', 'kernel'):
+        elif holder or it.place.kind in ("static", "thread-local", "stack", "mapped", "kernel"):
             first.append((to, it.label))
     for a, b, _ in graph.owners:
         raw[a].append(b)
@@ -122,7 +133,7 @@ def share_of_older(knot):
     return {it: older[it] / all_[it] for it in all_}
 
 
-def ordered_weakens(knot):
+def ordered_weakens(knot: Knot) -> list[tuple]:
     """A knot's labels to weaken, or pairs, first those that mostly point back."""
     share = share_of_older(knot)
     pairs = [tuple(sorted(it, key=lambda label: -share.get(label, 0))) for it in knot.weakens]

@@ -1,4 +1,5 @@
-"""The search of ./record and `sptr owners` answer each graph alike. The unproved build of ./sptr serves here."""
+"""The search of ./record and `sptr owners` answer each graph alike. The unproved build of ./sptr serves
+here."""
 import random
 import subprocess
 import tempfile
@@ -13,7 +14,9 @@ GRAPHS = 80
 
 
 def build() -> Path:
-    return Path(subprocess.run([ROOT / "sptr", "--build"], capture_output=True, text=True, check=True).stdout.strip())
+    return Path(
+        subprocess.run([ROOT / "sptr", "--build"], capture_output=True, text=True, check=True).stdout.strip()
+    )
 
 
 def graph_of(text: str) -> owner_graph.Graph:
@@ -73,7 +76,10 @@ def a_wrong_answer_is_seen() -> str:
     answer = owner_graph.ask(graph)
     answer.knots[0].weakens.pop()
     found.append(proved.difference(graph, answer, program))
-    wanted = ["object 1 is leaked, and not kept", "the knot of object 1 is mended by A::b, B::a, and not A::b"]
+    wanted = [
+        "object 1 is leaked, and not kept",
+        "the knot of object 1 is mended by A::b, B::a, and not A::b",
+    ]
     return "" if found == wanted else "\n".join(found)
 
 

@@ -8,22 +8,22 @@ from pathlib import Path
 
 # How a member of some kind is declared and filled.
 KINDS = {
-    'plain': ('std::shared_ptr<{t}> {m};', '{a}->{m} = {b};'),
-    'optional': ('std::optional<std::shared_ptr<{t}>> {m};', '{a}->{m} = {b};'),
-    'any': ('std::any {m};', '{a}->{m} = {b};'),
-    'vector': ('std::vector<std::shared_ptr<{t}>> {m};', '{a}->{m}.push_back({b});'),
-    'list': ('std::list<std::shared_ptr<{t}>> {m};', '{a}->{m}.push_back({b});'),
-    'deque': ('std::deque<std::shared_ptr<{t}>> {m};', '{a}->{m}.push_back({b});'),
-    'map': ('std::map<int, std::shared_ptr<{t}>> {m};', '{a}->{m}[{n}] = {b};'),
-    'unordered_map': ('std::unordered_map<int, std::shared_ptr<{t}>> {m};', '{a}->{m}[{n}] = {b};'),
-    'function': ('std::function<long()> {m};', '{a}->{m} = [it = {b}] {{ return it.use_count(); }};'),
-    'unique_ptr': (
-        'std::unique_ptr<std::shared_ptr<{t}>> {m};',
-        '{a}->{m} = std::make_unique<std::shared_ptr<{t}>>({b});',
+    "plain": ("std::shared_ptr<{t}> {m};", "{a}->{m} = {b};"),
+    "optional": ("std::optional<std::shared_ptr<{t}>> {m};", "{a}->{m} = {b};"),
+    "any": ("std::any {m};", "{a}->{m} = {b};"),
+    "vector": ("std::vector<std::shared_ptr<{t}>> {m};", "{a}->{m}.push_back({b});"),
+    "list": ("std::list<std::shared_ptr<{t}>> {m};", "{a}->{m}.push_back({b});"),
+    "deque": ("std::deque<std::shared_ptr<{t}>> {m};", "{a}->{m}.push_back({b});"),
+    "map": ("std::map<int, std::shared_ptr<{t}>> {m};", "{a}->{m}[{n}] = {b};"),
+    "unordered_map": ("std::unordered_map<int, std::shared_ptr<{t}>> {m};", "{a}->{m}[{n}] = {b};"),
+    "function": ("std::function<long()> {m};", "{a}->{m} = [it = {b}] {{ return it.use_count(); }};"),
+    "unique_ptr": (
+        "std::unique_ptr<std::shared_ptr<{t}>> {m};",
+        "{a}->{m} = std::make_unique<std::shared_ptr<{t}>>({b});",
     ),
 }
-MANY = 'vector', 'list', 'deque', 'map', 'unordered_map'
-HEADERS = 'any deque functional list map memory optional unordered_map vector'.split()
+MANY = "vector", "list", "deque", "map", "unordered_map"
+HEADERS = "any deque functional list map memory optional unordered_map vector".split()
 
 
 class Program:
@@ -39,14 +39,14 @@ class Program:
 
     def new_class(self, members):
         """A class with so many members, each (its kind, the class it owns): filled in later by `owns`."""
-        name = f'C{len(self.classes)}'
-        self.classes[name] = {f'm{number}': None for number in range(members)}
+        name = f"C{len(self.classes)}"
+        self.classes[name] = {f"m{number}": None for number in range(members)}
         return name
 
     def make(self, name):
         self.made += 1
-        new = self.chance.choice([f'std::make_shared<{name}>()', f'std::shared_ptr<{name}>(new {name})'])
-        self.lines.append(f'auto o{self.made} = {new};')
+        new = self.chance.choice([f"std::make_shared<{name}>()", f"std::shared_ptr<{name}>(new {name})"])
+        self.lines.append(f"auto o{self.made} = {new};")
         return self.made, name
 
     def owns(self, a, member, b, many=False):
@@ -56,9 +56,9 @@ class Program:
             kind = self.chance.choice(MANY if many else list(KINDS))
             self.classes[name][member] = kind, target
         kind = self.classes[name][member][0]
-        fill = KINDS[kind][1].format(a=f'o{number}', b=f'o{to}', m=member, t=target, n=len(self.lines))
+        fill = KINDS[kind][1].format(a=f"o{number}", b=f"o{to}", m=member, t=target, n=len(self.lines))
         self.lines.append(fill)
-        return number, to, f'{name}::{member}'
+        return number, to, f"{name}::{member}"
 
     def knot(self, objects, ties, weaken):
         for _, name in objects:
@@ -70,7 +70,7 @@ class Program:
     def ring_of(self, size):
         """Objects in a circle, each of a class of its own: each tie alone cuts it."""
         objects = [self.make(self.new_class(2)) for _ in range(size)]
-        ties = [self.owns(objects[at], 'm0', objects[(at + 1) % size]) for at in range(size)]
+        ties = [self.owns(objects[at], "m0", objects[(at + 1) % size]) for at in range(size)]
         return objects, ties
 
     def ring(self):
@@ -83,34 +83,34 @@ class Program:
         objects, ties = [self.make(name)], []
         for _ in range(self.chance.randint(1, 6)):
             parent, child = self.chance.choice(objects), self.make(name)
-            ties += [self.owns(parent, 'm0', child, many=True), self.owns(child, 'm1', parent)]
+            ties += [self.owns(parent, "m0", child, many=True), self.owns(child, "m1", parent)]
             objects.append(child)
-        self.knot(objects, ties, {(f'{name}::m0',), (f'{name}::m1',)})
+        self.knot(objects, ties, {(f"{name}::m0",), (f"{name}::m1",)})
 
     def crossing(self):
         """Two circles through one object: one member of each is needed."""
         first, ties = self.ring_of(self.chance.randint(1, 3))
         rest = [self.make(self.new_class(2)) for _ in range(self.chance.randint(1, 2))]
         way = [first[0], *rest, first[0]]
-        other = [self.owns(a, 'm1', b) for a, b in zip(way, way[1:])]
+        other = [self.owns(a, "m1", b) for a, b in zip(way, way[1:])]
         weaken = {tuple(sorted((a[2], b[2]))) for a in ties for b in other}
         self.knot(first + rest, ties + other, weaken)
 
     def kept_ring(self):
         """A circle that a static which is never freed keeps."""
         objects, _ = self.ring_of(self.chance.randint(1, 3))
-        self.lines.append(f'static auto& kept{self.made} = *new auto(o{objects[0][0]});')
-        self.lines.append(f'if (!kept{self.made}) return 1;')
+        self.lines.append(f"static auto& kept{self.made} = *new auto(o{objects[0][0]});")
+        self.lines.append(f"if (!kept{self.made}) return 1;")
 
     def declared(self, name, members):
         lines = [KINDS[it[0]][0].format(t=it[1], m=member) for member, it in members.items() if it]
         return f'struct {name} {{ {" ".join(lines)} }};\n'
 
     def text(self):
-        parts = [f'#include <{it}>\n' for it in HEADERS]
-        parts += [f'struct {it};\n' for it in self.classes]
+        parts = [f"#include <{it}>\n" for it in HEADERS]
+        parts += [f"struct {it};\n" for it in self.classes]
         parts += [self.declared(*it) for it in self.classes.items()]
-        return ''.join(parts) + 'int main() {\n  ' + '\n  '.join(self.lines) + '\n}\n'
+        return "".join(parts) + "int main() {\n  " + "\n  ".join(self.lines) + "\n}\n"
 
 
 def program(seed):
@@ -122,26 +122,26 @@ def program(seed):
 def difference(wanted, record, built):
     """What `record` tells otherwise; '' where nothing."""
     with tempfile.TemporaryDirectory() as folder:
-        to = Path(folder, 'report')
-        ran = subprocess.run([record, '--json', to, built], capture_output=True, text=True, timeout=120)
-        told = json.loads(to.read_text())['reports'][0]
-    types = {it['number']: it['type'] for it in told['objects']}
-    leaked = collections.Counter(it['type'] for it in told['objects'] if it['verdict'] == 'leaked')
+        to = Path(folder, "report")
+        ran = subprocess.run([record, "--json", to, built], capture_output=True, text=True, timeout=120)
+        told = json.loads(to.read_text())["reports"][0]
+    types = {it["number"]: it["type"] for it in told["objects"]}
+    leaked = collections.Counter(it["type"] for it in told["objects"] if it["verdict"] == "leaked")
     knots = [
         (
-            sorted(types[it] for it in knot['objects']),
-            dict(collections.Counter(it['member'] for it in knot['ties'])),
-            {tuple(sorted(it)) for it in knot['weaken']},
+            sorted(types[it] for it in knot["objects"]),
+            dict(collections.Counter(it["member"] for it in knot["ties"])),
+            {tuple(sorted(it)) for it in knot["weaken"]},
         )
-        for knot in told['knots']
-        if types and told['objects'][knot['objects'][0] - 1]['verdict'] == 'leaked'
+        for knot in told["knots"]
+        if types and told["objects"][knot["objects"][0] - 1]["verdict"] == "leaked"
     ]
     status = 3 if wanted.knots else 0
-    met = told['counts']['blocks'] == told['counts']['met']
+    met = told["counts"]["blocks"] == told["counts"]["met"]
     same = leaked == wanted.types and sorted(map(str, wanted_knots(wanted.knots))) == sorted(
         map(str, wanted_knots(knots))
     )
-    return '' if same and met and ran.returncode == status else f'{wanted.knots}\n{knots}\n{ran.stderr}'
+    return "" if same and met and ran.returncode == status else f"{wanted.knots}\n{knots}\n{ran.stderr}"
 
 
 def wanted_knots(knots):

@@ -1,14 +1,12 @@
 """Programs that ./record has to refuse, with the reason; and headers that don't fit the hooks."""
 import subprocess
-import sys
 import tempfile
 from pathlib import Path
 
-ROOT = Path(__file__).resolve().parent.parent
-PROGRAMS = ROOT / 'tests/recorder'
-sys.path.insert(0, str(ROOT))
+from recorder import hook_headers
 
-from recorder import hook_headers  # noqa: E402
+ROOT = Path(__file__).resolve().parent.parent
+PROGRAMS = ROOT / "tests/recorder"
 
 REFUSED = 125
 OWN_MALLOC = """
@@ -28,104 +26,108 @@ int main() { auto a = std::make_shared<Node>(); a->next = a; }
 
 
 def record(program, *options):
-    command = [ROOT / 'record', *options, program]
+    command = [ROOT / "record", *options, program]
     return subprocess.run(command, capture_output=True, text=True, cwd=PROGRAMS, timeout=120)
 
 
-def built(folder, *flags, text=None, compiler='g++'):
+def built(folder, *flags, text=None, compiler="g++"):
     """circle.cc or a text, built with these flags."""
-    source = PROGRAMS / 'circle.cc'
+    source = PROGRAMS / "circle.cc"
     if text:
-        source = Path(folder, 'text.cc')
+        source = Path(folder, "text.cc")
         source.write_text(text)
-    to = Path(folder, 'program')
-    subprocess.run([compiler, source, '-g', '-o', to, *flags], check=True, capture_output=True)
+    to = Path(folder, "program")
+    subprocess.run([compiler, source, "-g", "-o", to, *flags], check=True, capture_output=True)
     return to
 
 
 def refusal(program, why):
     """What is wrong with the refusal of a program."""
     ran = record(program)
-    right = ran.returncode == REFUSED and ran.stderr == f'record: refused: {why}\n'
-    return '' if right else f'{ran.returncode} {ran.stderr}'
+    right = ran.returncode == REFUSED and ran.stderr == f"record: refused: {why}\n"
+    return "" if right else f"{ran.returncode} {ran.stderr}"
 
 
 def without_types():
-    why = 'it is compiled without RTTI: control blocks are there, and tell no type; see --flags'
+    why = "it is compiled without RTTI: control blocks are there, and tell no type; see --flags"
     with tempfile.TemporaryDirectory() as folder:
-        return refusal(built(folder, '-fno-rtti'), why)
+        return refusal(built(folder, "-fno-rtti"), why)
 
 
 def without_types_with_hooks():
     """Hooks tell types themselves."""
-    flags = subprocess.run([ROOT / 'record', '--flags'], capture_output=True, text=True, check=True).stdout.split()
+    flags = subprocess.run(
+        [ROOT / "record", "--flags"], capture_output=True, text=True, check=True
+    ).stdout.split()
     with tempfile.TemporaryDirectory() as folder:
-        ran = record(built(folder, '-fno-rtti', *flags))
+        ran = record(built(folder, "-fno-rtti", *flags))
     right = (
         ran.returncode == 3
-        and 'knot 2 Node, tied by Node::child 1, Node::parent 1\nweaken Node::parent\n' in ran.stderr
+        and "knot 2 Node, tied by Node::child 1, Node::parent 1\nweaken Node::parent\n" in ran.stderr
     )
-    return '' if right else ran.stderr
+    return "" if right else ran.stderr
 
 
 def static_program():
     with tempfile.TemporaryDirectory() as folder:
-        program = built(folder, '-static')
-        return refusal(program, 'it is linked statically, so that no library can be loaded into it')
+        program = built(folder, "-static")
+        return refusal(program, "it is linked statically, so that no library can be loaded into it")
 
 
 def own_malloc():
     with tempfile.TemporaryDirectory() as folder:
-        return refusal(built(folder, text=OWN_MALLOC), 'it has a malloc of its own')
+        return refusal(built(folder, text=OWN_MALLOC), "it has a malloc of its own")
 
 
 def sanitizer():
     with tempfile.TemporaryDirectory() as folder:
-        program = built(folder, '-fsanitize=address')
-        return refusal(program, 'it is built with a sanitizer, which has a malloc of its own')
+        program = built(folder, "-fsanitize=address")
+        return refusal(program, "it is built with a sanitizer, which has a malloc of its own")
 
 
 def of_32_bit():
     """The head of such a program."""
     with tempfile.TemporaryDirectory() as folder:
-        program = Path(folder, 'program')
-        program.write_bytes(b'\x7fELF\x01\x01\x01' + bytes(45))
+        program = Path(folder, "program")
+        program.write_bytes(b"\x7fELF\x01\x01\x01" + bytes(45))
         program.chmod(0o755)
-        return refusal(program, 'it is a 32-bit program')
+        return refusal(program, "it is a 32-bit program")
 
 
 def other_library():
     """A program that is linked with a library of libc++'s name."""
     with tempfile.TemporaryDirectory() as folder:
-        library = Path(folder, 'libc++.so.1')
-        command = ['g++', '-shared', '-fPIC', '-x', 'c++', '-', '-Wl,-soname,libc++.so.1', '-o', library]
-        subprocess.run(command, input='int in_the_library() { return 1; }', text=True, check=True)
-        program = built(folder, '-Wl,--no-as-needed', library, f'-Wl,-rpath,{folder}')
-        return refusal(program, 'it uses libc++, and only the handles of libstdc++ are known')
+        library = Path(folder, "libc++.so.1")
+        command = ["g++", "-shared", "-fPIC", "-x", "c++", "-", "-Wl,-soname,libc++.so.1", "-o", library]
+        subprocess.run(command, input="int in_the_library() { return 1; }", text=True, check=True)
+        program = built(folder, "-Wl,--no-as-needed", library, f"-Wl,-rpath,{folder}")
+        return refusal(program, "it uses libc++, and only the handles of libstdc++ are known")
 
 
 def no_program():
-    ran = record('/no/such/program')
-    right = ran.returncode == 127 and ran.stderr == 'record: /no/such/program: no such program\n'
-    return '' if right else f'{ran.returncode} {ran.stderr}'
+    ran = record("/no/such/program")
+    right = ran.returncode == 127 and ran.stderr == "record: /no/such/program: no such program\n"
+    return "" if right else f"{ran.returncode} {ran.stderr}"
 
 
 def changed_headers():
     """Each hook is refused on a header in which its place is changed."""
-    base, atomic = (Path(hook_headers.folder_of('g++'), it).read_text() for it in hook_headers.HEADERS)
+    base, atomic = (Path(hook_headers.folder_of("g++"), it).read_text() for it in hook_headers.HEADERS)
     wrong = []
     for text, edits, finish in (base, hook_headers.BASE, hook_headers.with_cells), (
         atomic,
         hook_headers.ATOMIC,
         str,
     ):
-        hook_headers.edited(text, edits, 'header')
+        hook_headers.edited(text, edits, "header")
         for it in edits:
-            changed = hook_headers.re.sub(it.pattern, 'changed', text, count=1)
-            wrong += [it.what] * (not refuses(lambda: hook_headers.edited(changed, edits, 'header')))
+            changed = hook_headers.re.sub(it.pattern, "changed", text, count=1)
+            wrong += [it.what] * (not refuses(lambda: hook_headers.edited(changed, edits, "header")))
         if finish is hook_headers.with_cells:
-            wrong += ['cells'] * (not refuses(lambda: finish(text.replace('_Lp>*  _M_pi;', '_Lp>*  _M_block;', 1))))
-    return ' '.join(wrong)
+            wrong += ["cells"] * (
+                not refuses(lambda: finish(text.replace("_Lp>*  _M_pi;", "_Lp>*  _M_block;", 1)))
+            )
+    return " ".join(wrong)
 
 
 def refuses(call):
