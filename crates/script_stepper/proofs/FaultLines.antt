@@ -1,10 +1,9 @@
 -- The pieces of a fault's line make the line.
 use Rattle.std.proofs.Common.{◌≡◌, ℕ, List, [], ◌∷◌, ◌++◌, Option, Result, refl, sym, ap, subst, ◌∙◌, append_assoc}
 use Rattle.std.specs.Prelude.{codes, decimal}
-use Rattle.script_text.specs.declared.fault.Cause.{Cause}
 use Rattle.script_text.specs.declared.fault.Fault.{Fault}
-use Rattle.script_text.specs.declared.fault.Fault.TheVariants.{Syntax, BadTurn}
-use Rattle.script_text.specs.Faults.{cause_words, fault_line}
+use Rattle.script_text.specs.declared.fault.Fault.TheVariants.{BadTurn}
+use Rattle.script_text.specs.Faults.{fault_line, faulty_line}
 use Rattle.script_stepper.specs.Sinks.{IsWritten}
 
 pub same_line : {A E : Type 0} (r : Result A E) (old new : Option (List ℕ)) (fault is : Fault) (text : List ℕ) → fault ≡ is → text ≡ fault_line is
@@ -12,14 +11,18 @@ pub same_line : {A E : Type 0} (r : Result A E) (old new : Option (List ℕ)) (f
 same_line r old new fault is text e t h =
     subst (λ (l : List ℕ). IsWritten l r old new) (t ∙ sym (ap fault_line e)) h
 
+pub same_text : {A E : Type 0} (r : Result A E) (old new : Option (List ℕ)) (text line : List ℕ) → text ≡ line
+    → IsWritten text r old new → IsWritten line r old new
+same_text r old new text line e h = subst (λ (l : List ℕ). IsWritten l r old new) e h
+
 pub turn_line : (position : ℕ) (digits : List ℕ) → digits ≡ decimal position
     → codes "refused 11: turn " ++ (digits ++ codes "\n") ≡ fault_line (BadTurn position)
 turn_line position digits e = ap (λ (l : List ℕ). codes "refused 11: turn " ++ (l ++ codes "\n")) e
 
-pub syntax_line : (line : ℕ) (cause : Cause) (digits words : List ℕ) → digits ≡ decimal line → words ≡ cause_words cause
-    → (codes "refused 10: line " ++ digits) ++ (codes ": " ++ (words ++ codes "\n")) ≡ fault_line (Syntax line cause)
-syntax_line line cause digits words e w =
+pub syntax_line : (line : ℕ) (digits words cause : List ℕ) → digits ≡ decimal line → words ≡ cause
+    → (codes "refused 10: line " ++ digits) ++ (codes ": " ++ (words ++ codes "\n")) ≡ faulty_line line cause
+syntax_line line digits words cause e w =
     ap (λ (l : List ℕ). (codes "refused 10: line " ++ l) ++ (codes ": " ++ (words ++ codes "\n"))) e
     ∙ ap (λ (l : List ℕ). (codes "refused 10: line " ++ decimal line) ++ (codes ": " ++ (l ++ codes "\n"))) w
-    ∙ sym (append_assoc (codes "refused 10: line " ++ decimal line) (codes ": ") (cause_words cause ++ codes "\n"))
-    ∙ sym (append_assoc ((codes "refused 10: line " ++ decimal line) ++ codes ": ") (cause_words cause) (codes "\n"))
+    ∙ sym (append_assoc (codes "refused 10: line " ++ decimal line) (codes ": ") (cause ++ codes "\n"))
+    ∙ sym (append_assoc ((codes "refused 10: line " ++ decimal line) ++ codes ": ") cause (codes "\n"))

@@ -8,7 +8,7 @@ pub mod runs;
 pub mod sink;
 pub mod turns;
 
-pub use faults::write_fault;
+pub use faults::{write_fault, write_faulty_line};
 pub use lines::{put_block, put_lines, put_totals};
 pub use listing::{write_lines, write_text};
 pub use runs::ending::{End, end_of};

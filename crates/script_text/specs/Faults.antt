@@ -30,11 +30,14 @@ cause_words cause.WrongKindOfName = codes "wrong kind of name"
 cause_words cause.NameUsedTwice = codes "name used twice"
 cause_words cause.TooManyNames = codes "too many names"
 
--- with its line feed
+-- the line that tells of a faulty line of a text, and in these words why, with its line feed
+abbrev pub faulty_line : ℕ → List ℕ → List ℕ
+faulty_line line words = codes "refused 10: line " ++ decimal line ++ codes ": " ++ words ++ codes "\n"
+
+-- the line of a refusal
 abbrev pub fault_line : Fault → List ℕ
 fault_line Memory = codes "refused 1: memory\n"
-fault_line (Syntax line cause) =
-    codes "refused 10: line " ++ decimal line ++ codes ": " ++ cause_words cause ++ codes "\n"
+fault_line (Syntax line cause) = faulty_line line (cause_words cause)
 fault_line (BadTurn position) = codes "refused 11: turn " ++ decimal position ++ codes "\n"
 fault_line Output = codes "refused 12: output\n"
 fault_line Input = codes "refused 13: input\n"

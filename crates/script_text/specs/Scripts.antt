@@ -1,11 +1,12 @@
 -- Scripts, and the programs that they are.
-use Rattle.std.specs.Prelude.{◌≡◌, ℕ, ◌≤◌, List, All, length, map}
+use Rattle.std.specs.Prelude.{◌≡◌, ℕ, ◌-◌, ◌≤◌, List, All, get_or, length, map}
 use Rattle.control_word.specs.declared.shape.Shape.{Shape}
 use Rattle.control_word.specs.declared.model.handle.Kind.{Kind}
 use Rattle.step_threads.specs.Programs.{AllHaveCells, Part, IsProgram, call_count}
-use Rattle.script_text.specs.Names.{NameList}
+use Rattle.step_threads.specs.declared.programs.call.Name.{Name}
+use Rattle.script_text.specs.Names.{NameList, name_text}
 use Rattle.script_text.specs.Versions.{as_two, blocks_in, most_threads}
-use Rattle.script_text.specs.Drafts.{ScriptView, Section}
+use Rattle.script_text.specs.Drafts.{ScriptView, Section, no_section}
 use Rattle.script_text.specs.Grammar.{ReadsAs}
 use Rattle.script_text.specs.Canonical.{canonical}
 
@@ -20,6 +21,10 @@ part_in section = record { kinds = kinds_in section.names; calls = section.calls
 -- the program of threads
 abbrev pub program_in : List Section → List Part
 program_in threads = map part_in threads
+
+-- how one of these threads, by its number from 1, spells a name of its own; nothing where there is none
+abbrev pub spelling : List Section → ℕ → Name → List ℕ
+spelling threads thread name = name_text (get_or threads (thread - 1) no_section).names name
 
 -- how many statements the threads have
 abbrev pub statement_count : List Section → ℕ

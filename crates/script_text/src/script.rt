@@ -6,7 +6,7 @@ use crate::program::program_of;
 use control_word::Refusal;
 use std::alloc::Global;
 use std::marker::Model;
-use step_core::Program;
+use step_core::{Name, Program};
 
 /// A script that some text spells. A clause sees its version, and its threads in order, each with
 /// its names and its calls.
@@ -37,7 +37,7 @@ impl Script {
     ghost use Rattle.step_threads.specs.Programs.{AllHaveCells, parts_of, IsProgram};
     ghost use Rattle.script_text.specs.Canonical.{canonical};
     ghost use Rattle.script_text.specs.Grammar.{ReadsAs};
-    ghost use Rattle.script_text.specs.Scripts.{HasTextCells, program_in, statement_count};
+    ghost use Rattle.script_text.specs.Scripts.{HasTextCells, program_in, spelling, statement_count};
     ghost use Rattle.script_text.specs.Versions.{blocks_in, most_threads};
 
     /// How many blocks the threads share (own): 4,095 in version 1, and in version 2 as many as the
@@ -66,6 +66,19 @@ impl Script {
         ensures few { result ≤ 65536 }
     {
         self.statements
+    }
+
+    /// How a thread, by its number from 1, spells a name of its own (own); nothing where the script
+    /// has no such thread or name.
+    pub fn spelling(&self, thread: u8, name: Name) -> &str
+        ensures { result.now ≡ spelling self.now.threads thread name }
+    {
+        let index = usize::from(thread).saturating_sub(1);
+        if index < self.threads.len() {
+            self.threads[index].names.text(name)
+        } else {
+            ""
+        }
     }
 
     /// The program of the script (own): for each thread, in order, an actor with the kinds of its

@@ -1,18 +1,17 @@
-use Rattle.std.proofs.Common.{refl, ◌∙◌}
+use Rattle.std.proofs.Common.{refl, ap, ◌∙◌}
+use Rattle.script_text.specs.Faults.{faulty_line}
 use Rattle.script_text.specs.declared.fault.Fault.TheVariants.{Syntax, BadTurn, Output, Input}
-use Rattle.script_stepper.proofs.FaultLines.{same_line, syntax_line, turn_line}
+use Rattle.script_stepper.proofs.FaultLines.{same_line, turn_line}
 use Rattle.script_stepper.proofs.faults.put_fault.Goals as goal
 
 pub returns-in-Syntax-clause-written : goal.returns-in-Syntax-clause-written
 returns-in-Syntax-clause-written g c =
-    let digits = c.as_bytes.ensures.value ∙ c.format.ensures.text in
-    let words = c.as_bytes-in-Syntax.ensures.value ∙ c.words.ensures in
-    same_line c.put_five.result (g.S.Sink.taken c.args.sink.now) (g.S.Sink.taken c.put_five.new.sink) c.args.fault
-    (Syntax c.in-Syntax.line c.in-Syntax.cause) _ c.in-Syntax.is (syntax_line _ c.in-Syntax.cause _ _ digits words) c.put_five.ensures.written
+    same_line c.put_faulty_line.result (g.S.Sink.taken c.args.sink.now) (g.S.Sink.taken c.put_faulty_line.new.sink) c.args.fault
+    (Syntax c.in-Syntax.line c.in-Syntax.cause) _ c.in-Syntax.is (ap (faulty_line c.in-Syntax.line) c.words.ensures) c.put_faulty_line.ensures.written
 
 pub returns-in-BadTurn-clause-written : goal.returns-in-BadTurn-clause-written
 returns-in-BadTurn-clause-written g c =
-    let digits = c.as_bytes-in-BadTurn.ensures.value ∙ c.format-in-BadTurn.ensures.text in
+    let digits = c.as_bytes.ensures.value ∙ c.format.ensures.text in
     same_line c.put_three.result (g.S.Sink.taken c.args.sink.now) (g.S.Sink.taken c.put_three.new.sink) c.args.fault
     (BadTurn c.in-BadTurn.position) _ c.in-BadTurn.is (turn_line _ _ digits) c.put_three.ensures.written
 
