@@ -1,11 +1,17 @@
 -- What is read on a picture. All of it is own.
-use Rattle.std.specs.Prelude.{ℕ, ◌++◌, List, [], ◌∷◌, codes, decimal, Option, Some, None, String}
-use Rattle.std.specs.Prelude.{string_bytes}
+use Rattle.std.specs.Prelude.{ℕ, zero, suc, ◌-◌, ◌++◌, List, [], ◌∷◌, codes, decimal, Option, Some}
+use Rattle.std.specs.Prelude.{None, String, if◌then◌else◌, nat_lt, string_bytes}
 use Rattle.std.specs.Global.{Global}
 use Rattle.std.specs.List.{flat_map}
 use Rattle.control_word.specs.declared.packed.counts.Counts.{Counts}
 use Rattle.markup.specs.Trees.{Shows}
+use Rattle.run_picture.specs.declared.document.TheConstants.{ARROWS_LEGEND, BOXES_LEGEND, COUNTS_LEGEND}
+use Rattle.run_picture.specs.declared.document.TheConstants.{LANES_LEGEND, STYLE}
+use Rattle.run_picture.specs.declared.lanes.Lane.{Lane}
 use Rattle.run_picture.specs.declared.picture.Change.{Change}
+use Rattle.run_picture.specs.declared.picture.Left.{Left}
+use Rattle.run_picture.specs.declared.picture.LeftBlock.{LeftBlock}
+use Rattle.run_picture.specs.declared.picture.Picture.{Picture}
 use Rattle.run_picture.specs.declared.picture.Row.{Row}
 use Rattle.run_picture.specs.declared.picture.Touch.{Touch}
 
@@ -32,9 +38,44 @@ row_words row =
     ++ (touch_words row.touch
     ++ (flat_map line_words row.lines.items ++ flat_map change_words row.changes.items))
 
--- a text goes on with elements, each closed where it was opened, on which the words of each of
--- these rows are read just once, in their order
-pub record ShowsRows (rows : List Row) (old new : List ℕ) : Type 0 where
-  pub before : List (List ℕ)
-  pub after : List (List ℕ)
-  pub shows : Shows old new (before ++ (flat_map row_words rows ++ after))
+-- the titles of so many threads
+abbrev pub thread_titles : ℕ → List (List ℕ)
+thread_titles zero = []
+thread_titles (suc n) = thread_titles n ++ (codes "thread " ++ decimal (suc n)) ∷ []
+
+-- what stands above the rows: how things look, what they mean, and the threads
+abbrev pub top_words : ℕ → List (List ℕ)
+top_words threads = STYLE.now ∷ COUNTS_LEGEND.now ∷ LANES_LEGEND.now ∷ ARROWS_LEGEND.now
+    ∷ BOXES_LEGEND.now ∷ thread_titles threads
+
+-- the title of a free cell, of which so many are shared
+abbrev pub cell_title : ℕ → ℕ → List ℕ
+cell_title shared cell =
+    if nat_lt cell shared then codes "s" ++ decimal cell else codes "w" ++ decimal (cell - shared)
+
+abbrev pub cell_words : ℕ → ℕ → List (List ℕ)
+cell_words shared cell = cell_title shared cell ∷ []
+
+abbrev pub block_words : ℕ → List (List ℕ)
+block_words block = (codes "block " ++ decimal block) ∷ []
+
+abbrev pub lane_words : Lane → List (List ℕ)
+lane_words lane = block_words lane.block
+
+-- the blocks that are left at the end, and the last line
+abbrev pub left_block_words : LeftBlock → List (List ℕ)
+left_block_words left = block_words left.block
+
+abbrev pub left_words : Option Left → List (List ℕ)
+left_words None = []
+left_words (Some left) = flat_map left_block_words left.blocks.items ++ string_bytes left.totals ∷ []
+
+-- A text goes on with elements, each closed where it was opened, on which just this is read, in this
+-- order: what stands above the rows; the words of each row; the titles of the lanes of some cells
+-- and blocks; and what is left at the end
+pub record ShowsPicture (p : Picture) (old new : List ℕ) : Type 0 where
+  pub cells : List ℕ
+  pub blocks : List ℕ
+  pub shows : Shows old new
+      (top_words p.threads ++ (flat_map row_words p.rows.items
+      ++ (flat_map (cell_words p.shared_cells) cells ++ (flat_map block_words blocks ++ left_words p.left))))

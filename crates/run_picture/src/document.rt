@@ -1,8 +1,9 @@
 //! The whole picture.
 
-ghost use Rattle.std.specs.Prelude.{ℕ, List, [], IfOk, OnOk, string_bytes};
-ghost use Rattle.markup.specs.Trees.{Draws, Shows};
-ghost use Rattle.run_picture.specs.Shown.{ShowsRows};
+ghost use Rattle.std.specs.Prelude.{ℕ, ◌++◌, List, [], IfOk, OnOk, string_bytes};
+ghost use Rattle.std.specs.List.{flat_map};
+ghost use Rattle.markup.specs.Trees.{Shows};
+ghost use Rattle.run_picture.specs.Shown.{ShowsPicture, cell_words, lane_words, left_words, top_words};
 
 use crate::acts::put_rows;
 use crate::ends::{put_blocks, put_cells, put_end, put_threads};
@@ -20,7 +21,12 @@ const LEAST_WIDTH: u32 = 640;
 const COUNTS_LEGEND: &[u8] =
     b"2 w1: two owners and one weak pointer. Red dot: the value comes out.";
 
-const ARROWS_LEGEND: &[u8] = b"Arrow to a cell's lane: written, with the block. From it: read.";
+const LANES_LEGEND: &[u8] = b"Green lane: owned. Dashed lane: only weak pointers keep the block.";
+
+const ARROWS_LEGEND: &[u8] =
+    b"Orange arrow to a cell's lane: written, with the block. Dashed, from it: read.";
+
+const BOXES_LEGEND: &[u8] = b"Box at the end: white is kept, orange in a leaked knot, grey leaked.";
 
 /// How things look, on a light page and on a dark one.
 const STYLE: &[u8] = b"
@@ -52,20 +58,30 @@ struct Size {
     height: u32,
 }
 
-/// Adds what stands above the rows.
-#[tactic(auto, using(crate::proofs::Showing::draws_none, crate::proofs::Showing::draws_of, crate::proofs::Showing::draws_then))]
-fn put_top(alloc: Global, page: &Page, threads: u8, text: &mut String) -> Result<(), AllocError>
-    ensures { OnOk result (Draws (string_bytes text.old) (string_bytes text.new)) }
+/// Adds how things look, and what they mean.
+fn put_legends(text: &mut String) -> Result<(), AllocError>
+    ensures { OnOk result (Shows (string_bytes text.old) (string_bytes text.new) (top_words 0)) }
 {
     put_label(text, "style", &[], STYLE)?;
     put_words(text, "legend", at(LEFT, 20), COUNTS_LEGEND)?;
-    put_words(text, "legend", at(LEFT, 36), ARROWS_LEGEND)?;
+    put_words(text, "legend", at(LEFT, 36), LANES_LEGEND)?;
+    put_words(text, "legend", at(LEFT, 52), ARROWS_LEGEND)?;
+    put_words(text, "legend", at(LEFT, 68), BOXES_LEGEND)?;
+    Ok(())
+}
+
+/// Adds what stands above the rows.
+fn put_top(alloc: Global, page: &Page, threads: u8, text: &mut String) -> Result<(), AllocError>
+    ensures { OnOk result (Shows (string_bytes text.old) (string_bytes text.new)
+        (top_words threads)) }
+{
+    put_legends(text)?;
     put_threads(alloc, text, page.columns.as_slice(), threads)?;
     Ok(())
 }
 
 /// Adds what is left at the end, if that is known.
-#[tactic(auto, using(crate::proofs::Showing::draws_none, crate::proofs::Showing::draws_of, crate::proofs::Showing::draws_then))]
+#[tactic(auto, using(crate::proofs::Showing::shows_none))]
 fn put_left(
     alloc: Global,
     page: &Page,
@@ -73,7 +89,8 @@ fn put_left(
     bottom: u32,
     text: &mut String,
 ) -> Result<(), AllocError>
-    ensures { OnOk result (Draws (string_bytes text.old) (string_bytes text.new)) }
+    ensures { OnOk result (Shows (string_bytes text.old) (string_bytes text.new)
+        (left_words left.now)) }
 {
     match left {
         Some(left) => put_end(alloc, text, page, left, bottom),
@@ -82,19 +99,21 @@ fn put_left(
 }
 
 /// Adds the lanes, and what stands below the rows.
-#[tactic(auto, using(crate::proofs::Showing::draws_none, crate::proofs::Showing::draws_of, crate::proofs::Showing::draws_then))]
 fn put_bottom(
     alloc: Global,
     page: &Page,
-    left: &Option<Left>,
+    picture: &Picture,
     bottom: u32,
     text: &mut String,
 ) -> Result<(), AllocError>
-    ensures { OnOk result (Draws (string_bytes text.old) (string_bytes text.new)) }
+    ensures { OnOk result (Shows (string_bytes text.old) (string_bytes text.new)
+        (flat_map (cell_words picture.now.shared_cells) page.now.lanes.cells.items
+        ++ (flat_map lane_words page.now.lanes.blocks.items
+        ++ left_words picture.now.left))) }
 {
-    put_cells(alloc, text, &page.lanes, bottom)?;
+    put_cells(alloc, text, &page.lanes, picture.shared_cells, bottom)?;
     put_blocks(alloc, text, &page.lanes, bottom)?;
-    put_left(alloc, page, left, bottom, text)?;
+    put_left(alloc, page, &picture.left, bottom, text)?;
     Ok(())
 }
 
@@ -105,12 +124,12 @@ fn put_body(
     picture: &Picture,
     text: &mut String,
 ) -> Result<Size, AllocError>
-    ensures { OnOk result (ShowsRows picture.now.rows.items (string_bytes text.old)
+    ensures { OnOk result (ShowsPicture picture.now (string_bytes text.old)
         (string_bytes text.new)) }
 {
     put_top(alloc, page, picture.threads, text)?;
     let bottom = put_rows(alloc, page, text, picture.rows.as_slice())?;
-    put_bottom(alloc, page, &picture.left, bottom, text)?;
+    put_bottom(alloc, page, picture, bottom, text)?;
     Ok(Size {
         width: page.lanes.right().max(LEAST_WIDTH),
         height: bottom.saturating_add(2 * LINE),
@@ -137,11 +156,11 @@ fn document_of(alloc: Global, body: &str, size: Size) -> Result<String, AllocErr
 }
 
 /// A picture as the text of one SVG (own): elements, each closed where it was opened. On them the
-/// words of each row are read just once, in their order. Where things stand is not told. Refused
-/// where a growth was.
-#[tactic(auto, using(crate::proofs::Showing::rows_within))]
+/// words of each row are read just once, in their order, between what stands above and below them,
+/// and nothing else is. Where things stand is not told. Refused where a growth was.
+#[tactic(auto, using(crate::proofs::Showing::picture_within))]
 pub fn draw(alloc: Global, picture: &Picture) -> Result<String, AllocError>
-    ensures { IfOk result (λ text. ShowsRows picture.now.rows.items [] (string_bytes text)) }
+    ensures { IfOk result (λ text. ShowsPicture picture.now [] (string_bytes text)) }
 {
     let mut page = page_of(alloc, picture)?;
     let mut body = String::new(alloc);

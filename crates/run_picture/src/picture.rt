@@ -45,10 +45,11 @@ pub struct Left {
 }
 
 /// The acts of so many threads, in order, and what is left where the last of them is the run's
-/// last.
+/// last. Of the free cells so many are shared; the weak ones follow.
 #[derive(Drop)]
 pub struct Picture {
     pub threads: u8,
+    pub shared_cells: u32,
     pub rows: Vec<Row>,
     pub left: Option<Left>,
 }

@@ -2,14 +2,15 @@
 
 ghost use Rattle.std.specs.Prelude.{◌≡◌, ◌∷◌, ◌++◌, [], OnOk, codes, decimal, string_bytes};
 ghost use Rattle.std.specs.List.{flat_map};
-ghost use Rattle.markup.specs.Trees.{Draws, Shows};
+ghost use Rattle.markup.specs.Trees.{Shows};
+ghost use Rattle.run_picture.specs.Shown.{block_words};
 
 use markup::{Attribute, Value, put_label, put_shape};
 use std::alloc::{AllocError, Global};
 use std::fmt::Write;
 
 /// Where the first row stands.
-pub(crate) const TOP: u32 = 100;
+pub(crate) const TOP: u32 = 132;
 /// How high a line of text is.
 pub(crate) const LINE: u32 = 16;
 /// How wide a lane is.
@@ -181,7 +182,6 @@ fn title_class(before: &str) -> &'static str {
 }
 
 /// Adds the title of a thread or of a lane.
-#[tactic(auto, using(crate::proofs::Showing::draws_of))]
 pub(crate) fn put_title(
     alloc: Global,
     text: &mut String,
@@ -189,7 +189,8 @@ pub(crate) fn put_title(
     number: u32,
     point: Point,
 ) -> Result<(), AllocError>
-    ensures { OnOk result (Draws (string_bytes text.old) (string_bytes text.new)) }
+    ensures { OnOk result (Shows (string_bytes text.old) (string_bytes text.new)
+        ((before.now ++ decimal number) ∷ [])) }
 {
     let class = title_class(before);
     put_counted(alloc, text, Words { class, before }, number, point)?;
@@ -197,14 +198,14 @@ pub(crate) fn put_title(
 }
 
 /// Adds the name of a block that is left.
-#[tactic(auto, using(crate::proofs::Showing::draws_of))]
 pub(crate) fn put_left(
     alloc: Global,
     text: &mut String,
     block: u16,
     point: Point,
 ) -> Result<(), AllocError>
-    ensures { OnOk result (Draws (string_bytes text.old) (string_bytes text.new)) }
+    ensures { OnOk result (Shows (string_bytes text.old) (string_bytes text.new)
+        (block_words block)) }
 {
     let words = Words {
         class: "left",

@@ -38,6 +38,7 @@ fn picture(alloc: Global) -> Result<Picture, AllocError> {
     };
     Ok(Picture {
         threads: 1,
+        shared_cells: 128,
         rows: vec![in alloc; free, gone]?,
         left: Some(Left {
             blocks: vec![in alloc; block]?,

@@ -1,10 +1,11 @@
 -- What is drawn of what was recorded.
 use Rattle.std.proofs.Common.{◌≡◌, ℕ, ◌+◌, ◌<◌, ◌&&◌, Bool, true, false, List, [], length, inl, inr}
 use Rattle.std.proofs.Common.{refl, sym, subst, ap, arith, ◌∙◌}
-use Rattle.std.specs.Prelude.{Result, Ok, Err, IfErr, IfOk, min, nat_lt}
-use Rattle.std.proofs.lemmas.Bool.{cases_lt, lt-ltb, ltb-true}
+use Rattle.std.specs.Prelude.{◌≤◌, Result, Ok, Err, IfErr, IfOk, min, nat_le, nat_lt}
+use Rattle.std.proofs.lemmas.Bool.{cases_lt, le-leb, leb-true, lt-ltb, ltb-true}
+use Rattle.run_picture.specs.declared.picture.Picture.{Picture}
 use Rattle.run_picture.specs.declared.picture.Row.{Row}
-use Rattle.run_picture.specs.Shown.{ShowsRows}
+use Rattle.run_picture.specs.Shown.{ShowsPicture}
 use Rattle.script_text.specs.declared.fault.Fault.{Fault}
 use Rattle.script_text.specs.declared.fault.Fault.TheVariants.{Memory}
 use Rattle.script_text.specs.Drafts.{ScriptView}
@@ -15,7 +16,8 @@ use Rattle.script_stepper.specs.Runs.{IsScriptRun}
 use Rattle.script_stepper.specs.TurnLists.{list_at}
 use Rattle.script_picture.specs.declared.part.Part.{Part}
 use Rattle.script_picture.specs.Parts.{shown_part}
-use Rattle.script_picture.specs.Pictures.{Draws, IsPictureText, IsRunRecorded}
+use Rattle.script_picture.specs.Acts.{AreRows, acts_in}
+use Rattle.script_picture.specs.Pictures.{Draws, IsBehind, IsPictureText, IsRunRecorded}
 use Rattle.script_picture.specs.Recording.{IsRecorded}
 
 both : (a b : Bool) → (a && b) ≡ true → (a ≡ true) × (b ≡ true)
@@ -33,7 +35,45 @@ draws_more asked shown acts list items text is more none h =
     let part = ltb-true shown.last asked.last t.0 in
     let run = ltb-true shown.last acts t.1 in
     let most = h.most in
-    ((omega (arith, last, part), omega (arith, last, part, run, most)), none)
+    (inl (omega (arith, last, part), omega (arith, last, part, run, most)), none)
+
+-- the run ends before the part begins
+behind_parts : (asked : Part) (acts : ℕ)
+    → (nat_lt 1 asked.first && nat_lt acts asked.first && nat_le acts asked.last) ≡ true
+    → (1 < asked.first) × (acts < asked.first) × (acts ≤ asked.last)
+behind_parts asked acts e =
+    let outer = both (nat_lt 1 asked.first && nat_lt acts asked.first) (nat_le acts asked.last) e in
+    let inner = both (nat_lt 1 asked.first) (nat_lt acts asked.first) outer.0 in
+    (ltb-true 1 asked.first inner.0, ltb-true acts asked.first inner.1, leb-true acts asked.last outer.1)
+
+pub draws_behind : (asked shown : Part) (acts : ℕ) (list : List Row) (items : List Item)
+    (text : List ℕ) → shown ≡ shown_part asked
+    → (nat_lt 1 asked.first && nat_lt acts asked.first && nat_le acts asked.last) ≡ true → text ≡ []
+    → IsRecorded (shown_part asked) acts list items → Draws true asked items text
+draws_behind asked shown acts list items text is behind none h =
+    let p = behind_parts asked acts behind in
+    let first = p.0 in
+    let before = p.1 in
+    let within = p.2 in
+    let came : acts ≡ length items = h.all (omega (arith, before, within)) in
+    (inr (first, omega (arith, came, before), omega (arith, came, within)), none)
+
+not_behind : (asked : Part) (acts : ℕ) (items : List Item)
+    → (nat_lt 1 asked.first && nat_lt acts asked.first && nat_le acts asked.last) ≡ false
+    → acts ≤ length items → IsBehind asked items → ⊥
+not_behind asked acts items e most b =
+    let first = b.0 in
+    let before = b.1 in
+    let within = b.2 in
+    not_three (nat_lt 1 asked.first) (nat_lt acts asked.first) (nat_le acts asked.last) e
+    (lt-ltb 1 asked.first first) (lt-ltb acts asked.first (omega (arith, most, before)))
+    (le-leb acts asked.last (omega (arith, most, within)))
+  where
+    not_three : (a b c : Bool) → (a && b && c) ≡ false → a ≡ true → b ≡ true → c ≡ true → ⊥
+    not_three true true true e p q r = cc
+    not_three true true false e p q r = cc
+    not_three true false c e p q r = cc
+    not_three false b c e p q r = cc
 
 not_both : (a b : Bool) → (a && b) ≡ false → a ≡ true → b ≡ true → ⊥
 not_both true true e p q = cc
@@ -43,9 +83,11 @@ not_both false b e p q = cc
 -- no more than a picture shows
 pub draws_all : (asked shown : Part) (acts : ℕ) (list : List Row) (items : List Item)
     (text : List ℕ) → shown ≡ shown_part asked
-    → (nat_lt shown.last asked.last && nat_lt shown.last acts) ≡ false → ShowsRows list [] text
+    → (nat_lt shown.last asked.last && nat_lt shown.last acts) ≡ false
+    → (nat_lt 1 asked.first && nat_lt acts asked.first && nat_le acts asked.last) ≡ false
+    → (picture : Picture) × (picture.rows.items ≡ list) × ShowsPicture picture [] text
     → IsRecorded (shown_part asked) acts list items → Draws false asked items text
-draws_all asked shown acts list items text is few shows h =
+draws_all asked shown acts list items text is few begun shows h =
     let last : shown.last ≡ min asked.last (asked.first + 1999) = ap (λ (p : Part). p.last) is in
     let all = h.all in (
       λ more.
@@ -59,21 +101,26 @@ draws_all asked shown acts list items text is few shows h =
           ] in
           not_both (nat_lt shown.last asked.last) (nat_lt shown.last acts) few
           (lt-ltb shown.last asked.last past) (lt-ltb shown.last acts came),
-      record { rows = list; are = h.rows; shows = shows },
+      not_behind asked acts items begun h.most,
+      record {
+        picture = shows.0;
+        are = subst (AreRows (acts_in (shown_part asked) 1 items)) (sym shows.1) h.rows;
+        shows = shows.2;
+      },
     )
 
 -- the text of a run that was recorded
-pub picture_told : (fine more : Bool) (asked : Part) (script : ScriptView) (turns : List ℕ)
+pub picture_told : (fine none : Bool) (asked : Part) (script : ScriptView) (turns : List ℕ)
     (acts : ℕ) (list : List Row) (text : List ℕ)
     → IsRunRecorded fine script turns (shown_part asked) acts list
     → ((items : List Item) → IsRecorded (shown_part asked) acts list items
-    → Draws more asked items text)
-    → IsPictureText fine asked (Ok more) script turns text
-picture_told fine more asked script turns acts list text h draws =
+    → Draws none asked items text)
+    → IsPictureText fine asked (Ok none) script turns text
+picture_told fine none asked script turns acts list text h draws =
     record {
       items = h.items;
       says = h.says;
-      more = more;
+      none = none;
       draws = draws h.items h.recorded;
       answers = refl;
     }
@@ -102,10 +149,10 @@ only_memory (Ok d) bytes list h = tt
 only_memory (Err f) bytes list h = subst (λ (x : Fault). IsRefused bytes list x) (sym h) tt
 
 -- what was answered may be forgotten
-pub forgotten : (fine more : Bool) (part : Part) (fault : Fault) (bytes list text : List ℕ)
-    → IsScriptRun (IsPictureText fine part (Ok more)) bytes list text
+pub forgotten : (fine none : Bool) (part : Part) (fault : Fault) (bytes list text : List ℕ)
+    → IsScriptRun (IsPictureText fine part (Ok none)) bytes list text
     → IsScriptRun (IsPictureText fine part (Err fault)) bytes list text
-forgotten fine more part fault bytes list text h = record {
+forgotten fine none part fault bytes list text h = record {
   script = h.script;
   turns = h.turns;
   reads = h.reads;
@@ -113,7 +160,7 @@ forgotten fine more part fault bytes list text h = record {
   says = record {
     items = h.says.items;
     says = h.says.says;
-    more = h.says.more;
+    none = h.says.none;
     draws = h.says.draws;
     answers = tt;
   };

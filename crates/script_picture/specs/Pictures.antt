@@ -1,9 +1,10 @@
 -- What a script's picture shows. All of it is own.
-use Rattle.std.specs.Prelude.{◌≡◌, ℕ, ◌+◌, ◌<◌, Bool, true, false, List, [], length, Result, Ok}
-use Rattle.std.specs.Prelude.{Err}
+use Rattle.std.specs.Prelude.{◌≡◌, ◌⊎◌, ℕ, ◌+◌, ◌<◌, ◌≤◌, Bool, true, false, List, [], length, Result}
+use Rattle.std.specs.Prelude.{Ok, Err}
 use Rattle.std.specs.List.{flat_map}
+use Rattle.run_picture.specs.declared.picture.Picture.{Picture}
 use Rattle.run_picture.specs.declared.picture.Row.{Row}
-use Rattle.run_picture.specs.Shown.{ShowsRows}
+use Rattle.run_picture.specs.Shown.{ShowsPicture}
 use Rattle.step_core.specs.declared.trace.TraceStep.{TraceStep}
 use Rattle.step_core.specs.Worlds.{WorldState}
 use Rattle.step_threads.specs.AbstractStates.{AbstractState}
@@ -41,22 +42,28 @@ pub record IsRunRecorded (fine : Bool) (script : ScriptView) (turns : List ℕ) 
 abbrev pub HasMoreActs : Part → List Item → Type 0
 HasMoreActs part items = (part.first + 1999 < part.last) × (part.first + 1999 < length items)
 
--- the text is elements, each closed where it was opened, on which the acts of a part are read: each
--- once, in order
+-- a part begins behind the last act of its run
+abbrev pub IsBehind : Part → List Item → Type 0
+IsBehind part items = (1 < part.first) × (length items < part.first) × (length items ≤ part.last)
+
+-- the text is elements, each closed where it was opened, on which just a picture is read whose rows
+-- are the acts of a part: each once, in order
 pub record IsPicture (part : Part) (items : List Item) (text : List ℕ) : Type 0 where
-  pub rows : List Row
-  pub are : AreRows (acts_in part 1 items) rows
-  pub shows : ShowsRows rows [] text
+  pub picture : Picture
+  pub are : AreRows (acts_in part 1 items) picture.rows.items
+  pub shows : ShowsPicture picture [] text
 
--- nothing is written where a part has too many acts; else the acts are drawn
+-- nothing is written where a part has too many acts, or begins behind the last one; else the acts
+-- are drawn
 abbrev pub Draws : Bool → Part → List Item → List ℕ → Type 0
-Draws true part items text = HasMoreActs part items × (text ≡ [])
-Draws false part items text = (HasMoreActs part items → ⊥) × IsPicture (shown_part part) items text
+Draws true part items text = (HasMoreActs part items ⊎ IsBehind part items) × (text ≡ [])
+Draws false part items text = (HasMoreActs part items → ⊥) × (IsBehind part items → ⊥)
+    × IsPicture (shown_part part) items text
 
--- whether there were too many, where that was answered
-abbrev pub AnswersMore : Result Bool Fault → Bool → Type 0
-AnswersMore (Ok answer) more = answer ≡ more
-AnswersMore (Err fault) more = Unit {0}
+-- whether nothing was drawn, where that was answered
+abbrev pub AnswersNone : Result Bool Fault → Bool → Type 0
+AnswersNone (Ok answer) none = answer ≡ none
+AnswersNone (Err fault) none = Unit {0}
 
 -- a script's run with these turns says this, and the text is the picture of a part of it
 pub record IsPictureText (fine : Bool) (part : Part) (answer : Result Bool Fault)
@@ -64,6 +71,6 @@ pub record IsPictureText (fine : Bool) (part : Part) (answer : Result Bool Fault
     (turns text : List ℕ) : Type 0 where
   pub items : List Item
   pub says : SaysBy fine script turns items
-  pub more : Bool
-  pub draws : Draws more part items text
-  pub answers : AnswersMore answer more
+  pub none : Bool
+  pub draws : Draws none part items text
+  pub answers : AnswersNone answer none

@@ -1,7 +1,8 @@
 //! From a script's bytes to the picture of its run.
 ghost use Rattle.std.specs.Prelude.{◌≡◌, ◌&&◌, ◌≤◌, [], ℕ, List, All, IfErr, IfOk, false, length};
-ghost use Rattle.std.specs.Prelude.{nat_lt, string_bytes};
-ghost use Rattle.run_picture.specs.Shown.{ShowsRows};
+ghost use Rattle.std.specs.Prelude.{nat_le, nat_lt, string_bytes, true};
+ghost use Rattle.run_picture.specs.declared.picture.Picture.{Picture};
+ghost use Rattle.run_picture.specs.Shown.{ShowsPicture};
 ghost use Rattle.script_text.specs.declared.fault.Fault.TheVariants.{Memory};
 ghost use Rattle.script_text.specs.Traces.{Item};
 ghost use Rattle.script_stepper.specs.Ends.{IsRefused};
@@ -18,6 +19,7 @@ use script_stepper::turns::turns_of;
 use script_stepper::{Sink, write_text};
 use script_text::{Fault, Script, parse};
 use std::alloc::{AllocError, Global};
+use step_table::limits::SCRIPT_SHARED_CELLS;
 
 /// What is to be drawn: a script's run with a list of turns, by acts or by single steps, and which
 /// of them.
@@ -29,11 +31,12 @@ pub struct Order<'a> {
     pub part: Part,
 }
 
-/// The text of a picture; none where the part and the run have more acts than one shows.
+/// The text of a picture; or that there is none, where the part and the run have more acts than one
+/// shows, or the part begins behind the run's last act.
 #[derive(Drop)]
 struct Drawn {
     text: String,
-    more: bool,
+    is_none: bool,
 }
 
 /// The picture of a run that was recorded; what is left at its end where the last act is one of the
@@ -49,6 +52,7 @@ fn picture_of(alloc: Global, recorded: Recorded) -> Result<Picture, AllocError>
     };
     Ok(Picture {
         threads,
+        shared_cells: SCRIPT_SHARED_CELLS,
         rows: rows.list,
         left,
     })
@@ -56,7 +60,9 @@ fn picture_of(alloc: Global, recorded: Recorded) -> Result<Picture, AllocError>
 
 /// The text of the picture of a run that was recorded.
 fn picture_text(alloc: Global, recorded: Recorded) -> Result<String, AllocError>
-    ensures { IfOk result (λ text. ShowsRows recorded.rows.list.items [] (string_bytes text)) }
+    ensures { IfOk result (λ text. (picture : Picture)
+        × (picture.rows.items ≡ recorded.rows.list.items)
+        × ShowsPicture picture [] (string_bytes text)) }
 {
     let picture = picture_of(alloc, recorded)?;
     draw(alloc, &picture)
@@ -69,22 +75,40 @@ fn has_more(asked: Part, shown: Part, acts: u64) -> bool
     shown.last < asked.last && u64::from(shown.last) < acts
 }
 
-/// The text of a picture, or that there are too many acts for one.
+/// Whether a part begins behind the last act of a run, of which so many came.
+fn is_behind(asked: Part, acts: u64) -> bool
+    ensures { result ≡ (nat_lt 1 asked.first && nat_lt acts asked.first && nat_le acts asked.last) }
+{
+    1 < asked.first && acts < u64::from(asked.first) && acts <= u64::from(asked.last)
+}
+
+/// No text of a picture.
+fn not_drawn(alloc: Global) -> Drawn
+    ensures none { result.is_none ≡ true }
+    ensures text { string_bytes result.text ≡ [] }
+{
+    Drawn {
+        text: String::new(alloc),
+        is_none: true,
+    }
+}
+
+/// The text of a picture, or that there is none.
 fn draw_recorded(alloc: Global, asked: Part, recorded: Recorded) -> Result<Drawn, AllocError>
     requires { recorded.rows.part ≡ shown_part asked }
     ensures { IfOk result (λ drawn. (items : List Item)
         → IsRecorded (shown_part asked) recorded.rows.acts recorded.rows.list.items items
-        → Draws drawn.more asked items (string_bytes drawn.text)) }
+        → Draws drawn.is_none asked items (string_bytes drawn.text)) }
 {
     if has_more(asked, recorded.rows.part, recorded.rows.acts) {
-        return Ok(Drawn {
-            text: String::new(alloc),
-            more: true,
-        });
+        return Ok(not_drawn(alloc));
+    }
+    if is_behind(asked, recorded.rows.acts) {
+        return Ok(not_drawn(alloc));
     }
     Ok(Drawn {
         text: picture_text(alloc, recorded)?,
-        more: false,
+        is_none: false,
     })
 }
 
@@ -92,7 +116,7 @@ fn draw_recorded(alloc: Global, asked: Part, recorded: Recorded) -> Result<Drawn
 fn run_drawn(alloc: Global, script: &Script, turns: &[u8], order: Order<'_>) -> Result<Drawn, Fault>
     requires { All (λ thread. (1 ≤ thread) × (thread ≤ length script.now.threads)) turns.now }
     ensures ok { IfOk result (λ drawn. IsPictureText order.entry.is_fine order.entry.part
-        (Ok drawn.more) script.now turns.now
+        (Ok drawn.is_none) script.now turns.now
         (string_bytes drawn.text)) }
     ensures memory { IfErr result (λ fault. fault ≡ Memory) }
 {
@@ -106,7 +130,7 @@ fn run_drawn(alloc: Global, script: &Script, turns: &[u8], order: Order<'_>) -> 
 /// Reads a script and a list of turns, and draws the run.
 fn drawn_of(alloc: Global, order: Order<'_>) -> Result<Drawn, Fault>
     ensures told { IfOk result
-        (λ drawn. TellsRun (IsPictureText order.entry.is_fine order.entry.part (Ok drawn.more))
+        (λ drawn. TellsRun (IsPictureText order.entry.is_fine order.entry.part (Ok drawn.is_none))
         order.entry.script.now order.entry.turns.now (Ok (string_bytes drawn.text))) }
     ensures refused { IfErr result
         (λ fault. IsRefused order.entry.script.now order.entry.turns.now fault) }
@@ -119,8 +143,10 @@ fn drawn_of(alloc: Global, order: Order<'_>) -> Result<Drawn, Fault>
 /// Runs a script with a list of turns, as [`script_stepper::step_text`] does, or by single steps,
 /// as [`script_stepper::fine_text`] does, and writes a part of its run as the text of one SVG
 /// (own). On it are the acts of the run whose numbers, from 1, are in the part, each once and in
-/// their order: with its number, its thread, its statement and the lines that it said. Answers
-/// whether the part and the run have more acts than one picture shows; then nothing is written.
+/// their order: with its number, its thread, its statement and the lines that it said; and nothing
+/// else but what stands above and below the rows. Answers whether the part and the run have more
+/// acts than one picture shows, or the part begins behind the run's last act; then nothing is
+/// written.
 ///
 /// Refused, in this order: by 1 where a growth was refused, by 10 just where a line of the script
 /// is faulty, by 11 just where a number of the list is, with nothing written; by 12 just where the
@@ -134,5 +160,5 @@ pub fn draw_text<S: Sink>(alloc: Global, order: Order<'_>, writer: &mut S) -> Re
 {
     let drawn = drawn_of(alloc, order)?;
     write_text(drawn.text.as_bytes(), writer)?;
-    Ok(drawn.more)
+    Ok(drawn.is_none)
 }

@@ -13,7 +13,7 @@ ghost use Rattle.script_picture.specs.Recording.{RowsAre, step_items};
 use crate::drawing::Order;
 use crate::recording::{Rows, Source, no_rows};
 use crate::running::{record_steps, record_turns};
-use crate::source::statements;
+use crate::source::{names, statements};
 use script_stepper::{End, Start, start_of};
 use script_text::{Fault, Script};
 use std::alloc::{AllocError, Global};
@@ -28,15 +28,23 @@ pub(crate) struct Recorded {
 }
 
 /// No rows yet of a script's run.
-fn rows_of(alloc: Global, order: Order<'_>, blocks: u16, threads: u8) -> Result<Rows, AllocError>
+fn rows_of(
+    alloc: Global,
+    order: Order<'_>,
+    script: &Script,
+    blocks: u16,
+    threads: u8,
+) -> Result<Rows, AllocError>
     ensures none { IfOk result (λ rows. RowsAre rows []) }
     ensures part { IfOk result (λ rows. rows.part ≡ shown_part order.entry.part) }
     ensures blocks { IfOk result (λ rows. rows.source.blocks ≡ blocks) }
 {
     let statements = statements(alloc, order.script)?;
+    let names = names(alloc, script)?;
     let source = Source {
         alloc,
         statements,
+        names,
         threads,
         blocks,
     };
@@ -62,7 +70,7 @@ fn by_turns(
         threads,
         blocks,
     } = start_of(alloc, script)?;
-    let Ok(mut rows) = rows_of(alloc, order, blocks, threads) else {
+    let Ok(mut rows) = rows_of(alloc, order, script, blocks, threads) else {
         return Err(Fault::Memory);
     };
     match record_turns(&mut world, threads, turns, &mut rows) {
@@ -143,7 +151,7 @@ fn stepped_rows(
     else {
         return Err(AllocError);
     };
-    let mut rows = rows_of(alloc, order, blocks, threads)?;
+    let mut rows = rows_of(alloc, order, script, blocks, threads)?;
     record_steps(&mut world, trace.steps.as_slice(), &mut rows)?;
     Ok(rows)
 }

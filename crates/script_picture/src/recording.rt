@@ -5,7 +5,7 @@ ghost use Rattle.script_picture.specs.Acts.{IsRow, bytes_of};
 ghost use Rattle.script_picture.specs.Recording.{Adds, RowsAre};
 
 use crate::part::Part;
-use crate::source::put_statement;
+use crate::source::{put_statement, spelled_in, written_at};
 use crate::trace_label::Aimed;
 use control_word::{Block, Counts};
 use run_picture::{Change, Row, Touch};
@@ -13,14 +13,15 @@ use script_stepper::put_lines;
 use script_text::member_text;
 use std::alloc::{AllocError, Global};
 use std::fmt::Write;
-use step_core::{Said, Site, World};
+use step_core::{Name, Said, Site, World};
 
-/// Where acts come from: a script's statements by threads, run in a world of so many threads and
-/// blocks.
+/// Where acts come from: a script's statements and names by threads, run in a world of so many
+/// threads and blocks.
 #[derive(Drop)]
 pub(crate) struct Source {
     pub alloc: Global,
     pub statements: Vec<Vec<Vec<u8>>>,
+    pub names: Vec<Vec<String>>,
     pub threads: u8,
     pub blocks: u16,
 }
@@ -42,6 +43,7 @@ pub(crate) struct Made {
     pub thread: u8,
     pub said: Said,
     pub word: &'static str,
+    pub name: Option<Name>,
     pub aimed: Option<Aimed>,
 }
 
@@ -202,24 +204,35 @@ fn lines_of(alloc: Global, thread: u8, said: Said) -> Result<Vec<String>, AllocE
     Ok(lines)
 }
 
+/// What stands behind the place of an act: its statement as it is written, or at a thread's end the
+/// name that leaves.
+fn written_of<'a>(source: &'a Source, made: &Made) -> Option<&'a [u8]> {
+    if made.said.statement == 0 {
+        spelled_in(source.names.as_slice(), made.thread, made.name?)
+    } else {
+        written_at(
+            source.statements.as_slice(),
+            made.thread,
+            made.said.statement,
+        )
+    }
+}
+
 /// The row of an act.
 fn row_of(source: &Source, number: u32, made: Made, changes: Vec<Change>) -> Result<Row, AllocError>
     ensures { IfOk result (λ row. IsRow (number, (made.thread, made.said)) row) }
 {
     let alloc = source.alloc;
+    let written = written_of(source, &made);
     let Made {
         thread,
         said,
         word,
         aimed,
+        ..
     } = made;
     let mut statement = String::new(alloc);
-    put_statement(
-        &mut statement,
-        source.statements.as_slice(),
-        thread,
-        said.statement,
-    )?;
+    put_statement(&mut statement, thread, said.statement, written)?;
     Ok(Row {
         number,
         thread,

@@ -31,6 +31,7 @@ fn take_turn(world: &mut World, thread: u8, rows: &mut Rows) -> Result<bool, All
                 thread,
                 said,
                 word: trace_label.word,
+                name: trace_label.name,
                 aimed: aimed_at(&trace_label, &said),
             };
             add_row(world, made, rows)?;
@@ -123,6 +124,7 @@ fn take_step(world: &mut World, step: &TraceStep, rows: &mut Rows) -> Result<(),
         thread,
         said,
         word: step_word(&trace_label, world.pending_call(thread)),
+        name: trace_label.name,
         aimed: aimed_by(&trace_label, step.stepped),
     };
     add_row(world, made, rows)

@@ -1,9 +1,12 @@
-//! The statements of a script, as they are written.
+//! The statements of a script, as they are written, and its names.
 ghost use Rattle.std.specs.Prelude.{◌≡◌, ◌++◌, [], OnOk, string_bytes};
 ghost use Rattle.script_picture.specs.Acts.{GoesOnWith, place_start};
 
+use script_text::Script;
 use std::alloc::{AllocError, Global};
 use std::fmt::Write;
+use step_core::Name;
+use step_table::limits::SCRIPT_NAMES;
 
 /// What a line is.
 enum Kind {
@@ -49,8 +52,37 @@ pub(crate) fn statements(alloc: Global, script: &[u8]) -> Result<Vec<Vec<Vec<u8>
     Ok(done)
 }
 
+/// The names of each thread of a script, in order, each as it is spelled.
+pub(crate) fn names(alloc: Global, script: &Script) -> Result<Vec<Vec<String>>, AllocError> {
+    let mut all = Vec::new(alloc);
+    for index in 0..script.threads() {
+        all.push(names_of(alloc, script, index as u8 + 1)?)?;
+    }
+    Ok(all)
+}
+
+/// The names of a thread.
+fn names_of(alloc: Global, script: &Script, thread: u8) -> Result<Vec<String>, AllocError> {
+    let mut names = Vec::new(alloc);
+    for number in 0..SCRIPT_NAMES as u8 {
+        names.push(String::from_str(alloc, script.spelling(thread, Name(number)))?)?;
+    }
+    Ok(names)
+}
+
+/// A name of a thread, as it is spelled.
+pub(crate) fn spelled_in(names: &[Vec<String>], thread: u8, name: Name) -> Option<&[u8]> {
+    let index = usize::from(thread.checked_sub(1)?);
+    let number = usize::from(name.0);
+    if index < names.len() && number < names[index].len() {
+        Some(names[index][number].as_bytes())
+    } else {
+        None
+    }
+}
+
 /// A statement as it is written; none at a thread's end.
-fn written_at(statements: &[Vec<Vec<u8>>], thread: u8, statement: u32) -> Option<&[u8]> {
+pub(crate) fn written_at(statements: &[Vec<Vec<u8>>], thread: u8, statement: u32) -> Option<&[u8]> {
     let index = usize::from(thread.checked_sub(1)?);
     let number = statement.checked_sub(1)? as usize;
     if index < statements.len() && number < statements[index].len() {
@@ -81,16 +113,11 @@ fn put_bytes(text: &mut String, bytes: &[u8]) -> Result<(), AllocError>
     Ok(())
 }
 
-/// Adds a statement as it is written, behind a blank; nothing at a thread's end.
-fn put_written(
-    text: &mut String,
-    statements: &[Vec<Vec<u8>>],
-    thread: u8,
-    statement: u32,
-) -> Result<(), AllocError>
+/// Adds what is written, behind a blank, if something is.
+fn put_written(text: &mut String, written: Option<&[u8]>) -> Result<(), AllocError>
     ensures { OnOk result (GoesOnWith [] (string_bytes text.old) (string_bytes text.new)) }
 {
-    match written_at(statements, thread, statement) {
+    match written {
         Some(written) => {
             text.push_str(" ")?;
             put_bytes(text, written)
@@ -112,18 +139,18 @@ fn put_place(text: &mut String, thread: u8, statement: u32) -> Result<(), AllocE
     Ok(())
 }
 
-/// Adds `T.S` and the statement as it is written, or `T.end`.
+/// Adds `T.S` or `T.end`, and what is written behind it: the statement, or the name that leaves.
 pub(crate) fn put_statement(
     text: &mut String,
-    statements: &[Vec<Vec<u8>>],
     thread: u8,
     statement: u32,
+    written: Option<&[u8]>,
 ) -> Result<(), AllocError>
     ensures { OnOk result
         (GoesOnWith (place_start thread statement) (string_bytes text.old)
         (string_bytes text.new)) }
 {
     put_place(text, thread, statement)?;
-    put_written(text, statements, thread, statement)?;
+    put_written(text, written)?;
     Ok(())
 }

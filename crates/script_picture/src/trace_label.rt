@@ -19,6 +19,8 @@ pub(crate) struct Aimed {
 pub(crate) struct TraceLabel {
     pub word: &'static str,
     pub pending_call: PendingCall,
+    /// The name that leaves, where its thread is at its end.
+    pub name: Option<Name>,
     aim: Option<Aim>,
 }
 
@@ -129,6 +131,14 @@ fn act_word(act: Act) -> &'static str {
     }
 }
 
+/// The name that an act empties, as those of a thread's end do.
+fn cleared_by(act: Act) -> Option<Name> {
+    match act {
+        Act::Clear { name } => Some(Name(name)),
+        _ => None,
+    }
+}
+
 /// What a thread is about to do: what it has begun, and its next act. Where an object ends in its
 /// hands, that goes on, or what came out of a member of it leaves.
 pub(crate) fn trace_label_of(world: &World, thread: u8) -> TraceLabel
@@ -139,6 +149,7 @@ pub(crate) fn trace_label_of(world: &World, thread: u8) -> TraceLabel
         return TraceLabel {
             word: ending_word(world, thread),
             pending_call,
+            name: None,
             aim: None,
         };
     }
@@ -146,11 +157,13 @@ pub(crate) fn trace_label_of(world: &World, thread: u8) -> TraceLabel
         Some(act) => TraceLabel {
             word: act_word(act),
             pending_call,
+            name: cleared_by(act),
             aim: aim_of(world, thread, act),
         },
         None => TraceLabel {
             word: "end",
             pending_call,
+            name: None,
             aim: None,
         },
     }

@@ -1,6 +1,11 @@
+use Rattle.std.proofs.Common.{take}
 use Rattle.std.specs.Prelude.{string_bytes}
-use Rattle.markup.specs.Trees.{Draws}
+use Rattle.std.specs.List.{flat_map}
+use Rattle.markup.specs.Trees.{Shows}
+use Rattle.run_picture.specs.Shown.{lane_words}
 use Rattle.run_picture.proofs.ends.put_blocks.Given as goal
 
 abbrev pub invariant-loop-index : goal.invariant-loop-index
-invariant-loop-index l = Draws (string_bytes l.fn.text) (string_bytes l.text)
+invariant-loop-index l =
+    Shows (string_bytes l.fn.text) (string_bytes l.text)
+    (flat_map lane_words (take l.index l.lanes.blocks.items))
