@@ -2,10 +2,10 @@
 use Rattle.std.specs.Prelude.{⊤}
 use Rattle.clap.proofs.OnLiterals.{clap_on_literals}
 use Rattle.sptr.specs.CommandLine.{draw_line, file_word, flag_rule, left_line, option_rule}
-use Rattle.sptr.specs.CommandLine.{program, script_line, turns_line}
+use Rattle.sptr.specs.CommandLine.{owners_line, program, script_line, turns_line}
 
 unfoldable pub lines : ⊤
-unfolding script_line turns_line left_line draw_line file_word option_rule flag_rule
+unfolding script_line turns_line left_line draw_line owners_line file_word option_rule flag_rule
 lines = tt
 
 unfoldable pub sptr_on_literals : ⊤

@@ -2,11 +2,11 @@
 use Rattle.std.proofs.Common.{◌≡◌, ◌∙◌, Bool, true, false, refl, sym, ap, ap₂, List, [], ◌∷◌}
 use Rattle.std.proofs.Common.{◌++◌, Option, Some, None, codes, decimal, inl, inr}
 use Rattle.std.specs.Str.{bytes_eq}
-use Rattle.clap.specs.Words.{Text, subcommand_of}
+use Rattle.clap.specs.Words.{Text}
 use Rattle.clap.specs.Lexer.{long_of, short_of}
 use Rattle.script_picture.specs.declared.part.Part.{Part}
 use Rattle.sptr.specs.CommandLine.{IsDrawLine, IsJoinedLine, IsLine, fine_given, fine_words}
-use Rattle.sptr.specs.CommandLine.{part_given, part_words, program, word_given}
+use Rattle.sptr.specs.CommandLine.{part_given, part_words, word_given}
 use Rattle.sptr.specs.Parts.{part_named}
 use Rattle.sptr.proofs.OnLiterals.{sptr_on_literals}
 use Rattle.sptr.proofs.PartWords.{part_written}
@@ -17,21 +17,21 @@ record IsForDraw (is_fine : Bool) (from to : Option Text) (list : Text) (words :
     : Type 0 where
   line : IsFor (codes "draw") list words
   fine : fine_given words ≡ is_fine
-  from_is : word_given (codes "from") (subcommand_of program words) ≡ from
-  to_is : word_given (codes "to") (subcommand_of program words) ≡ to
+  from_is : word_given (codes "from") words ≡ from
+  to_is : word_given (codes "to") words ≡ to
 
 whole_alone : (name : Text)
     → IsForDraw false None None [] (name ∷ codes "draw" ∷ [])
 unfolding sptr_on_literals
 whole_alone name =
-    record { line = (refl, refl, refl, refl); fine = refl; from_is = refl; to_is = refl }
+    record { line = (refl, refl, refl, (refl, refl)); fine = refl; from_is = refl; to_is = refl }
 
 whole_joined : (name list : Text)
     → IsForDraw false None None list
     (name ∷ codes "draw" ∷ (codes "--turns=" ++ list) ∷ [])
 unfolding sptr_on_literals
 whole_joined name list =
-    record { line = (refl, refl, refl, refl); fine = refl; from_is = refl; to_is = refl }
+    record { line = (refl, refl, refl, (refl, refl)); fine = refl; from_is = refl; to_is = refl }
 
 whole_apart : (name list : Text) → bytes_eq list (45 ∷ 45 ∷ []) ≡ false
     → long_of list ≡ None → short_of list ≡ None
@@ -44,7 +44,7 @@ whole_apart name list dashes long short =
         rw (dashes, long, short) refl,
         refl,
         rw (dashes, long, short) refl,
-        rw (dashes, long, short) refl,
+        (rw (dashes, long, short) refl, rw (dashes, long, short) refl),
       );
       fine = rw (dashes, long, short) refl;
       from_is = rw (dashes, long, short) refl;
@@ -55,14 +55,14 @@ fine_alone : (name : Text)
     → IsForDraw true None None [] (name ∷ codes "draw" ∷ codes "--fine" ∷ [])
 unfolding sptr_on_literals
 fine_alone name =
-    record { line = (refl, refl, refl, refl); fine = refl; from_is = refl; to_is = refl }
+    record { line = (refl, refl, refl, (refl, refl)); fine = refl; from_is = refl; to_is = refl }
 
 fine_joined : (name list : Text)
     → IsForDraw true None None list
     (name ∷ codes "draw" ∷ codes "--fine" ∷ (codes "--turns=" ++ list) ∷ [])
 unfolding sptr_on_literals
 fine_joined name list =
-    record { line = (refl, refl, refl, refl); fine = refl; from_is = refl; to_is = refl }
+    record { line = (refl, refl, refl, (refl, refl)); fine = refl; from_is = refl; to_is = refl }
 
 fine_apart : (name list : Text) → bytes_eq list (45 ∷ 45 ∷ []) ≡ false
     → long_of list ≡ None → short_of list ≡ None
@@ -75,7 +75,7 @@ fine_apart name list dashes long short =
         rw (dashes, long, short) refl,
         refl,
         rw (dashes, long, short) refl,
-        rw (dashes, long, short) refl,
+        (rw (dashes, long, short) refl, rw (dashes, long, short) refl),
       );
       fine = rw (dashes, long, short) refl;
       from_is = rw (dashes, long, short) refl;
@@ -87,7 +87,7 @@ part_alone : (from to name : Text)
     (name ∷ codes "draw" ∷ (codes "--from=" ++ from) ∷ (codes "--to=" ++ to) ∷ [])
 unfolding sptr_on_literals
 part_alone from to name =
-    record { line = (refl, refl, refl, refl); fine = refl; from_is = refl; to_is = refl }
+    record { line = (refl, refl, refl, (refl, refl)); fine = refl; from_is = refl; to_is = refl }
 
 part_joined : (from to name list : Text)
     → IsForDraw false (Some from) (Some to) list
@@ -95,14 +95,14 @@ part_joined : (from to name list : Text)
     ∷ (codes "--turns=" ++ list) ∷ [])
 unfolding sptr_on_literals
 part_joined from to name list =
-    record { line = (refl, refl, refl, refl); fine = refl; from_is = refl; to_is = refl }
+    record { line = (refl, refl, refl, (refl, refl)); fine = refl; from_is = refl; to_is = refl }
 
 fine_part_alone : (from to name : Text)
     → IsForDraw true (Some from) (Some to) []
     (name ∷ codes "draw" ∷ codes "--fine" ∷ (codes "--from=" ++ from) ∷ (codes "--to=" ++ to) ∷ [])
 unfolding sptr_on_literals
 fine_part_alone from to name =
-    record { line = (refl, refl, refl, refl); fine = refl; from_is = refl; to_is = refl }
+    record { line = (refl, refl, refl, (refl, refl)); fine = refl; from_is = refl; to_is = refl }
 
 fine_part_joined : (from to name list : Text)
     → IsForDraw true (Some from) (Some to) list
@@ -110,7 +110,7 @@ fine_part_joined : (from to name list : Text)
     ∷ (codes "--turns=" ++ list) ∷ [])
 unfolding sptr_on_literals
 fine_part_joined from to name list =
-    record { line = (refl, refl, refl, refl); fine = refl; from_is = refl; to_is = refl }
+    record { line = (refl, refl, refl, (refl, refl)); fine = refl; from_is = refl; to_is = refl }
 
 whole_asked : (is_fine : Bool) (name list : Text) (words : List Text)
     → IsLine (codes "draw") (fine_words is_fine) name list words

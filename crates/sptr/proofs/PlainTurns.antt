@@ -5,14 +5,14 @@ use Rattle.std.specs.Prelude.{slice_get}
 use Rattle.std.specs.Str.{bytes_eq}
 use Rattle.clap.specs.Words.{Text, fault_of}
 use Rattle.clap.specs.Lexer.{long_of, short_of}
-use Rattle.sptr.specs.CommandLine.{IsJoinedLine, IsLine, command_named, names_file, program}
-use Rattle.sptr.specs.CommandLine.{turns_given}
+use Rattle.sptr.specs.CommandLine.{IsJoinedLine, IsLine, command_named, names_list, names_text}
+use Rattle.sptr.specs.CommandLine.{program, turns_given}
 
 abbrev pub IsFor : Text → Text → List Text → Type 0
 IsFor command list words =
     (fault_of program words ≡ []) × (command_named words ≡ Some command)
     × (turns_given words ≡ list)
-    × (names_file words ≡ false)
+    × ((names_text words ≡ false) × (names_list words ≡ false))
 
 no_dashes : (list : Text) → slice_get list 0 ≢ Some 45
     → (bytes_eq list (45 ∷ 45 ∷ []) ≡ false) × (long_of list ≡ None)

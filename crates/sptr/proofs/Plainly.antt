@@ -1,27 +1,24 @@
 -- What is asked for plainly is answered.
 use Rattle.std.proofs.Common.{◌≡◌, ◌⊎◌, ◌∙◌, ℕ, Bool, true, false, refl, sym, ap, ap₂, subst, List}
 use Rattle.std.proofs.Common.{[], ◌∷◌, Option, Some, None, Err, Result, codes, inl, inr}
-use Rattle.std.specs.Prelude.{IfSome}
 use Rattle.std.specs.Str.{bytes_eq}
 use Rattle.clap.specs.Words.{IsAmong, Kinds, Text, fault_of}
 use Rattle.clap.specs.declared.error.kind.ErrorKind.{ErrorKind}
 use Rattle.clap.specs.declared.error.kind.ErrorKind.TheVariants as kind
 use Rattle.script_text.specs.declared.fault.Fault.{Fault}
 use Rattle.script_text.specs.declared.fault.Fault.TheVariants.{Memory}
-use Rattle.script_stepper.specs.Runs.{Delivers, IsFineText, IsRunText, TellsRun}
+use Rattle.script_stepper.specs.Runs.{Delivers}
 use Rattle.sptr.specs.CommandLine.{AsksFor, AsksHelp, AsksPlainly, AsksVersion, NamesNoCommand}
-use Rattle.sptr.specs.CommandLine.{command_named, draws_given, fine_given, names_file}
+use Rattle.sptr.specs.CommandLine.{command_named, draws_given, fine_given, names_list, names_text}
 use Rattle.sptr.specs.CommandLine.{part_given, program, turns_given}
-use Rattle.sptr.specs.Outcomes.{FindsIfAsked, asks_left, asks_picture, is_found}
-use Rattle.sptr.specs.Serving.{AnswersCommand, Converts, CountsScript, IsAnswered, IsMistaken}
-use Rattle.sptr.specs.Serving.{IsReason, IsShownText, IsTurnedAway, Report, TellsPart, UnlessInput}
-use Rattle.sptr.specs.Serving.{known_unless}
+use Rattle.sptr.specs.Serving.{AnswersCommand, IsAnswered, IsMistaken, IsReason, IsShownText}
+use Rattle.sptr.specs.Serving.{IsReported, IsSilent, IsTurnedAway, Report, Serves}
+use Rattle.script_text.specs.Faults.{fault_line}
+use Rattle.sptr.specs.Sources.{OfBytes, known_unless}
 use Rattle.sptr.specs.declared.answers.Outcome.{Outcome}
-use Rattle.leak_report.specs.Left.{IsLeftText}
-use Rattle.script_runner.specs.Telling.{TellsReport}
 use Rattle.sptr.specs.declared.command.Asked.{Asked}
-use Rattle.sptr.specs.declared.command.Asked.TheVariants.{Check, Convert, Draw, Fine, Left, Run}
-use Rattle.sptr.specs.declared.command.Asked.TheVariants.{Step}
+use Rattle.sptr.specs.declared.command.Asked.TheVariants.{Check, Convert, Draw, Fine, Left, Owners}
+use Rattle.sptr.specs.declared.command.Asked.TheVariants.{Run, Step}
 use Rattle.std.proofs.lemmas.Option.{same_Some}
 use Rattle.sptr.proofs.PlainLines.{help_asked, no_command, plainly_asks, version_asked}
 
@@ -37,138 +34,87 @@ missing_version e = cc
 missing_memory : kind.MissingSubcommand ≡ kind.OutOfMemory → ⊥
 missing_memory e = cc
 
-abbrev Telling : Type 1
-Telling = Result (List ℕ) Fault → Type 0
-
-pick : Bool → Telling → Telling → Telling
+pick : Bool → Asked → Asked → Asked
 pick true a b = a
 pick false a b = b
 
--- what the command with a name tells
-told : Text → List Text → Result Outcome Fault → List ℕ → Telling
-told name words answer bytes =
-    let list = turns_given words in
-    pick (bytes_eq name (codes "check")) (UnlessInput (CountsScript bytes))
-    (pick (bytes_eq name (codes "convert")) (UnlessInput (Converts bytes))
-    (pick (bytes_eq name (codes "step")) (UnlessInput (TellsRun IsRunText bytes list))
-    (pick (bytes_eq name (codes "fine")) (UnlessInput (TellsRun IsFineText bytes list))
-    (pick (bytes_eq name (codes "run")) (UnlessInput (TellsReport bytes))
-    (pick (bytes_eq name (codes "left"))
-    (UnlessInput (TellsRun (IsLeftText (draws_given words) (is_found answer)) bytes list))
-    (UnlessInput
-    (TellsPart (fine_given words) (part_given words) (is_found answer) bytes list)))))))
+-- what the command with a name asks for
+asked_as : Text → List Text → Asked
+asked_as name words =
+    pick (bytes_eq name (codes "check")) Check
+    (pick (bytes_eq name (codes "convert")) Convert
+    (pick (bytes_eq name (codes "step")) Step
+    (pick (bytes_eq name (codes "fine")) Fine
+    (pick (bytes_eq name (codes "run")) Run
+    (pick (bytes_eq name (codes "left")) (Left (draws_given words))
+    (pick (bytes_eq name (codes "draw")) (Draw (fine_given words) (part_given words))
+    (Owners (draws_given words))))))))
 
 -- what words ask for goes by the name of their command
 name_of : Asked → Text
 name_of Check = codes "check"
 name_of Convert = codes "convert"
-name_of (Step turns) = codes "step"
-name_of (Fine turns) = codes "fine"
+name_of Step = codes "step"
+name_of Fine = codes "fine"
 name_of Run = codes "run"
-name_of (Left turns draws) = codes "left"
-name_of (Draw turns is_fine part) = codes "draw"
+name_of (Left draws) = codes "left"
+name_of (Draw is_fine part) = codes "draw"
+name_of (Owners draws) = codes "owners"
 
 named : (words : List Text) (a : Asked) → AsksFor words a → command_named words ≡ Some (name_of a)
 unfolding name_of
 named words Check x = x
 named words Convert x = x
-named words (Step turns) x = x.0
-named words (Fine turns) x = x.0
+named words Step x = x
+named words Fine x = x
 named words Run x = x
-named words (Left turns draws) x = x.0
-named words (Draw turns is_fine part) x = x.0
+named words (Left draws) x = x.0
+named words (Draw is_fine part) x = x.0
+named words (Owners draws) x = x.0
 
-by_name : (words : List Text) (a : Asked) (answer : Result Outcome Fault) (bytes : List ℕ)
-    → AsksFor words a → AnswersCommand a answer bytes ≡ told (name_of a) words answer bytes
-unfolding told pick name_of
-by_name words Check answer bytes x = refl
-by_name words Convert answer bytes x = refl
-by_name words (Step turns) answer bytes x =
-    ap (λ list. UnlessInput (TellsRun IsRunText bytes list)) x.1
-by_name words (Fine turns) answer bytes x =
-    ap (λ list. UnlessInput (TellsRun IsFineText bytes list)) x.1
-by_name words Run answer bytes x = refl
-by_name words (Left turns draws) answer bytes x =
-    ap₂ (λ list is. UnlessInput (TellsRun (IsLeftText is (is_found answer)) bytes list)) x.1 x.2
-by_name words (Draw turns is_fine part) answer bytes x =
-    ap₂ (λ list is. UnlessInput (TellsPart is part (is_found answer) bytes list)) x.1 x.2
-    ∙ ap (λ given. UnlessInput
-    (TellsPart (fine_given words) given (is_found answer) bytes (turns_given words))) x.3
+by_name : (words : List Text) (a : Asked) → AsksFor words a → a ≡ asked_as (name_of a) words
+unfolding asked_as pick name_of
+by_name words Check x = refl
+by_name words Convert x = refl
+by_name words Step x = refl
+by_name words Fine x = refl
+by_name words Run x = refl
+by_name words (Left draws) x = ap Left x.1
+by_name words (Draw is_fine part) x = ap₂ Draw x.1 x.2
+by_name words (Owners draws) x = ap Owners x.1
 
-left_by_name : (a : Asked) → asks_left a ≡ bytes_eq (name_of a) (codes "left")
-unfolding name_of
-left_by_name Check = refl
-left_by_name Convert = refl
-left_by_name (Step turns) = refl
-left_by_name (Fine turns) = refl
-left_by_name Run = refl
-left_by_name (Left turns draws) = refl
-left_by_name (Draw turns is_fine part) = refl
-
-picture_by_name : (a : Asked) → asks_picture a ≡ bytes_eq (name_of a) (codes "draw")
-unfolding name_of
-picture_by_name Check = refl
-picture_by_name Convert = refl
-picture_by_name (Step turns) = refl
-picture_by_name (Fine turns) = refl
-picture_by_name Run = refl
-picture_by_name (Left turns draws) = refl
-picture_by_name (Draw turns is_fine part) = refl
-
-module _ (words : List Text) (a b : Asked) (x : AsksFor words a) (y : AsksFor words b) where
-  same_name : name_of a ≡ name_of b
-  same_name = same_Some _ _ (sym (named words a x) ∙ named words b y)
-
-  -- words ask for one thing
-  same_answers : (answer : Result Outcome Fault) (bytes : List ℕ)
-      → AnswersCommand a answer bytes ≡ AnswersCommand b answer bytes
-  same_answers answer bytes =
-      by_name words a answer bytes x ∙ ap (λ name. told name words answer bytes) same_name
-      ∙ sym (by_name words b answer bytes y)
-
-  same_left : asks_left a ≡ asks_left b
-  same_left =
-      left_by_name a ∙ ap (λ name. bytes_eq name (codes "left")) same_name ∙ sym (left_by_name b)
-
-  same_picture : asks_picture a ≡ asks_picture b
-  same_picture =
-      picture_by_name a ∙ ap (λ name. bytes_eq name (codes "draw")) same_name
-      ∙ sym (picture_by_name b)
-
-  finds_same : (answer : Result Outcome Fault) → FindsIfAsked a answer → FindsIfAsked b answer
-  finds_same answer h = (λ none. h.0 (same_left ∙ none), λ none. h.1 (same_picture ∙ none))
-
-  delivers_same : (input : Option (List ℕ)) (answer : Result Outcome Fault)
-      (old new : Option (List ℕ))
-      → IfSome input (λ bytes. Delivers (AnswersCommand a answer bytes) answer old new)
-      → IfSome input (λ bytes. Delivers (AnswersCommand b answer bytes) answer old new)
-  delivers_same None answer old new h = tt
-  delivers_same (Some bytes) answer old new h =
-      subst (λ (t : Telling). Delivers t answer old new) (same_answers answer bytes) h
+-- words ask for one thing
+same_asked : (words : List Text) (a b : Asked) → AsksFor words a → AsksFor words b → a ≡ b
+same_asked words a b x y =
+    by_name words a x
+    ∙ ap (λ name. asked_as name words)
+    (same_Some _ _ (sym (named words a x) ∙ named words b y))
+    ∙ sym (by_name words b y)
 
 module _ (words : List Text) (input : Option (List ℕ)) (status : ℕ) (old new : Option (List ℕ))
     (has_failed : Bool) (faults : Report) where
-  pub answered_plainly : (a b : Asked) (files : Bool) → files ≡ names_file words → AsksFor words a
-      → AsksPlainly words b
-      → IsAnswered a (known_unless files input) status old new has_failed faults
-      → IsAnswered b input status old new has_failed faults
-  answered_plainly a b files named x y h =
-      let plain = plainly_asks words b y in
-      let whole : IsAnswered a input status old new has_failed faults =
-      subst (λ (has : Bool). IsAnswered a (known_unless has input) status old new has_failed faults)
-      (named ∙ plain.no_file) h in
-      record {
-        answer = whole.answer;
-        delivers = delivers_same words a b x plain.asks input whole.answer old new whole.delivers;
-        finds = finds_same words a b x plain.asks whole.answer whole.finds;
-        says = whole.says;
-        fails = whole.fails;
-        reports = whole.reports;
-      }
+  abbrev Answered : Asked → Option (List ℕ) → Option (List ℕ) → Type 0
+  Answered asked list known = IsAnswered asked list known status old new has_failed faults
+
+  pub answered_plainly : (a b : Asked) (given list : List ℕ) (has_list has_text : Bool)
+      → given ≡ turns_given words → has_list ≡ names_list words → has_text ≡ names_text words
+      → AsksFor words a → AsksPlainly words b list
+      → IsAnswered a (known_unless has_list (Some given)) (known_unless has_text input) status old
+      new has_failed faults
+      → IsAnswered b (Some list) input status old new has_failed faults
+  answered_plainly a b given list has_list has_text turns lists texts x y h =
+      let plain = plainly_asks words b list y in
+      subst (λ (c : Asked). Answered c (Some list) input)
+      (same_asked words a b x plain.asks)
+      (subst (λ (l : List ℕ). Answered a (Some l) input) (turns ∙ plain.turns)
+      (subst (λ (has : Bool). Answered a (known_unless has (Some given)) input)
+      (lists ∙ plain.no_list)
+      (subst (λ (has : Bool). Answered a (known_unless has_list (Some given))
+      (known_unless has input)) (texts ∙ plain.no_text) h)))
 
   nothing : (input : Option (List ℕ)) (told : List ℕ → Result (List ℕ) Fault → Type 0) → new ≡ old
-      → IfSome input (λ bytes. Delivers {A = Outcome} (told bytes) (Err Memory) old new)
-  nothing None told e = tt
+      → OfBytes input (λ bytes. Delivers {A = Outcome} (told bytes) (Err Memory) old new)
+  nothing None told e = ([], e)
   nothing (Some bytes) told e = e
 
   no_kind : (reason : ErrorKind) (kinds : Kinds) → kinds ≡ []
@@ -176,21 +122,46 @@ module _ (words : List Text) (input : Option (List ℕ)) (status : ℕ) (old new
   no_kind reason kinds none (inl is) = is
   no_kind reason kinds none (inr among) = absurd (subst (IsAmong reason) none among)
 
-  pub turned_plainly : (reason : ErrorKind) (b : Asked) → IsReason words reason
-      → AsksPlainly words b
+  pub turned_plainly : (reason : ErrorKind) (b : Asked) (list : List ℕ) → IsReason words reason
+      → AsksPlainly words b list
       → IsTurnedAway reason status old new has_failed faults
-      → IsAnswered b input status old new has_failed faults
-  turned_plainly reason b r y h =
+      → IsAnswered b (Some list) input status old new has_failed faults
+  turned_plainly reason b list r y h =
       let m =
-      h.memory (no_kind reason (fault_of program words) (plainly_asks words b y).faultless r) in
+      h.memory (no_kind reason (fault_of program words) (plainly_asks words b list y).faultless r) in
       record {
         answer = Err Memory;
-        delivers = nothing input (AnswersCommand b (Err Memory)) m.1.0;
-        finds = (λ none. tt, λ none. tt);
+        delivers = nothing input (AnswersCommand b list (Err Memory)) m.1.0;
+        finds = tt;
         says = m.0;
         fails = m.1.1;
         reports = m.2;
       }
+
+memory_help : kind.OutOfMemory ≡ kind.DisplayHelp → ⊥
+memory_help e = cc
+
+memory_version : kind.OutOfMemory ≡ kind.DisplayVersion → ⊥
+memory_version e = cc
+
+-- where there was no memory for the words, some words are turned away for want of it
+pub unread : (input : Option (List ℕ)) (status : ℕ) (old new : Option (List ℕ)) (has_failed : Bool)
+    (faults : Report) → status ≡ 1 → IsSilent old new has_failed
+    → IsReported (fault_line Memory) faults
+    → (words : List Text) × Serves words input status old new has_failed faults
+unread input status old new has_failed faults one silent reports = (
+  [],
+  inr (
+    kind.OutOfMemory,
+    inl refl,
+    record {
+      help = λ e. absurd (memory_help e);
+      version = λ e. absurd (memory_version e);
+      memory = λ e. (one, silent, reports);
+      mistake = λ a b not. absurd (not refl);
+    },
+  ),
+)
 
 module _ (words : List Text) where
   only_kind : (reason one : ErrorKind) → fault_of program words ≡ one ∷ [] → IsReason words reason

@@ -17,12 +17,12 @@ use Rattle.sptr.proofs.OnLiterals.{lines, sptr_on_literals}
 use Rattle.sptr.proofs.Walks.{enters_own}
 use Rattle.script_picture.specs.declared.part.Part.{Part}
 use Rattle.sptr.specs.CommandLine.{AsksFor, IsAskedBy, command_named, count_in, draw_line}
-use Rattle.sptr.specs.CommandLine.{left_line, part_given}
-use Rattle.sptr.specs.CommandLine.{program, script_line, turns_given, turns_line, word_given}
+use Rattle.sptr.specs.CommandLine.{left_line, owners_line, part_given, program, script_line}
+use Rattle.sptr.specs.CommandLine.{turns_in, turns_line, word_in}
 use Rattle.sptr.specs.Parts.{part_named}
 use Rattle.sptr.specs.declared.command.Asked.{Asked}
-use Rattle.sptr.specs.declared.command.Asked.TheVariants.{Check, Convert, Draw, Fine, Left, Run}
-use Rattle.sptr.specs.declared.command.Asked.TheVariants.{Step}
+use Rattle.sptr.specs.declared.command.Asked.TheVariants.{Check, Convert, Draw, Fine, Left, Owners}
+use Rattle.sptr.specs.declared.command.Asked.TheVariants.{Run, Step}
 
 pub program_is_simple : is_simple program ≡ true
 unfolding sptr_on_literals
@@ -40,13 +40,14 @@ pub only_check : (words : List Text) → fault_of program words ≡ []
     → command_named words ≢ Some (codes "convert") → command_named words ≢ Some (codes "step")
     → command_named words ≢ Some (codes "fine") → command_named words ≢ Some (codes "run")
     → command_named words ≢ Some (codes "left") → command_named words ≢ Some (codes "draw")
-    → command_named words ≡ Some (codes "check")
+    → command_named words ≢ Some (codes "owners") → command_named words ≡ Some (codes "check")
 unfolding program lines
-only_check words e not_convert not_step not_fine not_run not_left not_draw =
+only_check words e not_convert not_step not_fine not_run not_left not_draw not_owners =
     let found = enters_own (built program) (argument_words program words)
     (built_line (script_line (codes "check")) ∷ built_line (script_line (codes "convert"))
     ∷ built_line (turns_line (codes "step")) ∷ built_line (turns_line (codes "fine"))
-    ∷ built_line (script_line (codes "run")) ∷ built_line left_line ∷ built_line draw_line ∷ [])
+    ∷ built_line (script_line (codes "run")) ∷ built_line left_line ∷ built_line draw_line
+    ∷ built_line owners_line ∷ [])
     (built_leaf help_shape) refl refl refl refl refl e in
     elim found.2 [
       | inl is ↦ found.1 ∙ ap Some is
@@ -62,7 +63,10 @@ only_check words e not_convert not_step not_fine not_run not_left not_draw =
                 | inl is ↦ absurd (not_left (found.1 ∙ ap Some is))
                 | inr sixth ↦ elim sixth [
                   | inl is ↦ absurd (not_draw (found.1 ∙ ap Some is))
-                  | inr none ↦ absurd none
+                  | inr seventh ↦ elim seventh [
+                    | inl is ↦ absurd (not_owners (found.1 ∙ ap Some is))
+                    | inr none ↦ absurd none
+                  ]
                 ]
               ]
             ]
@@ -107,12 +111,6 @@ module _ (words : List Text) (m : ArgMatches) (name : Text) (rows : List Row)
   not_named : (command : Text) → name ≢ command → command_named words ≢ Some command
   not_named command not e = not (same_Some _ _ (sym named ∙ e))
 
-  turns_found : (list : Text) → list ≡ unwrap_or (first_of (codes "turns") rows) []
-      → list ≡ turns_given words
-  turns_found list given =
-      given ∙ sym (ap (λ (o : Option (Text × List Row)). unwrap_or
-      (option_and_then (λ p. first_of (codes "turns") p.1) o) []) found)
-
   flag_found : (id : Text) (has : Bool) → has ≡ nat_lt 0 (count_of id rows)
       → has ≡ nat_lt 0 (count_in id (subcommand_of program words))
   flag_found id has given =
@@ -123,31 +121,27 @@ module _ (words : List Text) (m : ArgMatches) (name : Text) (rows : List Row)
       → part ≡ part_given words
   part_found part given =
       given ∙ sym (ap (λ (o : Option (Text × List Row)).
-      part_named (word_given (codes "from") o) (word_given (codes "to") o)) found)
+      part_named (word_in (codes "from") o) (word_in (codes "to") o)) found)
 
   pub asks_by_name : (a : Asked) → IsAskedBy name rows a → AsksFor words a
   asks_by_name Check h =
       only_check words faultless (not_named _ h.0) (not_named _ h.1) (not_named _ h.2)
-      (not_named _ h.3) (not_named _ h.4) (not_named _ h.5)
+      (not_named _ h.3) (not_named _ h.4) (not_named _ h.5) (not_named _ h.6)
   asks_by_name Convert h = named_as _ h
-  asks_by_name (Step turns) h = (named_as _ h.0, turns_found _ h.1)
-  asks_by_name (Fine turns) h = (named_as _ h.0, turns_found _ h.1)
+  asks_by_name Step h = named_as _ h
+  asks_by_name Fine h = named_as _ h
   asks_by_name Run h = named_as _ h
-  asks_by_name (Left turns draws) h =
-      (named_as _ h.0, turns_found _ h.1, flag_found (codes "dot") draws h.2)
-  asks_by_name (Draw turns is_fine part) h = (
-    named_as _ h.0,
-    turns_found _ h.1,
-    flag_found (codes "fine") is_fine h.2,
-    part_found part h.3,
-  )
+  asks_by_name (Left draws) h = (named_as _ h.0, flag_found (codes "dot") draws h.1)
+  asks_by_name (Draw is_fine part) h =
+      (named_as _ h.0, flag_found (codes "fine") is_fine h.1, part_found part h.2)
+  asks_by_name (Owners draws) h = (named_as _ h.0, flag_found (codes "dot") draws h.1)
 
 -- where none was met the words would name none
 pub asks_without : (words : List Text) (m : ArgMatches)
     → subcommand_rows_of m ≡ subcommand_of program words → fault_of program words ≡ []
     → None ≡ subcommand_name_of m → AsksFor words Check
 asks_without words m is faultless n =
-    only_check words faultless (none _) (none _) (none _) (none _) (none _) (none _)
+    only_check words faultless (none _) (none _) (none _) (none _) (none _) (none _) (none _)
   where
     none : (command : Text) → command_named words ≢ Some command
     none command e =
@@ -157,7 +151,43 @@ asks_without words m is faultless n =
         not_some : None ≡ Some command → ⊥
         not_some x = cc
 
--- ---- files
+-- ---- what a subcommand that was met was given
+
+module _ (m : ArgMatches) (rows : List Row)
+    (r : Some rows ≡ option_map (λ p. p.1) (subcommand_rows_of m)) where
+  pub given_in : (id : Text) → first_of id rows ≡ word_in id (subcommand_rows_of m)
+  given_in id = go (subcommand_rows_of m) r
+    where
+      go : (o : Option (Text × List Row)) → Some rows ≡ option_map (λ p. p.1) o
+          → first_of id rows ≡ word_in id o
+      go None e = absurd (some_none e)
+        where
+          some_none : Some rows ≡ None → ⊥
+          some_none x = cc
+      go (Some p) e = ap (first_of id) (same_Some _ _ e)
+
+  pub is_given_in : (id : Text) (has : Bool) → has ≡ is_some (first_of id rows)
+      → has ≡ is_some (word_in id (subcommand_rows_of m))
+  is_given_in id has e = e ∙ ap is_some (given_in id)
+
+  pub turns_given_in : (list : Text) → list ≡ unwrap_or (first_of (codes "turns") rows) []
+      → list ≡ turns_in (subcommand_rows_of m)
+  turns_given_in list e = e ∙ ap (λ (o : Option Text). unwrap_or o []) (given_in (codes "turns"))
+
+-- where none was met none was given anything
+pub none_given : (m : ArgMatches) → None ≡ subcommand_name_of m → (id : Text)
+    → word_in id (subcommand_rows_of m) ≡ None
+none_given m n id =
+    go (out-ArgMatches m).subcommand (n ∙ name_in_rows (out-ArgMatches m).subcommand)
+  where
+    go : {Z : Type 0} (o : Option (Box SubCommand Z))
+        → None ≡ option_map (λ p. p.0) (subcommand_rows o)
+        → word_in id (subcommand_rows o) ≡ None
+    go None e = refl
+    go (Some b) e = absurd (none_some e)
+      where
+        none_some : {X : Type 0} {x : X} → None ≡ Some x → ⊥
+        none_some x = cc
 
 pub is_some_text : (o : Option (Bor Text)) → is_some o ≡ is_some (option_map (λ s. s.now) o)
 is_some_text None = refl

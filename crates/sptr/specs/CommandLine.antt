@@ -1,6 +1,6 @@
 -- The command line that the program takes, and what its words ask for, by what `clap` makes of such
 -- a line. All of it is own.
-use Rattle.std.specs.Prelude.{◌≡◌, ◌≢◌, ◌⊎◌, ◌||◌, ℕ, Bool, true, false, cond, nat_lt, List, []}
+use Rattle.std.specs.Prelude.{◌≡◌, ◌≢◌, ◌⊎◌, ℕ, Bool, true, false, cond, nat_lt, List, []}
 use Rattle.std.specs.Prelude.{◌∷◌, ◌++◌, slice_get, Option, Some, None, option_map, option_and_then}
 use Rattle.std.specs.Prelude.{unwrap_or, is_some, codes, decimal, IfOk, Result}
 use Rattle.clap.specs.Words.{App, Row, Rule, Shape, Text, app_of, count_of, first_of, new_rule}
@@ -13,9 +13,8 @@ use Rattle.clap.specs.Simple.{new_shape}
 use Rattle.script_picture.specs.declared.part.Part.{Part}
 use Rattle.sptr.specs.Parts.{IsPart, all_acts, part_named}
 use Rattle.sptr.specs.declared.command.Asked.{Asked}
-use Rattle.sptr.specs.declared.command.Files.{Files}
-use Rattle.sptr.specs.declared.command.Asked.TheVariants.{Check, Convert, Draw, Fine, Left, Run}
-use Rattle.sptr.specs.declared.command.Asked.TheVariants.{Step}
+use Rattle.sptr.specs.declared.command.Asked.TheVariants.{Check, Convert, Draw, Fine, Left, Owners}
+use Rattle.sptr.specs.declared.command.Asked.TheVariants.{Run, Step}
 
 -- `FILE`, the script
 unfoldable pub file_word : Rule
@@ -53,6 +52,12 @@ draw_line = record (new_shape (codes "draw")) {
       ∷ flag_rule (codes "fine") ∷ option_rule (codes "from") ∷ option_rule (codes "to") ∷ [];
 }
 
+-- `owners`, which takes a graph, and how to tell it
+unfoldable pub owners_line : Shape
+owners_line = record (new_shape (codes "owners")) {
+  rules = file_word ∷ flag_rule (codes "dot") ∷ [];
+}
+
 -- the program's name
 unfoldable pub bare : App
 bare = record {
@@ -60,7 +65,7 @@ bare = record {
   subs = [];
 }
 
--- the program's name, and then one of the seven
+-- the program's name, and then one of the eight
 unfoldable pub program : App
 program = record {
   top = record (new_shape (codes "sptr")) {
@@ -69,7 +74,8 @@ program = record {
     has_version = true;
   };
   subs = script_line (codes "check") ∷ script_line (codes "convert") ∷ turns_line (codes "step")
-      ∷ turns_line (codes "fine") ∷ script_line (codes "run") ∷ left_line ∷ draw_line ∷ [];
+      ∷ turns_line (codes "fine") ∷ script_line (codes "run") ∷ left_line ∷ draw_line ∷ owners_line
+      ∷ [];
 }
 
 -- `new` is `old` with this command too, the last
@@ -84,25 +90,26 @@ abbrev pub command_named : List Text → Option Text
 command_named words = option_map (λ found. found.0) (subcommand_of program words)
 
 -- what a command was given for this, if it was
-abbrev pub word_given : Text → Option (Text × List Row) → Option Text
-word_given id found = option_and_then (λ (command : Text × List Row). first_of id command.1) found
+abbrev pub word_in : Text → Option (Text × List Row) → Option Text
+word_in id found = option_and_then (λ (command : Text × List Row). first_of id command.1) found
 
--- whether a command was given a file, for the script or for the list of turns
-abbrev pub names_file_in : Option (Text × List Row) → Bool
-names_file_in found =
-    is_some (word_given (codes "file") found) || is_some (word_given (codes "turns-file") found)
+-- the list that `--turns` gives a command, or none
+abbrev pub turns_in : Option (Text × List Row) → Text
+turns_in found = unwrap_or (word_in (codes "turns") found) []
 
--- whether the words name one
-abbrev pub names_file : List Text → Bool
-names_file words = names_file_in (subcommand_of program words)
+-- the same of the command that the words name
+abbrev pub word_given : Text → List Text → Option Text
+word_given id words = word_in id (subcommand_of program words)
 
--- whether one of the two is there
-abbrev pub has_files : Files → Bool
-has_files files = is_some files.script || is_some files.turns
-
--- the list that `--turns` gives, or none
 abbrev pub turns_given : List Text → Text
-turns_given words = unwrap_or (word_given (codes "turns") (subcommand_of program words)) []
+turns_given words = turns_in (subcommand_of program words)
+
+-- whether the words name a file of the script or the graph, and one of the list of turns
+abbrev pub names_text : List Text → Bool
+names_text words = is_some (word_given (codes "file") words)
+
+abbrev pub names_list : List Text → Bool
+names_list words = is_some (word_given (codes "turns-file") words)
 
 -- how often a command was given this
 abbrev pub count_in : Text → Option (Text × List Row) → ℕ
@@ -115,11 +122,9 @@ fine_given words = nat_lt 0 (count_in (codes "fine") (subcommand_of program word
 
 -- the part of the run that `--from` and `--to` name
 abbrev pub part_given : List Text → Option Part
-part_given words =
-    let given = subcommand_of program words in
-    part_named (word_given (codes "from") given) (word_given (codes "to") given)
+part_given words = part_named (word_given (codes "from") words) (word_given (codes "to") words)
 
--- whether `--dot` is there, so that what is left is drawn
+-- whether `--dot` is there, so that what is left, or the graph, is drawn
 abbrev pub draws_given : List Text → Bool
 draws_given words = nat_lt 0 (count_in (codes "dot") (subcommand_of program words))
 
@@ -127,17 +132,16 @@ draws_given words = nat_lt 0 (count_in (codes "dot") (subcommand_of program word
 abbrev pub AsksFor : List Text → Asked → Type 0
 AsksFor words Check = command_named words ≡ Some (codes "check")
 AsksFor words Convert = command_named words ≡ Some (codes "convert")
-AsksFor words (Step turns) =
-    (command_named words ≡ Some (codes "step")) × (turns.now ≡ turns_given words)
-AsksFor words (Fine turns) =
-    (command_named words ≡ Some (codes "fine")) × (turns.now ≡ turns_given words)
+AsksFor words Step = command_named words ≡ Some (codes "step")
+AsksFor words Fine = command_named words ≡ Some (codes "fine")
 AsksFor words Run = command_named words ≡ Some (codes "run")
-AsksFor words (Left turns draws) =
-    (command_named words ≡ Some (codes "left")) × (turns.now ≡ turns_given words)
-    × (draws ≡ draws_given words)
-AsksFor words (Draw turns is_fine part) =
-    (command_named words ≡ Some (codes "draw")) × (turns.now ≡ turns_given words)
-    × (is_fine ≡ fine_given words) × (part ≡ part_given words)
+AsksFor words (Left draws) =
+    (command_named words ≡ Some (codes "left")) × (draws ≡ draws_given words)
+AsksFor words (Draw is_fine part) =
+    (command_named words ≡ Some (codes "draw")) × (is_fine ≡ fine_given words)
+    × (part ≡ part_given words)
+AsksFor words (Owners draws) =
+    (command_named words ≡ Some (codes "owners")) × (draws ≡ draws_given words)
 
 -- the words are the program's name, this command and these options, and then no list, or
 -- `--turns=LIST`
@@ -177,31 +181,32 @@ IsDrawLine is_fine (Some part) name list words =
 abbrev pub IsAskedBy : Text → List Row → Asked → Type 0
 IsAskedBy name rows Check = (name ≢ codes "convert") × (name ≢ codes "step") × (name ≢ codes "fine")
     × (name ≢ codes "run") × (name ≢ codes "left") × (name ≢ codes "draw")
+    × (name ≢ codes "owners")
 IsAskedBy name rows Convert = name ≡ codes "convert"
-IsAskedBy name rows (Step turns) =
-    (name ≡ codes "step") × (turns.now ≡ unwrap_or (first_of (codes "turns") rows) [])
-IsAskedBy name rows (Fine turns) =
-    (name ≡ codes "fine") × (turns.now ≡ unwrap_or (first_of (codes "turns") rows) [])
+IsAskedBy name rows Step = name ≡ codes "step"
+IsAskedBy name rows Fine = name ≡ codes "fine"
 IsAskedBy name rows Run = name ≡ codes "run"
-IsAskedBy name rows (Left turns draws) =
-    (name ≡ codes "left") × (turns.now ≡ unwrap_or (first_of (codes "turns") rows) [])
-    × (draws ≡ nat_lt 0 (count_of (codes "dot") rows))
-IsAskedBy name rows (Draw turns is_fine part) =
-    (name ≡ codes "draw") × (turns.now ≡ unwrap_or (first_of (codes "turns") rows) [])
-    × (is_fine ≡ nat_lt 0 (count_of (codes "fine") rows))
+IsAskedBy name rows (Left draws) =
+    (name ≡ codes "left") × (draws ≡ nat_lt 0 (count_of (codes "dot") rows))
+IsAskedBy name rows (Draw is_fine part) =
+    (name ≡ codes "draw") × (is_fine ≡ nat_lt 0 (count_of (codes "fine") rows))
     × (part ≡ part_named (first_of (codes "from") rows) (first_of (codes "to") rows))
+IsAskedBy name rows (Owners draws) =
+    (name ≡ codes "owners") × (draws ≡ nat_lt 0 (count_of (codes "dot") rows))
 
--- the words ask for this in the manner of the program's page
-abbrev pub AsksPlainly : List Text → Asked → Type 0
-AsksPlainly words Check = (name : Text) × (words ≡ name ∷ codes "check" ∷ [])
-AsksPlainly words Convert = (name : Text) × (words ≡ name ∷ codes "convert" ∷ [])
-AsksPlainly words (Step turns) = (name : Text) × IsLine (codes "step") [] name turns.now words
-AsksPlainly words (Fine turns) = (name : Text) × IsLine (codes "fine") [] name turns.now words
-AsksPlainly words Run = (name : Text) × (words ≡ name ∷ codes "run" ∷ [])
-AsksPlainly words (Left turns draws) =
-    (name : Text) × IsLine (codes "left") (dot_words draws) name turns.now words
-AsksPlainly words (Draw turns is_fine part) =
-    (name : Text) × IsDrawLine is_fine part name turns.now words
+-- the words ask for this, with this list of turns, in the manner of the program's page
+abbrev pub AsksPlainly : List Text → Asked → List ℕ → Type 0
+AsksPlainly words Check list = (name : Text) × (words ≡ name ∷ codes "check" ∷ []) × (list ≡ [])
+AsksPlainly words Convert list = (name : Text) × (words ≡ name ∷ codes "convert" ∷ []) × (list ≡ [])
+AsksPlainly words Step list = (name : Text) × IsLine (codes "step") [] name list words
+AsksPlainly words Fine list = (name : Text) × IsLine (codes "fine") [] name list words
+AsksPlainly words Run list = (name : Text) × (words ≡ name ∷ codes "run" ∷ []) × (list ≡ [])
+AsksPlainly words (Left draws) list =
+    (name : Text) × IsLine (codes "left") (dot_words draws) name list words
+AsksPlainly words (Draw is_fine part) list =
+    (name : Text) × IsDrawLine is_fine part name list words
+AsksPlainly words (Owners draws) list =
+    (name : Text) × (words ≡ name ∷ codes "owners" ∷ dot_words draws) × (list ≡ [])
 
 -- the words are the program's name and `--help`
 abbrev pub AsksHelp : List Text → Type 0

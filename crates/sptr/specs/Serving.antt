@@ -1,13 +1,17 @@
--- What commands write, of what is on the input (own).
+-- What commands write, of the texts that they are given (own).
 use Rattle.std.specs.Prelude.{◌≡◌, ◌≢◌, ◌⊎◌, ℕ, Bool, true, false, List, [], length, Option, Some}
-use Rattle.std.specs.Prelude.{None, Result, Ok, Err, IfSome, if◌then◌else◌}
+use Rattle.std.specs.Prelude.{None, Result, Ok, Err}
 use Rattle.leak_report.specs.Left.{IsLeftText}
 use Rattle.clap.specs.Words.{IsAmong, Text, fault_of}
 use Rattle.clap.specs.declared.error.kind.ErrorKind.{ErrorKind}
 use Rattle.clap.specs.declared.error.kind.ErrorKind.TheVariants as kind
 use Rattle.std.specs.Io.KnownBytes.{Appends}
 use Rattle.script_stepper.specs.Sinks.{AppendsBeginning}
-use Rattle.script_text.specs.Faults.{fault_line}
+use Rattle.owner_text.specs.Answers.{IsOwnersText}
+use Rattle.owner_text.specs.Faults.{cause_words}
+use Rattle.owner_text.specs.Grammar as graph
+use Rattle.text_lines.specs.declared.fault.LineFault.TheVariants as line_fault
+use Rattle.script_text.specs.Faults.{fault_line, faulty_line}
 use Rattle.script_runner.specs.Telling.{TellsReport}
 use Rattle.script_stepper.specs.Runs.{Delivers, IsFineText, IsRunText, TellsRun, Writes, is_output}
 use Rattle.script_text.specs.declared.fault.Fault.{Fault}
@@ -17,16 +21,17 @@ use Rattle.script_text.specs.Drafts.{ScriptView}
 use Rattle.script_text.specs.Grammar.{ReadsAs, Refuses}
 use Rattle.script_text.specs.Scripts.{converted, statement_count}
 use Rattle.script_text.specs.Canonical.{canonical}
-use Rattle.sptr.specs.CommandLine.{AsksFor, names_file, program}
+use Rattle.sptr.specs.CommandLine.{AsksFor, names_list, names_text, program, turns_given}
 use Rattle.script_picture.specs.Pictures.{IsPictureText}
 use Rattle.script_picture.specs.declared.part.Part.{Part}
 use Rattle.sptr.specs.Lines.{ok_line, picture_line}
-use Rattle.sptr.specs.Outcomes.{FindsIfAsked, exit_status, is_found}
+use Rattle.sptr.specs.Outcomes.{FindsAsAsked, exit_status, is_found}
+use Rattle.sptr.specs.Sources.{OfBytes, OfList, known_unless}
 use Rattle.sptr.specs.declared.answers.Outcome.{Outcome}
-use Rattle.sptr.specs.declared.answers.Outcome.TheVariants.{Done, Leaks, NoPicture}
+use Rattle.sptr.specs.declared.answers.Outcome.TheVariants.{Done, Leaks, NoGraph, NoPicture}
 use Rattle.sptr.specs.declared.command.Asked.{Asked}
-use Rattle.sptr.specs.declared.command.Asked.TheVariants.{Check, Convert, Draw, Fine, Left, Run}
-use Rattle.sptr.specs.declared.command.Asked.TheVariants.{Step}
+use Rattle.sptr.specs.declared.command.Asked.TheVariants.{Check, Convert, Draw, Fine, Left, Owners}
+use Rattle.sptr.specs.declared.command.Asked.TheVariants.{Run, Step}
 
 -- the line that counts the script which the text reads as, or the refusal that the text has
 abbrev pub CountsScript : List ℕ → Result (List ℕ) Fault → Type 0
@@ -56,24 +61,45 @@ abbrev pub TellsNone : Result Bool Fault → Result (List ℕ) Fault → Type 0
 TellsNone answer (Ok text) = (answer ≡ Ok true) × (text ≡ [])
 TellsNone answer (Err fault) = ⊥
 
--- the picture of a part of a run, or nothing where it has too many acts or is no part
+-- the picture of a part of a run, or nothing where it has too many acts, begins behind the last one
+-- or is no part
 abbrev pub TellsPart : Bool → Option Part → Result Bool Fault → List ℕ → List ℕ
     → Result (List ℕ) Fault → Type 0
 TellsPart is_fine (Some part) answer bytes list =
     TellsRun (IsPictureText is_fine part answer) bytes list
 TellsPart is_fine None answer bytes list = TellsNone answer
 
--- what a command answers to the bytes on the input
-abbrev pub AnswersCommand : Asked → Result Outcome Fault → List ℕ → Result (List ℕ) Fault → Type 0
-AnswersCommand Check answer bytes = UnlessInput (CountsScript bytes)
-AnswersCommand Convert answer bytes = UnlessInput (Converts bytes)
-AnswersCommand (Step turns) answer bytes = UnlessInput (TellsRun IsRunText bytes turns.now)
-AnswersCommand (Fine turns) answer bytes = UnlessInput (TellsRun IsFineText bytes turns.now)
-AnswersCommand Run answer bytes = UnlessInput (TellsReport bytes)
-AnswersCommand (Left turns draws) answer bytes =
-    UnlessInput (TellsRun (IsLeftText draws (is_found answer)) bytes turns.now)
-AnswersCommand (Draw turns is_fine part) answer bytes =
-    UnlessInput (TellsPart is_fine part (is_found answer) bytes turns.now)
+-- what is told of the graph that the bytes spell, or nothing where a line of theirs is faulty; and
+-- what comes of it
+abbrev pub IsGraphText : Bool → List ℕ → Result Outcome Fault → List ℕ → Type 0
+IsGraphText draws bytes (Ok Done) text = IsOwnersText draws bytes false text
+IsGraphText draws bytes (Ok Leaks) text = IsOwnersText draws bytes true text
+IsGraphText draws bytes (Ok NoPicture) text = ⊥
+IsGraphText draws bytes (Ok (NoGraph line cause)) text =
+    graph.Refuses (line_fault.Syntax line cause) bytes × (text ≡ [])
+IsGraphText draws bytes (Err fault) text = (leaks : Bool) × IsOwnersText draws bytes leaks text
+
+abbrev pub TellsGraph : Bool → List ℕ → Result Outcome Fault → Result (List ℕ) Fault → Type 0
+TellsGraph draws bytes answer (Ok text) = IsGraphText draws bytes answer text
+TellsGraph draws bytes answer (Err Memory) = Unit {0}
+TellsGraph draws bytes answer (Err (Syntax line cause)) = ⊥
+TellsGraph draws bytes answer (Err (BadTurn position)) = ⊥
+TellsGraph draws bytes answer (Err Output) = ⊥
+TellsGraph draws bytes answer (Err Input) = ⊥
+
+-- what a command answers to a list of turns and the bytes of a script, or of a graph
+abbrev pub AnswersCommand : Asked → List ℕ → Result Outcome Fault → List ℕ → Result (List ℕ) Fault
+    → Type 0
+AnswersCommand Check list answer bytes = UnlessInput (CountsScript bytes)
+AnswersCommand Convert list answer bytes = UnlessInput (Converts bytes)
+AnswersCommand Step list answer bytes = UnlessInput (TellsRun IsRunText bytes list)
+AnswersCommand Fine list answer bytes = UnlessInput (TellsRun IsFineText bytes list)
+AnswersCommand Run list answer bytes = UnlessInput (TellsReport bytes)
+AnswersCommand (Left draws) list answer bytes =
+    UnlessInput (TellsRun (IsLeftText draws (is_found answer)) bytes list)
+AnswersCommand (Draw is_fine part) list answer bytes =
+    UnlessInput (TellsPart is_fine part (is_found answer) bytes list)
+AnswersCommand (Owners draws) list answer bytes = UnlessInput (TellsGraph draws bytes answer)
 
 -- the exit status of a command that tells of no script
 abbrev pub status_of : {A : Type 0} → Result A Fault → ℕ
@@ -119,22 +145,20 @@ abbrev pub ReportsOutcome : Result Outcome Fault → Report → Type 0
 ReportsOutcome (Ok Done) r = IsUntouched r
 ReportsOutcome (Ok Leaks) r = IsUntouched r
 ReportsOutcome (Ok NoPicture) r = IsReported picture_line r
+ReportsOutcome (Ok (NoGraph line cause)) r = IsReported (faulty_line line (cause_words cause)) r
 ReportsOutcome (Err fault) r = IsReported (fault_line fault) r
 
--- a command's answer to the bytes of the script went to the output, where it is known which they
--- are, and the line of a refusal to the faults
-pub record IsAnswered (asked : Asked) (input : Option (List ℕ))
+-- a command's answer to this list of turns and these bytes of a script or a graph, where it is known
+-- which they are, and else to some, went to the output, and the line of a refusal to the faults
+pub record IsAnswered (asked : Asked) (list input : Option (List ℕ))
     (status : ℕ) (old new : Option (List ℕ)) (has_failed : Bool) (faults : Report) : Type 0 where
   pub answer : Result Outcome Fault
-  pub delivers : IfSome input (λ bytes. Delivers (AnswersCommand asked answer bytes) answer old new)
-  pub finds : FindsIfAsked asked answer
+  pub delivers : OfList list (λ list. OfBytes input (λ bytes.
+      Delivers (AnswersCommand asked list answer bytes) answer old new))
+  pub finds : FindsAsAsked asked answer
   pub says : status ≡ exit_status answer
   pub fails : has_failed ≡ is_output answer
   pub reports : ReportsOutcome answer faults
-
--- nothing is known of what is in a file
-abbrev pub known_unless : Bool → Option (List ℕ) → Option (List ℕ)
-known_unless has_file input = if has_file then None else input
 
 -- a text of `clap` went to the output, but for want of memory and a failed output, whose line went
 -- to the faults
@@ -173,12 +197,13 @@ pub record IsTurnedAway (reason : ErrorKind)
 abbrev pub IsReason : List Text → ErrorKind → Type 0
 IsReason words reason = (reason ≡ kind.OutOfMemory) ⊎ IsAmong reason (fault_of program words)
 
--- the words have no fault, and what they ask for is answered; or they are turned away for a reason
--- that they give
+-- the words have no fault, and what they ask for is answered, of the files that they name; or they
+-- are turned away for a reason that they give
 abbrev pub Serves : List Text → Option (List ℕ) → ℕ → Option (List ℕ) → Option (List ℕ)
     → Bool → Report → Type 0
 Serves words input status old new has_failed faults =
     ((asked : Asked) × AsksFor words asked × (fault_of program words ≡ [])
-    × IsAnswered asked (known_unless (names_file words) input) status old new has_failed faults)
+    × IsAnswered asked (known_unless (names_list words) (Some (turns_given words)))
+    (known_unless (names_text words) input) status old new has_failed faults)
     ⊎ ((reason : ErrorKind) × IsReason words reason
     × IsTurnedAway reason status old new has_failed faults)

@@ -10,13 +10,15 @@ ghost use Rattle.std.specs.Io.KnownBytes.{Keeps};
 ghost use Rattle.leak_report.specs.Left.{IsLeftText};
 ghost use Rattle.script_picture.specs.Pictures.{IsPictureText};
 ghost use Rattle.sptr.specs.Lines.{ok_line};
+ghost use Rattle.sptr.specs.Outcomes.{graph_refused};
 ghost use Rattle.script_text.specs.Canonical.{canonical};
 ghost use Rattle.script_text.specs.Grammar.{ReadsAs};
 ghost use Rattle.script_text.specs.Scripts.{converted};
-ghost use Rattle.sptr.specs.Serving.{Converts, CountsScript};
+ghost use Rattle.sptr.specs.Serving.{Converts, CountsScript, TellsGraph};
 
 use control_word::Refusal;
 use leak_report::left_text;
+use owner_text::{Cause, owners_text};
 use script_picture::{Order, draw_text};
 use script_runner::run_text;
 use script_stepper::{Output, fine_text, step_text, write_text};
@@ -34,8 +36,10 @@ pub(crate) enum Outcome {
     Done,
     /// So it was, and something is leaked.
     Leaks,
-    /// No picture was drawn: the part has too many acts, or is none.
+    /// No picture was drawn: the part has too many acts, or begins behind the last one, or is none.
     NoPicture,
+    /// Nothing was told of a graph: this line of it is faulty.
+    NoGraph { line: usize, cause: Cause },
 }
 
 /// All that an input has.
@@ -216,8 +220,8 @@ pub(crate) fn left<O: Write>(
     }
 }
 
-/// Answers `draw`: the picture of a part of the script's run, with a list of turns, and whether the
-/// part has too many acts for one.
+/// Answers `draw`: the picture of a part of the script's run, with a list of turns, and whether
+/// there is none, as the part has too many acts for one, or begins behind the last one.
 pub(crate) fn draw<O: Write>(
     alloc: Global,
     order: Order<'_>,
@@ -229,9 +233,46 @@ pub(crate) fn draw<O: Write>(
         (O.contents output.old.writer) (O.contents output.new.writer) }
     ensures failed { output.new.has_failed ≡ is_output result }
 {
-    let has_more = draw_text(alloc, order, output)?;
+    let is_none = draw_text(alloc, order, output)?;
     match flushed(output) {
-        Ok(()) => Ok(has_more),
+        Ok(()) => Ok(is_none),
+        Err(fault) => Err(fault),
+    }
+}
+
+/// What comes of a graph that has no answer.
+fn without_graph(fault: owner_text::Fault) -> Result<Outcome, Fault>
+    ensures { result ≡ graph_refused fault }
+{
+    match fault {
+        owner_text::Fault::Syntax { line, cause } => Ok(Outcome::NoGraph { line, cause }),
+        owner_text::Fault::Memory => Err(Fault::Memory),
+    }
+}
+
+/// Answers `owners`: what leaks of a graph of owners, and what to make weak, told or drawn, and
+/// whether something does leak.
+pub(crate) fn owners<O: Write>(
+    alloc: Global,
+    draws: bool,
+    graph: &[u8],
+    output: &mut Output<O>,
+) -> Result<Outcome, Fault>
+    requires { output.old.has_failed ≡ false }
+    ensures told { Delivers (TellsGraph draws graph.now result) result
+        (O.contents output.old.writer) (O.contents output.new.writer) }
+    ensures failed { output.new.has_failed ≡ is_output result }
+{
+    let told = match owners_text(alloc, graph, draws) {
+        Ok(told) => told,
+        Err(fault) => return without_graph(fault),
+    };
+    match written(told.text.as_bytes(), output) {
+        Ok(()) => Ok(if told.leaks {
+            Outcome::Leaks
+        } else {
+            Outcome::Done
+        }),
         Err(fault) => Err(fault),
     }
 }

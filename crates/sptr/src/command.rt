@@ -4,8 +4,8 @@ ghost use Rattle.std.specs.Prelude.{◌≡◌, IfOk, List, [], codes, is_some, m
 ghost use Rattle.std.specs.Str.Parse.{without_leading_plus};
 ghost use Rattle.clap.specs.Words.{FailsBy, Text, count_of, fault_of, first_of, found_of, rows_of};
 ghost use Rattle.clap.specs.Words.{subcommand_of, subcommand_rows_of};
-ghost use Rattle.sptr.specs.CommandLine.{AsksFor, IsAskedBy, has_files, names_file, names_file_in};
-ghost use Rattle.sptr.specs.CommandLine.{program};
+ghost use Rattle.sptr.specs.CommandLine.{AsksFor, IsAskedBy, program, turns_given, turns_in};
+ghost use Rattle.sptr.specs.CommandLine.{names_list, names_text, word_in};
 ghost use Rattle.sptr.specs.Parts.{number_given, number_in, part_named};
 
 use crate::commands::command;
@@ -16,47 +16,34 @@ use std::convert::AsStr;
 
 /// What a command line asks for.
 #[derive(Clone, Copy)]
-pub(crate) enum Asked<'a> {
+pub(crate) enum Asked {
     /// How many threads and statements a script has.
     Check,
     /// The script in version 2.
     Convert,
-    /// The lines of a script's run, with this list of turns.
-    Step {
-        turns: &'a [u8],
-    },
+    /// The lines of a script's run, with a list of turns.
+    Step,
     /// The same by single atomic steps.
-    Fine {
-        turns: &'a [u8],
-    },
+    Fine,
     /// The lines of a script's run on real workers, thread by thread.
     Run,
     /// What is left at the end of the run, and who holds it, as text or drawn.
-    Left {
-        turns: &'a [u8],
-        draws: bool,
-    },
+    Left { draws: bool },
     /// The picture of a part of the run, by acts or by single steps; no part where its numbers are
     /// faulty.
-    Draw {
-        turns: &'a [u8],
-        is_fine: bool,
-        part: Option<Part>,
-    },
+    Draw { is_fine: bool, part: Option<Part> },
+    /// What leaks of a graph of owners, as text or drawn.
+    Owners { draws: bool },
 }
 
-/// The files that a command line names: the script's, and that of the list of turns.
-#[derive(Clone, Copy)]
-pub(crate) struct Files<'a> {
-    pub script: Option<&'a str>,
-    pub turns: Option<&'a str>,
-}
-
-/// What a command line asks for, and of which files.
+/// What a command line asks for, with its list of turns, which is empty where it gives none; and
+/// the files that it names: one of the script or the graph, and one of the list.
 #[derive(Clone, Copy)]
 pub(crate) struct Line<'a> {
-    pub asked: Asked<'a>,
-    pub files: Files<'a>,
+    pub asked: Asked,
+    pub turns: &'a [u8],
+    pub text_file: Option<&'a str>,
+    pub list_file: Option<&'a str>,
 }
 
 fn matches_of<'a, S: AsStr>(alloc: Global, words: &'a [S]) -> Result<ArgMatches<'a>, Error>
@@ -124,38 +111,22 @@ fn word_of<'a>(given: &ArgMatches<'a>, id: &str) -> Option<&'a str>
     given.get_str(id)
 }
 
-/// The files that a command was given.
-fn files_of<'a>(matches: &ArgMatches<'a>) -> Files<'a>
-    ensures { has_files result ≡ names_file_in (subcommand_rows_of matches.now) }
-{
-    match matches.subcommand() {
-        Some((_, inner)) => Files {
-            script: word_of(inner, "file"),
-            turns: word_of(inner, "turns-file"),
-        },
-        None => Files {
-            script: None,
-            turns: None,
-        },
-    }
-}
-
 /// What the command of this name was given to do. Where it is none of the others, it is `check`.
-fn asked_by_name<'a>(name: &str, given: &ArgMatches<'a>) -> Asked<'a>
+fn asked_by_name(name: &str, given: &ArgMatches<'_>) -> Asked
     ensures { IsAskedBy name.now (rows_of (found_of given.now)) result }
 {
-    let turns = turns_of(given);
     match name {
-        "step" => Asked::Step { turns },
-        "fine" => Asked::Fine { turns },
+        "step" => Asked::Step,
+        "fine" => Asked::Fine,
         "left" => Asked::Left {
-            turns,
             draws: has_flag(given, "dot"),
         },
         "draw" => Asked::Draw {
-            turns,
             is_fine: has_flag(given, "fine"),
             part: part_of(given),
+        },
+        "owners" => Asked::Owners {
+            draws: has_flag(given, "dot"),
         },
         "convert" => Asked::Convert,
         "run" => Asked::Run,
@@ -164,26 +135,42 @@ fn asked_by_name<'a>(name: &str, given: &ArgMatches<'a>) -> Asked<'a>
 }
 
 /// What the words' command was given to do.
-fn asked_by<'a>(matches: &ArgMatches<'a>) -> Asked<'a>
-    ensures { (words : List Text) → subcommand_rows_of matches.now ≡ subcommand_of program words
-        → fault_of program words ≡ [] → AsksFor words result }
+fn line_by<'a>(matches: &ArgMatches<'a>) -> Line<'a>
+    ensures asks { (words : List Text) → subcommand_rows_of matches.now ≡ subcommand_of program words
+        → fault_of program words ≡ [] → AsksFor words result.asked }
+    ensures turns { result.turns.now ≡ turns_in (subcommand_rows_of matches.now) }
+    ensures text { is_some result.text_file
+        ≡ is_some (word_in (codes "file") (subcommand_rows_of matches.now)) }
+    ensures list { is_some result.list_file
+        ≡ is_some (word_in (codes "turns-file") (subcommand_rows_of matches.now)) }
 {
     match matches.subcommand() {
-        Some((name, given)) => asked_by_name(name, given),
-        None => Asked::Check,
+        Some((name, given)) => Line {
+            asked: asked_by_name(name, given),
+            turns: turns_of(given),
+            text_file: word_of(given, "file"),
+            list_file: word_of(given, "turns-file"),
+        },
+        None => Line {
+            asked: Asked::Check,
+            turns: b"",
+            text_file: None,
+            list_file: None,
+        },
     }
 }
 
 /// What the words of a command line ask for.
-pub(crate) fn asked_of<'a, S: AsStr>(alloc: Global, words: &'a [S]) -> Result<Line<'a>, Error>
+pub(crate) fn line_of<'a, S: AsStr>(alloc: Global, words: &'a [S]) -> Result<Line<'a>, Error>
     ensures asks { IfOk result (λ line. AsksFor (map S.text words.entry.now) line.asked) }
-    ensures files { IfOk result
-        (λ line. has_files line.files ≡ names_file (map S.text words.entry.now)) }
+    ensures turns { IfOk result
+        (λ line. line.turns.now ≡ turns_given (map S.text words.entry.now)) }
+    ensures text { IfOk result
+        (λ line. is_some line.text_file ≡ names_text (map S.text words.entry.now)) }
+    ensures list { IfOk result
+        (λ line. is_some line.list_file ≡ names_list (map S.text words.entry.now)) }
     ensures kinds { FailsBy (fault_of program (map S.text words.entry.now)) result }
 {
     let matches = matches_of(alloc, words)?;
-    Ok(Line {
-        asked: asked_by(&matches),
-        files: files_of(&matches),
-    })
+    Ok(line_by(&matches))
 }

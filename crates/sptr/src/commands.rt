@@ -4,7 +4,8 @@ ghost use Rattle.std.specs.Prelude.{◌≡◌, IfOk, codes, false};
 ghost use Rattle.clap.specs.Words.{app_of, rule_of, shape_of};
 ghost use Rattle.clap.specs.declared.builder.command.Command.TheViews.{out-Command};
 ghost use Rattle.sptr.specs.CommandLine.{AddsCommand, bare, draw_line, file_word, flag_rule};
-ghost use Rattle.sptr.specs.CommandLine.{left_line, option_rule, program, script_line, turns_line};
+ghost use Rattle.sptr.specs.CommandLine.{left_line, option_rule, owners_line, program, script_line};
+ghost use Rattle.sptr.specs.CommandLine.{turns_line};
 
 use clap::{Arg, ArgAction, Command};
 use std::alloc::{AllocError, Global};
@@ -12,13 +13,12 @@ use std::alloc::{AllocError, Global};
 /// What `--version` tells.
 const VERSION: &str = "1.1.0";
 
-fn file_argument<'a>(alloc: Global) -> Arg<'a>
+/// `FILE`.
+fn file_argument<'a>(alloc: Global, help: &'a str) -> Arg<'a>
     ensures rule { rule_of result ≡ file_word }
     ensures local { result.global ≡ false }
 {
-    Arg::new(alloc, "file")
-        .value_name("FILE")
-        .help("The script; where none is named, standard input")
+    Arg::new(alloc, "file").value_name("FILE").help(help)
 }
 
 /// `--NAME VALUE`.
@@ -52,9 +52,10 @@ fn script_command<'a>(
     ensures shape { IfOk result (λ c. shape_of c ≡ script_line name.entry.now) }
     ensures local { IfOk result (λ c. (out-Command c).has_globals ≡ false) }
 {
-    Command::new(alloc, name)
-        .about(about)
-        .arg(file_argument(alloc))
+    Command::new(alloc, name).about(about).arg(file_argument(
+        alloc,
+        "The script; where none is named, standard input",
+    ))
 }
 
 /// A command that takes a script and a list of turns.
@@ -93,6 +94,17 @@ fn draw_command<'a>(alloc: Global) -> Result<Command<'a>, AllocError>
         .arg(option(alloc, "to", "M", "The last act that is drawn"))
 }
 
+fn owners_command<'a>(alloc: Global) -> Result<Command<'a>, AllocError>
+    ensures shape { IfOk result (λ c. shape_of c ≡ owners_line) }
+    ensures local { IfOk result (λ c. (out-Command c).has_globals ≡ false) }
+{
+    let about = "Reads a graph of owners, and tells what leaks, and what to make weak";
+    Command::new(alloc, "owners")
+        .about(about)
+        .arg(file_argument(alloc, "The graph; where none is named, standard input"))?
+        .arg(flag(alloc, "dot", "As a graph for Graphviz"))
+}
+
 /// The program with this command too.
 fn with_command<'a>(
     program: Result<Command<'a>, AllocError>,
@@ -109,7 +121,7 @@ fn bare_program<'a>(alloc: Global) -> Command<'a>
 {
     Command::new(alloc, "sptr")
         .about(
-            "Runs scripts of shared and weak pointers; `sptr owners --help` is on graphs of owners",
+            "Runs scripts of shared and weak pointers, and finds what leaks of a graph of owners",
         )
         .version(VERSION)
         .subcommand_required(true)
@@ -135,5 +147,6 @@ pub(crate) fn command<'a>(alloc: Global) -> Result<Command<'a>, AllocError>
     let run = "Runs a script on real workers, one a thread";
     let program = with_command(program, script_command(alloc, "run", run));
     let program = with_command(program, left_command(alloc));
-    with_command(program, draw_command(alloc))
+    let program = with_command(program, draw_command(alloc));
+    with_command(program, owners_command(alloc))
 }

@@ -1,21 +1,23 @@
 //! One command line, served.
 
-ghost use Rattle.std.specs.Prelude.{◌≡◌, ◌≤◌, Ok, false, map};
+ghost use Rattle.std.specs.Prelude.{◌≡◌, ◌≤◌, ℕ, List, Ok, Some, false, is_some, map};
 ghost use Rattle.clap.specs.Words.{kind_of};
 ghost use Rattle.sptr.specs.declared.command.Asked.{Asked};
 ghost use Rattle.sptr.specs.CommandLine.{AsksHelp, AsksPlainly, AsksVersion, NamesNoCommand};
-ghost use Rattle.sptr.specs.CommandLine.{has_files};
 ghost use Rattle.sptr.specs.Serving.{IsAnswered, IsMistaken, IsReported, IsShownText, IsTurnedAway};
-ghost use Rattle.sptr.specs.Serving.{ReportsOutcome, Serves, known_unless, report};
+ghost use Rattle.sptr.specs.Serving.{ReportsOutcome, Serves, report};
+ghost use Rattle.sptr.specs.Sources.{known_unless};
 ghost use Rattle.sptr.specs.Lines.{picture_line};
 ghost use Rattle.sptr.specs.Outcomes.{exit_status};
-ghost use Rattle.script_text.specs.Faults.{fault_line};
+ghost use Rattle.owner_text.specs.Faults.{cause_words};
+ghost use Rattle.script_text.specs.Faults.{fault_line, faulty_line};
 
 use crate::answers::{Outcome, written};
-use crate::command::{Line, asked_of};
+use crate::command::{Line, line_of};
 use crate::sources::answer_line;
 use clap::error::ErrorKind;
-use script_stepper::{Output, Sink, write_all, write_fault};
+use owner_text::Cause;
+use script_stepper::{Output, Sink, write_all, write_fault, write_faulty_line};
 use script_text::Fault;
 use std::alloc::Global;
 use std::convert::AsStr;
@@ -27,7 +29,7 @@ use std::thread::Threads;
 
 /// Writes the line of a refusal, and answers the exit status 1. A line that can't be written
 /// changes nothing.
-fn refuse<F: Write>(fault: Fault, faults: &mut Output<F>) -> u8
+pub(crate) fn refuse<F: Write>(fault: Fault, faults: &mut Output<F>) -> u8
     ensures status { result ≡ 1 }
     ensures line { IsReported (fault_line fault)
         (report (F.contents faults.old.writer) faults.old.has_failed
@@ -117,8 +119,19 @@ fn refuse_picture<F: Write>(faults: &mut Output<F>) -> u8
     1
 }
 
+/// Writes the line that tells of a faulty line of a graph, and answers the exit status 1.
+fn refuse_graph<F: Write>(line: usize, cause: Cause, faults: &mut Output<F>) -> u8
+    ensures status { result ≡ 1 }
+    ensures line { IsReported (faulty_line line (cause_words cause))
+        (report (F.contents faults.old.writer) faults.old.has_failed
+        (F.contents faults.new.writer) faults.new.has_failed) }
+{
+    let _ = write_faulty_line(line, cause.words(), faults);
+    1
+}
+
 /// Answers the exit status of a command that was carried out, and writes the line of a picture that
-/// isn't drawn.
+/// isn't drawn, or of a graph that has no answer.
 fn conclude<F: Write>(outcome: Outcome, faults: &mut Output<F>) -> u8
     ensures status { result ≡ exit_status (Ok outcome) }
     ensures line { ReportsOutcome (Ok outcome)
@@ -130,6 +143,7 @@ fn conclude<F: Write>(outcome: Outcome, faults: &mut Output<F>) -> u8
         Outcome::Done => 0,
         Outcome::Leaks => 3,
         Outcome::NoPicture => refuse_picture(faults),
+        Outcome::NoGraph { line, cause } => refuse_graph(line, cause, faults),
     }
 }
 
@@ -144,7 +158,8 @@ fn carry_out<R: rt::Files + Threads + Wait + Sync, I: Read, O: Write, F: Write>(
 ) -> u8
     requires { output.old.has_failed ≡ false }
     ensures answered { IsAnswered line.entry.asked
-        (known_unless (has_files line.entry.files) (I.remaining input.old)) result
+        (known_unless (is_some line.entry.list_file) (Some line.entry.turns.now))
+        (known_unless (is_some line.entry.text_file) (I.remaining input.old)) result
         (O.contents output.old.writer) (O.contents output.new.writer) output.new.has_failed
         (report (F.contents faults.old.writer) faults.old.has_failed
         (F.contents faults.new.writer) faults.new.has_failed) }
@@ -157,15 +172,15 @@ fn carry_out<R: rt::Files + Threads + Wait + Sync, I: Read, O: Write, F: Write>(
     }
 }
 
-/// Serves one command line, whose first word is the program's name: reads a script from `input`, or
-/// from the file that the words name, and writes the answer on `output`, which hasn't failed
-/// before. Answers the exit status: 0; 1 for a refusal, with its line on `faults`; 2 for a fault of
-/// the command line, with the text of `clap` on `faults`; 3 where it was asked what is left, and
-/// something is leaked.
+/// Serves one command line, whose first word is the program's name: reads a script, or a graph of
+/// owners, from `input`, or from the file that the words name, and writes the answer on `output`,
+/// which hasn't failed before. Answers the exit status: 0; 1 for a refusal, with its line on
+/// `faults`; 2 for a fault of the command line, with the text of `clap` on `faults`; 3 where it was
+/// asked what is left, or what leaks of a graph, and something is leaked.
 ///
 /// The words are looked at first; then come a failed input, or a file that can't be read (13), a
-/// fault of the script (10) and one of the turns (11), each with nothing on `output`, and a failed
-/// output (12). A fault line that can't be written changes no status: `faults` then took a
+/// fault of the script or the graph (10) and one of the turns (11), each with nothing on `output`,
+/// and a failed output (12). A fault line that can't be written changes no status: `faults` then took a
 /// beginning of it, or nothing where it had failed before (own).
 pub fn serve<R: rt::Files + Threads + Wait + Sync, S: AsStr, I: Read, O: Write, F: Write>(
     rt: &R,
@@ -181,8 +196,8 @@ pub fn serve<R: rt::Files + Threads + Wait + Sync, S: AsStr, I: Read, O: Write, 
         (O.contents output.new.writer) output.new.has_failed
         (report (F.contents faults.old.writer) faults.old.has_failed
         (F.contents faults.new.writer) faults.new.has_failed) }
-    ensures answers { (asked : Asked) → AsksPlainly (map S.text words.now) asked
-        → IsAnswered asked (I.remaining input.old) result (O.contents output.old.writer)
+    ensures answers { (asked : Asked) (list : List ℕ) → AsksPlainly (map S.text words.now) asked list
+        → IsAnswered asked (Some list) (I.remaining input.old) result (O.contents output.old.writer)
         (O.contents output.new.writer) output.new.has_failed
         (report (F.contents faults.old.writer) faults.old.has_failed
         (F.contents faults.new.writer) faults.new.has_failed) }
@@ -204,7 +219,7 @@ pub fn serve<R: rt::Files + Threads + Wait + Sync, S: AsStr, I: Read, O: Write, 
     ensures quiet { result ≡ 0 → F.contents faults.new.writer ≡ F.contents faults.old.writer }
     ensures status { result ≤ 3 }
 {
-    match asked_of(alloc, words) {
+    match line_of(alloc, words) {
         Ok(line) => carry_out(rt, alloc, line, input, output, faults),
         Err(error) => refuse_words(alloc, &error, output, faults),
     }

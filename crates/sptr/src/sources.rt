@@ -1,13 +1,14 @@
-//! Answers to scripts and lists of turns, wherever these lie.
+//! Answers to scripts, graphs and lists of turns, wherever these lie.
 
-ghost use Rattle.std.specs.Prelude.{◌≡◌, false, is_some, IfSome};
+ghost use Rattle.std.specs.Prelude.{◌≡◌, ◌⊎◌, IfErr, IfOk, IfSome, false, is_some};
 ghost use Rattle.script_stepper.specs.Runs.{Delivers, is_output};
-ghost use Rattle.sptr.specs.CommandLine.{has_files};
-ghost use Rattle.sptr.specs.Outcomes.{FindsIfAsked, asks_left, asks_picture, found_as, none_found};
-ghost use Rattle.sptr.specs.Serving.{AnswersCommand, known_unless};
+ghost use Rattle.script_text.specs.declared.fault.Fault.TheVariants.{Input, Memory};
+ghost use Rattle.sptr.specs.Outcomes.{FindsAsAsked, found_as, none_found};
+ghost use Rattle.sptr.specs.Serving.{AnswersCommand};
+ghost use Rattle.sptr.specs.Sources.{OfBytes, OfList, known_unless, without_line_end};
 
-use crate::answers::{Outcome, bytes_of, check, convert, draw, fine, left, run, step};
-use crate::command::{Asked, Files, Line};
+use crate::answers::{Outcome, bytes_of, check, convert, draw, fine, left, owners, run, step};
+use crate::command::{Asked, Line};
 use script_picture::Order;
 use script_stepper::Output;
 use script_text::Fault;
@@ -16,6 +17,7 @@ use std::io::{Read, Write};
 use std::sync::Wait;
 use std::thread::Threads;
 use std::{fs, rt};
+use text_lines::line_content;
 
 /// What came of a command that finds nothing.
 fn done(written: Result<(), Fault>) -> Result<Outcome, Fault>
@@ -38,37 +40,34 @@ fn done_or(outcome: Outcome, found: Result<bool, Fault>) -> Result<Outcome, Faul
     }
 }
 
-/// The answer to what a command line asks for, of a script. Nothing is drawn of no part.
+/// The answer to what a command line asks for, of a script or a graph. Nothing is drawn of no part.
 fn answer_bytes<R: Threads + Wait + Sync, O: Write>(
     rt: &R,
     alloc: Global,
-    asked: Asked<'_>,
-    script: &[u8],
+    line: Line<'_>,
+    text: &[u8],
     output: &mut Output<O>,
 ) -> Result<Outcome, Fault>
     requires { output.old.has_failed ≡ false }
-    ensures delivers { Delivers (AnswersCommand asked.entry result script.now) result
+    ensures delivers { Delivers (AnswersCommand line.entry.asked line.entry.turns.now result text.now) result
         (O.contents output.old.writer) (O.contents output.new.writer) }
-    ensures finds { FindsIfAsked asked.entry result }
+    ensures finds { FindsAsAsked line.entry.asked result }
     ensures failed { output.new.has_failed ≡ is_output result }
 {
-    match asked {
-        Asked::Check => done(check(alloc, script, output)),
-        Asked::Convert => done(convert(alloc, script, output)),
-        Asked::Step { turns } => done(step(alloc, turns, script, output)),
-        Asked::Fine { turns } => done(fine(alloc, turns, script, output)),
-        Asked::Run => done(run(rt, alloc, script, output)),
-        Asked::Left { turns, draws } => {
-            done_or(Outcome::Leaks, left(alloc, turns, draws, script, output))
+    let turns = line.turns;
+    match line.asked {
+        Asked::Check => done(check(alloc, text, output)),
+        Asked::Convert => done(convert(alloc, text, output)),
+        Asked::Step => done(step(alloc, turns, text, output)),
+        Asked::Fine => done(fine(alloc, turns, text, output)),
+        Asked::Run => done(run(rt, alloc, text, output)),
+        Asked::Left { draws } => {
+            done_or(Outcome::Leaks, left(alloc, turns, draws, text, output))
         }
-        Asked::Draw {
-            turns,
-            is_fine,
-            part,
-        } => match part {
+        Asked::Draw { is_fine, part } => match part {
             Some(part) => {
                 let order = Order {
-                    script,
+                    script: text,
                     turns,
                     is_fine,
                     part,
@@ -77,107 +76,71 @@ fn answer_bytes<R: Threads + Wait + Sync, O: Write>(
             }
             None => Ok(Outcome::NoPicture),
         },
+        Asked::Owners { draws } => owners(alloc, draws, text, output),
     }
 }
 
-/// The same of the script on the input.
-fn answer<R: Threads + Wait + Sync, I: Read, O: Write>(
-    rt: &R,
-    alloc: Global,
-    asked: Asked<'_>,
-    input: &mut I,
-    output: &mut Output<O>,
-) -> Result<Outcome, Fault>
-    requires { output.old.has_failed ≡ false }
-    ensures delivers { IfSome (I.remaining input.old) (λ bytes.
-        Delivers (AnswersCommand asked.entry result bytes) result (O.contents output.old.writer)
-        (O.contents output.new.writer)) }
-    ensures finds { FindsIfAsked asked.entry result }
-    ensures failed { output.new.has_failed ≡ is_output result }
+/// All that a file has.
+fn file_bytes<R: rt::Files>(rt: &R, alloc: Global, path: &str) -> Result<Vec<u8>, Fault>
+    ensures { IfErr result (λ fault. (fault ≡ Input) ⊎ (fault ≡ Memory)) }
 {
-    let bytes = bytes_of(alloc, input)?;
-    answer_bytes(rt, alloc, asked, bytes.as_slice(), output)
-}
-
-/// The same of a script in a file, if one is named.
-fn answer_script<R: rt::Files + Threads + Wait + Sync, I: Read, O: Write>(
-    rt: &R,
-    alloc: Global,
-    asked: Asked<'_>,
-    script: Option<&str>,
-    input: &mut I,
-    output: &mut Output<O>,
-) -> Result<Outcome, Fault>
-    requires { output.old.has_failed ≡ false }
-    ensures delivers { IfSome (known_unless (is_some script.entry) (I.remaining input.old))
-        (λ bytes.
-        Delivers (AnswersCommand asked.entry result bytes) result (O.contents output.old.writer)
-        (O.contents output.new.writer)) }
-    ensures finds { FindsIfAsked asked.entry result }
-    ensures failed { output.new.has_failed ≡ is_output result }
-{
-    let Some(path) = script else {
-        return answer(rt, alloc, asked, input, output);
-    };
     match fs::open(rt, path) {
-        Ok(mut file) => answer(rt, alloc, asked, &mut file, output),
+        Ok(mut file) => bytes_of(alloc, &mut file),
         Err(_) => Err(Fault::Input),
     }
 }
 
-/// A list without the line feed at its end.
-fn line_of(list: &[u8]) -> &[u8] {
-    match list {
-        [front @ .., b'\r', b'\n'] => front,
-        [front @ .., b'\n'] => front,
-        _ => list,
-    }
-}
-
-/// What a command asks for with this list of turns.
-fn with_turns<'a>(asked: Asked<'_>, turns: &'a [u8]) -> Asked<'a>
-    ensures left { asks_left result ≡ asks_left asked.entry }
-    ensures picture { asks_picture result ≡ asks_picture asked.entry }
-{
-    match asked {
-        Asked::Check => Asked::Check,
-        Asked::Convert => Asked::Convert,
-        Asked::Step { .. } => Asked::Step { turns },
-        Asked::Fine { .. } => Asked::Fine { turns },
-        Asked::Run => Asked::Run,
-        Asked::Left { draws, .. } => Asked::Left { turns, draws },
-        Asked::Draw { is_fine, part, .. } => Asked::Draw {
-            turns,
-            is_fine,
-            part,
-        },
-    }
-}
-
-/// The same with the list of turns in a file.
-fn answer_turns<R: rt::Files + Threads + Wait + Sync, I: Read, O: Write>(
+/// All that the file has, if one is named, and else the input.
+fn text_of<R: rt::Files, I: Read>(
     rt: &R,
     alloc: Global,
-    asked: Asked<'_>,
-    turns: &str,
-    script: Option<&str>,
+    path: Option<&str>,
+    input: &mut I,
+) -> Result<Vec<u8>, Fault>
+    ensures ok { IfOk result (λ v. IfSome (known_unless (is_some path.entry) (I.remaining input.old))
+        (λ bytes. v.items ≡ bytes)) }
+    ensures err { IfErr result (λ fault. (fault ≡ Input) ⊎ (fault ≡ Memory)) }
+{
+    match path {
+        Some(path) => file_bytes(rt, alloc, path),
+        None => bytes_of(alloc, input),
+    }
+}
+
+/// The answer to a command line whose list of turns is at hand.
+fn answer_text<R: rt::Files + Threads + Wait + Sync, I: Read, O: Write>(
+    rt: &R,
+    alloc: Global,
+    line: Line<'_>,
     input: &mut I,
     output: &mut Output<O>,
 ) -> Result<Outcome, Fault>
     requires { output.old.has_failed ≡ false }
-    ensures finds { FindsIfAsked asked.entry result }
+    ensures delivers { OfBytes (known_unless (is_some line.entry.text_file) (I.remaining input.old))
+        (λ bytes.
+        Delivers (AnswersCommand line.entry.asked line.entry.turns.now result bytes) result
+        (O.contents output.old.writer)
+        (O.contents output.new.writer)) }
+    ensures finds { FindsAsAsked line.entry.asked result }
     ensures failed { output.new.has_failed ≡ is_output result }
 {
-    let Ok(mut file) = fs::open(rt, turns) else {
-        return Err(Fault::Input);
-    };
-    let list = bytes_of(alloc, &mut file)?;
-    let asked = with_turns(asked, line_of(list.as_slice()));
-    answer_script(rt, alloc, asked, script, input, output)
+    let text = text_of(rt, alloc, line.text_file, input)?;
+    answer_bytes(rt, alloc, line, text.as_slice(), output)
 }
 
-/// The answer to a command line: of the script on the input, or of files that it names, of which
-/// nothing is known.
+/// A list without its last line end.
+fn list_in(text: &[u8]) -> &[u8]
+    ensures { result.now ≡ without_line_end text.now }
+{
+    match text {
+        [line @ .., b'\n'] => line_content(line),
+        _ => text,
+    }
+}
+
+/// The answer to a command line: of the script or the graph on the input, or in the file that it
+/// names, and with the list of turns that it gives, or that of the file that it names. The list is
+/// read first.
 pub(crate) fn answer_line<R: rt::Files + Threads + Wait + Sync, I: Read, O: Write>(
     rt: &R,
     alloc: Global,
@@ -186,18 +149,19 @@ pub(crate) fn answer_line<R: rt::Files + Threads + Wait + Sync, I: Read, O: Writ
     output: &mut Output<O>,
 ) -> Result<Outcome, Fault>
     requires { output.old.has_failed ≡ false }
-    ensures delivers { IfSome (known_unless (has_files line.entry.files) (I.remaining input.old))
-        (λ bytes.
-        Delivers (AnswersCommand line.entry.asked result bytes) result
-        (O.contents output.old.writer)
-        (O.contents output.new.writer)) }
-    ensures finds { FindsIfAsked line.entry.asked result }
+    ensures delivers { OfList (known_unless (is_some line.entry.list_file) (Some line.entry.turns.now))
+        (λ list. OfBytes (known_unless (is_some line.entry.text_file) (I.remaining input.old))
+        (λ bytes. Delivers (AnswersCommand line.entry.asked list result bytes) result
+        (O.contents output.old.writer) (O.contents output.new.writer))) }
+    ensures finds { FindsAsAsked line.entry.asked result }
     ensures failed { output.new.has_failed ≡ is_output result }
 {
-    let Line { asked, files } = line;
-    let Files { script, turns } = files;
-    match turns {
-        Some(path) => answer_turns(rt, alloc, asked, path, script, input, output),
-        None => answer_script(rt, alloc, asked, script, input, output),
+    match line.list_file {
+        Some(path) => {
+            let text = file_bytes(rt, alloc, path)?;
+            let turns = list_in(text.as_slice());
+            answer_text(rt, alloc, Line { turns, ..line }, input, output)
+        }
+        None => answer_text(rt, alloc, line, input, output),
     }
 }

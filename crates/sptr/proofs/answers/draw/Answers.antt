@@ -5,7 +5,7 @@ pub returns-in-Err-clause-told : goal.returns-in-Err-clause-told
 returns-in-Err-clause-told g c =
     let order = c.args.order in
     picture_unflushed order.is_fine order.part order.script.now order.turns.now
-    c.in_ok-has_more.has_more c.in-Err.fault (g.O.Write.contents c.args.output.now.writer)
+    c.in_ok-is_none.is_none c.in-Err.fault (g.O.Write.contents c.args.output.now.writer)
     (g.O.Write.contents c.draw_text.new.writer.writer)
-    (g.O.Write.contents c.flushed.new.output.writer) c.in_ok-has_more.ensures.holds
+    (g.O.Write.contents c.flushed.new.output.writer) c.in_ok-is_none.ensures.holds
     c.flushed.ensures.kept c.in-Err.ensures.err

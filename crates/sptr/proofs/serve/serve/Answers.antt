@@ -4,13 +4,14 @@ use Rattle.sptr.proofs.Plainly.{not_mistaken, not_told, told_plainly, turned_pla
 use Rattle.sptr.proofs.serve.serve.Goals as goal
 
 pub returns-in-Ok-clause-answers : goal.returns-in-Ok-clause-answers
-returns-in-Ok-clause-answers g c asked plain =
-    answered_plainly _ _ _ _ _ _ _ c.in-Ok.line.asked asked _ c.in-Ok.ensures.files
-    c.in-Ok.ensures.asks plain c.carry_out.ensures.answered
+returns-in-Ok-clause-answers g c asked list plain =
+    answered_plainly _ _ _ _ _ _ _ c.in-Ok.line.asked asked _ list _ _ c.in-Ok.ensures.turns
+    c.in-Ok.ensures.list c.in-Ok.ensures.text c.in-Ok.ensures.asks plain
+    c.carry_out.ensures.answered
 
 pub returns-in-Err-clause-answers : goal.returns-in-Err-clause-answers
-returns-in-Err-clause-answers g c asked plain =
-    turned_plainly _ _ _ _ _ _ _ (kind_of c.in-Err.error) asked c.in-Err.ensures.kinds plain
+returns-in-Err-clause-answers g c asked list plain =
+    turned_plainly _ _ _ _ _ _ _ (kind_of c.in-Err.error) asked list c.in-Err.ensures.kinds plain
     c.refuse_words.ensures.away
 
 pub returns-in-Ok-clause-help : goal.returns-in-Ok-clause-help
