@@ -18,4 +18,3 @@ pub mod Sharing
 pub mod Refused
 pub mod Regained
 pub mod Lasts
-pub mod Starting

@@ -17,4 +17,3 @@ pub mod Leading
 pub mod Staffs
 pub mod Peeks
 pub mod Slots
-pub mod Jobs

@@ -22,7 +22,6 @@ use std::marker::Brand;
 use std::sync::Wait;
 use std::thread::Threads;
 
-mod jobs;
 pub(crate) mod posts;
 
 /// What a worker with a state of its own does, in a thread with a table of its own. `needs` says what has to be true of

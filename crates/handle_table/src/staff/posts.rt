@@ -3,11 +3,11 @@ ghost use Rattle.std.specs.Prelude.{◌≡◌, ◌≤◌, [], All, false, length
 ghost use Rattle.handle_table.specs.Staffs.{EachDoes};
 
 use crate::staff::Work;
-use crate::staff::jobs::{Job, run_all};
 use crate::table::{HandleTable, Home};
 use std::alloc::Global;
 use std::sync::Wait;
 use std::thread::Threads;
+use thread_jobs::{Job, run_all};
 
 /// A worker with its table.
 pub(crate) struct Post<'d, V: Drop, H: Home, W> {
@@ -63,8 +63,13 @@ impl<'d, V: Drop + Send, H: Home + Send + Sync, R: Threads + Wait + Sync, W: Wor
 
     ghost does = { λ p q. W.does p.worker p.table q.worker q.table };
 
-    fn run(&mut self, rt: &R) {
-        self.worker.work::<H>(rt, &mut self.table);
+    fn run(self, rt: &R) -> Self {
+        let Self {
+            mut worker,
+            mut table,
+        } = self;
+        worker.work::<H>(rt, &mut table);
+        Post { worker, table }
     }
 }
 

@@ -1,8 +1,8 @@
 use Rattle.std.proofs.Common.{◌∙◌, ap, arith, map, reverse, sym}
-use Rattle.handle_table.specs.Jobs.{Keeps}
+use Rattle.thread_jobs.specs.Jobs.{Keeps}
 use Rattle.handle_table.proofs.Manning.{as_many, each_worked}
 use Rattle.handle_table.proofs.Needing.{posts_meet}
-use Rattle.handle_table.proofs.Starting.{all_ran, none_ran}
+use Rattle.thread_jobs.proofs.Starting.{all_ran, none_ran}
 use Rattle.handle_table.proofs.staff.posts.worked.Goals as goal
 
 pub run_all-all-requires-clause-needs : goal.run_all-all-requires-clause-needs

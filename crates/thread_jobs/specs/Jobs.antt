@@ -1,8 +1,8 @@
 -- What is said of jobs that all run or none, each in a thread of its own.
 use Rattle.std.specs.Prelude.{◌≡◌, ℕ, Bool, IfErr, IfOk, Result, true, false}
 use Rattle.std.specs.declared.thread.PromisedHandle.{PromisedHandle}
-use Rattle.handle_table.specs.declared.staff.jobs.Back.{Back}
-use Rattle.handle_table.specs.declared.staff.jobs.Before.{Before}
+use Rattle.thread_jobs.specs.declared.jobs.Back.{Back}
+use Rattle.thread_jobs.specs.declared.jobs.Before.{Before}
 
 -- a job ran where all did, and is what it was where none did
 abbrev pub Keeps : {J : Type 0} → (J → J → Type 0) → Bool → J → J → Type 0

@@ -1,7 +1,7 @@
 -- Lists of jobs that are started from the last one on, and come back from the first one on.
 use Rattle.std.proofs.Common.{◌≡◌, Bool, false, true, List, [], ◌∷◌, ◌++◌, reverse, length, suc, ap, sym, ◌∙◌, subst, refl}
 use Rattle.std.specs.List.{AllZip}
-use Rattle.handle_table.specs.Jobs.{Keeps}
+use Rattle.thread_jobs.specs.Jobs.{Keeps}
 use Rattle.std.proofs.lemmas.List.{append-nil, append_assoc, length-reverse, reverse-append, reverse-reverse}
 
 module _ {X Y : Type 0} (R : X → Y → Type 0) where

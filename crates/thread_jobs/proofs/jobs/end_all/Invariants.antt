@@ -1,8 +1,8 @@
 use Rattle.std.proofs.Common.{◌≡◌, ◌≤◌, ◌+◌, List, length, vec_capacity}
 use Rattle.std.specs.List.{AllZip}
-use Rattle.handle_table.specs.Jobs.{IsStarted, Keeps}
-use Rattle.handle_table.proofs.Starting.{AreBack}
-use Rattle.handle_table.proofs.staff.jobs.end_all.Given as goal
+use Rattle.thread_jobs.specs.Jobs.{IsStarted, Keeps}
+use Rattle.thread_jobs.proofs.Starting.{AreBack}
+use Rattle.thread_jobs.proofs.jobs.end_all.Given as goal
 
 abbrev pub invariant-loop-one : goal.invariant-loop-one
 invariant-loop-one g l =

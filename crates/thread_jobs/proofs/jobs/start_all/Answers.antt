@@ -1,9 +1,9 @@
 use Rattle.std.proofs.Common.{◌∙◌, Some, ap, arith, length, refl}
 use Rattle.std.proofs.lemmas.List.{nil_from_length}
 use Rattle.std.proofs.lemmas.List.Elements.{All-pop}
-use Rattle.handle_table.specs.Jobs.{IsStarted}
-use Rattle.handle_table.proofs.Starting.{all_started, begun, started_more}
-use Rattle.handle_table.proofs.staff.jobs.start_all.Goals as goal
+use Rattle.thread_jobs.specs.Jobs.{IsStarted}
+use Rattle.thread_jobs.proofs.Starting.{all_started, begun, started_more}
+use Rattle.thread_jobs.proofs.jobs.start_all.Goals as goal
 
 pub loop-job-init : goal.loop-job-init
 loop-job-init g c =

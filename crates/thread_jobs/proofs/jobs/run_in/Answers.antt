@@ -1,7 +1,7 @@
 use Rattle.std.proofs.Common.{arith}
-use Rattle.handle_table.specs.Jobs.{IsStarted}
-use Rattle.handle_table.proofs.Starting.{as_many}
-use Rattle.handle_table.proofs.staff.jobs.run_in.Goals as goal
+use Rattle.thread_jobs.specs.Jobs.{IsStarted}
+use Rattle.thread_jobs.proofs.Starting.{as_many}
+use Rattle.thread_jobs.proofs.jobs.run_in.Goals as goal
 
 pub end_all-all-requires-clause-room : goal.end_all-all-requires-clause-room
 end_all-all-requires-clause-room g c =

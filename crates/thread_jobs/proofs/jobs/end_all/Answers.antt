@@ -1,9 +1,9 @@
 use Rattle.std.proofs.Common.{◌∙◌, ap, arith, length, reverse, subst, sym}
 use Rattle.std.proofs.lemmas.List.{nil_from_length}
 use Rattle.std.specs.List.{AllZip}
-use Rattle.handle_table.specs.Jobs.{IsStarted, Keeps}
-use Rattle.handle_table.proofs.Starting.{all_back, back_more, last_started, none_back}
-use Rattle.handle_table.proofs.staff.jobs.end_all.Goals as goal
+use Rattle.thread_jobs.specs.Jobs.{IsStarted, Keeps}
+use Rattle.thread_jobs.proofs.Starting.{all_back, back_more, last_started, none_back}
+use Rattle.thread_jobs.proofs.jobs.end_all.Goals as goal
 
 pub loop-one-init : goal.loop-one-init
 loop-one-init g c =

@@ -1,7 +1,7 @@
 use Rattle.std.proofs.Common.{◌≡◌, ◌≤◌, ◌+◌, ◌++◌, All, List, length, reverse, vec_capacity}
 use Rattle.std.specs.List.{AllZip}
-use Rattle.handle_table.specs.Jobs.{IsStarted}
-use Rattle.handle_table.proofs.staff.jobs.start_all.Given as goal
+use Rattle.thread_jobs.specs.Jobs.{IsStarted}
+use Rattle.thread_jobs.proofs.jobs.start_all.Given as goal
 
 abbrev pub invariant-loop-job : goal.invariant-loop-job
 invariant-loop-job g l =

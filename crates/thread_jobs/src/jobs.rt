@@ -1,11 +1,11 @@
-//! Jobs that all run, each in a thread of its own, or none.
+//! What a job is, and how all run or none.
 //!
 //! What a thread writes into a value that it borrows no clause says, so a job goes to its thread by value and comes
 //! back as the thread's result, by which its promise is kept. A started job waits for a signal: it is given once all
 //! are started, and says that they run; or where one can't be started, and says that none does.
 ghost use Rattle.std.specs.Prelude.{◌≡◌, ◌≤◌, ℕ, All, List, [], length, reverse, vec_capacity};
 ghost use Rattle.std.specs.List.{AllZip};
-ghost use Rattle.handle_table.specs.Jobs.{IsStarted, Keeps};
+ghost use Rattle.thread_jobs.specs.Jobs.{IsStarted, Keeps};
 
 use std::alloc::Global;
 use std::marker::PhantomData;
@@ -14,15 +14,15 @@ use std::snapshot::Snapshot;
 use std::sync::{OnceLock, OnceToken, Wait};
 use std::thread::{self, Promise, PromisedHandle, Scope, Threads};
 
-/// What a thread does with a value of its own, and what it needs of that.
-pub(crate) trait Job<R> {
+/// What a thread does with a value of its own: `needs` says what has to be true of it, and `does` what it becomes.
+pub trait Job<R>: Sized {
     ghost needs: { Self → Type 0 };
 
     ghost does: { Self → Self → Type 0 };
 
-    fn run(&mut self, rt: &R)
-        requires needs { needs self.old }
-        ensures { does self.old self.new };
+    fn run(self, rt: &R) -> Self
+        requires needs { needs self }
+        ensures { does self result };
 }
 
 /// A job that comes back, and what was told: whether all run.
@@ -49,7 +49,7 @@ struct Before<'g, J, R> {
 
 impl<'g, J: Job<R>, R> Promise<Back<'g, J>> for Before<'g, J, R> {
     ghost use Rattle.std.specs.Prelude.{◌≡◌};
-    ghost use Rattle.handle_table.specs.Jobs.{Keeps};
+    ghost use Rattle.thread_jobs.specs.Jobs.{Keeps};
 
     ghost kept_by = { λ p b. (b.all.of ≡ p.signal.now.id) × Keeps J.does b.all.value p.job.value b.job.value };
 }
@@ -79,11 +79,13 @@ fn run_told<'g, J: Job<R>, R: Wait>(
     requires needs { J.needs job.value }
     ensures { (result.all.of ≡ signal.now.id) × Keeps J.does result.all.value job.value result.job.value }
 {
-    let mut job = ManuallyDrop::into_inner(job);
+    let job = ManuallyDrop::into_inner(job);
     let all = told(rt, signal);
-    if *signal.value(&all) {
-        job.run(rt);
-    }
+    let job = if *signal.value(&all) {
+        job.run(rt)
+    } else {
+        job
+    };
     let job = carried(job);
     Back { job, all }
 }
@@ -224,8 +226,9 @@ fn in_scope<'g, R: Threads + Wait + Sync, J: Job<R> + Send>(
     )
 }
 
-/// All jobs run, each in a thread of its own, or none, where one has none.
-pub(crate) fn run_all<R: Threads + Wait + Sync, J: Job<R> + Send>(
+/// All jobs run, each in a thread of its own, and come back in their order, when all threads have ended; or none runs,
+/// where memory or a thread is refused for one. Whether all ran. Condition: each has what it needs.
+pub fn run_all<R: Threads + Wait + Sync, J: Job<R> + Send>(
     rt: &R,
     alloc: Global,
     jobs: Vec<J>,
