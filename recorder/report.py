@@ -134,7 +134,7 @@ def kept_by_unknown(findings):
 
 
 def missing_tools(findings):
-    """What can't be findings for want of a program."""
+    """What can't be told for want of a program."""
     if not findings.record.blocks:
         return
     if not shutil.which("gdb"):
@@ -150,7 +150,7 @@ def advice_lines(findings):
         yield "record: each weaken line mends its knot by itself; take the first"
     yield from missing_tools(findings)
     if shutil.which("gdb") and any(" at byte " in label for it in knots for label in owner_graph.tied_by(it)):
-        yield "record: members are findings by their names where the program is compiled with -g"
+        yield "record: members are told by their names where the program is compiled with -g"
 
 
 def trust_line(findings):
@@ -207,7 +207,7 @@ def doubt_lines(findings):
         size = record.mapped_bytes >> 20
         yield f"record: not looked at: {size} MB of memory that the program mapped itself"
     if not record.blocks and not any("libstdc++" in path for _, path in record.modules):
-        yield "record: it loads no libstdc++; what it starts is findings with --children"
+        yield "record: it loads no libstdc++; what it starts is told with --children"
 
 
 def objects_as_json(findings):
