@@ -9,7 +9,7 @@ from recorder.type_names import short
 NOBODY = "heap memory that nothing points to"
 PLACES = {
     "thread-local": "a thread-local variable",
-    "kernel": "the kernel, by an epoll",
+    "kernel": "the kernel, by an epoll or a timer",
     "mapped": "memory that the program mapped itself",
 }
 # Types that have no room for a handle: where one seems to lie in such a member, the object is another.
@@ -35,10 +35,20 @@ class Labels:
 
     def of(self, place: Place, before: int) -> tuple[str, str, str]:
         """`before` are the bytes of it before its place."""
-        key = (place.kind, self.owner(place), place.offset, place.inner, place.maker, before)
+        key = (
+            place.kind,
+            self.owner(place),
+            place.offset,
+            place.inner,
+            place.maker,
+            place.memory >= 0,
+            before,
+        )
         if key not in self.known:
             label, declared, change = self.of_holder(place, before)
             inner, text = self.inside(place, before, label, declared)
+            if place.memory >= 0 and not text and not change:
+                text = f"in what {label} points to"  # (a plain pointer can't be made weak)
             self.known[key] = label, inner or declared, text or change
         return self.known[key]
 

@@ -60,6 +60,14 @@ void find_epolls(std::vector<Word>& to) {
   if (folder >= 0) close(folder);
 }
 
+// The value that a timer gives to whom it tells.
+void find_timers(std::vector<Word>& to) {
+  each_line(contents("/proc/self/timers"), [&](const char* line) {
+    const char* value = std::strncmp(line, "signal:", 7) ? nullptr : std::strchr(line, '/');
+    if (value) to.push_back(std::strtoul(value + 1, nullptr, 16));
+  });
+}
+
 // The parts of a range without another.
 void take_out(std::vector<Range>& ranges, Word from, Word to) {
   std::vector<Range> left;
@@ -99,6 +107,7 @@ std::vector<Range> anonymous() {
 
 Outside::Outside(const Modules& modules) {
   find_epolls(kernel);
+  find_timers(kernel);
   mapped = anonymous();
   for (auto& it : modules.segments) take_out(mapped, it.from, it.to);
   take_out(mapped, modules.own_from, modules.own_to);

@@ -13,7 +13,7 @@ struct Range {
 struct Outside {
   explicit Outside(const Modules& modules);  // no thread may stand still yet
 
-  std::vector<Word> kernel;   // the data of epolls
+  std::vector<Word> kernel;   // the data of epolls, the values of timers
   std::vector<Range> mapped;  // what the program mapped itself, in the order of addresses
 };
 
