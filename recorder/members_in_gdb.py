@@ -15,6 +15,8 @@ import gdb
 CONTAINERS_OF_MEMBERS = "std::pair<", "std::array<", "std::tuple<", "std::_Tuple_impl<", "std::_Head_base<"
 OWN_CALLABLE = "__closure", "this"
 FRAMES = "frame_ptr", "__coro_frame"
+TYPES_OF_UNITS = {}
+MOST_BYTES = 1 << 16  # of a function that is looked through
 MOST_FUNCTIONS = 12  # that are looked through for a callable
 
 
@@ -160,9 +162,11 @@ def type_in_unit(name, address):
     """The type of this name in the unit of a place of code, None where that has none."""
     block = gdb.block_for_pc(address) if address else None
     for scope in (block.static_block, block.global_block) if block else ():
-        for symbol in scope:
-            if symbol.name == name and symbol.addr_class == gdb.SYMBOL_LOC_TYPEDEF:
-                return symbol.type
+        key = scope.is_global, scope.start, scope.end
+        if key not in TYPES_OF_UNITS:
+            TYPES_OF_UNITS[key] = {it.name: it for it in scope if it.addr_class == gdb.SYMBOL_LOC_TYPEDEF}
+        if name in TYPES_OF_UNITS[key]:
+            return TYPES_OF_UNITS[key][name].type
     return None
 
 
@@ -239,7 +243,7 @@ def callable_at(address):
         at = todo.pop(0)
         block = function_block(at) if at not in seen else None
         seen.add(at)
-        if not block:
+        if not block or block.end - block.start > MOST_BYTES:
             continue
         found = callable_in(block)
         if found:

@@ -33,9 +33,9 @@ def answer_of(graph: Graph, build: Path) -> tuple[list[str], dict]:
     return verdicts, knots
 
 
-def difference(graph: Graph, answer: Answer, build: Path = BUILD) -> str:
-    """What a build answers otherwise, or nothing."""
-    verdicts, knots = answer_of(graph, build)
+def difference(graph: Graph, answer: Answer, build: Path | None = None) -> str:
+    """What a build, the proved one where none is given, answers otherwise; or nothing."""
+    verdicts, knots = answer_of(graph, build or BUILD)
     for number, (found, wanted) in enumerate(zip(verdicts, answer.verdicts[1:], strict=True), 1):
         if found != wanted:
             return f"object {number} is {found}, and not {wanted}"

@@ -83,6 +83,19 @@ def a_wrong_answer_is_seen() -> str:
     return "" if found == wanted else "\n".join(found)
 
 
+def the_report_says_who_answered() -> str:
+    """With another build in the place of the proved one."""
+    code = "import sys; from pathlib import Path; from recorder import command, proved; "
+    code += "proved.BUILD = Path(sys.argv.pop(1)); sys.exit(command.main())"
+    with tempfile.TemporaryDirectory() as folder:
+        built = Path(folder, "circle")
+        subprocess.run(["g++", "-g", "circle.cc", "-o", built], cwd=PROGRAMS, check=True)
+        words = ["python3", "-c", code, build(), "--proved", built]
+        ran = subprocess.run(words, cwd=ROOT, capture_output=True, text=True)
+    wanted = "the answer is that of the proved ./sptr owners, and the reading of memory is not proved"
+    return "" if ran.returncode == 3 and ran.stderr.splitlines()[-1].endswith(wanted) else ran.stderr
+
+
 def without_a_proved_build() -> str:
     if proved.BUILD.is_file():
         return ""
@@ -95,5 +108,6 @@ CHECKS = [
     random_graphs_are_answered_alike,
     recorded_graphs_are_answered_alike,
     a_wrong_answer_is_seen,
+    the_report_says_who_answered,
     without_a_proved_build,
 ]
