@@ -66,15 +66,12 @@ def begins_of_virtual_bases(name):
 
 
 def direct_fields(type_):
-    for field in type_.fields():
-        begin = begin_of(field)
-        if begin is not None:
-            yield field, begin
+    found = ((field, begin_of(field)) for field in type_.fields())
+    return [(field, begin) for field, begin in found if begin is not None]
 
 
 def all_fields(type_):
-    """Each field and where it begins; virtual bases too, which all lie in the whole object, and before other
-    bases, which seem to reach as far as these do."""
+    """Fields and where they begin, first virtual bases: other bases seem to reach as far as these do."""
     if any(it.is_base_class for it in type_.fields()):
         for base, begin in begins_of_virtual_bases(name_of(type_)).items() if virtual_bases(type_) else ():
             yield VirtualBase(gdb.lookup_type(base)), begin
