@@ -22,7 +22,8 @@ class Memories:
         self.owners = self.found_owners()
         self.kept, self.kept_memories = self.reached(counts, surely=False)
         self.surely_kept = self.reached(counts, surely=True)[0] if self.open else self.kept
-        self.kept_by_owners = self.reached(counts, surely=False, by_owners=True)[0]
+        is_same = not record.links  # (without pointers only owners lead on)
+        self.kept_by_owners = self.kept if is_same else self.reached(counts, surely=False, by_owners=True)[0]
         self.pointed_from = {}
         for link in reversed(record.links):
             if self.holder(link.place):
@@ -57,43 +58,47 @@ class Memories:
         """The objects and the memory that roots lead to, `by_owners` alone or by pointers too. An open handle
         counts as an owner; or, where that has to be sure, only with so many others that all of them can't be
         weak."""
-        leads, enough = collections.defaultdict(list), {}
-        roots = [("object", number) for at, number in self.numbers.items() if counts[at].owners_nowhere]
+        leads, perhaps, enough = collections.defaultdict(list), collections.defaultdict(list), {}
         for handle in self.record.handles:
             number = self.numbers.get(handle.block)
             if not number or handle.kind == "weak":
                 continue
-            to = "object", number
             if surely and handle.kind == "either":
-                enough[to] = self.open[number].open - self.open[number].least_owners
-                to = "perhaps", number
-            leads[self.node_of(handle.place)].append(to)
+                enough[number] = self.open[number].open - self.open[number].least_owners
+                perhaps[self.node_of(handle.place)].append(number)
+            else:
+                leads[self.node_of(handle.place)].append(number)
         if by_owners:
             for memory, (number, _) in self.owners.items():
-                leads["object", number].append(("memory", memory))
+                leads[number].append(self.node_of_memory(memory))
         else:
             for link in self.record.links:
-                leads[self.node_of(link.place)].append(("memory", link.to))
-        found = set(roots)
-        todo = [*roots, None]
+                leads[self.node_of(link.place)].append(self.node_of_memory(link.to))
+        todo = [0, *(number for at, number in self.numbers.items() if counts[at].owners_nowhere)]
+        found = set(todo)
         while todo:
-            for to in leads[todo.pop()]:
-                if to[0] == "perhaps":
-                    to = "object", to[1]
-                    enough[to] -= 1
-                    if enough[to] >= 0:
-                        continue
-                if to not in found:
-                    found.add(to)
-                    todo.append(to)
-        return {it for kind, it in found if kind == "object"}, {it for kind, it in found if kind == "memory"}
+            node = todo.pop()
+            to = leads.get(node, [])
+            for number in perhaps.get(node, ()):
+                enough[number] -= 1
+                if enough[number] < 0:
+                    to = [*to, number]
+            for it in to:
+                if it not in found:
+                    found.add(it)
+                    todo.append(it)
+        first = self.node_of_memory(0)
+        return {it for it in found if 0 < it < first}, {it - first for it in found if it >= first}
 
-    def node_of(self, place: Place):
-        """What a place is a part of: memory, an object, or a root, which is None."""
+    def node_of_memory(self, memory: int) -> int:
+        """Nodes are numbers: 0 is all that is no object's, then come objects by theirs, then memory by its own."""
+        return len(self.numbers) + 1 + memory
+
+    def node_of(self, place: Place) -> int:
+        """What a place is a part of."""
         if place.memory >= 0:
-            return "memory", place.memory
-        holder = self.holder(place)
-        return ("object", holder) if holder else None
+            return self.node_of_memory(place.memory)
+        return self.holder(place) or 0
 
     def owner_at(self, place: Place, label: str) -> tuple[int, str] | None:
         """The object that has what lies there, and by what; None where that is a root or nobody."""
