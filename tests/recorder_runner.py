@@ -19,7 +19,14 @@ from concurrent.futures import ThreadPoolExecutor
 from dataclasses import dataclass
 from pathlib import Path
 
-from tests import recorder_options, recorder_proved, recorder_random, recorder_refusals, recorder_unchanged
+from tests import (
+    recorder_lint,
+    recorder_options,
+    recorder_proved,
+    recorder_random,
+    recorder_refusals,
+    recorder_unchanged,
+)
 
 ROOT = Path(__file__).resolve().parent.parent
 PROGRAMS = ROOT / "tests/recorder"
@@ -166,7 +173,8 @@ def tests(names, every):
     if not names:
         for seed in range(1, (10 * RANDOM_PROGRAMS if every else RANDOM_PROGRAMS) + 1):
             yield f"random program {seed}", lambda seed=seed: check_random(seed)
-        for module in recorder_options, recorder_proved, recorder_refusals, recorder_unchanged:
+        modules = recorder_lint, recorder_options, recorder_proved, recorder_refusals, recorder_unchanged
+        for module in modules:
             for check in module.CHECKS:
                 yield f"{check.__name__}", check
 

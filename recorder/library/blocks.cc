@@ -78,7 +78,7 @@ void Snapshot::find_blocks() {
   for (std::size_t chunk = 0; chunk < chunks.size(); chunk++)
     each_word(chunks[chunk].from, chunks[chunk].to - WORD, [&](Word at, Word word) {
       const VirtualTable& table = tables.of(word);
-      int uses, weaks;
+      int uses = 0, weaks = 0;
       if (!table.is_control_block && !table.is_untyped) return;
       if (!has_counts(at, uses, weaks)) return;
       bool is_hooked = births.of(at).find(at) != nullptr;
@@ -139,10 +139,8 @@ Word owned_by(const ControlBlock& block, const Snapshot& all, const std::vector<
   each_word(block.at + 2 * WORD, all.chunks[block.chunk].to, [&](Word, Word word) {
     int chunk = all.chunk_of(word);
     if (chunk < 0 || chunk == block.chunk) return;
-    if (std::find(stored.begin(), stored.end(), word) != stored.end())
-      found = word;
-    else if (!found && all.chunks[chunk].from == word)
-      found = word;
+    bool is_stored = std::find(stored.begin(), stored.end(), word) != stored.end();
+    if (is_stored || (!found && all.chunks[chunk].from == word)) found = word;
   });
   return found;
 }

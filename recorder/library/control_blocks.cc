@@ -49,7 +49,7 @@ int has_page(dl_phdr_info* info, std::size_t, void* page) {
 // (a page that was none of a module's may become one: then a place in code is learnt later)
 bool is_of_a_module(Word word) {
   Word page = word & ~(PAGE - 1);
-  bool answer;
+  bool answer = false;
   return pages.find(page, answer) ? answer : pages.add(page, dl_iterate_phdr(has_page, &page) != 0);
 }
 
@@ -58,7 +58,7 @@ bool is_base_of_blocks(const char* mangled) { return !std::strncmp(mangled, "St1
 
 // Before the functions lies the pointer to the type, whose second word is the pointer to its name.
 bool has_type_of_a_block(Word word) {
-  Word type, name;
+  Word type = 0, name = 0;
   char text[32] = {};
   return read_safely(word - WORD, &type, WORD) && read_safely(type + WORD, &name, WORD) &&
          read_safely(name, text, sizeof text - 1) && (is_control_block_type(text) || is_base_of_blocks(text));
@@ -79,7 +79,7 @@ bool is_control_block_type(const char* mangled) {
 }
 
 bool is_control_block_table(Word word) {
-  bool answer;
+  bool answer = false;
   if (word % WORD || word < PAGE || word >> 47) return false;
   if (tables.find(word, answer)) return answer;
   return is_of_a_module(word) && tables.add(word, has_type_of_a_block(word));

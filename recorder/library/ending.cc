@@ -1,4 +1,5 @@
 // When memory is read: at the very end of the process, at _exit, and when somebody asks.
+#include <cxxabi.h>
 #include <dlfcn.h>
 #include <pthread.h>
 #include <semaphore.h>
@@ -18,8 +19,6 @@
 #include "next_malloc.h"
 #include "reading.h"
 #include "record_file.h"
-
-extern "C" int __cxa_atexit(void (*)(void*), void*, void*);
 
 namespace recorder {
 namespace {
@@ -99,7 +98,7 @@ namespace {
 bool has_frames_of_program(Frame frame) {
   Inside inside;
   int count = 0;
-  Place* place;
+  Place* place = nullptr;
   do {
     Dl_info info;
     if (dladdr(reinterpret_cast<void*>(frame.code - 1), &info))
@@ -129,7 +128,7 @@ void ask(int) { sem_post(&asked); }
 
 void answer_signal(int number) {
   sem_init(&asked, 0, 0);
-  pthread_t thread;
+  pthread_t thread{};
   sigset_t all, before;
   sigfillset(&all);
   pthread_sigmask(SIG_BLOCK, &all, &before);
@@ -196,7 +195,7 @@ __attribute__((constructor(101))) void begin() {
   know_program();
   frames_wanted = number_of("RECORDER_FRAMES");
   pthread_atfork(lock_tables, unlock_tables, unlock_in_child);
-  __cxa_atexit(at_the_end, nullptr, nullptr);
+  abi::__cxa_atexit(at_the_end, nullptr, nullptr);
   at_quick_exit(at_quick_exit_end);
   end_by_signals();
   if (int number = number_of("RECORDER_SIGNAL")) answer_signal(number);

@@ -175,7 +175,7 @@ namespace {
 Word table_of(Word head, Word end) {
   if (head + 7 * WORD > end) return 0;
   auto words = reinterpret_cast<const Word*>(head);
-  float load;
+  float load = 0;
   std::memcpy(&load, &words[4], sizeof load);
   bool is_head = words[1] && words[1] < Word(1) << 40 && load > 0.01f && load < 1000 && words[3] < Word(1) << 40;
   if (!is_head || !words[3] != !words[2]) return 0;

@@ -164,7 +164,7 @@ PUBLIC void* calloc(std::size_t count, std::size_t size) {
 PUBLIC void* realloc(void* memory, std::size_t size) { return resized(memory, size, CALLER_FRAME); }
 
 PUBLIC void* reallocarray(void* memory, std::size_t count, std::size_t size) {
-  std::size_t bytes;
+  std::size_t bytes = 0;
   if (__builtin_mul_overflow(count, size, &bytes)) return errno = ENOMEM, nullptr;
   return resized(memory, bytes, CALLER_FRAME);
 }

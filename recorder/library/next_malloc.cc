@@ -33,7 +33,7 @@ void refuse_others() {
                              reinterpret_cast<const void*>(next_malloc.usable_size)};
   for (const void* it : functions) {
     const char* file = file_of(it);
-    if (!std::strcmp(file, libc)) continue;
+    if (std::strcmp(file, libc) == 0) continue;
     const char* name = std::strrchr(file, '/');
     std::snprintf(why, sizeof why, "its library %.400s has a malloc of its own", name ? name + 1 : file);
     return stop_recording(why);
@@ -66,7 +66,7 @@ NextMalloc next_malloc{first_malloc, first_free, first_calloc, first_realloc, fi
 
 void refuse_own_malloc() {
   const char* first = file_of(dlsym(RTLD_DEFAULT, "malloc"));
-  if (std::strcmp(first, file_of(&next_malloc))) stop_recording("it has a malloc of its own");
+  if (std::strcmp(first, file_of(&next_malloc)) != 0) stop_recording("it has a malloc of its own");
 }
 
 }  // namespace recorder

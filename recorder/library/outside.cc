@@ -29,14 +29,14 @@ std::string contents(const char* path) {
   std::string text;
   int file = open(path, O_RDONLY | O_CLOEXEC);
   char part[4096];
-  for (ssize_t size; file >= 0 && (size = read(file, part, sizeof part)) > 0;) text.append(part, size);
+  for (ssize_t size = 0; file >= 0 && (size = read(file, part, sizeof part)) > 0;) text.append(part, size);
   if (file >= 0) close(file);
   return text;
 }
 
 template <typename Visit>
 void each_line(const std::string& text, Visit visit) {
-  for (std::size_t at = 0, end; (end = text.find('\n', at)) != text.npos; at = end + 1)
+  for (std::size_t at = 0, end = 0; (end = text.find('\n', at)) != text.npos; at = end + 1)
     visit(text.substr(at, end - at).c_str());
 }
 
@@ -52,7 +52,7 @@ void add_data(const char* number, std::vector<Word>& to) {
 void find_epolls(std::vector<Word>& to) {
   int folder = open("/proc/self/fd", O_RDONLY | O_DIRECTORY | O_CLOEXEC);
   alignas(dirent64) char entries[4096];
-  for (long size; folder >= 0 && (size = syscall(SYS_getdents64, folder, entries, sizeof entries)) > 0;)
+  for (long size = 0; folder >= 0 && (size = syscall(SYS_getdents64, folder, entries, sizeof entries)) > 0;)
     for (long at = 0; at < size; at += reinterpret_cast<dirent64*>(entries + at)->d_reclen) {
       const char* number = reinterpret_cast<dirent64*>(entries + at)->d_name;
       if (is_epoll(number)) add_data(number, to);
@@ -91,8 +91,8 @@ std::vector<Range> anonymous() {
   Word end_of_guard = 0;
   each_line(contents("/proc/self/maps"), [&](const char* line) {
     char rights[8], path[8] = "";
-    Word from, to;
-    unsigned long inode;
+    Word from = 0, to = 0;
+    unsigned long inode = 0;
     if (std::sscanf(line, "%lx-%lx %7s %*s %*s %lu %7s", &from, &to, rights, &inode, path) < 4) return;
     bool is_anonymous = !inode && (!path[0] || !std::strncmp(path, "[anon:", 6));
     bool is_stack = end_of_guard == from;

@@ -58,7 +58,7 @@ bool is_operator_new(Word function) {
 
 // (the module is asked for before the lock is taken, as the loader has locks of its own)
 Place* add_place(Word code) {
-  Word function;
+  Word function = 0;
   std::uint32_t closings = module_closings;
   Rule rule = rule_of(code, function);
   bool is_new = is_operator_new(function);

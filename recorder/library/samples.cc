@@ -46,7 +46,7 @@ void look_at(Place& place, Word chunk) {
   Notes* notes = chunks.find(chunk);
   if (!notes) return;
   const Trace* trace = trace_of(notes->at[Notes::place_of(chunk)].trace);
-  Word head;
+  Word head = 0;
   if (!trace || trace->maker != place.code || !read_safely(chunk - WORD, &head, WORD)) return;
   std::size_t count = ((head & ~Word(7)) - WORD) / WORD, last = std::min(count, Ends::LAST);
   Ends ends{};

@@ -120,7 +120,7 @@ Word stack_in_a_call(int folder, pid_t thread) {
   Word words[16];
   int count = 0;
   for (char* at = text; count < 16; count++) {
-    char* end;
+    char* end = nullptr;
     Word word = std::strtoul(at, &end, 0);
     if (end == at) break;
     words[count] = word;
@@ -153,8 +153,8 @@ std::vector<pid_t> other_threads(int folder) {
 void note_this_thread() {
   unusual_thread &= ~thread_state::NEW;
   pthread_attr_t attributes;
-  void* from;
-  std::size_t size;
+  void* from = nullptr;
+  std::size_t size = 0;
   if (pthread_getattr_np(pthread_self(), &attributes)) return;
   if (!pthread_attr_getstack(&attributes, &from, &size)) {
     Word at = reinterpret_cast<Word>(from);
@@ -172,13 +172,13 @@ Word end_of_stack(pid_t thread, Word address) {
   int file = open("/proc/self/maps", O_RDONLY | O_CLOEXEC);
   if (file < 0) return address + MOST_OF_A_STACK;  // (reading it ends with the mapping)
   std::string text(1 << 20, 0);
-  for (std::size_t size; (size = contents(dup(file), &text[0], text.size())) + 1 == text.size();) {
+  for (std::size_t size = 0; (size = contents(dup(file), &text[0], text.size())) + 1 == text.size();) {
     text.resize(2 * text.size());
     lseek(file, 0, SEEK_SET);
   }
   close(file);
   for (const char* line = text.c_str(); line && *line; line = std::strchr(line, '\n'), line += line != nullptr) {
-    char* dash;
+    char* dash = nullptr;
     Word from = std::strtoul(line, &dash, 16), to = std::strtoul(dash + 1, nullptr, 16);
     if (from <= address && address < to) return to;
   }

@@ -31,7 +31,7 @@ TraceNumber kept(std::uint64_t key, Word maker, const Word* frames, int count) {
   std::uint32_t number = last_number + 1;
   if (number >= PAGE * PAGES) return 0;
   auto& page = pages[number / PAGE];
-  if (!page) page = static_cast<const Trace**>(own_pages(PAGE * sizeof(Trace*)));
+  if (!page) page = static_cast<const Trace**>(own_pages(PAGE * WORD));
   std::size_t bytes = sizeof(Trace) + static_cast<std::size_t>(count - 1) * WORD;
   auto trace = static_cast<Trace*>(page ? own_room(bytes) : nullptr);
   if (!trace) return 0;
