@@ -48,11 +48,11 @@ Snapshot::Snapshot(const Modules& modules, const Outside& outside, const std::ve
     Word to = from + next_malloc.usable_size(reinterpret_cast<void*>(from));
     chunks.push_back({from, to, to, it.number, trace_of(it.trace), alignment_of(from, it), {}});
   });
-  chunk_begins.reserve(chunks.size());
-  for (auto& it : chunks) chunk_begins.push_back(it.from);
+  for (auto& it : chunks) chunk_index.add(it.from, it.to);
   add_outside(outside);
   count_closed();
   find_blocks();
+  if (blocks.empty()) return;
   find_handles();
   find_objects();
   find_holders();
@@ -82,9 +82,8 @@ void Snapshot::add_outside(const Outside& outside) {
 
 int Snapshot::chunk_of(Word address) const {
   if (chunks.empty() || address < chunks.front().from || address >= chunks.back().to) return -1;
-  auto after = std::upper_bound(chunk_begins.begin(), chunk_begins.end(), address);
-  int place = static_cast<int>(after - chunk_begins.begin()) - 1;
-  return address < chunks[place].to ? place : -1;
+  int place = chunk_index.last_up_to(address);
+  return place >= 0 && address < chunks[place].to ? place : -1;
 }
 
 int Snapshot::object_of(Word address) const {

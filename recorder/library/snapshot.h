@@ -5,6 +5,7 @@
 #include <vector>
 
 #include "block_index.h"
+#include "chunk_index.h"
 #include "chunks.h"
 #include "modules.h"
 #include "outside.h"
@@ -134,7 +135,7 @@ private:
   void find_holders();
   void find_raw_pointers();
 
-  std::vector<Word> chunk_begins;  // (close together, as each word of memory is looked up)
+  ChunkIndex chunk_index;
   BlockIndex block_index;
   std::vector<std::pair<Word, int>> objects;  // by address
   std::map<Word, bool> handle_at;             // (only where hooks tell of handles)
