@@ -14,13 +14,11 @@ namespace recorder {
 namespace {
 
 constexpr int MOST_KEPT = 2;
-int kept[MOST_KEPT] = {-1, -1};  // by number
+const KeptFile* all[MOST_KEPT];
 
-bool is_kept(int file) { return file >= 0 && std::find(kept, kept + MOST_KEPT, file) != kept + MOST_KEPT; }
-
-void change_kept(int from, int to) {
-  int* place = std::find(kept, kept + MOST_KEPT, from);
-  if (place != kept + MOST_KEPT) *place = to;
+void change(const KeptFile* from, const KeptFile* to) {
+  auto place = std::find(all, all + MOST_KEPT, from);
+  if (place != all + MOST_KEPT) *place = to;
 }
 
 int really_close(int file) {
@@ -46,7 +44,7 @@ void KeptFile::keep(int other) {
   if (other < 0) return;
   struct stat found;
   file = moved_up(other);
-  change_kept(-1, file);
+  change(nullptr, this);
   if (fstat(file, &found)) return close();
   device = found.st_dev;
   inode = found.st_ino;
@@ -54,12 +52,16 @@ void KeptFile::keep(int other) {
 
 void KeptFile::close() {
   int open = number();
-  if (file >= 0) change_kept(file, -1);
+  change(this, nullptr);
   if (open >= 0) really_close(open);
   file = -1;
 }
 
-// (the program may have closed it, and opened another that has its number now)
+bool KeptFile::is_kept(int number) {
+  return std::any_of(all, all + MOST_KEPT,
+                     [&](auto it) { return it && it->file == number && it->number() == number; });
+}
+
 int KeptFile::number() const {
   struct stat found;
   bool is_there = file >= 0 && !fstat(file, &found) && found.st_dev == device && found.st_ino == inode;
@@ -73,12 +75,13 @@ using namespace recorder;
 #define PUBLIC extern "C" __attribute__((visibility("default")))
 
 // (to the program these aren't open)
-PUBLIC int close(int file) { return is_kept(file) ? errno = EBADF, -1 : really_close(file); }
+PUBLIC int close(int file) { return KeptFile::is_kept(file) ? errno = EBADF, -1 : really_close(file); }
 
 PUBLIC int close_range(unsigned from, unsigned to, int flags) {
   static auto next = reinterpret_cast<int (*)(unsigned, unsigned, int)>(dlsym(RTLD_NEXT, "close_range"));
   int files[MOST_KEPT];
-  std::sort(files, std::copy(kept, kept + MOST_KEPT, files));
+  for (int at = 0; at < MOST_KEPT; at++) files[at] = all[at] ? all[at]->number() : -1;
+  std::sort(files, files + MOST_KEPT);
   for (int it : files) {
     auto file = static_cast<unsigned>(it);
     if (it < 0 || file < from || file > to) continue;

@@ -9,7 +9,9 @@ class KeptFile {
 public:
   void keep(int file);  // takes it, and gives up what was kept
   void close();
-  int number() const;  // -1 where none is kept, or the program has closed it
+  int number() const;  // -1 where none is kept, or the program has put another file there
+
+  static bool is_kept(int number);
 
 private:
   int file = -1;
