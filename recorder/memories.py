@@ -91,7 +91,8 @@ class Memories:
         return {it for it in found if 0 < it < first}, {it - first for it in found if it >= first}
 
     def node_of_memory(self, memory: int) -> int:
-        """Nodes are numbers: 0 is all that is no object's, then come objects by theirs, then memory by its own."""
+        """Nodes are numbers: 0 is all that is no object's, then come objects by theirs, then memory by its
+        own."""
         return len(self.numbers) + 1 + memory
 
     def node_of(self, place: Place) -> int:
