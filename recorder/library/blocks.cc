@@ -65,7 +65,7 @@ void Snapshot::count_closed() {
     if (closed_blocks.empty() || it.to - it.from < 3 * WORD || modules.has(*reinterpret_cast<const Word*>(it.from)))
       continue;
     Word word = *reinterpret_cast<const Word*>(it.from);
-    int uses, weaks;
+    int uses = 0, weaks = 0;
     for (std::size_t place = 0; place < closed_blocks.size(); place++) {
       auto& library = closed_library(place);
       closed_blocks[place] += word >= library.from && word < library.to && has_counts(it.from, uses, weaks) && uses;

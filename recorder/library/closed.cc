@@ -19,7 +19,7 @@ Lock closing;
 // A library that is loaded, by its name: where it lies, or nowhere.
 int add_range(dl_phdr_info* info, std::size_t, void* to) {
   auto& library = *static_cast<ClosedLibrary*>(to);
-  if (std::strncmp(info->dlpi_name, library.path, sizeof library.path - 1)) return 0;
+  if (std::strncmp(info->dlpi_name, library.path, sizeof library.path - 1) != 0) return 0;
   library.from = ~Word(0);
   for (int at = 0; at < info->dlpi_phnum; at++) {
     auto& part = info->dlpi_phdr[at];
