@@ -12,6 +12,7 @@ import os
 import random
 import re
 import shutil
+import signal
 import subprocess
 import sys
 import tempfile
@@ -206,6 +207,8 @@ def main(words):
         print(f'run_recorder: not run, for want of {" ".join(missing_tools())}: apt-get install them')
         print("0 passed, 1 failed")
         return 1
+    # A shell starts what runs in the background with SIGINT ignored, and programs would inherit that.
+    signal.signal(signal.SIGINT, signal.default_int_handler)
     for compiler in compilers():
         hooks(compiler)  # (builds the library once)
     names = [it for it in words if it != "--all"]

@@ -1,0 +1,17 @@
+pub mod Allowances
+pub mod Later
+pub mod Living
+pub mod Wholes
+pub mod Handles
+pub mod Calls
+pub mod Objects
+pub mod Gains
+pub mod Rounds
+pub mod Fields
+pub mod Swaps
+pub mod InHand
+pub mod Staffs
+pub mod Lends
+pub mod Faults
+pub mod Runs
+pub mod CellCalls

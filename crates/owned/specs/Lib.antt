@@ -1,0 +1,11 @@
+pub mod Known
+pub mod Claims
+pub mod Whole
+pub mod Objects
+pub mod Beside
+pub mod Cells
+pub mod Faults
+pub mod Shares
+pub mod Programs
+pub mod Teams
+pub mod Staffs

@@ -1,0 +1,29 @@
+//! Work on the value of an object.
+ghost use Rattle.std.specs.Prelude.{◌≡◌, IfErr, IfOk};
+ghost use Rattle.control_block.specs.Desks.{Belongs};
+
+use crate::claim::shared_claim::SharedClaim;
+use crate::context::Context;
+use crate::domain::Domain;
+use control_block::domain;
+use control_word::Refused;
+use shared_handle::visit;
+use std::sync::Wait;
+
+impl<D: Domain> Context<D> {
+    /// The value of an owner's object is worked on.
+    #[inline(always)]
+    pub(crate) fn visit<A, F: FnOnce(&mut D::Value) -> A, R: Wait>(
+        &mut self,
+        rt: &R,
+        domain: &domain::Domain<D::Value>,
+        of: &SharedClaim<D>,
+        f: F,
+    ) -> Result<A, Refused<F>>
+        requires domain { Belongs D.opened domain.now }
+        requires callable { F.IsAlwaysCallable f }
+    {
+        let of = of.look(&mut self.claims);
+        visit(rt, domain, &mut self.desk, of, f)
+    }
+}

@@ -1,0 +1,74 @@
+//! Pointers that let go, and objects that end.
+use crate::claim::shared_claim::SharedClaim;
+use crate::claim::weak_claim::WeakClaim;
+use crate::desk::{Desk, Late};
+use crate::domain::Domain;
+use shared_handle::Gone;
+
+/// How many rounds of ends a pointer's drop makes at most: four for each object that a domain can have. What other
+/// threads lengthened meanwhile may be left then, and ends with a later drop or by `settle`.
+const ROUNDS: u32 = 4 * 65_535;
+
+impl<'d, D: Domain> Desk<'d, D> {
+    /// An owner lets go.
+    #[inline(always)]
+    pub(crate) fn let_go(&self, owner: SharedClaim<D>) {
+        let gone = match self.context.try_borrow_mut() {
+            Ok(mut context) => context.leave(self.domain, owner),
+            Err(_) => {
+                self.put_off(Late::Shared(owner));
+                return;
+            }
+        };
+        if let Gone::Last = gone {
+            self.end_some();
+        }
+    }
+
+    /// A weak pointer lets go.
+    #[inline(always)]
+    pub(crate) fn let_go_weak(&self, weak: WeakClaim<D>) {
+        match self.context.try_borrow_mut() {
+            Ok(mut context) => context.leave_weak(self.domain, weak),
+            Err(_) => self.put_off(Late::Weak(weak)),
+        }
+    }
+
+    /// The pointers that were dropped within a visit let go.
+    #[inline(always)]
+    pub(crate) fn catch_up(&self) {
+        for _ in 0..u32::MAX {
+            match self.take_late() {
+                None => break,
+                Some(Late::Shared(owner)) => self.let_go(owner),
+                Some(Late::Weak(weak)) => self.let_go_weak(weak),
+            }
+        }
+    }
+
+    /// A pointer that was dropped within a visit, if there is one.
+    #[inline(always)]
+    fn take_late(&self) -> Option<Late<D>> {
+        match self.late.try_borrow_mut() {
+            Ok(mut late) => late.pop(),
+            Err(_) => None,
+        }
+    }
+
+    /// What is left to end does so, in so many rounds at most.
+    #[cold]
+    #[inline(never)]
+    pub(crate) fn end_some(&self) {
+        let mut rounds = ROUNDS;
+        while rounds > 0 {
+            let ended = match self.context.try_borrow_mut() {
+                Ok(mut context) => context.next_value(self.domain, &mut rounds),
+                Err(_) => return,
+            };
+            match ended {
+                Some(value) => drop(value),
+                None => return,
+            }
+        }
+    }
+}

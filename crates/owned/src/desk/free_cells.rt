@@ -1,0 +1,110 @@
+//! Free cells of the domain.
+ghost use Rattle.std.specs.Prelude.{◌≡◌, ◌+◌, IfOk, None, OnOk};
+ghost use Rattle.control_word.specs.declared.model.event.Cell.TheVariants.{Free};
+ghost use Rattle.control_word.specs.declared.model.handle.Kind.TheVariants as kind;
+ghost use Rattle.shared_handle.specs.declared.pile.Gone.{Gone};
+ghost use Rattle.owned.specs.Cells.{Exchanged, Loaded, Stored, StoredWeakly};
+ghost use Rattle.owned.specs.Beside.{seen_by};
+
+use crate::cells::member::Member;
+use crate::cells::up::Up;
+use crate::cells::{SharedCell, WeakCell};
+use crate::desk::Desk;
+use crate::domain::Domain;
+use crate::fault::Fault;
+use crate::shared::Shared;
+use crate::weak::Weak;
+use atomic_cells::SharedMember;
+use std::sync::Wait;
+
+impl<'d, D: Domain> Desk<'d, D> {
+    /// A free cell for owners, by all calls of a place.
+    #[inline(always)]
+    pub fn cell(&self, cell: SharedCell) -> Member<'_, '_, D>
+        ensures { (seen_by (λ x. x.now.known) result.of ≡ None) × (result.number ≡ cell.0) }
+    {
+        Member {
+            desk: self,
+            of: None,
+            which: SharedMember::First,
+            number: cell.0,
+        }
+    }
+
+    /// The same of a cell for weak pointers.
+    #[inline(always)]
+    pub fn weak_cell(&self, cell: WeakCell) -> Up<'_, '_, D>
+        ensures { (seen_by (λ x. x.now.known) result.of ≡ None) × (result.number ≡ cell.0) }
+    {
+        Up {
+            desk: self,
+            of: None,
+            number: cell.0,
+        }
+    }
+
+    /// A copy of what the cell holds, in C++ `load()` (waits). None where it holds an empty pointer.
+    #[inline(always)]
+    pub fn load<R: Wait>(&self, rt: &R, cell: SharedCell) -> Result<Option<Shared<'_, D>>, Fault>
+        ensures { IfOk result (Loaded D.opened None (Free cell.0) kind.Owner) }
+    {
+        self.cell(cell).load(rt)
+    }
+
+    /// The same of a weak pointer.
+    #[inline(always)]
+    pub fn load_weak<R: Wait>(&self, rt: &R, cell: WeakCell) -> Result<Option<Weak<'_, D>>, Fault>
+        ensures { IfOk result
+            (Loaded D.opened None (Free (D.opened.shape.shared_cells + cell.0)) kind.Weak) }
+    {
+        self.weak_cell(cell).load(rt)
+    }
+
+    /// An owner of what a weak cell holds, in C++ `load().lock()` (waits). None where that is empty or expired.
+    #[inline(always)]
+    pub fn lock<R: Wait>(&self, rt: &R, cell: WeakCell) -> Result<Option<Shared<'_, D>>, Fault> {
+        self.weak_cell(cell).lock(rt)
+    }
+
+    /// The pointer, or an empty one, goes into the cell, in C++ `store(std::move(p))`, and what that held lets go.
+    #[inline(always)]
+    pub fn store<'t>(&'t self, cell: SharedCell, new: Option<Shared<'t, D>>) -> Result<(), Fault>
+        ensures { OnOk result ((gone : Gone) × Stored D.opened None (Free cell.0) new.entry gone) }
+    {
+        self.cell(cell).store(new)
+    }
+
+    /// The same of a weak pointer.
+    #[inline(always)]
+    pub fn store_weak<'t>(&'t self, cell: WeakCell, new: Option<Weak<'t, D>>) -> Result<(), Fault>
+        ensures { OnOk result
+            (StoredWeakly D.opened None (Free (D.opened.shape.shared_cells + cell.0)) new.entry) }
+    {
+        self.weak_cell(cell).store(new)
+    }
+
+    /// What the cell holds lets go, in C++ `store(nullptr)`.
+    #[inline(always)]
+    pub fn clear(&self, cell: SharedCell) -> Result<(), Fault>
+        ensures { OnOk result ((gone : Gone) × Stored D.opened None (Free cell.0) None gone) }
+    {
+        self.cell(cell).clear()
+    }
+
+    /// The same of a weak pointer.
+    #[inline(always)]
+    pub fn clear_weak(&self, cell: WeakCell) -> Result<(), Fault>
+        ensures { OnOk result
+            (StoredWeakly D.opened None (Free (D.opened.shape.shared_cells + cell.0)) None) }
+    {
+        self.weak_cell(cell).clear()
+    }
+
+    /// What the cell holds comes out, and an empty pointer stays, in C++ `exchange(nullptr)`.
+    #[inline(always)]
+    pub fn take(&self, cell: SharedCell) -> Result<Option<Shared<'_, D>>, Fault>
+        ensures { IfOk result (Exchanged D.opened None (Free cell.0) kind.Owner None) }
+    {
+        self.cell(cell).take()
+    }
+}

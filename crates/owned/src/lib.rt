@@ -1,0 +1,30 @@
+//! Shared pointers that own their handles.
+#![tactic(auto)]
+
+mod cells;
+mod claim;
+mod context;
+mod desk;
+mod domain;
+mod fault;
+mod known;
+mod program;
+mod shared;
+mod weak;
+
+pub use crate::cells::link::Link;
+pub use crate::cells::member::Member;
+pub use crate::cells::pool::FreeCells;
+pub use crate::cells::up::Up;
+pub use crate::cells::{SharedCell, WeakCell};
+pub use crate::desk::Desk;
+pub use crate::domain::Domain;
+pub use crate::fault::call::{Call, Spot};
+pub use crate::fault::{Fault, Refused};
+pub use crate::program::not_run::{Limit, NotRun, Number};
+pub use crate::program::team::Team;
+pub use crate::program::{Failed, Program, Ran, run};
+pub use crate::shared::Shared;
+pub use crate::weak::Weak;
+pub use control_block::census::Census;
+pub use control_word::{Block, Place, Refusal, Shape};

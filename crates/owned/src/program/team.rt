@@ -1,0 +1,106 @@
+//! How many workers there are, and what each gets.
+ghost use Rattle.std.specs.Prelude.{◌≡◌, ◌+◌, ◌<◌, ◌≤◌, ◌^◌, IfNone, IfSome};
+ghost use Rattle.owned.specs.Teams.{Fits, IsMisfit, handles_of};
+
+use crate::program::not_run::{Limit, NotRun, Number};
+use control_word::Shape;
+use control_word::shape::{MOST_ALLOWANCE, MOST_BLOCKS, MOST_FREE_CELLS};
+
+/// Handles that a desk may have above its pointers: an empty one on its way into a place, and what a compare copies
+/// before that which lay there leaves.
+pub const SPARE: u32 = 2;
+
+/// How many workers there are, and how many pointers each may have at one time.
+#[derive(Clone, Copy, PartialEq, Eq, Debug, Drop)]
+pub struct Team {
+    pub workers: usize,
+    pub pointers: u32,
+}
+
+impl Team {
+    /// The shape of a domain with room for the team: with so many blocks for objects, and so many free cells.
+    pub fn shape(&self, blocks: u32, shared_cells: u32, weak_cells: u32) -> Shape
+        ensures blocks { result.blocks ≡ blocks }
+        ensures cells { (result.shared_cells ≡ shared_cells) × (result.weak_cells ≡ weak_cells) }
+        ensures room { handles_of self.now < 2 ^ 32 → result.allowance ≡ handles_of self.now }
+    {
+        Shape {
+            blocks,
+            shared_cells,
+            weak_cells,
+            allowance: u32::try_from(self.handles()).unwrap_or(u32::MAX),
+        }
+    }
+
+    /// How many handles the domain must allow: for each worker its pointers and two more, and one for the first desk.
+    pub(crate) fn handles(&self) -> u64
+        ensures is { handles_of self.now < 2 ^ 64 → result ≡ handles_of self.now }
+        ensures most { result ≤ handles_of self.now }
+        ensures few { result < 18446744073709551615 → result ≡ handles_of self.now }
+    {
+        let each = u64::from(self.pointers).saturating_add(u64::from(SPARE));
+        let workers = u64::try_from(self.workers).unwrap_or(u64::MAX);
+        workers.saturating_mul(each).saturating_add(1)
+    }
+
+    /// How many handles each worker's desk may have.
+    pub(crate) fn each(&self) -> u32
+        ensures is { self.now.pointers + 2 < 2 ^ 32 → result ≡ self.now.pointers + 2 }
+        ensures some { 0 < result }
+    {
+        self.pointers.saturating_add(SPARE)
+    }
+
+    /// Which number doesn't fit: of a shape that no domain can have, or that has no room for the team.
+    pub(crate) fn misfit(&self, shape: &Shape) -> Option<NotRun>
+        ensures fits { IfNone result (Fits shape.now self.now) }
+        ensures misfit { IfSome result (IsMisfit shape.now self.now) }
+    {
+        let cells = MOST_FREE_CELLS.saturating_sub(shape.shared_cells);
+        if shape.blocks < 1 {
+            return Some(small(Number::Blocks, shape.blocks, 1));
+        }
+        if shape.blocks > MOST_BLOCKS {
+            return Some(large(Number::Blocks, shape.blocks, MOST_BLOCKS));
+        }
+        if shape.shared_cells > MOST_FREE_CELLS {
+            return Some(large(Number::SharedCells, shape.shared_cells, MOST_FREE_CELLS));
+        }
+        if shape.weak_cells > cells {
+            return Some(large(Number::WeakCells, shape.weak_cells, cells));
+        }
+        if shape.allowance < 1 {
+            return Some(small(Number::Allowance, shape.allowance, 1));
+        }
+        if shape.allowance > MOST_ALLOWANCE {
+            return Some(large(Number::Allowance, shape.allowance, MOST_ALLOWANCE));
+        }
+        let handles = self.handles();
+        if u64::from(shape.allowance) < handles {
+            return Some(small(Number::Allowance, shape.allowance, handles));
+        }
+        None
+    }
+}
+
+/// A number is below what it must be at least.
+fn small(number: Number, is: u32, limit: u64) -> NotRun
+    ensures { result ≡ NotRun.Small (record { number = number; is = is; limit = limit }) }
+{
+    NotRun::Small(Limit {
+        number,
+        is: u64::from(is),
+        limit,
+    })
+}
+
+/// A number is above what it may be at most.
+fn large(number: Number, is: u32, limit: u32) -> NotRun
+    ensures { result ≡ NotRun.Large (record { number = number; is = is; limit = limit }) }
+{
+    NotRun::Large(Limit {
+        number,
+        is: u64::from(is),
+        limit: u64::from(limit),
+    })
+}

@@ -1,0 +1,13 @@
+//! Tests of pointers that own their handles, by their public calls alone.
+#![tactic(auto)]
+
+#[cfg(test)]
+mod cells;
+#[cfg(test)]
+mod owners;
+pub mod places;
+#[cfg(test)]
+mod plays;
+#[cfg(test)]
+mod running;
+pub mod trees;

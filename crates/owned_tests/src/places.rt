@@ -1,0 +1,28 @@
+//! What callers of cells prove with no proof file.
+ghost use Rattle.std.specs.Prelude.{◌≡◌, IfOk, OnOk, None, Some};
+ghost use Rattle.control_word.specs.declared.model.event.Cell.TheVariants.{Free};
+ghost use Rattle.control_word.specs.declared.model.handle.Kind.TheVariants.{Owner};
+ghost use Rattle.atomic_cells.specs.declared.sites.SharedMember.TheVariants.{First};
+ghost use Rattle.shared_handle.specs.declared.pile.Gone.{Gone};
+ghost use Rattle.owned.specs.Cells.{Exchanged, Stored, shared_cell_at};
+
+use owned::{Desk, Domain, Fault, Shared, SharedCell};
+
+/// A child is hung under its parent.
+pub fn hangs<'t, D: Domain>(parent: &Shared<'t, D>, child: Shared<'t, D>) -> Result<(), Fault>
+    ensures { OnOk result ((gone : Gone) × Stored D.opened (Some parent.now)
+        (shared_cell_at D.opened (Some parent.now) First 0) (Some child.entry) gone) }
+{
+    parent.first().store(Some(child))
+}
+
+/// What was first goes, and another comes.
+pub fn replaces<'t, D: Domain>(
+    desk: &'t Desk<'t, D>,
+    cell: SharedCell,
+    new: Shared<'t, D>,
+) -> Result<Option<Shared<'t, D>>, Fault>
+    ensures { IfOk result (Exchanged D.opened None (Free cell.0) Owner (Some new.entry)) }
+{
+    desk.cell(cell).exchange(Some(new))
+}
