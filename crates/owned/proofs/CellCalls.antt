@@ -29,7 +29,20 @@ use Rattle.atomic_cells.specs.declared.sites.WeakSite.{WeakSite}
 use Rattle.atomic_cells.specs.declared.sites.WeakSite.TheVariants as weak
 use Rattle.owned.proofs.InHand.{has_beside}
 use Rattle.owned.specs.Beside.{Arrives, IsClaimed, IsHandleOf, IsWholeBeside, Stays}
-use Rattle.owned.specs.Cells.{CameTo, Exchanged, IsSharedSite, IsWeakSite, Loaded, OwnsBlock, Stored, StoredWeakly, block_by, place_by, shared_cell_of, weak_cell_of}
+use Rattle.owned.specs.Cells.{
+  CameTo,
+  Exchanged,
+  IsSharedSite,
+  IsWeakSite,
+  Loaded,
+  OwnsBlock,
+  Stored,
+  StoredWeakly,
+  block_by,
+  place_by,
+  shared_cell_of,
+  weak_cell_of,
+}
 use Rattle.owned.specs.Known.{KeepsObject, block_of, desk_at, place_of}
 use Rattle.owned.specs.declared.known.Known.{Known}
 

@@ -1,5 +1,27 @@
 -- Faults that are noted from the last worker's on.
-use Rattle.std.proofs.Common.{◌≡◌, ℕ, suc, ◌+◌, ◌≤◌, Result, Ok, Err, List, [], ◌∷◌, ◌++◌, length, reverse, append_assoc, length-append, ap, refl, sym, ◌∙◌, arith}
+use Rattle.std.proofs.Common.{
+  ◌≡◌,
+  ℕ,
+  suc,
+  ◌+◌,
+  ◌≤◌,
+  Result,
+  Ok,
+  Err,
+  List,
+  [],
+  ◌∷◌,
+  ◌++◌,
+  length,
+  reverse,
+  append_assoc,
+  length-append,
+  ap,
+  refl,
+  sym,
+  ◌∙◌,
+  arith,
+}
 use Rattle.std.proofs.lemmas.List.{length-map, map-append, reverse-append}
 use Rattle.owned.proofs.Staffs.{dones_of}
 use Rattle.owned.specs.Programs.{faults_from}

@@ -55,7 +55,8 @@ module _ {V : Type 0} where
       let all = subst (IsLegal z) adds.seen adds.legal in
       let told = all.1.asks.1 in
       let at : q.field ≡ told.0.field = some_field q told.0 told.1 in
-      let parts : h ≡ was ++ c.seen = ap (λ (l : List (Entry V)). adds.between ++ l) lives.goes.seen ∙ sym (append_assoc adds.between lives.goes.later c.seen) in
+      let parts : h ≡ was ++ c.seen = ap (λ (l : List (Entry V)). adds.between ++ l) lives.goes.seen ∙ sym
+      (append_assoc adds.between lives.goes.later c.seen) in
       let kept : KeepsObject (Some q.block) (desk_at o c) d = subst (λ (x : Option Block). KeepsObject x (desk_at o c) d) owns lives.object in
       let here : (leads z d.seen).latest q.block.0 ≡ (leads z c.seen).latest q.block.0 =
       kept ∙ ap (λ (k : Shape). (leads (opening_of k) c.seen).latest q.block.0) (sym lives.goes.same.1) in

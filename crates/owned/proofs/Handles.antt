@@ -69,10 +69,14 @@ module _ {V : Type 0} where
   bears_by o d e p cs w keeps = bears_kept (domain_of o) d e p w.bears keeps.domain keeps.shape keeps.endings keeps.count
 
   -- the same after a call of the pile
-  pub bears_pile : (o : DeskNow V) (y : DomainNow) (d e : DeskNow V) (p q : Pile V) (cs : List (Option (Known V))) → IsWhole o d p cs → Belongs o y → Carries y e q
+  pub bears_pile : (o : DeskNow V) (y : DomainNow) (d e : DeskNow V) (p q : Pile V) (cs : List (Option (Known V))) → IsWhole o d p cs → Belongs o y
+      → Carries y e q
       → KeepsElsewhere d p.endings.items e q.endings.items → Bears (domain_of o) e q
   bears_pile o y d e p q cs w same carries elsewhere =
-      bears_after (domain_of o) d e p q w.bears (subst (λ (x : DomainNow). Carries x e q) (λ i. record { id = sym same.table i; shape = sym same.shape i }) carries) elsewhere
+      bears_after (domain_of o) d e p q w.bears (subst (λ (x : DomainNow). Carries x e q) (λ i. record {
+        id = sym same.table i;
+        shape = sym same.shape i;
+      }) carries) elsewhere
 
   object_alike : (d e : DeskNow V) (b : Option Block) → KeepsObject b d e → object_by (latest_of e) b ≡ object_by (latest_of d) b
   object_alike d e None kept = refl
@@ -92,7 +96,8 @@ module _ {V : Type 0} where
       let lives = lives_on o c d e (w.lives i c at) later (has o d p cs i c w at) in
       subst (AreOfOne o c) (sym is) (record {
         block = same;
-        object = object_now o e h (goes_then o d e w.opened later.goes) ∙ (ap (object_by (latest_of e)) same ∙ object_alike (desk_at o c) e (owned c) lives.object);
+        object = object_now o e h (goes_then o d e w.opened later.goes) ∙
+            (ap (object_by (latest_of e)) same ∙ object_alike (desk_at o c) e (owned c) lives.object);
         fields = ap (fields_in (record o { seen = e.seen })) same ∙ fields_kept o e c lives (legal_on o d e w.opened w.legal later);
       })
 

@@ -137,7 +137,10 @@ module _ {V : Type 0} where
   pub bears_more : (o : DeskNow V) (y : DomainNow) (d e : DeskNow V) (p q : Pile V) (hs : List Held) (cs : List (Option (Known V)))
       → IsWholeBeside o d p hs cs → Belongs o y → Carries y e q → KeepsElsewhere d p.endings.items e q.endings.items → Bears (domain_of o) e q
   bears_more o y d e p q hs cs w same carries elsewhere =
-      bears_after (domain_of o) d e p q w.bears (subst (λ (x : DomainNow). Carries x e q) (λ i. record { id = sym same.table i; shape = sym same.shape i }) carries) elsewhere
+      bears_after (domain_of o) d e p q w.bears (subst (λ (x : DomainNow). Carries x e q) (λ i. record {
+        id = sym same.table i;
+        shape = sym same.shape i;
+      }) carries) elsewhere
 
   -- an empty handle comes into the hand
   pub comes_empty : (o d e : DeskNow V) (p : Pile V) (h : Held) (hs : List Held) (cs : List (Option (Known V))) → IsWholeBeside o d p hs cs
@@ -146,7 +149,10 @@ module _ {V : Type 0} where
       let c = counting (d.held + 1) d in
       subst (λ (x : DeskNow V). IsWholeBeside o x p (h ∷ hs) cs) (sym is)
       (comes o d c p p h hs cs w stands (by_count d (d.held + 1))
-      (bears_kept (domain_of o) d c p w.bears refl refl (λ b x ends. record { ends = record { phase = ends.phase; kept = ends.kept }; members = λ m. refl }) refl)
+      (bears_kept (domain_of o) d c p w.bears refl refl (λ b x ends. record {
+        ends = record { phase = ends.phase; kept = ends.kept };
+        members = λ m. refl;
+      }) refl)
       (sym (empty_bag h (bag_of d) none)) refl)
 
   -- and the pile is of the domain

@@ -66,7 +66,8 @@ module _ {V : Type 0} where
   one_less (None ∷ cs) zero c e = absurd (no_none c (same_some None (Some c) e))
   one_less (None ∷ cs) (suc i) c e = one_less cs i c e
   one_less (Some x ∷ cs) zero c e =
-      subst (λ (h : Held). IsPermutation (x.handle ∷ living cs) (h ∷ living cs)) (ap (λ (y : Known V). y.handle) (same_some x c (same_some (Some x) (Some c) e)))
+      subst (λ (h : Held). IsPermutation (x.handle ∷ living cs) (h ∷ living cs))
+      (ap (λ (y : Known V). y.handle) (same_some x c (same_some (Some x) (Some c) e)))
       (IsPermutation-refl (x.handle ∷ living cs))
   one_less (Some x ∷ cs) (suc i) c e =
       IsPermutation-trans (x.handle ∷ living cs) (x.handle ∷ c.handle ∷ living (slice_set cs i None)) (c.handle ∷ x.handle ∷ living (slice_set cs i None))

@@ -28,7 +28,8 @@ module _ {V : Type 0} where
   cleared : (d m e : DeskNow V) (b i : ℕ) (k : Kind) (c : Option Block) (p : Option Place) → TakesOut d b i k c p m → Later m e → Later d e
   cleared d m e b i k c p takes left =
       let x = ClearMember (latest_of d b) i (handle_in m k c p) in
-      later_then d m e (handle_on d x m (λ s n y has. has_cleared (latest_of d b) i (handle_in m k c p) s n y has) takes.event) (by_event d x m takes.event) left
+      later_then d m e (handle_on d x m (λ s n y has. has_cleared (latest_of d b) i (handle_in m k c p) s n y has) takes.event)
+      (by_event d x m takes.event) left
 
   clearing : (d : DeskNow V) (x : Ending V) (m : Member) (left : Left V) (e : DeskNow V) → IsClearing d x m left e → Later d e
   clearing d x First left e is =

@@ -25,7 +25,8 @@ record Covers (n : ℕ) (l bag : List NumberedHandle) (m : ℕ) : Type 0 where
   objects : AreIn l bag
   empty : n - length l ≤ m - length bag
 
-one : (k : Kind) (b : Option Block) (p : Option Place) (hs : List Held) → filter has_object (handle k (number_of_block b) p ∷ map as_listed hs) ≡ with_handle k b p (listed hs)
+one : (k : Kind) (b : Option Block) (p : Option Place) (hs : List Held)
+    → filter has_object (handle k (number_of_block b) p ∷ map as_listed hs) ≡ with_handle k b p (listed hs)
 one k None p hs = refl
 one k (Some b) p hs = refl
 

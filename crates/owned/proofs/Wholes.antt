@@ -49,7 +49,14 @@ module _ {V : Type 0} where
   pub whole_still : (o : DeskNow V) (d e : DeskNow V) (p q : Pile V) (cs : List (Option (Known V))) → IsWhole o d p cs → Later d e → Bears (domain_of o) e q
       → bag_of e ≡ bag_of d → e.held ≡ d.held → IsWhole o e q cs
   whole_still o d e p q cs w later bears bag held =
-      record { opened = goes_then o d e w.opened later.goes; legal = legal_on o d e w.opened w.legal later; allowance = later.allowance ∙ w.allowance; bears = bears; holds = held_alike d e (living cs) w.holds bag held; lives = all_on o d e cs w.lives w.holds later }
+      record {
+        opened = goes_then o d e w.opened later.goes;
+        legal = legal_on o d e w.opened w.legal later;
+        allowance = later.allowance ∙ w.allowance;
+        bears = bears;
+        holds = held_alike d e (living cs) w.holds bag held;
+        lives = all_on o d e cs w.lives w.holds later;
+      }
 
   -- one came
   pub whole_more : (o : DeskNow V) (d e : DeskNow V) (p q : Pile V) (cs : List (Option (Known V))) (c : Known V) → IsWhole o d p cs → Standing d → Later d e
@@ -60,7 +67,8 @@ module _ {V : Type 0} where
         legal = legal_on o d e w.opened w.legal later;
         allowance = later.allowance ∙ w.allowance;
         bears = bears;
-        holds = holds_in_order e (c.handle ∷ living cs) (living (cs ++ Some c ∷ [])) (one_more cs c) (holds_more d e c.handle (living cs) stands w.holds bag held);
+        holds = holds_in_order e (c.handle ∷ living cs) (living (cs ++ Some c ∷ [])) (one_more cs c)
+            (holds_more d e c.handle (living cs) stands w.holds bag held);
         lives = λ i k got. go i k (stands_behind cs (Some c) i (Some k) got);
       }
     where
@@ -69,7 +77,8 @@ module _ {V : Type 0} where
       go i k (inr new) = subst (λ (x : Known V). Lives o x e) (sym at ∙ same_some c k new) (came o e c.handle (goes_then o d e w.opened later.goes))
 
   -- one left
-  pub whole_less : (o : DeskNow V) (d e : DeskNow V) (p q : Pile V) (cs : List (Option (Known V))) (i : ℕ) (c : Known V) → IsWhole o d p cs → slice_get cs i ≡ Some (Some c)
+  pub whole_less : (o : DeskNow V) (d e : DeskNow V) (p q : Pile V) (cs : List (Option (Known V))) (i : ℕ) (c : Known V) → IsWhole o d p cs
+      → slice_get cs i ≡ Some (Some c)
       → Later d e → Bears (domain_of o) e q → bag_of e ≡ without_held c.handle (bag_of d) → e.held + 1 ≡ d.held → IsWhole o e q (slice_set cs i None)
   whole_less o d e p q cs i c w at later bears bag held =
       record {

@@ -88,7 +88,8 @@ impl<'p, 't, D: Domain> Member<'p, 't, D> {
             (shared_cell_at D.opened (seen_by (λ x. x.now.known) self.now.of)
             self.now.which self.now.number) Owner) }
         ensures refused { IfErr result (WhyNotDone D.opened.shape.shared_cells (seen_by (λ x. x.now.known) self.now.of)
-            self.now.number (Call.Load (shared_spot (seen_by (λ x. x.now.known) self.now.of) self.now.which self.now.number))) }
+            self.now.number
+            (Call.Load (shared_spot (seen_by (λ x. x.now.known) self.now.of) self.now.which self.now.number))) }
     {
         let desk = self.desk;
         let call = Call::Load(self.spot());
@@ -107,7 +108,8 @@ impl<'p, 't, D: Domain> Member<'p, 't, D> {
             (shared_cell_at D.opened (seen_by (λ x. x.now.known) self.now.of)
             self.now.which self.now.number) new.entry gone) }
         ensures refused { IfErr result (WhyNotDone D.opened.shape.shared_cells (seen_by (λ x. x.now.known) self.now.of)
-            self.now.number (Call.Store (shared_spot (seen_by (λ x. x.now.known) self.now.of) self.now.which self.now.number))) }
+            self.now.number
+            (Call.Store (shared_spot (seen_by (λ x. x.now.known) self.now.of) self.now.which self.now.number))) }
     {
         self.put(Call::Store(self.spot()), new)
     }
@@ -141,7 +143,8 @@ impl<'p, 't, D: Domain> Member<'p, 't, D> {
             (shared_cell_at D.opened (seen_by (λ x. x.now.known) self.now.of)
             self.now.which self.now.number) Owner new.entry) }
         ensures refused { IfErr result (WhyNotDone D.opened.shape.shared_cells (seen_by (λ x. x.now.known) self.now.of)
-            self.now.number (Call.Exchange (shared_spot (seen_by (λ x. x.now.known) self.now.of) self.now.which self.now.number))) }
+            self.now.number
+            (Call.Exchange (shared_spot (seen_by (λ x. x.now.known) self.now.of) self.now.which self.now.number))) }
     {
         let desk = self.desk;
         let call = Call::Exchange(self.spot());
@@ -162,7 +165,8 @@ impl<'p, 't, D: Domain> Member<'p, 't, D> {
             (shared_cell_at D.opened (seen_by (λ x. x.now.known) self.now.of)
             self.now.which self.now.number) Owner None) }
         ensures refused { IfErr result (WhyNotDone D.opened.shape.shared_cells (seen_by (λ x. x.now.known) self.now.of)
-            self.now.number (Call.Exchange (shared_spot (seen_by (λ x. x.now.known) self.now.of) self.now.which self.now.number))) }
+            self.now.number
+            (Call.Exchange (shared_spot (seen_by (λ x. x.now.known) self.now.of) self.now.which self.now.number))) }
     {
         self.exchange(None)
     }
@@ -174,7 +178,8 @@ impl<'p, 't, D: Domain> Member<'p, 't, D> {
             (shared_cell_at D.opened (seen_by (λ x. x.now.known) self.now.of)
             self.now.which self.now.number) None gone) }
         ensures refused { IfErr result (WhyNotDone D.opened.shape.shared_cells (seen_by (λ x. x.now.known) self.now.of)
-            self.now.number (Call.Clear (shared_spot (seen_by (λ x. x.now.known) self.now.of) self.now.which self.now.number))) }
+            self.now.number
+            (Call.Clear (shared_spot (seen_by (λ x. x.now.known) self.now.of) self.now.which self.now.number))) }
     {
         self.put(Call::Clear(self.spot()), None)
     }

@@ -3,8 +3,8 @@ ghost use Rattle.std.specs.Prelude.{◌≡◌, IfErr, IfOk, None, OnOk, Option};
 ghost use Rattle.control_word.specs.declared.model.handle.Kind.TheVariants as kind;
 ghost use Rattle.owned.specs.Beside.{seen_by};
 ghost use Rattle.owned.specs.declared.known.Known.{Known};
-ghost use Rattle.owned.specs.Cells.{Exchanged, IsOwnerOf, IsWeakSite, Loaded, StoredWeakly, WhyNoCell, WhyNotDone, weak_cell_at};
-ghost use Rattle.owned.specs.Cells.{weak_site_of, weak_spot};
+ghost use Rattle.owned.specs.Cells.{Exchanged, IsOwnerOf, IsWeakSite, Loaded, StoredWeakly, WhyNoCell, WhyNotDone};
+ghost use Rattle.owned.specs.Cells.{weak_cell_at, weak_site_of, weak_spot};
 
 use crate::claim::shared_claim::SharedClaim;
 use crate::desk::Desk;

@@ -28,7 +28,8 @@ impl<D: Domain> Context<D> {
         requires domain { Belongs D.opened domain.now }
         requires cell { IsSharedSite D.opened at.site (seen_by (λ x. x.now.known) of) }
         ensures loaded { IfOk result (λ r. Loaded D.opened (seen_by (λ x. x.now.known) of.entry)
-            (shared_cell_of D.opened (seen_by (λ x. x.now.known) of.entry) at.entry.site) Owner (seen_by (λ x. x.known) r)) }
+            (shared_cell_of D.opened (seen_by (λ x. x.now.known) of.entry) at.entry.site) Owner
+            (seen_by (λ x. x.known) r)) }
         ensures refused { IfErr result (λ why. why ≡ Refusal.Limit) }
     {
         self.desk.stands();

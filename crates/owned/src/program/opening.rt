@@ -7,8 +7,8 @@ use control_block::domain::{Domain, open};
 use control_word::Shape;
 use std::alloc::Global;
 
-/// A new domain, with its first desk, which has put all vacant blocks on the shelf. None where memory is refused, or the
-/// shape is outside the limits.
+/// A new domain, with its first desk, which has put all vacant blocks on the shelf. None where memory is refused, or
+/// the shape is outside the limits.
 pub(crate) fn open_domain<V: Drop>(alloc: Global, shape: Shape) -> Option<(Domain<V>, Desk<V>)>
     ensures { IfSome result (λ r. IsOpened shape r.0 r.1) }
 {

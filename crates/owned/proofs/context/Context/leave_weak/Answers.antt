@@ -12,7 +12,8 @@ release_weak-requires-clause-holds g c =
 
 pub invariant_of-self : goal.invariant_of-self
 invariant_of-self g c =
-    let o = g.D.Domain.opened in let d = c.self.inside.desk in let e = c.release_weak.new.desk in let p = c.self.inside.pile in let says = c.release_weak.ensures in
+    let o = g.D.Domain.opened in let d = c.self.inside.desk in let e = c.release_weak.new.desk in let p = c.self.inside.pile in
+    let says = c.release_weak.ensures in
     let w = c.leave-weak.result in
     less o d e p p c.self.inside.claims.entries c.leave-weak.new.claims.entries c.args.weak.at c.args.weak.known (held.Weak w)
     c.self.invariant c.leave-weak.ensures.has c.leave-weak.ensures.handle (by_weak_leave d w.block w.place says.event.0 e says.event.1)

@@ -21,4 +21,5 @@ pub returns-clause-made : goal.returns-clause-made
 returns-clause-made g c =
     let o = g.D.Domain.opened in let d = c.self.inside.desk in let e = c.make.new.desk in let h = c.in_ok-handle.handle in let says = c.in_ok-handle.ensures in
     makes o d e h c.came.result.known c.args.enabled c.args.fields c.args.value
-    (goes_then o d e c.self.invariant.opened (by_make d c.args.enabled false c.args.fields c.args.value h.block h.place e says.event).goes) says.event c.came.ensures.known
+    (goes_then o d e c.self.invariant.opened
+    (by_make d c.args.enabled false c.args.fields c.args.value h.block h.place e says.event).goes) says.event c.came.ensures.known

@@ -9,7 +9,8 @@ use Rattle.owned.proofs.context.Context.make_null.Goals as goal
 
 pub invariant_of-self-2 : goal.invariant_of-self-2
 invariant_of-self-2 g c =
-    let o = g.D.Domain.opened in let d = c.self.inside.desk in let e = c.make_null.new.desk in let p = c.self.inside.pile in let cs = c.self.inside.claims.entries in
+    let o = g.D.Domain.opened in let d = c.self.inside.desk in let e = c.make_null.new.desk in let p = c.self.inside.pile in
+    let cs = c.self.inside.claims.entries in
     let h = c.in_ok-handle.handle in let says = c.in_ok-handle.ensures in
     more o d e p p cs cs c.came.new.claims.entries (held.Owner h) c.came.result.known c.self.invariant
     c.stands.ensures (by_make d false true (0 ∷ 0 ∷ 0 ∷ 0 ∷ []) c.args.value h.block h.place e says.event)

@@ -16,7 +16,8 @@ pub invariant_of-self : goal.invariant_of-self
 invariant_of-self g c =
     let o = g.D.Domain.opened in let d = c.self.inside.desk in let e = c.read.new.desk in let p = c.self.inside.pile in let cs = c.self.inside.claims.entries in
     let of = c.look-of.result.now in let says = c.read.ensures in
-    alike o d e p p cs c.look-of.new.claims.entries c.self.invariant (by_read d of.block of.place _ e says.read) (bears_by o d e p cs c.self.invariant says.keeps)
+    alike o d e p p cs c.look-of.new.claims.entries c.self.invariant (by_read d of.block of.place _ e says.read)
+    (bears_by o d e p cs c.self.invariant says.keeps)
     says.bag says.held c.look-of.ensures.claims
 
 pub returns-clause-field : goal.returns-clause-field

@@ -14,7 +14,8 @@ share-requires-clause-holds g c =
 
 pub invariant_of-self-2 : goal.invariant_of-self-2
 invariant_of-self-2 g c =
-    let o = g.D.Domain.opened in let d = c.self.inside.desk in let e = c.share.new.desk in let p = c.self.inside.pile in let cs = c.self.inside.claims.entries in
+    let o = g.D.Domain.opened in let d = c.self.inside.desk in let e = c.share.new.desk in let p = c.self.inside.pile in
+    let cs = c.self.inside.claims.entries in
     let h = c.in_ok-handle.handle in let of = c.look-of.result.now in let says = c.in_ok-handle.ensures in
     more_kept o d e p cs c.look-of.new.claims.entries c.came.new.claims.entries (held.Owner h) c.came.result.known c.self.invariant
     c.stands.ensures (by_share d of.block of.place of.place e says.event) says.keeps
@@ -23,7 +24,8 @@ invariant_of-self-2 g c =
 
 pub returns-clause-one : goal.returns-clause-one
 returns-clause-one g c =
-    let o = g.D.Domain.opened in let d = c.self.inside.desk in let e = c.share.new.desk in let p = c.self.inside.pile in let cs = c.self.inside.claims.entries in
+    let o = g.D.Domain.opened in let d = c.self.inside.desk in let e = c.share.new.desk in let p = c.self.inside.pile in
+    let cs = c.self.inside.claims.entries in
     let h = c.in_ok-handle.handle in let of = c.look-of.result.now in let says = c.in_ok-handle.ensures in
     of_one o d e p p cs c.args.of.now.at c.args.of.now.known c.came.result.known (held.Owner h) c.self.invariant
     c.look-of.ensures.has (by_share d of.block of.place of.place e says.event) c.came.ensures.known (says.handle.0 ∙ ap block_of (sym c.look-of.ensures.handle))

@@ -13,7 +13,8 @@ share_weak-requires-clause-holds g c =
 
 pub invariant_of-self-2 : goal.invariant_of-self-2
 invariant_of-self-2 g c =
-    let o = g.D.Domain.opened in let d = c.self.inside.desk in let e = c.share_weak.new.desk in let p = c.self.inside.pile in let cs = c.self.inside.claims.entries in
+    let o = g.D.Domain.opened in let d = c.self.inside.desk in let e = c.share_weak.new.desk in let p = c.self.inside.pile in
+    let cs = c.self.inside.claims.entries in
     let h = c.in_ok-handle.handle in let of = c.look-of.result.now in let says = c.in_ok-handle.ensures in
     more_kept o d e p cs c.look-of.new.claims.entries c.came.new.claims.entries (held.Weak h) c.came.result.known c.self.invariant
     c.stands.ensures (by_weak_share d of.block of.place e says.event) says.keeps
@@ -22,7 +23,8 @@ invariant_of-self-2 g c =
 
 pub returns-clause-one : goal.returns-clause-one
 returns-clause-one g c =
-    let o = g.D.Domain.opened in let d = c.self.inside.desk in let e = c.share_weak.new.desk in let p = c.self.inside.pile in let cs = c.self.inside.claims.entries in
+    let o = g.D.Domain.opened in let d = c.self.inside.desk in let e = c.share_weak.new.desk in let p = c.self.inside.pile in
+    let cs = c.self.inside.claims.entries in
     let h = c.in_ok-handle.handle in let of = c.look-of.result.now in let says = c.in_ok-handle.ensures in
     of_one o d e p p cs c.args.of.now.at c.args.of.now.known c.came.result.known (held.Weak h) c.self.invariant
     c.look-of.ensures.has (by_weak_share d of.block of.place e says.event) c.came.ensures.known (says.handle.0 ∙ ap block_of (sym c.look-of.ensures.handle))

@@ -14,7 +14,8 @@ upgrade-requires-clause-holds g c =
 
 pub invariant_of-self : goal.invariant_of-self
 invariant_of-self g c =
-    let o = g.D.Domain.opened in let d = c.self.inside.desk in let e = c.upgrade.new.desk in let p = c.self.inside.pile in let cs = c.self.inside.claims.entries in
+    let o = g.D.Domain.opened in let d = c.self.inside.desk in let e = c.upgrade.new.desk in let p = c.self.inside.pile in
+    let cs = c.self.inside.claims.entries in
     let h = c.in-Ok.handle in let of = c.look-of.result.now in let says = c.in-Ok.ensures in
     more_kept o d e p cs c.look-of.new.claims.entries c.came.new.claims.entries (held.Owner h) c.came.result.known c.self.invariant
     c.stands.ensures (by_upgrade d of.block of.place (Ok h) e says.upgrade) says.keeps
@@ -22,14 +23,17 @@ invariant_of-self g c =
 
 pub invariant_of-self-in-Err : goal.invariant_of-self-in-Err
 invariant_of-self-in-Err g c =
-    let o = g.D.Domain.opened in let d = c.self.inside.desk in let e = c.upgrade.new.desk in let p = c.self.inside.pile in let cs = c.self.inside.claims.entries in
+    let o = g.D.Domain.opened in let d = c.self.inside.desk in let e = c.upgrade.new.desk in let p = c.self.inside.pile in
+    let cs = c.self.inside.claims.entries in
     let of = c.look-of.result.now in let says = c.in-Err.ensures in
-    alike o d e p p cs c.look-of.new.claims.entries c.self.invariant (by_upgrade d of.block of.place (Err c.in-Err.why) e says.upgrade) (bears_by o d e p cs c.self.invariant says.keeps)
+    alike o d e p p cs c.look-of.new.claims.entries c.self.invariant (by_upgrade d of.block of.place (Err c.in-Err.why) e says.upgrade)
+    (bears_by o d e p cs c.self.invariant says.keeps)
     says.refused.0 says.refused.1 c.look-of.ensures.claims
 
 pub returns-in-Ok-clause-one : goal.returns-in-Ok-clause-one
 returns-in-Ok-clause-one g c =
-    let o = g.D.Domain.opened in let d = c.self.inside.desk in let e = c.upgrade.new.desk in let p = c.self.inside.pile in let cs = c.self.inside.claims.entries in
+    let o = g.D.Domain.opened in let d = c.self.inside.desk in let e = c.upgrade.new.desk in let p = c.self.inside.pile in
+    let cs = c.self.inside.claims.entries in
     let h = c.in-Ok.handle in let of = c.look-of.result.now in let says = c.in-Ok.ensures in
     of_one o d e p p cs c.args.of.now.at c.args.of.now.known c.came.result.known (held.Owner h) c.self.invariant
     c.look-of.ensures.has (by_upgrade d of.block of.place (Ok h) e says.upgrade) c.came.ensures.known

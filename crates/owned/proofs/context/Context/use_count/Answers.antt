@@ -14,9 +14,11 @@ use_count-requires-clause-holds g c =
 
 pub invariant_of-self : goal.invariant_of-self
 invariant_of-self g c =
-    let o = g.D.Domain.opened in let d = c.self.inside.desk in let e = c.use_count.new.desk in let p = c.self.inside.pile in let cs = c.self.inside.claims.entries in
+    let o = g.D.Domain.opened in let d = c.self.inside.desk in let e = c.use_count.new.desk in let p = c.self.inside.pile in
+    let cs = c.self.inside.claims.entries in
     let of = c.look-of.result.now in let says = c.use_count.ensures in
-    alike o d e p p cs c.look-of.new.claims.entries c.self.invariant (by_count_of d Owner of.block of.place _ e says.count) (bears_by o d e p cs c.self.invariant says.keeps)
+    alike o d e p p cs c.look-of.new.claims.entries c.self.invariant (by_count_of d Owner of.block of.place _ e says.count)
+    (bears_by o d e p cs c.self.invariant says.keeps)
     says.bag says.held c.look-of.ensures.claims
 
 pub returns : goal.returns

@@ -10,7 +10,8 @@ drop_shared-gone-requires-clause-holds g c =
 
 pub returns-then-is_empty-clause-whole : goal.returns-then-is_empty-clause-whole
 returns-then-is_empty-clause-whole g c =
-    let o = g.D.Domain.opened in let d = c.args.desk.now in let e = c.drop_shared-gone.new.desk in let p = c.args.pile.now in let q = c.drop_shared-gone.new.pile in
+    let o = g.D.Domain.opened in let d = c.args.desk.now in let e = c.drop_shared-gone.new.desk in let p = c.args.pile.now in
+    let q = c.drop_shared-gone.new.pile in
     let cs = c.args.claims.now.entries in let h = held.Owner c.args.handle in let says = c.drop_shared-gone.ensures in
     whole_again o e q cs
     (leaves o d e p q h [] cs c.requires.hand (by_drop d _ _ _ _ e _ says.left)

@@ -7,7 +7,8 @@ use Rattle.owned.proofs.context.passing_weak.given_weak.Goals as goal
 
 pub returns-in-Some-clause-hand : goal.returns-in-Some-clause-hand
 returns-in-Some-clause-hand g c =
-    let o = g.D.Domain.opened in let d = c.args.desk.now in let p = c.args.pile.now in let cs = c.args.claims.now.entries in let ds = c.leave.new.claims.entries in
+    let o = g.D.Domain.opened in let d = c.args.desk.now in let p = c.args.pile.now in let cs = c.args.claims.now.entries in
+    let ds = c.leave.new.claims.entries in
     let says = c.leave.ensures in
     subst (λ (h : Held). IsWholeBeside o d p (h ∷ []) ds) says.handle
     (claim_ends o d p cs ds c.in-Some.new.at c.in-Some.new.known c.requires.whole says.has says.claims)

@@ -13,7 +13,9 @@ loop-worker-preserved g c =
           (record { desks = j.event; allowance = j.allowance; endings = j.count }),
       record { table = j.event.same.0 ∙ i.1.table; shape = j.event.same.1 ∙ i.1.shape },
       (All-pop (λ w. Belongs w.part.desk c.args.domain.now) c.loop-worker.staff.items c.pop.new.self.items (Some c.in-Some.worker) a.items i.2).0,
-      one_more c.args.staff.items c.loop-worker.staff.items c.pop.new.self.items c.in-Some.worker c.len.result c.loop-worker.failed.items c.note.new.failed.items
+      one_more c.args.staff.items c.loop-worker.staff.items c.pop.new.self.items c.in-Some.worker c.len.result c.loop-worker.failed.items
+          c.note.new.failed.items
           i.3 a.items (let l = c.len.ensures in let k = c.pop.new.self.ok.0 in omega arith) n.items,
-      (let room = i.4 in let same = n.room in let less = a.cases in let k = c.pop.new.self.ok.0 in let m = c.loop-worker.staff.ok.0 in omega (arith, many, room, same, less, k, m)),
+      (let room = i.4 in let same = n.room in let less = a.cases in let k = c.pop.new.self.ok.0 in
+          let m = c.loop-worker.staff.ok.0 in omega (arith, many, room, same, less, k, m)),
     )

@@ -15,7 +15,8 @@ loop-domain-preserved g c =
     let d = c.loop-domain.desk in let m = c.hire.new.desk in let w = c.in-Some.worker in let ws = c.loop-domain.staff.items in
     let n = length ws in let h = held_of c.args.desk.now in
     let less : n < c.args.workers = (let t = c.loop-domain-test.true in let k = c.len.ensures in omega arith) in
-    let many : length c.push_reserved.new.self.items ≡ n + 1 = (let k = e.len in let a = c.loop-domain.staff.ok.0 in let b = c.push_reserved.new.self.ok.0 in omega arith) in (
+    let many : length c.push_reserved.new.self.items ≡ n + 1 = (let k = e.len in let a = c.loop-domain.staff.ok.0 in
+    let b = c.push_reserved.new.self.ok.0 in omega arith) in (
       parted_more c.args.desk.now d m c.args.each ws c.push_reserved.new.self.items w i.0 s e.items,
       hired_more c.args.first.domain.now c.args.first.program.now c.len-number.result ws c.push_reserved.new.self.items w i.1
           (let k = c.len-number.ensures in let a = c.loop-domain.staff.ok.0 in omega arith) c.in-Some.ensures.hired e.items,
