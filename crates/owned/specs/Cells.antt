@@ -17,7 +17,8 @@ use Rattle.shared_handle.specs.Piles.{gone_of}
 use Rattle.shared_handle.specs.declared.endings.Left.{Left}
 use Rattle.shared_handle.specs.declared.pile.Gone.{Gone}
 use Rattle.owned.specs.Beside.{Stays}
-use Rattle.owned.specs.Known.{AreOfOne, desk_at, owned, pointed}
+use Rattle.owned.specs.Known.{AreOfOne, Since, desk_at, owned, pointed}
+use Rattle.owned.specs.Objects.{FindsNoOwner}
 use Rattle.control_word.specs.declared.refusal.Refusal.TheVariants as refusal
 use Rattle.atomic_cells.specs.declared.sites.SharedMember.{SharedMember}
 use Rattle.shared_handle.specs.Endings.{IsOutside}
@@ -154,8 +155,9 @@ module _ {V : Type 0} where
   weak_spot None n = spot.Weak n
   weak_spot (Some c) n = spot.Up
 
-  -- an owner of what a weak pointer is of, where there is one
+  -- an owner of what a weak pointer is of, just where one remained
   abbrev pub IsOwnerOf : DeskNow V → Option (Known V) → Option (Known V) → Type 0
-  IsOwnerOf o w None = Unit {0}
+  IsOwnerOf o None None = Unit {0}
   IsOwnerOf o None (Some r) = ⊥
+  IsOwnerOf o (Some w) None = Since (desk_at o w) (λ d e. FindsNoOwner d (owned w) (pointed w) e)
   IsOwnerOf o (Some w) (Some r) = AreOfOne o w r

@@ -1,7 +1,9 @@
 //! Owners.
-ghost use Rattle.std.specs.Prelude.{◌≡◌, ◌≢◌, ◌⊎◌, ◌↔◌, IfErr, IfOk, IsTrue};
+ghost use Rattle.std.specs.Fn.{FnOnceReturnsAtMut};
+ghost use Rattle.std.specs.Prelude.{◌≡◌, ◌≢◌, ◌⊎◌, ◌↔◌, IfErr, IfOk, IsTrue, None, Ok};
 ghost use Rattle.control_word.specs.declared.model.handle.Kind.TheVariants as kind;
 ghost use Rattle.shared_handle.specs.Calls as calls;
+ghost use Rattle.shared_handle.specs.Visits.{IsVisit};
 ghost use Rattle.owned.specs.Faults.{WhyNoMore, WhyNot};
 ghost use Rattle.owned.specs.Known.{AreOfOne, Since, desk_at, owned, pointed};
 ghost use Rattle.owned.specs.Objects.{IsField, WhyNoField, number_of_block};
@@ -12,7 +14,7 @@ use crate::domain::Domain;
 use crate::fault::Fault;
 use crate::fault::call::Call;
 use crate::weak::Weak;
-use control_word::{Block, Place};
+use control_word::{Block, Place, Refusal};
 use std::marker::Model;
 use std::sync::Wait;
 
@@ -216,6 +218,10 @@ impl<'t, D: Domain> Shared<'t, D> {
         f: F,
     ) -> Result<A, Fault>
         requires { F.IsAlwaysCallable f }
+        ensures done { IfOk result (λ a. Since (desk_at D.opened self.now)
+            (λ d e. IsVisit (λ was r becomes. FnOnceReturnsAtMut F.FnOnce f was r becomes) f d (owned self.now)
+            (pointed self.now) (Ok a) e)) }
+        ensures fault { IfErr result (WhyNot Call.Visit (λ why. (why ≡ Refusal.Null) × (owned self.now ≡ None))) }
     {
         let desk = self.desk;
         let done = desk
@@ -233,6 +239,8 @@ impl<'t, D: Domain> Shared<'t, D> {
     pub fn snapshot<R: Wait>(&self, rt: &R) -> Result<D::Value, Fault>
     where
         D::Value: Clone,
+        ensures { IfErr result (λ why. (why ≡ Fault.Memory)
+            ⊎ WhyNot Call.Visit (λ r. (r ≡ Refusal.Null) × (owned self.now ≡ None)) why) }
     {
         match self.visit(rt, |value| value.clone())? {
             Ok(value) => Ok(value),

@@ -1,9 +1,10 @@
 //! Free cells of the domain.
-ghost use Rattle.std.specs.Prelude.{◌≡◌, ◌+◌, IfOk, None, OnOk};
+ghost use Rattle.std.specs.Prelude.{◌≡◌, ◌+◌, IfOk, None, OnOk, Option};
 ghost use Rattle.control_word.specs.declared.model.event.Cell.TheVariants.{Free};
 ghost use Rattle.control_word.specs.declared.model.handle.Kind.TheVariants as kind;
 ghost use Rattle.shared_handle.specs.declared.pile.Gone.{Gone};
-ghost use Rattle.owned.specs.Cells.{Exchanged, Loaded, Stored, StoredWeakly};
+ghost use Rattle.owned.specs.Cells.{Exchanged, IsOwnerOf, Loaded, Stored, StoredWeakly, weak_cell_at};
+ghost use Rattle.owned.specs.declared.known.Known.{Known};
 ghost use Rattle.owned.specs.Beside.{seen_by};
 
 use crate::cells::member::Member;
@@ -62,7 +63,10 @@ impl<'d, D: Domain> Desk<'d, D> {
 
     /// An owner of what a weak cell holds, in C++ `load().lock()` (waits). None where that is empty or expired.
     #[inline(always)]
-    pub fn lock<R: Wait>(&self, rt: &R, cell: WeakCell) -> Result<Option<Shared<'_, D>>, Fault> {
+    pub fn lock<R: Wait>(&self, rt: &R, cell: WeakCell) -> Result<Option<Shared<'_, D>>, Fault>
+        ensures { IfOk result (λ r. (w : Option (Known D.Value)) × Loaded D.opened None
+            (weak_cell_at D.opened None cell.0) kind.Weak w × IsOwnerOf D.opened w r) }
+    {
         self.weak_cell(cell).lock(rt)
     }
 

@@ -1,9 +1,11 @@
 //! An owner's object's members, and an owner that goes into a cell.
-ghost use Rattle.std.specs.Prelude.{◌≡◌, IfOk, None, OnOk, Some};
+ghost use Rattle.std.specs.Prelude.{◌≡◌, IfOk, None, OnOk, Option, Some};
 ghost use Rattle.control_word.specs.declared.model.event.Cell.TheVariants.{Free};
+ghost use Rattle.control_word.specs.declared.model.handle.Kind.TheVariants as kind;
 ghost use Rattle.control_word.specs.declared.model.handle.Kind.TheVariants.{Owner};
 ghost use Rattle.shared_handle.specs.declared.pile.Gone.{Gone};
-ghost use Rattle.owned.specs.Cells.{Exchanged, Stored};
+ghost use Rattle.owned.specs.Cells.{Exchanged, IsOwnerOf, Loaded, Stored, weak_cell_at};
+ghost use Rattle.owned.specs.declared.known.Known.{Known};
 ghost use Rattle.owned.specs.Beside.{seen_by};
 
 use crate::cells::SharedCell;
@@ -117,13 +119,18 @@ impl<'t, D: Domain> Shared<'t, D> {
 
     /// An owner of what its weak member is of (waits). None where that is empty or expired.
     #[inline(always)]
-    pub fn parent<R: Wait>(&self, rt: &R) -> Result<Option<Shared<'t, D>>, Fault> {
+    pub fn parent<R: Wait>(&self, rt: &R) -> Result<Option<Shared<'t, D>>, Fault>
+        ensures { IfOk result (λ r. (w : Option (Known D.Value)) × Loaded D.opened (Some self.now)
+            (weak_cell_at D.opened (Some self.now) 0) kind.Weak w × IsOwnerOf D.opened w r) }
+    {
         self.up().lock(rt)
     }
 
     /// The member `first`, which keeps the object.
     #[inline(always)]
-    pub fn into_first(self) -> Link<'t, D> {
+    pub fn into_first(self) -> Link<'t, D>
+        ensures { (result.of ≡ self.entry) × (result.which ≡ SharedMember.First) }
+    {
         Link {
             of: self,
             which: SharedMember::First,
@@ -132,7 +139,9 @@ impl<'t, D: Domain> Shared<'t, D> {
 
     /// The member `next`, which keeps the object.
     #[inline(always)]
-    pub fn into_next(self) -> Link<'t, D> {
+    pub fn into_next(self) -> Link<'t, D>
+        ensures { (result.of ≡ self.entry) × (result.which ≡ SharedMember.Next) }
+    {
         Link {
             of: self,
             which: SharedMember::Next,
