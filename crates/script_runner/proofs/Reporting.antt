@@ -1,5 +1,5 @@
 -- What workers of a script leave is the script's report.
-use Rattle.std.proofs.Common.{◌≡◌, ◌⊎◌, inl, inr, ℕ, ◌*◌, ◌/◌, ◌≤◌, List, [], ◌∷◌, length, map, None}
+use Rattle.std.proofs.Common.{◌≡◌, ◌⊎◌, inl, inr, ℕ, ◌*◌, ◌/◌, ◌≤◌, List, [], ◌∷◌, length, map}
 use Rattle.std.proofs.Common.{refl, sym, ap, subst, ◌∙◌, arith}
 use Rattle.std.proofs.lemmas.List.{length-map}
 use Rattle.std.proofs.lemmas.List.Elements.{All-from_recursion, recursion_from_All}
@@ -21,13 +21,14 @@ use Rattle.handle_table.specs.Programs.{WorksIn, any_work}
 use Rattle.handle_table.specs.Staffs.{StaffsOpen}
 use Rattle.handle_table.specs.declared.staff.Share.{Share}
 use Rattle.ownership_ledger.specs.Now.{ShareNow}
+use Rattle.ownership_ledger.specs.declared.share.Totals.{Totals}
 use Rattle.script_runner.proofs.Assigning.{AllShare, Does, all_play, all_share, as_many, same_many, still_share}
 use Rattle.script_runner.proofs.Rooms.{all_added, all_say_few}
 use Rattle.script_runner.proofs.Summing.{all_ended, all_made, sum_ended, sum_made}
 use Rattle.script_runner.proofs.Weaving.{teams_interleave}
 use Rattle.script_runner.specs.Assignments.{HasAssignment, IsReadyFor, asked_by_all}
 use Rattle.script_runner.specs.Deals.{field_0}
-use Rattle.script_runner.specs.Reports.{HasAdded, IsGathered, IsPerformed, IsReport, all_of, domain_shape, share_for, team_of}
+use Rattle.script_runner.specs.Reports.{HasAdded, IsCounted, IsReport, all_of, domain_shape, share_for, team_of}
 use Rattle.script_runner.specs.Teams.{IsInterleaved}
 use Rattle.script_runner.specs.declared.reports.report.Report.{Report}
 use Rattle.script_runner.specs.declared.workers.assignment.Assignment.{Assignment}
@@ -125,7 +126,7 @@ module _ {G : Type 0} where
       → shape ≡ domain_shape script → asked_by_all (program_in script.threads) ≤ 65536
       → AllZip (IsReadyFor (asked_by_all (program_in script.threads))) (program_in script.threads) had
       → StaffsOpen Does shape share had has domain desk → share ≡ share_for script
-      → IsPerformed script (map (λ (v : Vec Said). v.items) (map (λ (w : Worker G). w.log.said) has)) domain desk
+      → IsCounted script (map (λ (v : Vec Said). v.items) (map (λ (w : Worker G). w.log.said) has)) domain desk
       (map (λ (w : Worker G). w.log.share) has)
   performed script domain desk given share had has same few ready works is =
       let shape = domain_shape script in
@@ -146,32 +147,34 @@ module _ {G : Type 0} where
       share.blocks s.works.begins s.works.new st.parts played.play st.absorbs s.works.out.winds_up legal) in
       let have = all_added (opening_of shape) desk.seen objects few woven.names ps had has ls ready played.note woven.each
       (all_say_few (opening_of shape) desk.seen ps ls woven) in
-      subst (λ (l : List (List Said)). IsPerformed script l domain desk (map (λ (w : Worker G). w.log.share) has)) (sym have.said) (record {
-        many = ap length (sym have.said) ∙ line_count objects script had has many.2 ready;
-        of = s.of;
-        here = s.here;
-        can_close = s.can_close;
-        works = manned domain desk share (share_for script) (length had) (length script.threads) is all (record {
-          first = first;
-          begins = s.works.begins;
-          new = s.works.new;
-          out = record {
-            after = s.works.out.after;
-            works = record {
-              lent = st.lent;
-              between = st.between;
-              parts = st.parts;
-              new = st.new;
-              fewer = tt;
-              left = st.left;
-              many = many.1 ∙ sym many.0;
-              worked = inl (any_each 0 st.lent st.left (many.1 ∙ sym many.0), many.0);
-              absorbs = st.absorbs;
+      subst (λ (l : List (List Said)). IsCounted script l domain desk (map (λ (w : Worker G). w.log.share) has)) (sym have.said) (record {
+        run = record {
+          many = ap length (sym have.said) ∙ line_count objects script had has many.2 ready;
+          of = s.of;
+          here = s.here;
+          can_close = s.can_close;
+          works = manned domain desk share (share_for script) (length had) (length script.threads) is all (record {
+            first = first;
+            begins = s.works.begins;
+            new = s.works.new;
+            out = record {
+              after = s.works.out.after;
+              works = record {
+                lent = st.lent;
+                between = st.between;
+                parts = st.parts;
+                new = st.new;
+                fewer = tt;
+                left = st.left;
+                many = many.1 ∙ sym many.0;
+                worked = inl (any_each 0 st.lent st.left (many.1 ∙ sym many.0), many.0);
+                absorbs = st.absorbs;
+              };
+              winds_up = s.works.out.winds_up;
             };
-            winds_up = s.works.out.winds_up;
-          };
-        });
-        interleaved = woven;
+          });
+          interleaved = woven;
+        };
         added = have.added;
       })
 
@@ -182,11 +185,11 @@ module _ {G : Type 0} where
       → AllZip (IsReadyFor (asked_by_all (program_in script.threads))) (program_in script.threads) had
       → IfOk r (λ x. StaffsOpen Does shape share had has x.0 x.1) → share ≡ share_for script
       → lines ≡ map (λ (w : Worker G). w.log.said) has → shares ≡ map (λ (w : Worker G). w.log.share) has
-      → IfOk r (λ x. IsPerformed script (map (λ (v : Vec Said). v.items) lines) x.0 x.1 shares)
+      → IfOk r (λ x. IsCounted script (map (λ (v : Vec Said). v.items) lines) x.0 x.1 shares)
   performed_as script shape share had has (Err why) lines shares same few ready works is said added = tt
   performed_as script shape share had has (Ok x) lines shares same few ready works is said added =
-      subst (λ (l : List (Vec Said)). IsPerformed script (map (λ (v : Vec Said). v.items) l) x.0 x.1 shares) (sym said)
-      (subst (IsPerformed script (map (λ (v : Vec Said). v.items) (map (λ (w : Worker G). w.log.said) has)) x.0 x.1) (sym added)
+      subst (λ (l : List (Vec Said)). IsCounted script (map (λ (v : Vec Said). v.items) l) x.0 x.1 shares) (sym said)
+      (subst (IsCounted script (map (λ (v : Vec Said). v.items) (map (λ (w : Worker G). w.log.said) has)) x.0 x.1) (sym added)
       (performed script x.0 x.1 shape share had has same few ready works is))
 
 -- the sums of what was added to shares are what all names make and end
@@ -204,19 +207,22 @@ sum_shares h (n ∷ ns) (s ∷ ss) all =
 sum_shares h [] (s ∷ ss) all = absurd all
 sum_shares h (n ∷ ns) [] all = absurd all
 
+-- the totals are the sums of what was added to these shares
+pub record IsGathered (shares : List ShareNow) (t : Totals) : Type 0 where
+  pub made : t.made ≡ sum_by (λ (s : ShareNow). s.own.made) shares
+  pub ended : t.ended ≡ sum_by (λ (s : ShareNow). s.own.ended) shares
+
 -- what workers did, with the totals of their book, is a report
 pub reported : (script : ScriptView) (report : Report) (domain : DomainNow) (desk : DeskNow ℕ) (shares : List ShareNow)
-    → IsPerformed script (map (λ (v : Vec Said). v.items) report.lines.items) domain desk shares → IsGathered shares report.totals
+    → IsCounted script (map (λ (v : Vec Said). v.items) report.lines.items) domain desk shares → IsGathered shares report.totals
     → IsReport script report domain desk
-reported script report domain desk shares run sums =
-    let woven = run.interleaved in
+reported script report domain desk shares counted sums =
+    let woven = counted.run.interleaved in
     let h = desk.seen in
     let others = recursion_from_All (λ (e : Entry ℕ). Has e.desk woven.names ⊎ IsSplitOrJoin e.event) h woven.others in
-    let own = sum_shares h woven.names shares run.added in
+    let own = sum_shares h woven.names shares counted.added in
     record {
-      shares = shares;
-      run = run;
-      gathered = sums;
+      run = counted.run;
       made = sums.made ∙ (own.0 ∙ sum_made woven.names h woven.rising others);
       ended = sums.ended ∙ (own.1 ∙ sum_ended woven.names h woven.rising others);
     }

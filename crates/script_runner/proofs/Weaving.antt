@@ -21,7 +21,8 @@ use Rattle.handle_table.specs.Tables as table
 use Rattle.handle_table.specs.Tables.{AllVacant, TableNow}
 use Rattle.script_runner.proofs.Summing.{KeepsAt, marked_keeps}
 use Rattle.script_runner.proofs.Teams.{quiet_wound, teams_play}
-use Rattle.script_runner.specs.Teams.{AllBare, AllMarked, HasNoObject, TeamsInterleave, desk_names}
+use Rattle.script_runner.specs.Teams.{AllBare, AllMarked, HasNoObject, IsSplitOff, SplitsOffTo, TeamsInterleave}
+use Rattle.script_runner.specs.Teams.{desk_names}
 use Rattle.step_table.specs.declared.memory.form.Form.{Form}
 use Rattle.step_threads.specs.Interleavings.{IsSplitOrJoin}
 use Rattle.step_threads.specs.Programs.{Part}
@@ -73,6 +74,55 @@ module _ {V : Type 0} where
         j.rest.0 ∙ y.1,
         j.rest.1 ∙ y.2,
       )
+
+  -- desks of these names were split off
+  abbrev HasSplit : ℕ → List (Event V) → Type 0
+  HasSplit n [] = ⊥
+  HasSplit n (e ∷ es) = SplitsOffTo n e ⊎ HasSplit n es
+
+  abbrev AllSplit : List ℕ → List (Event V) → Type 0
+  AllSplit [] es = Unit {0}
+  AllSplit (n ∷ ns) es = HasSplit n es × AllSplit ns es
+
+  split_before : (ns : List ℕ) (e : Event V) (es : List (Event V)) → AllSplit ns es → AllSplit ns (e ∷ es)
+  split_before [] e es all = tt
+  split_before (n ∷ ns) e es all = (inr all.0, split_before ns e es all.1)
+
+  split_parted : (ns : List ℕ) (d e : DeskNow V) (a k : ℕ) (ts : List (TableNow V)) → IsPartedInto d a k ts e
+      → AllSplit ns (own_of d) → AllSplit ns (own_of e) × AllSplit (desk_names ts) (own_of e)
+  split_parted ns d e a k [] is all = (subst (λ (x : DeskNow V). AllSplit ns (own_of x)) (sym is) all, tt)
+  split_parted ns d e a k (t ∷ ts) is all =
+      let adds = (splits_add d a k [] is.0 t.desk is.1).0 in
+      let more : AllSplit (t.desk.name ∷ ns) (own_of is.0) = (
+        subst (HasSplit t.desk.name) (sym adds) (inl refl),
+        subst (AllSplit ns) (sym adds) (split_before ns _ (own_of d) all),
+      ) in
+      let y = split_parted (t.desk.name ∷ ns) is.0 e a k ts is.2 more in
+      (y.0.1, (y.0.0, y.1))
+
+  split_absorbed : (ns : List ℕ) (t u : TableNow V) (xs : List (TableNow V)) → AbsorbsAll t xs u
+      → AllSplit ns (own_of t.desk) → AllSplit ns (own_of u.desk)
+  split_absorbed ns t u [] is all = subst (λ (x : TableNow V). AllSplit ns (own_of x.desk)) (sym is) all
+  split_absorbed ns t u (x ∷ xs) is all =
+      let j = is.2 in
+      subst (AllSplit ns) (sym (joins_add is.0.desk j.bare u.desk j.desks).0)
+      (split_before ns _ (own_of is.0.desk) (split_absorbed ns t is.0 xs is.1 all))
+
+  split_in : (n k : ℕ) (h : List (Entry V)) → HasSplit k (events_of n h) → IsSplitOff h k
+  split_in n k [] = λ has. has
+  split_in n k (e ∷ h) =
+      let next : HasSplit k (events_of n h) → IsSplitOff h k = split_in n k h in
+      cond_both (e.desk == n) (e.event ∷ events_of n h) (events_of n h) (λ l. HasSplit k l → IsSplitOff (e ∷ h) k)
+      (λ is. here next) (λ is has. inr (next has))
+    where
+      here : (HasSplit k (events_of n h) → IsSplitOff h k) → HasSplit k (e.event ∷ events_of n h) → IsSplitOff (e ∷ h) k
+      here next (inl splits) = inl splits
+      here next (inr has) = inr (next has)
+
+  all_split : (n : ℕ) (ns : List ℕ) (h : List (Entry V)) → AllSplit ns (events_of n h)
+      → AllByRecursion (IsSplitOff h) ns
+  all_split n [] h all = tt
+  all_split n (k ∷ ns) h all = (split_in n k h all.0, all_split n ns h all.1)
 
   -- an event of desk 0 is a split or a join
   lent : (ns : List ℕ) (e : Entry V) (h : List (Entry V)) → e.desk ≡ 0 → AllLend ns (events_of 0 (e ∷ h)) → Lends ns e.event
@@ -229,10 +279,16 @@ module _ {V : Type 0} where
       let mine : AllLend ns (events_of 0 last.seen) =
       subst (λ (h : List (Entry V)). AllLend ns (events_of 0 h)) (sym quiet.seen)
       (subst (λ n. AllLend ns (events_of n u.desk.seen)) name back.0) in
+      let apart = (split_parted [] t.desk between a k lent parts_are tt).1 in
+      let split : AllSplit ns (events_of 0 last.seen) =
+      subst (λ (h : List (Entry V)). AllSplit ns (events_of 0 h)) (sym quiet.seen)
+      (subst (λ n. AllSplit ns (events_of n u.desk.seen)) name
+      (split_absorbed ns (record t { desk = between }) u left absorbs apart)) in
       record {
         legal = legal;
         names = ns;
         rising = team.1;
+        split = All-from_recursion (IsSplitOff last.seen) ns (all_split 0 ns last.seen split);
         each = team.0;
         others = All-from_recursion (Other ns) last.seen
             (nobody_else z refl ns last.seen legal mine (kept worth z last.seen ns parts lines team.0)).1;

@@ -1,5 +1,5 @@
 -- What a run of a script on real workers leaves: a report, and the domain with its sole desk. All of it is own.
-use Rattle.std.specs.Prelude.{◌≡◌, ℕ, ◌*◌, ◌/◌, length, List, map, sum_by, None}
+use Rattle.std.specs.Prelude.{◌≡◌, ℕ, ◌*◌, ◌/◌, length, List, map, None}
 use Rattle.std.specs.List.{AllZip}
 use Rattle.control_block.specs.Desks.{Belongs, DeskNow, DomainNow}
 use Rattle.control_block.specs.Rule.{opening_of}
@@ -10,7 +10,6 @@ use Rattle.handle_table.specs.declared.program.Manned.{Manned}
 use Rattle.handle_table.specs.declared.program.Team.{Team}
 use Rattle.handle_table.specs.declared.staff.Share.{Share}
 use Rattle.ownership_ledger.specs.Now.{ShareNow}
-use Rattle.ownership_ledger.specs.declared.share.Totals.{Totals}
 use Rattle.script_text.specs.Beginnings.{script_shape}
 use Rattle.script_text.specs.Drafts.{ScriptView}
 use Rattle.script_text.specs.Scripts.{program_in}
@@ -45,10 +44,9 @@ HasAdded h n s = (s.own.made ≡ made_by n h) × (s.own.ended ≡ count_ended_by
 
 -- A worker for each thread was there, and worked in the domain with its share of it, and this desk has all that they
 -- left: no handle is in any hands, and the desk can close the domain. What it has seen is an interleaving of the
--- threads, each with its lines. Each thread has a share of a book, to which its makes and the ends of its objects were
--- added
+-- threads, each with its lines, and with what it did under the name of a desk that was split off for it
 pub record IsPerformed (script : ScriptView) (lines : List (List Said)) (domain : DomainNow) (desk : DeskNow ℕ)
-    (shares : List ShareNow) : Type 0 where
+    : Type 0 where
   pub many : length lines ≡ length script.threads
   pub of : domain.shape ≡ domain_shape script
   pub here : Belongs desk domain
@@ -57,17 +55,15 @@ pub record IsPerformed (script : ScriptView) (lines : List (List Said)) (domain 
       (all_of (length script.threads)) desk
   pub interleaved : IsInterleaved field_0 (opening_of (domain_shape script)) desk.seen
       (program_in script.threads) lines
-  pub added : AllZip (HasAdded desk.seen) interleaved.names shares
 
--- the totals are the sums of what was added to these shares
-pub record IsGathered (shares : List ShareNow) (t : Totals) : Type 0 where
-  pub made : t.made ≡ sum_by (λ s. s.own.made) shares
-  pub ended : t.ended ≡ sum_by (λ s. s.own.ended) shares
+-- so it was, and each worker's share of a book has what its desk made, and the ends of its objects
+pub record IsCounted (script : ScriptView) (lines : List (List Said)) (domain : DomainNow) (desk : DeskNow ℕ)
+    (shares : List ShareNow) : Type 0 where
+  pub run : IsPerformed script lines domain desk
+  pub added : AllZip (HasAdded desk.seen) run.interleaved.names shares
 
--- a run of the script, with the totals of its book: as many objects as the desk's history makes, and as end in it
+-- a run of the script, with its totals: as many objects as the desk's history makes, and as end in it
 pub record IsReport (script : ScriptView) (report : Report) (domain : DomainNow) (desk : DeskNow ℕ) : Type 0 where
-  pub shares : List ShareNow
-  pub run : IsPerformed script (map (λ v. v.items) report.lines.items) domain desk shares
-  pub gathered : IsGathered shares report.totals
+  pub run : IsPerformed script (map (λ v. v.items) report.lines.items) domain desk
   pub made : report.totals.made ≡ count_made_in desk.seen
   pub ended : report.totals.ended ≡ count_ended_in desk.seen

@@ -6,6 +6,8 @@ use Rattle.control_block.specs.Rule.{opening_of}
 use Rattle.control_word.specs.Histories.{IsLegal}
 use Rattle.control_word.specs.State.{Has, Opening}
 use Rattle.control_word.specs.declared.model.event.Entry.{Entry}
+use Rattle.control_word.specs.declared.model.event.Event.{Event}
+use Rattle.control_word.specs.declared.model.event.Event.TheVariants.{Split}
 use Rattle.handle_table.specs.Parting.{AbsorbsAll, IsNew, IsPartedInto, WindsUp}
 use Rattle.handle_table.specs.Parts.{block_of_held}
 use Rattle.handle_table.specs.Tables as table
@@ -65,13 +67,24 @@ AreRising [] = Unit {0}
 AreRising (n ∷ ns) = AllAbove n ns × AreRising ns
 
 module _ {V : Type 0} where
-  -- the history is legal, and an interleaving of these threads, each under a name of its own and with its lines; all
-  -- else in it is splits and joins
+  -- by this event a desk of this name came
+  abbrev pub SplitsOffTo : ℕ → Event V → Type 0
+  SplitsOffTo n (Split to allowance hs bs) = to ≡ n
+  SplitsOffTo n _ = ⊥
+
+  -- the history has a split by which a desk of this name came
+  abbrev pub IsSplitOff : List (Entry V) → ℕ → Type 0
+  IsSplitOff [] n = ⊥
+  IsSplitOff (e ∷ h) n = SplitsOffTo n e.event ⊎ IsSplitOff h n
+
+  -- the history is legal, and an interleaving of these threads, each under the name of a desk of its own, which came by
+  -- a split, and with its lines; all else in it is splits and joins
   pub record IsInterleaved (worth : Form → V) (z : Opening) (h : List (Entry V)) (parts : List Part)
       (lines : List (List Said)) : Type 0 where
     pub legal : IsLegal z h
     pub names : List ℕ
     pub rising : AreRising names
+    pub split : All (IsSplitOff h) names
     pub each : AllMarked worth z h names parts lines
     pub others : All (λ (e : Entry V). Has e.desk names ⊎ IsSplitOrJoin e.event) h
 

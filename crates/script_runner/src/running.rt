@@ -5,7 +5,7 @@ ghost use Rattle.control_word.specs.Layout.{IsWithinLimits};
 ghost use Rattle.script_text.specs.Beginnings.{shape_for};
 ghost use Rattle.script_text.specs.Scripts.{program_in};
 ghost use Rattle.script_runner.specs.Assignments.{IsNewShare, IsAssignmentFor, asked_by_all};
-ghost use Rattle.script_runner.specs.Reports.{IsReport, IsPerformed};
+ghost use Rattle.script_runner.specs.Reports.{IsCounted, IsReport};
 
 use crate::gate::Gate;
 use crate::reports::report::Report;
@@ -66,7 +66,7 @@ fn perform<'a, R: Threads + Wait + Sync, G: Gate + Sync>(
     ensures shares { All (λ s. s.book ≡ book.now.id) shares.new.items }
     ensures many { length shares.new.items ≡ length shares.old.items }
     ensures run { IfOk result
-        (λ r. IsPerformed script.now (map (λ v. v.items) lines.new.items) r.0 r.1 shares.new.items) }
+        (λ r. IsCounted script.now (map (λ v. v.items) lines.new.items) r.0 r.1 shares.new.items) }
     ensures refused { IfErr result (λ why. why ≡ Refusal.Memory) }
 {
     let mut assignments = assignments;
