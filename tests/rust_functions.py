@@ -1,6 +1,7 @@
 """Where the functions of a Rattle file stand, and by which names a check tells of them."""
 
 import re
+from collections import Counter
 from dataclasses import dataclass
 from pathlib import Path
 
@@ -11,6 +12,8 @@ AFTER_CLAUSE = re.compile(r"\s*(?:\{|requires\b|ensures\b)")
 BLOCK_OF_METHODS = re.compile(r"^(?:pub(?:\([^)]*\))? )?(?:unsafe )?(impl\b[^{;]*|trait\b[^{;]*)\{", re.M)
 FUNCTION = re.compile(r"\bfn\s+(\w+)")
 TYPE_ARGUMENTS = re.compile(r"<[^<>]*>")
+# What a trait takes first, as `Refused` of `impl<T> From<Refused<T>> for Fault`.
+TRAIT_ARGUMENT = re.compile(r"\w\s*<\s*(?:&\s*)?(?:mut\s+)?(?:\w+\s*::\s*)*(\w+)")
 # Modules of these names are the crate's root, or the folder that they stand in.
 NAMELESS = "lib", "main", "mod"
 
@@ -72,7 +75,14 @@ def last_word(text: str) -> str:
     return re.escape((re.findall(r"\w+", text) or [""])[-1])
 
 
-def owner_pattern(header: str) -> str:
+def argument_of(header: str) -> str:
+    """What the trait of an impl with this header takes first, without its own arguments; empty where nothing."""
+    trait, _, of_type = header.partition(" for ")
+    found = TRAIT_ARGUMENT.search(re.sub(r"^\s*impl\s*(?:<(?:[^<>]|<[^<>]*>)*>)?", "", trait)) if of_type else None
+    return found[1] if found else ""
+
+
+def owner_pattern(header: str, argument: str = r"\w*") -> str:
     """The pattern of the name that a check gives an impl or a trait with this header."""
     while TYPE_ARGUMENTS.search(header):
         header = TYPE_ARGUMENTS.sub("", header)
@@ -83,9 +93,19 @@ def owner_pattern(header: str) -> str:
     if " for " not in words:
         return last_word(words)
     trait, _, of_type = words.partition(" for ")
-    both = rf"{last_word(of_type)}\w*{last_word(trait)}\w*"
+    both = rf"{last_word(of_type)}\w*{last_word(trait)}{argument}"
     # (an impl of Drop has the type's name alone)
     return f"(?:{both}|{last_word(of_type)})" if last_word(trait) == "Drop" else both
+
+
+def owner_patterns(headers: list[str]) -> list[str]:
+    """The patterns of the names of a file's impls and traits. Impls of one trait for one type are told apart by
+    what the trait takes first, which a check's name then has, as `FaultFromRefused`."""
+    alike = Counter(owner_pattern(header) for header in headers)
+    return [
+        owner_pattern(header, argument_of(header)) if alike[pattern] > 1 else pattern
+        for header, pattern in ((header, owner_pattern(header)) for header in headers)
+    ]
 
 
 def item_begin(text: str, place: int) -> int:
@@ -121,10 +141,12 @@ def function_of(crate: str, file: str, text: str, found: re.Match, owner: str | 
 def functions_of(crate: str, file: str, text: str) -> list[Function]:
     """All functions of a file that have a body."""
     text = masked(text)
-    owners = []
-    for found in BLOCK_OF_METHODS.finditer(text):
-        opening = found.end() - 1
-        owners.append((opening, closing_brace(text, opening), owner_pattern(found[1])))
+    blocks = list(BLOCK_OF_METHODS.finditer(text))
+    patterns = owner_patterns([found[1] for found in blocks])
+    openings = [found.end() - 1 for found in blocks]
+    owners = [
+        (opening, closing_brace(text, opening), pattern) for opening, pattern in zip(openings, patterns)
+    ]
     functions = []
     for found in FUNCTION.finditer(text):
         owner = next((name for begin, end, name in owners if begin < found.start() < end), None)

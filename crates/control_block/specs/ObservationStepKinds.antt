@@ -57,4 +57,8 @@ module _ {V : Type 0} where
   abbrev pub second_again : SeatView V → SeatView V
   second_again v =
       let p = v.view.pending in
-      record { shape = v.shape; view = record { name = other_name p; spent = false; pending = Idle; seen = other_seen p }; hand = None }
+      record {
+        shape = v.shape;
+        view = record { name = other_name p; spent = false; pending = Idle; seen = other_seen p };
+        hand = None
+      }

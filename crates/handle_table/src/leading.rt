@@ -105,8 +105,8 @@ fn lead_in<V: Drop + Send, H: Home + Send + Sync, R: Threads + Wait + Sync, P: L
 /// `run` has it. Where no further team is started the handles in the first table leave, what is left to end does so,
 /// and the domain is closed (own). Nothing bounds how often `lead` is called but the leader. It is refused `Shape` just
 /// where the shape is outside the limits, `Memory` only where a growth was really refused, both before the first call
-/// of `lead`, and `NotSole` only where a table was kept. What the calls of `lead` did the clauses say, and of the teams what
-/// they say of `run`'s, by the leader that started it.
+/// of `lead`, and `NotSole` only where a table was kept. What the calls of `lead` did the clauses say, and of the teams
+/// what they say of `run`'s, by the leader that started it.
 pub fn run_leader<V: Drop + Send, R: Threads + Wait + Sync, P: Leader<V, R> + Sync>(
     rt: &R,
     alloc: Global,

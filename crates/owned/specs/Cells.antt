@@ -1,4 +1,5 @@
--- What the calls on cells say, by what is known of handles ([util.smartptr.atomic.shared], [util.smartptr.atomic.weak]).
+-- What the calls on cells say, by what is known of handles ([util.smartptr.atomic.shared],
+-- [util.smartptr.atomic.weak]).
 use Rattle.std.specs.Prelude.{◌≡◌, ◌⊎◌, ℕ, ◌<◌, ◌≤◌, Option, None, Some}
 use Rattle.control_word.specs.declared.model.event.Cell.{Cell}
 use Rattle.control_word.specs.declared.model.handle.Kind.{Kind}
