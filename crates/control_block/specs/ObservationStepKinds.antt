@@ -60,5 +60,5 @@ module _ {V : Type 0} where
       record {
         shape = v.shape;
         view = record { name = other_name p; spent = false; pending = Idle; seen = other_seen p };
-        hand = None
+        hand = None;
       }

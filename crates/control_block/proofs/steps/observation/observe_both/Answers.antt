@@ -9,9 +9,13 @@ use Rattle.control_block.proofs.steps.observation.observe_both.Goals as goal
 
 pub join_seat-requires : goal.join_seat-requires
 join_seat-requires g c =
-    let r = c.requires in let table = c.args.table.now in let seat = c.args.seat.now in let other = c.args.other in let p = r.rests.0 in let q = r.rests.1 in
-    (r.table.0, r.table.1, q.none, omega (arith, r.word),
-      allows_glue table.key seat.id other.id seat.me.0 other.me.0 p.awake p.idle p.empty q.awake q.idle q.empty)
+    let r = c.requires in let table = c.args.table.now in let seat = c.args.seat.now in let other = c.args.other in let p = r.rests.0 in let q = r.rests.1 in (
+      r.table.0,
+      r.table.1,
+      q.none,
+      omega (arith, r.word),
+      allows_glue table.key seat.id other.id seat.me.0 other.me.0 p.awake p.idle p.empty q.awake q.idle q.empty,
+    )
 
 pub split_seat-other-requires : goal.split_seat-other-requires
 split_seat-other-requires g c =
