@@ -24,7 +24,7 @@ use Rattle.shared_handle.specs.declared.endings.Left.TheVariants.{Empty, Last, O
 use Rattle.shared_handle.specs.declared.pile.Gone.{Gone}
 use Rattle.std.proofs.Common.{List, Result, Ok, Err, ℕ}
 use Rattle.owned.proofs.Later.{by_count, by_event, by_none, goes_by}
-use Rattle.owned.specs.Known.{Later}
+use Rattle.owned.specs.Known.{IsAtAllowance, Later}
 use Rattle.owned.specs.Objects.{FindsNoOwner}
 
 -- a weak handle's place counts only with a block
@@ -124,3 +124,11 @@ module _ {V : Type 0} where
       go : (c : Option Block) → IsUpgrade d c p (Err BadWeak) e → FindsNoOwner d c p e
       go None is = is.1
       go (Some c) is = is.1
+
+  pub found_limit : (d : DeskNow V) (b : Option Block) (p : Option Place) (why : Refusal) (e : DeskNow V) → IsUpgrade d b p (Err why) e → why ≡ Limit
+      → IsAtAllowance d
+  found_limit d b p why e is limit = go b (subst (λ (r : Refusal). IsUpgrade d b p (Err r) e) limit is)
+    where
+      go : (c : Option Block) → IsUpgrade d c p (Err Limit) e → IsAtAllowance d
+      go None is = is.0
+      go (Some c) is = is.0

@@ -1,5 +1,5 @@
 -- Handles that come to a desk and leave it, by what is known of them.
-use Rattle.std.proofs.Common.{◌≡◌, ℕ, ◌+◌, List, [], ◌∷◌, ◌++◌, slice_get, slice_set, Option, None, Some, refl, sym, ap, subst, ◌∙◌}
+use Rattle.std.proofs.Common.{◌≡◌, ◌⊎◌, inl, inr, Result, Ok, Err, IfErr, IsErrAnd, ℕ, ◌+◌, List, [], ◌∷◌, ◌++◌, slice_get, slice_set, Option, None, Some, refl, sym, ap, subst, ◌∙◌}
 use Rattle.control_word.specs.declared.model.handle.NumberedHandle.{NumberedHandle}
 use Rattle.control_word.specs.declared.model.handle.Kind.{Kind}
 use Rattle.control_word.specs.declared.model.handle.Kind.TheVariants.{Owner, Weak}
@@ -20,6 +20,13 @@ use Rattle.shared_handle.specs.declared.pile.Pile.{Pile}
 use Rattle.owned.proofs.Fields.{fields_kept}
 use Rattle.owned.proofs.Later.{goes_then, legal_on, lives_on}
 use Rattle.owned.proofs.Wholes.{has, whole_less, whole_more, whole_still}
+use Rattle.owned.specs.Beside.{IsClaimed}
+use Rattle.control_word.specs.declared.refusal.Refusal.{Refusal}
+use Rattle.control_word.specs.declared.refusal.Refusal.TheVariants.{BadWeak, Limit}
+use Rattle.shared_handle.specs.Endings.{WhyNotThis}
+use Rattle.shared_handle.specs.Locks.{IsUpgrade}
+use Rattle.owned.proofs.Calls.{found_limit, found_none, why_no_owner}
+use Rattle.owned.specs.Faults.{Was, WhyNoOwner, WhyNoThis}
 use Rattle.owned.specs.Known.{AreOfOne, GoesOn, Since, KeepsObject, Later, block_of, desk_at, fields_in, known_now, object, owned, place_of, pointed}
 use Rattle.owned.specs.Whole.{IsWhole, domain_of}
 use Rattle.owned.specs.declared.known.Known.{Known}
@@ -28,6 +35,16 @@ use Rattle.owned.specs.declared.known.Known.{Known}
 pub bag_by : (k : Kind) (a b : Option Block) (p q : Option Place) (l bag : List NumberedHandle) → a ≡ b → p ≡ q → bag ≡ with_handle k b q l
     → bag ≡ with_handle k a p l
 bag_by k a b p q l bag e f is = is ∙ (λ i. with_handle k (sym e i) (sym f i) l)
+
+-- what is so of an error is so of a result that passes it on
+pub passed_on : {A E : Type 0} (P : E → Type 0) (r : Result A E) (x : E) → IsErrAnd r (λ y. y ≡ x) → P x → IfErr r P
+passed_on P (Ok a) x is p = _
+passed_on P (Err y) x is p = subst P (sym is) p
+
+-- what follows of an error follows of a result
+pub errs_map : {A E : Type 0} (P Q : E → Type 0) (r : Result A E) → ((x : E) → P x → Q x) → IfErr r P → IfErr r Q
+errs_map P Q (Ok a) then is = _
+errs_map P Q (Err x) then is = then x is
 
 module _ {V : Type 0} where
   pub belongs : (o : DeskNow V) (y : DomainNow) (d : DeskNow V) (p : Pile V) (cs : List (Option (Known V))) → IsWhole o d p cs → Belongs o y → Belongs d y
@@ -110,5 +127,42 @@ module _ {V : Type 0} where
 
   -- since a handle came the desk did what it does now
   pub since : {Does : DeskNow V → DeskNow V → Type 0} (o d e : DeskNow V) (p : Pile V) (cs : List (Option (Known V))) (i : ℕ) (c : Known V)
-      → IsWhole o d p cs → slice_get cs i ≡ Some (Some c) → Does d e → Since (desk_at o c) Does
-  since o d e p cs i c w at does = (d, e, (w.lives i c at).goes, does)
+      → IsWhole o d p cs → slice_get cs i ≡ Some (Some c) → Does d e → Since o c Does
+  since o d e p cs i c w at does =
+      record {
+        before = d;
+        after = e;
+        lives = w.lives i c at;
+        holds = has o d p cs i c w at;
+        allowance = w.allowance;
+        does = does;
+      }
+
+  -- since it came the desk was as it is now
+  pub was : {Is : DeskNow V → Type 0} (o d : DeskNow V) (p : Pile V) (cs : List (Option (Known V))) (i : ℕ) (c : Known V) → IsWhole o d p cs
+      → slice_get cs i ≡ Some (Some c) → Is d → Was o (Some c) Is
+  was o d p cs i c w at is = record { desk = d; stays = w.lives i c at; allowance = w.allowance; is = is }
+
+  -- so it was since the owner of a place came, if there is one
+  pub was_at : {Is : DeskNow V → Type 0} (o d : DeskNow V) (p : Pile V) (cs : List (Option (Known V))) (of : Option (Known V)) → IsWhole o d p cs
+      → IsClaimed cs of → Is d → Was o of Is
+  was_at o d p cs None w has is = record { desk = d; stays = w.opened; allowance = w.allowance; is = is }
+  was_at o d p cs (Some c) w has is = was o d p cs has.0 c w has.1 is
+
+  -- why a weak handle gave no owner
+  pub no_owner : (o d e : DeskNow V) (p : Pile V) (cs : List (Option (Known V))) (i : ℕ) (c : Known V) (h : Held) (why : Refusal) → IsWhole o d p cs
+      → slice_get cs i ≡ Some (Some c) → c.handle ≡ h → IsUpgrade d (block_of h) (place_of h) (Err why) e → WhyNoOwner o c why
+  no_owner o d e p cs i c h why w at is says = go (why_no_owner d (owned c) (pointed c) why e up)
+    where
+      up : IsUpgrade d (owned c) (pointed c) (Err why) e
+      up = subst (λ (x : Held). IsUpgrade d (block_of x) (place_of x) (Err why) e) (sym is) says
+
+      go : (why ≡ Limit) ⊎ (why ≡ BadWeak) → WhyNoOwner o c why
+      go (inl limit) = subst (WhyNoOwner o c) (sym limit) (was o d p cs i c w at (found_limit d (owned c) (pointed c) why e up limit))
+      go (inr bad) = subst (WhyNoOwner o c) (sym bad) (since o d e p cs i c w at (found_none d (owned c) (pointed c) why e up bad))
+
+  -- why an owner gave no pointer to its object
+  pub no_this : (o d : DeskNow V) (p : Pile V) (cs : List (Option (Known V))) (i : ℕ) (c : Known V) (h : Held) (why : Refusal) → IsWhole o d p cs
+      → slice_get cs i ≡ Some (Some c) → c.handle ≡ h → WhyNotThis d (block_of h) (place_of h) why → WhyNoThis o c why
+  no_this o d p cs i c h why w at is says =
+      was o d p cs i c w at (subst (λ (x : Held). WhyNotThis d (block_of x) (place_of x) why) (sym is) says)

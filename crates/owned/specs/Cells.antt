@@ -3,6 +3,7 @@
 use Rattle.std.specs.Prelude.{◌≡◌, ◌⊎◌, ℕ, ◌<◌, ◌≤◌, Option, None, Some}
 use Rattle.control_word.specs.declared.model.event.Cell.{Cell}
 use Rattle.control_word.specs.declared.model.handle.Kind.{Kind}
+use Rattle.control_word.specs.declared.model.handle.Kind.TheVariants.{Weak}
 use Rattle.control_word.specs.declared.place.Block.{Block}
 use Rattle.control_word.specs.declared.place.Place.{Place}
 use Rattle.control_block.specs.Desks.{DeskNow}
@@ -18,6 +19,7 @@ use Rattle.shared_handle.specs.Piles.{gone_of}
 use Rattle.shared_handle.specs.declared.endings.Left.{Left}
 use Rattle.shared_handle.specs.declared.pile.Gone.{Gone}
 use Rattle.owned.specs.Beside.{Stays}
+use Rattle.owned.specs.Faults.{WhyNoMore}
 use Rattle.owned.specs.Known.{AreOfOne, Since, desk_at, owned, pointed}
 use Rattle.owned.specs.Objects.{FindsNoOwner}
 use Rattle.control_word.specs.declared.refusal.Refusal.TheVariants as refusal
@@ -26,6 +28,7 @@ use Rattle.shared_handle.specs.Endings.{IsOutside}
 use Rattle.owned.specs.declared.fault.Fault.{Fault}
 use Rattle.owned.specs.declared.fault.Fault.TheVariants as fault
 use Rattle.owned.specs.declared.fault.call.Call.{Call}
+use Rattle.owned.specs.declared.fault.call.Call.TheVariants.{Lock}
 use Rattle.owned.specs.declared.fault.call.Spot.{Spot}
 use Rattle.owned.specs.declared.fault.call.Spot.TheVariants as spot
 use Rattle.atomic_cells.specs.declared.sites.SharedMember.TheVariants.{First, Next}
@@ -75,31 +78,34 @@ module _ {V : Type 0} where
   CameTo (Some r) e = r.seen ≡ e.seen
 
   -- since the owner came, the desk had a copy of what cell x holds, by one step on it
-  pub record Loaded (o : DeskNow V) (of : Option (Known V)) (x : Cell) (k : Kind) (got : Option (Known V)) : Type 0 where
-    pub before : DeskNow V
-    pub after : DeskNow V
-    pub member : Stays o of before
-    pub loads : Loads before x k (block_by got) (place_by got) after
-    pub came : CameTo got after
+  pub record Loaded (o : DeskNow V) (of : Option (Known V)) (x : Cell) (k : Kind) (got : Option (Known V)) : Type 0
+    where
+      pub before : DeskNow V
+      pub after : DeskNow V
+      pub member : Stays o of before
+      pub loads : Loads before x k (block_by got) (place_by got) after
+      pub came : CameTo got after
 
   -- since the owner and the pointer came, the pointer went into the cell and what that held came out, by one step on it
-  pub record Exchanged (o : DeskNow V) (of : Option (Known V)) (x : Cell) (k : Kind) (new got : Option (Known V)) : Type 0 where
-    pub before : DeskNow V
-    pub after : DeskNow V
-    pub member : Stays o of before
-    pub pointer : Stays o new before
-    pub exchanges : Exchanges before x k (block_by new) (place_by new) (block_by got) (place_by got) after
-    pub came : CameTo got after
+  pub record Exchanged (o : DeskNow V) (of : Option (Known V)) (x : Cell) (k : Kind) (new got : Option (Known V)) : Type 0
+    where
+      pub before : DeskNow V
+      pub after : DeskNow V
+      pub member : Stays o of before
+      pub pointer : Stays o new before
+      pub exchanges : Exchanges before x k (block_by new) (place_by new) (block_by got) (place_by got) after
+      pub came : CameTo got after
 
   -- the same, and then what came out left
-  pub record Stored (o : DeskNow V) (of : Option (Known V)) (x : Cell) (new : Option (Known V)) (gone : Gone) : Type 0 where
-    pub before : DeskNow V
-    pub after : DeskNow V
-    pub left : Left V
-    pub member : Stays o of before
-    pub pointer : Stays o new before
-    pub stores : Stores before x (block_by new) (place_by new) left after
-    pub told : gone ≡ gone_of left
+  pub record Stored (o : DeskNow V) (of : Option (Known V)) (x : Cell) (new : Option (Known V)) (gone : Gone) : Type 0
+    where
+      pub before : DeskNow V
+      pub after : DeskNow V
+      pub left : Left V
+      pub member : Stays o of before
+      pub pointer : Stays o new before
+      pub stores : Stores before x (block_by new) (place_by new) left after
+      pub told : gone ≡ gone_of left
 
   pub record StoredWeakly (o : DeskNow V) (of : Option (Known V)) (x : Cell) (new : Option (Known V)) : Type 0 where
     pub before : DeskNow V
@@ -113,10 +119,6 @@ module _ {V : Type 0} where
 abbrev pub block_or : Option Block → Block
 block_or None = record { 0 = 0 }
 block_or (Some b) = b
-
--- the desk is at work, or it has as many pointers as it may (own)
-abbrev pub IsBusyOrCrowded : Call → Fault → Type 0
-IsBusyOrCrowded call why = (why ≡ fault.Busy call) ⊎ (why ≡ fault.Crowded call)
 
 module _ {V : Type 0} where
   -- where a place is: a free cell by its number, or a member of the owner's object
@@ -142,9 +144,16 @@ module _ {V : Type 0} where
       ((pointed c ≡ None) × (why ≡ fault.Refused call refusal.Null))
       ⊎ (IsOutside (owned c) (pointed c) × (why ≡ fault.Refused call refusal.Outside))
 
-  -- why a call on a place wasn't done
-  abbrev pub WhyNotDone : ℕ → Option (Known V) → ℕ → Call → Fault → Type 0
-  WhyNotDone many of n call why = WhyNoCell many of n call why ⊎ IsBusyOrCrowded call why
+  -- why a call on a place wasn't done: there is no cell, or else it came within a visit, or the desk had as many handles
+  -- as it may have
+  abbrev pub WhyNotDone : DeskNow V → ℕ → Option (Known V) → ℕ → Call → Fault → Type 0
+  WhyNotDone o many of n call why = WhyNoCell many of n call why ⊎ WhyNoMore o of call why
+
+  -- why no owner came of a place for weak pointers: there was no load, or, of what was loaded, no lock
+  abbrev pub WhyNotLocked : DeskNow V → ℕ → Option (Known V) → ℕ → Call → Fault → Type 0
+  WhyNotLocked o many of n call why =
+      WhyNotDone o many of n call why
+      ⊎ ((w : Known V) × Loaded o of (weak_cell_at o of n) Weak (Some w) × WhyNoMore o (Some w) Lock why)
 
   -- what messages call the place
   abbrev pub shared_spot : Option (Known V) → SharedMember → ℕ → Spot
@@ -160,5 +169,5 @@ module _ {V : Type 0} where
   abbrev pub IsOwnerOf : DeskNow V → Option (Known V) → Option (Known V) → Type 0
   IsOwnerOf o None None = Unit {0}
   IsOwnerOf o None (Some r) = ⊥
-  IsOwnerOf o (Some w) None = Since (desk_at o w) (λ d e. FindsNoOwner d (owned w) (pointed w) e)
+  IsOwnerOf o (Some w) None = Since o w (λ d e. FindsNoOwner d (owned w) (pointed w) e)
   IsOwnerOf o (Some w) (Some r) = AreOfOne o w r

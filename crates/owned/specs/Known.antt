@@ -4,7 +4,8 @@ use Rattle.control_word.specs.declared.model.event.Entry.{Entry}
 use Rattle.control_word.specs.declared.place.Block.{Block}
 use Rattle.control_word.specs.declared.place.Place.{Place}
 use Rattle.control_block.specs.CellCalls.{object_by}
-use Rattle.control_block.specs.Desks.{DeskNow, allowance_of, latest_of, object_in}
+use Rattle.control_block.specs.Desks.{DeskNow, allowance_of, held_of, latest_of, object_in}
+use Rattle.control_block.specs.HandleLists.{IsHeldByDesk}
 use Rattle.control_block.specs.Rule.{opening_of}
 use Rattle.control_word.specs.Histories.{IsLegal}
 use Rattle.control_block.specs.Own.{KeepsLatest}
@@ -87,6 +88,15 @@ module _ {V : Type 0} where
     pub object : object o b ≡ object o a
     pub fields : fields o b ≡ fields o a
 
-  -- since the desk was this one, it did this: it was some desk, and became another
-  abbrev pub Since : DeskNow V → (DeskNow V → DeskNow V → Type 0) → Type 0
-  Since o Does = (d : DeskNow V) × (e : DeskNow V) × GoesOn o d × Does d e
+  -- since the handle came, and while the desk held it, the desk did this: it was one desk, and became the other
+  pub record Since (o : DeskNow V) (c : Known V) (Does : DeskNow V → DeskNow V → Type 0) : Type 0 where
+    pub before : DeskNow V
+    pub after : DeskNow V
+    pub lives : Lives o c before
+    pub holds : IsHeldByDesk before c.handle
+    pub allowance : allowance_of before ≡ allowance_of o
+    pub does : Does before after
+
+  -- the desk has all the handles that it may have (own)
+  abbrev pub IsAtAllowance : DeskNow V → Type 0
+  IsAtAllowance d = held_of d ≡ allowance_of d

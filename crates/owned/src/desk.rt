@@ -36,8 +36,8 @@ impl<D: Domain> Late<D> {
 /// A thread's desk: where its pointers come from. It is seen by `&` alone, and so are they, so that both stay in their
 /// thread. A program gets one of each thread; nothing else makes one, so that no pointer meets another desk.
 ///
-/// A call on a pointer or a desk is refused `Busy` within a visit, and `Crowded` where it would bring a pointer more
-/// than the desk may have; else as it says. What waits takes `rt`.
+/// A call on a pointer or a desk is refused `Busy` within a visit, and `Crowded` where it would bring a handle more
+/// than the desk may have: its team's `pointers` and two. Else it is refused as it says. What waits takes `rt`.
 pub struct Desk<'d, D: Domain> {
     pub(crate) domain: &'d domain::Domain<D::Value>,
     pub(crate) context: RefCell<Context<D>>,
@@ -55,6 +55,17 @@ impl<'d, D: Domain> Desk<'d, D> {
             Ok(context) => Ok(context),
             Err(_) => Err(Fault::Busy(call)),
         }
+    }
+
+    /// The list of pointers that a visit puts off has room for so many.
+    #[inline(always)]
+    pub(crate) fn make_room(&self, count: u32) -> Result<(), Fault>
+        ensures { IfErr result (λ why. why ≡ Fault.Memory) }
+    {
+        if let Ok(mut late) = self.late.try_borrow_mut() {
+            late.reserve(count as usize)?;
+        }
+        Ok(())
     }
 
     /// The pointer was dropped within a visit: it lets go when that is over.

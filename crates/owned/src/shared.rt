@@ -1,11 +1,11 @@
 //! Owners.
 ghost use Rattle.std.specs.Fn.{FnOnceReturnsAtMut};
-ghost use Rattle.std.specs.Prelude.{◌≡◌, ◌≢◌, ◌⊎◌, ◌↔◌, IfErr, IfOk, IsTrue, None, Ok};
+ghost use Rattle.std.specs.Prelude.{◌≡◌, ◌≢◌, ◌⊎◌, ◌↔◌, IfErr, IfOk, IsTrue, None, Ok, Some};
 ghost use Rattle.control_word.specs.declared.model.handle.Kind.TheVariants as kind;
 ghost use Rattle.shared_handle.specs.Calls as calls;
 ghost use Rattle.shared_handle.specs.Visits.{IsVisit};
-ghost use Rattle.owned.specs.Faults.{WhyNoMore, WhyNot};
-ghost use Rattle.owned.specs.Known.{AreOfOne, Since, desk_at, owned, pointed};
+ghost use Rattle.owned.specs.Faults.{WhyNoMore, WhyNoThis, WhyNot, WhyNotVisited};
+ghost use Rattle.owned.specs.Known.{AreOfOne, Since, owned, pointed};
 ghost use Rattle.owned.specs.Objects.{IsField, WhyNoField, number_of_block};
 
 use crate::claim::shared_claim::SharedClaim;
@@ -59,7 +59,7 @@ impl<'t, D: Domain> Shared<'t, D> {
     pub fn share(&self) -> Result<Shared<'t, D>, Fault>
         ensures one { IfOk result (AreOfOne D.opened self.now) }
         ensures place { IfOk result (λ r. pointed r ≡ pointed self.now) }
-        ensures fault { IfErr result (WhyNoMore Call.Share) }
+        ensures fault { IfErr result (WhyNoMore D.opened (Some self.now) Call.Share) }
     {
         let desk = self.desk;
         match desk.open(Call::Share)?.share(desk.domain, &self.owner) {
@@ -74,8 +74,8 @@ impl<'t, D: Domain> Shared<'t, D> {
     pub fn alias(&self, place: Option<Place>) -> Result<Shared<'t, D>, Fault>
         ensures one { IfOk result (AreOfOne D.opened self.now) }
         ensures place { IfOk result (λ r. pointed r ≡ place) }
-        ensures fault { IfErr result
-            (λ why. WhyNoMore Call.Alias why ⊎ ((why ≡ Fault.Place Call.Alias) × (calls.pointed place ≢ place))) }
+        ensures fault { IfErr result (λ why. WhyNoMore D.opened (Some self.now) Call.Alias why
+            ⊎ ((why ≡ Fault.Place Call.Alias) × (calls.pointed place ≢ place))) }
     {
         if !is_pointer(place) {
             return Err(Fault::Place(Call::Alias));
@@ -95,7 +95,7 @@ impl<'t, D: Domain> Shared<'t, D> {
     pub fn downgrade(&self) -> Result<Weak<'t, D>, Fault>
         ensures one { IfOk result (AreOfOne D.opened self.now) }
         ensures place { IfOk result (λ r. pointed r ≡ calls.weak_place (owned self.now) (pointed self.now)) }
-        ensures fault { IfErr result (WhyNoMore Call.Downgrade) }
+        ensures fault { IfErr result (WhyNoMore D.opened (Some self.now) Call.Downgrade) }
     {
         let desk = self.desk;
         match desk
@@ -113,6 +113,7 @@ impl<'t, D: Domain> Shared<'t, D> {
     pub fn shared_from_this(&self) -> Result<Shared<'t, D>, Fault>
         ensures one { IfOk result (AreOfOne D.opened self.now) }
         ensures place { IfOk result (λ r. calls.IsOfThis (owned self.now) (pointed r)) }
+        ensures fault { IfErr result (WhyNot Call.SharedFromThis (WhyNoThis D.opened self.now)) }
     {
         let desk = self.desk;
         match desk
@@ -129,6 +130,7 @@ impl<'t, D: Domain> Shared<'t, D> {
     pub fn weak_from_this(&self) -> Result<Weak<'t, D>, Fault>
         ensures one { IfOk result (AreOfOne D.opened self.now) }
         ensures place { IfOk result (λ r. calls.IsOfThis (owned self.now) (pointed r)) }
+        ensures fault { IfErr result (WhyNot Call.WeakFromThis (WhyNoThis D.opened self.now)) }
     {
         let desk = self.desk;
         match desk
@@ -166,7 +168,7 @@ impl<'t, D: Domain> Shared<'t, D> {
     /// How many owners the object has, in C++ `use_count()` ([util.smartptr.shared.obs]).
     #[inline(always)]
     pub fn use_count(&self) -> Result<u32, Fault>
-        ensures count { IfOk result (λ n. Since (desk_at D.opened self.now)
+        ensures count { IfOk result (λ n. Since D.opened self.now
             (λ d e. calls.IsUseCount d kind.Owner (owned self.now) (pointed self.now) n e)) }
         ensures fault { IfErr result (λ why. why ≡ Fault.Busy Call.UseCount) }
     {
@@ -210,7 +212,8 @@ impl<'t, D: Domain> Shared<'t, D> {
     }
 
     /// Work on the object's value, in C++ `p->f()` (waits). Another visit of it waits meanwhile; calls on this desk
-    /// within `f` are refused `Busy`, and pointers that are dropped there let go when it is done.
+    /// within `f` are refused `Busy`, and pointers that are dropped there let go when it is done. `Memory` where there is
+    /// none to list them, before `f` is called.
     #[inline(always)]
     pub fn visit<A, F: FnOnce(&mut D::Value) -> A + Drop, R: Wait>(
         &self,
@@ -218,15 +221,16 @@ impl<'t, D: Domain> Shared<'t, D> {
         f: F,
     ) -> Result<A, Fault>
         requires { F.IsAlwaysCallable f }
-        ensures done { IfOk result (λ a. Since (desk_at D.opened self.now)
+        ensures done { IfOk result (λ a. Since D.opened self.now
             (λ d e. IsVisit (λ was r becomes. FnOnceReturnsAtMut F.FnOnce f was r becomes) f d (owned self.now)
             (pointed self.now) (Ok a) e)) }
-        ensures fault { IfErr result (WhyNot Call.Visit (λ why. (why ≡ Refusal.Null) × (owned self.now ≡ None))) }
+        ensures fault { IfErr result (WhyNotVisited self.now) }
     {
         let desk = self.desk;
-        let done = desk
-            .open(Call::Visit)?
-            .visit(rt, desk.domain, &self.owner, f);
+        let mut context = desk.open(Call::Visit)?;
+        desk.make_room(context.held())?;
+        let done = context.visit(rt, desk.domain, &self.owner, f);
+        drop(context);
         desk.catch_up();
         match done {
             Ok(answer) => Ok(answer),
@@ -239,8 +243,7 @@ impl<'t, D: Domain> Shared<'t, D> {
     pub fn snapshot<R: Wait>(&self, rt: &R) -> Result<D::Value, Fault>
     where
         D::Value: Clone,
-        ensures { IfErr result (λ why. (why ≡ Fault.Memory)
-            ⊎ WhyNot Call.Visit (λ r. (r ≡ Refusal.Null) × (owned self.now ≡ None)) why) }
+        ensures { IfErr result (WhyNotVisited self.now) }
     {
         match self.visit(rt, |value| value.clone())? {
             Ok(value) => Ok(value),

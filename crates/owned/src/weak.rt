@@ -1,9 +1,9 @@
 //! Weak pointers.
-ghost use Rattle.std.specs.Prelude.{◌≡◌, ◌⊎◌, ◌↔◌, IfErr, IfNone, IfOk, IfSome, IsTrue};
+ghost use Rattle.std.specs.Prelude.{◌≡◌, ◌↔◌, IfErr, IfNone, IfOk, IfSome, IsTrue, Some};
 ghost use Rattle.control_word.specs.declared.model.handle.Kind.TheVariants as kind;
 ghost use Rattle.shared_handle.specs.Calls as calls;
-ghost use Rattle.owned.specs.Faults.{WhyNoMore, WhyNot};
-ghost use Rattle.owned.specs.Known.{AreOfOne, Since, desk_at, owned, pointed};
+ghost use Rattle.owned.specs.Faults.{WhyNoMore, WhyNoOwner, WhyNot};
+ghost use Rattle.owned.specs.Known.{AreOfOne, Since, owned, pointed};
 ghost use Rattle.owned.specs.Objects.{FindsNoOwner};
 
 use crate::claim::weak_claim::WeakClaim;
@@ -57,7 +57,7 @@ impl<'t, D: Domain> Weak<'t, D> {
     pub fn share(&self) -> Result<Weak<'t, D>, Fault>
         ensures one { IfOk result (AreOfOne D.opened self.now) }
         ensures place { IfOk result (λ r. pointed r ≡ calls.weak_place (owned self.now) (pointed self.now)) }
-        ensures fault { IfErr result (WhyNoMore Call.Share) }
+        ensures fault { IfErr result (WhyNoMore D.opened (Some self.now) Call.Share) }
     {
         let desk = self.desk;
         match desk.open(Call::Share)?.share_weak(desk.domain, &self.weak) {
@@ -71,9 +71,9 @@ impl<'t, D: Domain> Weak<'t, D> {
     pub fn lock<R: Wait>(&self, rt: &R) -> Result<Option<Shared<'t, D>>, Fault>
         ensures one { IfOk result (λ r. IfSome r (AreOfOne D.opened self.now)) }
         ensures place { IfOk result (λ r. IfSome r (λ p. pointed p ≡ pointed self.now)) }
-        ensures none { IfOk result (λ r. IfNone r (Since (desk_at D.opened self.now)
+        ensures none { IfOk result (λ r. IfNone r (Since D.opened self.now
             (λ d e. FindsNoOwner d (owned self.now) (pointed self.now) e))) }
-        ensures fault { IfErr result (WhyNoMore Call.Lock) }
+        ensures fault { IfErr result (WhyNoMore D.opened (Some self.now) Call.Lock) }
     {
         let desk = self.desk;
         match desk.open(Call::Lock)?.lock(rt, desk.domain, &self.weak) {
@@ -89,8 +89,7 @@ impl<'t, D: Domain> Weak<'t, D> {
     pub fn upgrade<R: Wait>(&self, rt: &R) -> Result<Shared<'t, D>, Fault>
         ensures one { IfOk result (AreOfOne D.opened self.now) }
         ensures place { IfOk result (λ r. pointed r ≡ pointed self.now) }
-        ensures fault { IfErr result
-            (WhyNot Call.Upgrade (λ why. (why ≡ Refusal.Limit) ⊎ (why ≡ Refusal.BadWeak))) }
+        ensures fault { IfErr result (WhyNot Call.Upgrade (WhyNoOwner D.opened self.now)) }
     {
         let desk = self.desk;
         match desk
@@ -105,7 +104,7 @@ impl<'t, D: Domain> Weak<'t, D> {
     /// Whether no owner remains, in C++ `expired()` ([util.smartptr.weak.obs]).
     #[inline(always)]
     pub fn expired(&self) -> Result<bool, Fault>
-        ensures expired { IfOk result (λ b. Since (desk_at D.opened self.now)
+        ensures expired { IfOk result (λ b. Since D.opened self.now
             (λ d e. calls.IsExpiry d (owned self.now) (pointed self.now) b e)) }
         ensures fault { IfErr result (λ why. why ≡ Fault.Busy Call.Expired) }
     {
@@ -116,7 +115,7 @@ impl<'t, D: Domain> Weak<'t, D> {
     /// How many owners the object has, in C++ `use_count()` ([util.smartptr.weak.obs]).
     #[inline(always)]
     pub fn use_count(&self) -> Result<u32, Fault>
-        ensures count { IfOk result (λ n. Since (desk_at D.opened self.now)
+        ensures count { IfOk result (λ n. Since D.opened self.now
             (λ d e. calls.IsUseCount d kind.Weak (owned self.now) (pointed self.now) n e)) }
         ensures fault { IfErr result (λ why. why ≡ Fault.Busy Call.UseCount) }
     {

@@ -52,7 +52,7 @@ impl<'t, D: Domain> Link<'t, D> {
     pub fn load<R: Wait>(&self, rt: &R) -> Result<Option<Shared<'t, D>>, Fault>
         ensures loaded { IfOk result (Loaded D.opened (Some self.now.of)
             (shared_cell_at D.opened (Some self.now.of) self.now.which 0) Owner) }
-        ensures refused { IfErr result (WhyNotDone D.opened.shape.shared_cells (Some self.now.of) 0
+        ensures refused { IfErr result (WhyNotDone D.opened D.opened.shape.shared_cells (Some self.now.of) 0
             (Call.Load (shared_spot (Some self.now.of) self.now.which 0))) }
     {
         self.member().load(rt)
@@ -63,7 +63,7 @@ impl<'t, D: Domain> Link<'t, D> {
     pub fn store(&self, new: Option<Shared<'t, D>>) -> Result<(), Fault>
         ensures stored { OnOk result ((gone : Gone) × Stored D.opened (Some self.now.of)
             (shared_cell_at D.opened (Some self.now.of) self.now.which 0) new.entry gone) }
-        ensures refused { IfErr result (WhyNotDone D.opened.shape.shared_cells (Some self.now.of) 0
+        ensures refused { IfErr result (WhyNotDone D.opened D.opened.shape.shared_cells (Some self.now.of) 0
             (Call.Store (shared_spot (Some self.now.of) self.now.which 0))) }
     {
         self.member().store(new)
@@ -74,7 +74,7 @@ impl<'t, D: Domain> Link<'t, D> {
     pub fn exchange(&self, new: Option<Shared<'t, D>>) -> Result<Option<Shared<'t, D>>, Fault>
         ensures exchanged { IfOk result (Exchanged D.opened (Some self.now.of)
             (shared_cell_at D.opened (Some self.now.of) self.now.which 0) Owner new.entry) }
-        ensures refused { IfErr result (WhyNotDone D.opened.shape.shared_cells (Some self.now.of) 0
+        ensures refused { IfErr result (WhyNotDone D.opened D.opened.shape.shared_cells (Some self.now.of) 0
             (Call.Exchange (shared_spot (Some self.now.of) self.now.which 0))) }
     {
         self.member().exchange(new)
@@ -85,7 +85,7 @@ impl<'t, D: Domain> Link<'t, D> {
     pub fn take(&self) -> Result<Option<Shared<'t, D>>, Fault>
         ensures taken { IfOk result (Exchanged D.opened (Some self.now.of)
             (shared_cell_at D.opened (Some self.now.of) self.now.which 0) Owner None) }
-        ensures refused { IfErr result (WhyNotDone D.opened.shape.shared_cells (Some self.now.of) 0
+        ensures refused { IfErr result (WhyNotDone D.opened D.opened.shape.shared_cells (Some self.now.of) 0
             (Call.Exchange (shared_spot (Some self.now.of) self.now.which 0))) }
     {
         self.member().take()

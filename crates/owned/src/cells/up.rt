@@ -4,6 +4,7 @@ ghost use Rattle.control_word.specs.declared.model.handle.Kind.TheVariants as ki
 ghost use Rattle.owned.specs.Beside.{seen_by};
 ghost use Rattle.owned.specs.declared.known.Known.{Known};
 ghost use Rattle.owned.specs.Cells.{Exchanged, IsOwnerOf, IsWeakSite, Loaded, StoredWeakly, WhyNoCell, WhyNotDone};
+ghost use Rattle.owned.specs.Cells.{WhyNotLocked};
 ghost use Rattle.owned.specs.Cells.{weak_cell_at, weak_site_of, weak_spot};
 
 use crate::claim::shared_claim::SharedClaim;
@@ -79,7 +80,7 @@ impl<'p, 't, D: Domain> Up<'p, 't, D> {
         ensures loaded { IfOk result (Loaded D.opened (seen_by (λ x. x.now.known) self.now.of)
             (weak_cell_at D.opened (seen_by (λ x. x.now.known) self.now.of)
             self.now.number) kind.Weak) }
-        ensures refused { IfErr result (WhyNotDone D.opened.shape.weak_cells (seen_by (λ x. x.now.known) self.now.of)
+        ensures refused { IfErr result (WhyNotDone D.opened D.opened.shape.weak_cells (seen_by (λ x. x.now.known) self.now.of)
             self.now.number (Call.Load (weak_spot (seen_by (λ x. x.now.known) self.now.of) self.now.number))) }
     {
         let desk = self.desk;
@@ -95,9 +96,12 @@ impl<'p, 't, D: Domain> Up<'p, 't, D> {
     /// An owner of what it holds, in C++ `load().lock()` (waits). None where that is empty or expired.
     #[inline(always)]
     pub fn lock<R: Wait>(&self, rt: &R) -> Result<Option<Shared<'t, D>>, Fault>
-        ensures { IfOk result (λ r. (w : Option (Known D.Value)) × Loaded D.opened
+        ensures locked { IfOk result (λ r. (w : Option (Known D.Value)) × Loaded D.opened
             (seen_by (λ x. x.now.known) self.now.of) (weak_cell_at D.opened
             (seen_by (λ x. x.now.known) self.now.of) self.now.number) kind.Weak w × IsOwnerOf D.opened w r) }
+        ensures refused { IfErr result (WhyNotLocked D.opened D.opened.shape.weak_cells
+            (seen_by (λ x. x.now.known) self.now.of) self.now.number
+            (Call.Load (weak_spot (seen_by (λ x. x.now.known) self.now.of) self.now.number))) }
     {
         let came = self.load(rt)?;
         match came {
@@ -112,7 +116,7 @@ impl<'p, 't, D: Domain> Up<'p, 't, D> {
         ensures stored { OnOk result (StoredWeakly D.opened (seen_by (λ x. x.now.known) self.now.of)
             (weak_cell_at D.opened (seen_by (λ x. x.now.known) self.now.of)
             self.now.number) new.entry) }
-        ensures refused { IfErr result (WhyNotDone D.opened.shape.weak_cells (seen_by (λ x. x.now.known) self.now.of)
+        ensures refused { IfErr result (WhyNotDone D.opened D.opened.shape.weak_cells (seen_by (λ x. x.now.known) self.now.of)
             self.now.number (Call.Store (weak_spot (seen_by (λ x. x.now.known) self.now.of) self.now.number))) }
     {
         self.put(Call::Store(self.spot()), new)
@@ -123,7 +127,7 @@ impl<'p, 't, D: Domain> Up<'p, 't, D> {
         ensures stored { OnOk result (StoredWeakly D.opened (seen_by (λ x. x.now.known) self.now.of)
             (weak_cell_at D.opened (seen_by (λ x. x.now.known) self.now.of)
             self.now.number) new.entry) }
-        ensures refused { IfErr result (WhyNotDone D.opened.shape.weak_cells (seen_by (λ x. x.now.known) self.now.of)
+        ensures refused { IfErr result (WhyNotDone D.opened D.opened.shape.weak_cells (seen_by (λ x. x.now.known) self.now.of)
             self.now.number call) }
     {
         let desk = self.desk;
@@ -143,7 +147,7 @@ impl<'p, 't, D: Domain> Up<'p, 't, D> {
         ensures exchanged { IfOk result (Exchanged D.opened (seen_by (λ x. x.now.known) self.now.of)
             (weak_cell_at D.opened (seen_by (λ x. x.now.known) self.now.of)
             self.now.number) kind.Weak new.entry) }
-        ensures refused { IfErr result (WhyNotDone D.opened.shape.weak_cells (seen_by (λ x. x.now.known) self.now.of)
+        ensures refused { IfErr result (WhyNotDone D.opened D.opened.shape.weak_cells (seen_by (λ x. x.now.known) self.now.of)
             self.now.number (Call.Exchange (weak_spot (seen_by (λ x. x.now.known) self.now.of) self.now.number))) }
     {
         let desk = self.desk;
@@ -164,7 +168,7 @@ impl<'p, 't, D: Domain> Up<'p, 't, D> {
         ensures taken { IfOk result (Exchanged D.opened (seen_by (λ x. x.now.known) self.now.of)
             (weak_cell_at D.opened (seen_by (λ x. x.now.known) self.now.of)
             self.now.number) kind.Weak None) }
-        ensures refused { IfErr result (WhyNotDone D.opened.shape.weak_cells (seen_by (λ x. x.now.known) self.now.of)
+        ensures refused { IfErr result (WhyNotDone D.opened D.opened.shape.weak_cells (seen_by (λ x. x.now.known) self.now.of)
             self.now.number (Call.Exchange (weak_spot (seen_by (λ x. x.now.known) self.now.of) self.now.number))) }
     {
         self.exchange(None)
@@ -176,7 +180,7 @@ impl<'p, 't, D: Domain> Up<'p, 't, D> {
         ensures cleared { OnOk result (StoredWeakly D.opened (seen_by (λ x. x.now.known) self.now.of)
             (weak_cell_at D.opened (seen_by (λ x. x.now.known) self.now.of)
             self.now.number) None) }
-        ensures refused { IfErr result (WhyNotDone D.opened.shape.weak_cells (seen_by (λ x. x.now.known) self.now.of)
+        ensures refused { IfErr result (WhyNotDone D.opened D.opened.shape.weak_cells (seen_by (λ x. x.now.known) self.now.of)
             self.now.number (Call.Clear (weak_spot (seen_by (λ x. x.now.known) self.now.of) self.now.number))) }
     {
         self.put(Call::Clear(self.spot()), None)

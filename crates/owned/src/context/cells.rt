@@ -1,8 +1,10 @@
 //! Calls on cells of owners.
-ghost use Rattle.std.specs.Prelude.{◌≡◌, IfErr, IfOk, None};
+ghost use Rattle.std.specs.Prelude.{◌≡◌, ◌↔◌, IfErr, IfOk, IsErr, None};
 ghost use Rattle.control_word.specs.declared.model.handle.Kind.TheVariants.{Owner};
 ghost use Rattle.control_block.specs.Desks.{Belongs};
 ghost use Rattle.owned.specs.Beside.{seen_by};
+ghost use Rattle.owned.specs.Faults.{Was};
+ghost use Rattle.owned.specs.Known.{IsAtAllowance};
 ghost use Rattle.owned.specs.Cells.{Exchanged, IsSharedSite, Loaded, Stored, shared_cell_of};
 
 use crate::claim::shared_claim::SharedClaim;
@@ -30,7 +32,9 @@ impl<D: Domain> Context<D> {
         ensures loaded { IfOk result (λ r. Loaded D.opened (seen_by (λ x. x.now.known) of.entry)
             (shared_cell_of D.opened (seen_by (λ x. x.now.known) of.entry) at.entry.site) Owner
             (seen_by (λ x. x.known) r)) }
-        ensures refused { IfErr result (λ why. why ≡ Refusal.Limit) }
+        ensures limit { IsErr result ↔ IsAtAllowance self.old.desk }
+        ensures refused { IfErr result
+            (λ why. (why ≡ Refusal.Limit) × Was D.opened (seen_by (λ x. x.now.known) of.entry) IsAtAllowance) }
     {
         self.desk.stands();
         look_at(of, &mut self.claims);
@@ -58,8 +62,11 @@ impl<D: Domain> Context<D> {
         ensures exchanged { IfOk result (λ r. Exchanged D.opened (seen_by (λ x. x.now.known) of.entry)
             (shared_cell_of D.opened (seen_by (λ x. x.now.known) of.entry) at.entry.site) Owner
             (seen_by (λ x. x.known) new) (seen_by (λ x. x.known) r)) }
-        ensures refused { IfErr result (λ why. (why ≡ Refusal.Limit) × (new ≡ None)) }
+        ensures limit { IsErr result ↔ ((new ≡ None) × IsAtAllowance self.old.desk) }
+        ensures refused { IfErr result
+            (λ why. (why ≡ Refusal.Limit) × Was D.opened (seen_by (λ x. x.now.known) of.entry) IsAtAllowance) }
     {
+        look_at(of, &mut self.claims);
         let handle = given(domain, &mut self.desk, &self.pile, &mut self.claims, new)?;
         self.desk.stands();
         look_at(of, &mut self.claims);
@@ -87,8 +94,11 @@ impl<D: Domain> Context<D> {
         ensures stored { IfOk result (λ gone. Stored D.opened (seen_by (λ x. x.now.known) of.entry)
             (shared_cell_of D.opened (seen_by (λ x. x.now.known) of.entry) at.entry.site)
             (seen_by (λ x. x.known) new) gone) }
-        ensures refused { IfErr result (λ why. (why ≡ Refusal.Limit) × (new ≡ None)) }
+        ensures limit { IsErr result ↔ ((new ≡ None) × IsAtAllowance self.old.desk) }
+        ensures refused { IfErr result
+            (λ why. (why ≡ Refusal.Limit) × Was D.opened (seen_by (λ x. x.now.known) of.entry) IsAtAllowance) }
     {
+        look_at(of, &mut self.claims);
         let handle = given(domain, &mut self.desk, &self.pile, &mut self.claims, new)?;
         self.desk.stands();
         look_at(of, &mut self.claims);

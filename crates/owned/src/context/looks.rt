@@ -3,7 +3,7 @@ ghost use Rattle.std.specs.Prelude.{◌≡◌, IfErr, IfOk};
 ghost use Rattle.control_word.specs.declared.model.handle.Kind.TheVariants.{Owner, Weak};
 ghost use Rattle.control_block.specs.Desks.{Belongs};
 ghost use Rattle.shared_handle.specs.Calls.{IsExpiry, IsUseCount};
-ghost use Rattle.owned.specs.Known.{Since, desk_at, owned, pointed};
+ghost use Rattle.owned.specs.Known.{Since, owned, pointed};
 ghost use Rattle.owned.specs.Objects.{IsField, WhyNoField};
 
 use crate::claim::shared_claim::SharedClaim;
@@ -23,7 +23,7 @@ impl<D: Domain> Context<D> {
         of: &SharedClaim<D>,
     ) -> u32
         requires { Belongs D.opened domain.now }
-        ensures { Since (desk_at D.opened of.now.known)
+        ensures { Since D.opened of.now.known
             (λ d e. IsUseCount d Owner (owned of.now.known) (pointed of.now.known) result e) }
     {
         let of = of.look(&mut self.claims);
@@ -38,7 +38,7 @@ impl<D: Domain> Context<D> {
         of: &WeakClaim<D>,
     ) -> u32
         requires { Belongs D.opened domain.now }
-        ensures { Since (desk_at D.opened of.now.known)
+        ensures { Since D.opened of.now.known
             (λ d e. IsUseCount d Weak (owned of.now.known) (pointed of.now.known) result e) }
     {
         let of = of.look(&mut self.claims);
@@ -49,7 +49,7 @@ impl<D: Domain> Context<D> {
     #[inline(always)]
     pub(crate) fn expired(&mut self, domain: &domain::Domain<D::Value>, of: &WeakClaim<D>) -> bool
         requires { Belongs D.opened domain.now }
-        ensures { Since (desk_at D.opened of.now.known)
+        ensures { Since D.opened of.now.known
             (λ d e. IsExpiry d (owned of.now.known) (pointed of.now.known) result e) }
     {
         let of = of.look(&mut self.claims);

@@ -1,8 +1,9 @@
 //! Owners between claims and cells.
-ghost use Rattle.std.specs.Prelude.{◌≡◌, [], ◌∷◌, IfErr, IfOk, None, true};
+ghost use Rattle.std.specs.Prelude.{◌≡◌, ◌↔◌, [], ◌∷◌, IfErr, IfOk, IsErr, None, true};
 ghost use Rattle.control_block.specs.Desks.{Belongs, DeskNow};
 ghost use Rattle.control_block.specs.declared.handles.Held.TheVariants as held;
 ghost use Rattle.owned.specs.Beside.{Arrives, IsClaimed, IsEmptyHandle, IsHandleOf, IsWholeBeside, Stays, seen_by};
+ghost use Rattle.owned.specs.Known.{IsAtAllowance};
 ghost use Rattle.owned.specs.Whole.{IsWhole};
 
 use crate::claim::Claims;
@@ -74,7 +75,8 @@ pub(crate) fn given<D: Domain>(
         (λ h. IsWholeBeside D.opened desk.new pile.now (held.Owner h ∷ []) claims.new.entries) }
     ensures handle { IfOk result (λ h. IsHandleOf (seen_by (λ x. x.known) new) (held.Owner h)) }
     ensures stays { IfOk result (λ h. Stays D.opened (seen_by (λ x. x.known) new) desk.new) }
-    ensures refused { IfErr result (λ why. (why ≡ Refusal.Limit) × (new ≡ None)
+    ensures limit { IsErr result ↔ ((new ≡ None) × IsAtAllowance desk.old) }
+    ensures refused { IfErr result (λ why. (why ≡ Refusal.Limit)
         × (desk.new ≡ desk.old) × (claims.new.entries ≡ claims.old.entries)) }
 {
     desk.stands();

@@ -1,9 +1,9 @@
 //! Further owners.
-ghost use Rattle.std.specs.Prelude.{◌≡◌, ◌↔◌, IfErr, IfOk, IsErr, OnOk};
+ghost use Rattle.std.specs.Prelude.{◌≡◌, ◌↔◌, IfErr, IfOk, IsErr, Some};
 ghost use Rattle.control_block.specs.Desks.{Belongs};
 ghost use Rattle.shared_handle.specs.Calls as calls;
-ghost use Rattle.shared_handle.specs.Endings.{IsNotEnabled, IsOutside};
-ghost use Rattle.owned.specs.Known.{AreOfOne, owned, pointed};
+ghost use Rattle.owned.specs.Faults.{Was, WhyNoThis};
+ghost use Rattle.owned.specs.Known.{AreOfOne, IsAtAllowance, owned, pointed};
 
 use crate::claim::shared_claim::SharedClaim;
 use crate::context::Context;
@@ -23,7 +23,9 @@ impl<D: Domain> Context<D> {
         requires { Belongs D.opened domain.now }
         ensures one { IfOk result (λ r. AreOfOne D.opened of.now.known r.known) }
         ensures place { IfOk result (λ r. pointed r.known ≡ pointed of.now.known) }
-        ensures refused { IfErr result (λ why. why ≡ Refusal.Limit) }
+        ensures limit { IsErr result ↔ IsAtAllowance self.old.desk }
+        ensures refused { IfErr result
+            (λ why. (why ≡ Refusal.Limit) × Was D.opened (Some of.now.known) IsAtAllowance) }
     {
         self.desk.stands();
         let of = of.look(&mut self.claims);
@@ -42,7 +44,9 @@ impl<D: Domain> Context<D> {
         requires { Belongs D.opened domain.now }
         ensures one { IfOk result (λ r. AreOfOne D.opened of.now.known r.known) }
         ensures place { IfOk result (λ r. pointed r.known ≡ calls.pointed place) }
-        ensures refused { IfErr result (λ why. why ≡ Refusal.Limit) }
+        ensures limit { IsErr result ↔ IsAtAllowance self.old.desk }
+        ensures refused { IfErr result
+            (λ why. (why ≡ Refusal.Limit) × Was D.opened (Some of.now.known) IsAtAllowance) }
     {
         self.desk.stands();
         let of = of.look(&mut self.claims);
@@ -60,6 +64,7 @@ impl<D: Domain> Context<D> {
         requires { Belongs D.opened domain.now }
         ensures one { IfOk result (λ r. AreOfOne D.opened of.now.known r.known) }
         ensures place { IfOk result (λ r. calls.IsOfThis (owned of.now.known) (pointed r.known)) }
+        ensures refused { IfErr result (WhyNoThis D.opened of.now.known) }
     {
         self.desk.stands();
         let of = of.look(&mut self.claims);

@@ -18,6 +18,12 @@ impl<D: Domain> Context<D> {
         self.desk.stock()
     }
 
+    /// How many handles the desk has.
+    #[inline(always)]
+    pub(crate) fn held(&self) -> u32 {
+        self.desk.held()
+    }
+
     /// Vacant blocks go to the shelf: how many did.
     pub(crate) fn shelve(&mut self, domain: &domain::Domain<D::Value>, count: u32) -> u32
         requires { Belongs D.opened domain.now }

@@ -4,7 +4,7 @@ ghost use Rattle.std.specs.Prelude.{◌≡◌, IfErr, IfOk, None, Ok};
 ghost use Rattle.control_word.specs.declared.refusal.Refusal.TheVariants.{Null};
 ghost use Rattle.control_block.specs.Desks.{Belongs};
 ghost use Rattle.shared_handle.specs.Visits.{IsVisit};
-ghost use Rattle.owned.specs.Known.{Since, desk_at, owned, pointed};
+ghost use Rattle.owned.specs.Known.{Since, owned, pointed};
 
 use crate::claim::shared_claim::SharedClaim;
 use crate::context::Context;
@@ -26,7 +26,7 @@ impl<D: Domain> Context<D> {
     ) -> Result<A, Refused<F>>
         requires domain { Belongs D.opened domain.now }
         requires callable { F.IsAlwaysCallable f }
-        ensures visit { IfOk result (λ a. Since (desk_at D.opened of.now.known)
+        ensures visit { IfOk result (λ a. Since D.opened of.now.known
             (λ d e. IsVisit (λ was r becomes. FnOnceReturnsAtMut F.FnOnce f was r becomes) f d (owned of.now.known)
             (pointed of.now.known) (Ok a) e)) }
         ensures refused { IfErr result (λ r. (r.why ≡ Null) × (owned of.now.known ≡ None)) }

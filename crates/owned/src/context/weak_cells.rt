@@ -1,8 +1,10 @@
 //! Calls on cells of weak handles.
-ghost use Rattle.std.specs.Prelude.{◌≡◌, IfErr, IfOk, None, OnOk};
+ghost use Rattle.std.specs.Prelude.{◌≡◌, ◌↔◌, IfErr, IfOk, IsErr, None, OnOk};
 ghost use Rattle.control_word.specs.declared.model.handle.Kind.TheVariants.{Weak};
 ghost use Rattle.control_block.specs.Desks.{Belongs};
 ghost use Rattle.owned.specs.Beside.{seen_by};
+ghost use Rattle.owned.specs.Faults.{Was};
+ghost use Rattle.owned.specs.Known.{IsAtAllowance};
 ghost use Rattle.owned.specs.Cells.{Exchanged, IsWeakSite, Loaded, StoredWeakly, weak_cell_of};
 
 use crate::claim::shared_claim::SharedClaim;
@@ -32,7 +34,9 @@ impl<D: Domain> Context<D> {
         ensures loaded { IfOk result (λ r. Loaded D.opened (seen_by (λ x. x.now.known) of.entry)
             (weak_cell_of D.opened (seen_by (λ x. x.now.known) of.entry) at.entry.site) Weak
             (seen_by (λ x. x.known) r)) }
-        ensures refused { IfErr result (λ why. why ≡ Refusal.Limit) }
+        ensures limit { IsErr result ↔ IsAtAllowance self.old.desk }
+        ensures refused { IfErr result
+            (λ why. (why ≡ Refusal.Limit) × Was D.opened (seen_by (λ x. x.now.known) of.entry) IsAtAllowance) }
     {
         self.desk.stands();
         look_at(of, &mut self.claims);
@@ -54,8 +58,11 @@ impl<D: Domain> Context<D> {
         ensures exchanged { IfOk result (λ r. Exchanged D.opened (seen_by (λ x. x.now.known) of.entry)
             (weak_cell_of D.opened (seen_by (λ x. x.now.known) of.entry) at.entry.site) Weak
             (seen_by (λ x. x.known) new) (seen_by (λ x. x.known) r)) }
-        ensures refused { IfErr result (λ why. (why ≡ Refusal.Limit) × (new ≡ None)) }
+        ensures limit { IsErr result ↔ ((new ≡ None) × IsAtAllowance self.old.desk) }
+        ensures refused { IfErr result
+            (λ why. (why ≡ Refusal.Limit) × Was D.opened (seen_by (λ x. x.now.known) of.entry) IsAtAllowance) }
     {
+        look_at(of, &mut self.claims);
         let handle = given_weak(domain, &mut self.desk, &self.pile, &mut self.claims, new)?;
         self.desk.stands();
         look_at(of, &mut self.claims);
@@ -77,8 +84,11 @@ impl<D: Domain> Context<D> {
         ensures stored { OnOk result (StoredWeakly D.opened (seen_by (λ x. x.now.known) of.entry)
             (weak_cell_of D.opened (seen_by (λ x. x.now.known) of.entry) at.entry.site)
             (seen_by (λ x. x.known) new)) }
-        ensures refused { IfErr result (λ why. (why ≡ Refusal.Limit) × (new ≡ None)) }
+        ensures limit { IsErr result ↔ ((new ≡ None) × IsAtAllowance self.old.desk) }
+        ensures refused { IfErr result
+            (λ why. (why ≡ Refusal.Limit) × Was D.opened (seen_by (λ x. x.now.known) of.entry) IsAtAllowance) }
     {
+        look_at(of, &mut self.claims);
         let handle = given_weak(domain, &mut self.desk, &self.pile, &mut self.claims, new)?;
         self.desk.stands();
         look_at(of, &mut self.claims);

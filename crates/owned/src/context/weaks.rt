@@ -1,8 +1,9 @@
 //! Weak handles, and owners from them.
-ghost use Rattle.std.specs.Prelude.{◌≡◌, ◌⊎◌, IfErr, IfNone, IfOk, IfSome};
+ghost use Rattle.std.specs.Prelude.{◌≡◌, ◌↔◌, Err, IfErr, IfNone, IfOk, IfSome, IsErr, Some};
 ghost use Rattle.control_block.specs.Desks.{Belongs};
 ghost use Rattle.shared_handle.specs.Calls as calls;
-ghost use Rattle.owned.specs.Known.{AreOfOne, Since, desk_at, owned, pointed};
+ghost use Rattle.owned.specs.Faults.{Was, WhyNoOwner, WhyNoThis};
+ghost use Rattle.owned.specs.Known.{AreOfOne, IsAtAllowance, Since, owned, pointed};
 ghost use Rattle.owned.specs.Objects.{FindsNoOwner};
 
 use crate::claim::shared_claim::SharedClaim;
@@ -26,7 +27,9 @@ impl<D: Domain> Context<D> {
         ensures one { IfOk result (λ r. AreOfOne D.opened of.now.known r.known) }
         ensures place { IfOk result
             (λ r. pointed r.known ≡ calls.weak_place (owned of.now.known) (pointed of.now.known)) }
-        ensures refused { IfErr result (λ why. why ≡ Refusal.Limit) }
+        ensures limit { IsErr result ↔ IsAtAllowance self.old.desk }
+        ensures refused { IfErr result
+            (λ why. (why ≡ Refusal.Limit) × Was D.opened (Some of.now.known) IsAtAllowance) }
     {
         self.desk.stands();
         let of = of.look(&mut self.claims);
@@ -45,7 +48,9 @@ impl<D: Domain> Context<D> {
         ensures one { IfOk result (λ r. AreOfOne D.opened of.now.known r.known) }
         ensures place { IfOk result
             (λ r. pointed r.known ≡ calls.weak_place (owned of.now.known) (pointed of.now.known)) }
-        ensures refused { IfErr result (λ why. why ≡ Refusal.Limit) }
+        ensures limit { IsErr result ↔ IsAtAllowance self.old.desk }
+        ensures refused { IfErr result
+            (λ why. (why ≡ Refusal.Limit) × Was D.opened (Some of.now.known) IsAtAllowance) }
     {
         self.desk.stands();
         let of = of.look(&mut self.claims);
@@ -63,6 +68,7 @@ impl<D: Domain> Context<D> {
         requires { Belongs D.opened domain.now }
         ensures one { IfOk result (λ r. AreOfOne D.opened of.now.known r.known) }
         ensures place { IfOk result (λ r. calls.IsOfThis (owned of.now.known) (pointed r.known)) }
+        ensures refused { IfErr result (WhyNoThis D.opened of.now.known) }
     {
         self.desk.stands();
         let of = of.look(&mut self.claims);
@@ -81,9 +87,8 @@ impl<D: Domain> Context<D> {
         requires { Belongs D.opened domain.now }
         ensures one { IfOk result (λ r. AreOfOne D.opened of.now.known r.known) }
         ensures place { IfOk result (λ r. pointed r.known ≡ pointed of.now.known) }
-        ensures refused { IfErr result (λ why. (why ≡ Refusal.Limit) ⊎ (why ≡ Refusal.BadWeak)) }
-        ensures none { IfErr result (λ why. why ≡ Refusal.BadWeak → Since (desk_at D.opened of.now.known)
-            (λ d e. FindsNoOwner d (owned of.now.known) (pointed of.now.known) e)) }
+        ensures limit { result ≡ Err Refusal.Limit ↔ IsAtAllowance self.old.desk }
+        ensures refused { IfErr result (WhyNoOwner D.opened of.now.known) }
     {
         self.desk.stands();
         let of = of.look(&mut self.claims);
@@ -104,9 +109,11 @@ impl<D: Domain> Context<D> {
         requires { Belongs D.opened domain.now }
         ensures one { IfOk result (λ r. IfSome r (λ s. AreOfOne D.opened of.now.known s.known)) }
         ensures place { IfOk result (λ r. IfSome r (λ s. pointed s.known ≡ pointed of.now.known)) }
-        ensures none { IfOk result (λ r. IfNone r (Since (desk_at D.opened of.now.known)
+        ensures none { IfOk result (λ r. IfNone r (Since D.opened of.now.known
             (λ d e. FindsNoOwner d (owned of.now.known) (pointed of.now.known) e))) }
-        ensures refused { IfErr result (λ why. why ≡ Refusal.Limit) }
+        ensures limit { IsErr result ↔ IsAtAllowance self.old.desk }
+        ensures refused { IfErr result
+            (λ why. (why ≡ Refusal.Limit) × Was D.opened (Some of.now.known) IsAtAllowance) }
     {
         match self.upgrade(rt, domain, of) {
             Ok(owner) => Ok(Some(owner)),

@@ -1,9 +1,10 @@
 //! Free cells of the domain.
-ghost use Rattle.std.specs.Prelude.{◌≡◌, ◌+◌, IfOk, None, OnOk, Option};
+ghost use Rattle.std.specs.Prelude.{◌≡◌, ◌+◌, IfErr, IfOk, None, OnOk, Option};
 ghost use Rattle.control_word.specs.declared.model.event.Cell.TheVariants.{Free};
 ghost use Rattle.control_word.specs.declared.model.handle.Kind.TheVariants as kind;
 ghost use Rattle.shared_handle.specs.declared.pile.Gone.{Gone};
-ghost use Rattle.owned.specs.Cells.{Exchanged, IsOwnerOf, Loaded, Stored, StoredWeakly, weak_cell_at};
+ghost use Rattle.owned.specs.Cells.{Exchanged, IsOwnerOf, Loaded, Stored, StoredWeakly, WhyNotDone, WhyNotLocked, weak_cell_at};
+ghost use Rattle.owned.specs.declared.fault.call.Spot.TheVariants as spot;
 ghost use Rattle.owned.specs.declared.known.Known.{Known};
 ghost use Rattle.owned.specs.Beside.{seen_by};
 
@@ -13,6 +14,7 @@ use crate::cells::{SharedCell, WeakCell};
 use crate::desk::Desk;
 use crate::domain::Domain;
 use crate::fault::Fault;
+use crate::fault::call::Call;
 use crate::shared::Shared;
 use crate::weak::Weak;
 use atomic_cells::SharedMember;
@@ -47,7 +49,8 @@ impl<'d, D: Domain> Desk<'d, D> {
     /// A copy of what the cell holds, in C++ `load()` (waits). None where it holds an empty pointer.
     #[inline(always)]
     pub fn load<R: Wait>(&self, rt: &R, cell: SharedCell) -> Result<Option<Shared<'_, D>>, Fault>
-        ensures { IfOk result (Loaded D.opened None (Free cell.0) kind.Owner) }
+        ensures loaded { IfOk result (Loaded D.opened None (Free cell.0) kind.Owner) }
+        ensures refused { IfErr result (WhyNotDone D.opened D.opened.shape.shared_cells None cell.0 (Call.Load (spot.Shared cell.0))) }
     {
         self.cell(cell).load(rt)
     }
@@ -55,8 +58,9 @@ impl<'d, D: Domain> Desk<'d, D> {
     /// The same of a weak pointer.
     #[inline(always)]
     pub fn load_weak<R: Wait>(&self, rt: &R, cell: WeakCell) -> Result<Option<Weak<'_, D>>, Fault>
-        ensures { IfOk result
+        ensures loaded { IfOk result
             (Loaded D.opened None (Free (D.opened.shape.shared_cells + cell.0)) kind.Weak) }
+        ensures refused { IfErr result (WhyNotDone D.opened D.opened.shape.weak_cells None cell.0 (Call.Load (spot.Weak cell.0))) }
     {
         self.weak_cell(cell).load(rt)
     }
@@ -64,8 +68,9 @@ impl<'d, D: Domain> Desk<'d, D> {
     /// An owner of what a weak cell holds, in C++ `load().lock()` (waits). None where that is empty or expired.
     #[inline(always)]
     pub fn lock<R: Wait>(&self, rt: &R, cell: WeakCell) -> Result<Option<Shared<'_, D>>, Fault>
-        ensures { IfOk result (λ r. (w : Option (Known D.Value)) × Loaded D.opened None
+        ensures locked { IfOk result (λ r. (w : Option (Known D.Value)) × Loaded D.opened None
             (weak_cell_at D.opened None cell.0) kind.Weak w × IsOwnerOf D.opened w r) }
+        ensures refused { IfErr result (WhyNotLocked D.opened D.opened.shape.weak_cells None cell.0 (Call.Load (spot.Weak cell.0))) }
     {
         self.weak_cell(cell).lock(rt)
     }
@@ -73,7 +78,8 @@ impl<'d, D: Domain> Desk<'d, D> {
     /// The pointer, or an empty one, goes into the cell, in C++ `store(std::move(p))`, and what that held lets go.
     #[inline(always)]
     pub fn store<'t>(&'t self, cell: SharedCell, new: Option<Shared<'t, D>>) -> Result<(), Fault>
-        ensures { OnOk result ((gone : Gone) × Stored D.opened None (Free cell.0) new.entry gone) }
+        ensures stored { OnOk result ((gone : Gone) × Stored D.opened None (Free cell.0) new.entry gone) }
+        ensures refused { IfErr result (WhyNotDone D.opened D.opened.shape.shared_cells None cell.0 (Call.Store (spot.Shared cell.0))) }
     {
         self.cell(cell).store(new)
     }
@@ -81,8 +87,9 @@ impl<'d, D: Domain> Desk<'d, D> {
     /// The same of a weak pointer.
     #[inline(always)]
     pub fn store_weak<'t>(&'t self, cell: WeakCell, new: Option<Weak<'t, D>>) -> Result<(), Fault>
-        ensures { OnOk result
+        ensures stored { OnOk result
             (StoredWeakly D.opened None (Free (D.opened.shape.shared_cells + cell.0)) new.entry) }
+        ensures refused { IfErr result (WhyNotDone D.opened D.opened.shape.weak_cells None cell.0 (Call.Store (spot.Weak cell.0))) }
     {
         self.weak_cell(cell).store(new)
     }
@@ -90,7 +97,8 @@ impl<'d, D: Domain> Desk<'d, D> {
     /// What the cell holds lets go, in C++ `store(nullptr)`.
     #[inline(always)]
     pub fn clear(&self, cell: SharedCell) -> Result<(), Fault>
-        ensures { OnOk result ((gone : Gone) × Stored D.opened None (Free cell.0) None gone) }
+        ensures cleared { OnOk result ((gone : Gone) × Stored D.opened None (Free cell.0) None gone) }
+        ensures refused { IfErr result (WhyNotDone D.opened D.opened.shape.shared_cells None cell.0 (Call.Clear (spot.Shared cell.0))) }
     {
         self.cell(cell).clear()
     }
@@ -98,8 +106,9 @@ impl<'d, D: Domain> Desk<'d, D> {
     /// The same of a weak pointer.
     #[inline(always)]
     pub fn clear_weak(&self, cell: WeakCell) -> Result<(), Fault>
-        ensures { OnOk result
+        ensures cleared { OnOk result
             (StoredWeakly D.opened None (Free (D.opened.shape.shared_cells + cell.0)) None) }
+        ensures refused { IfErr result (WhyNotDone D.opened D.opened.shape.weak_cells None cell.0 (Call.Clear (spot.Weak cell.0))) }
     {
         self.weak_cell(cell).clear()
     }
@@ -107,7 +116,8 @@ impl<'d, D: Domain> Desk<'d, D> {
     /// What the cell holds comes out, and an empty pointer stays, in C++ `exchange(nullptr)`.
     #[inline(always)]
     pub fn take(&self, cell: SharedCell) -> Result<Option<Shared<'_, D>>, Fault>
-        ensures { IfOk result (Exchanged D.opened None (Free cell.0) kind.Owner None) }
+        ensures taken { IfOk result (Exchanged D.opened None (Free cell.0) kind.Owner None) }
+        ensures refused { IfErr result (WhyNotDone D.opened D.opened.shape.shared_cells None cell.0 (Call.Exchange (spot.Shared cell.0))) }
     {
         self.cell(cell).take()
     }

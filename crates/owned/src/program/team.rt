@@ -6,11 +6,12 @@ use crate::program::not_run::{Limit, NotRun, Number};
 use control_word::Shape;
 use control_word::shape::{MOST_ALLOWANCE, MOST_BLOCKS, MOST_FREE_CELLS};
 
-/// Handles that a desk may have above its pointers: an empty one on its way into a place, and what a compare copies
-/// before that which lay there leaves.
+/// Handles that a desk may have above its team's pointers: an empty one on its way into a place, and what a compare
+/// copies before that which lay there leaves. Pointers that a program has beyond its team's take this room.
 pub const SPARE: u32 = 2;
 
-/// How many workers there are, and how many pointers each may have at one time.
+/// How many workers there are, and how many pointers each needs at one time. A desk has room for two more, which calls
+/// with empty pointers and compares use: `Crowded` comes where these are taken too.
 #[derive(Clone, Copy, PartialEq, Eq, Debug, Drop)]
 pub struct Team {
     pub workers: usize,

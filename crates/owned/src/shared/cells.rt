@@ -1,10 +1,11 @@
 //! An owner's object's members, and an owner that goes into a cell.
-ghost use Rattle.std.specs.Prelude.{◌≡◌, IfOk, None, OnOk, Option, Some};
+ghost use Rattle.std.specs.Prelude.{◌≡◌, IfErr, IfOk, None, OnOk, Option, Some};
 ghost use Rattle.control_word.specs.declared.model.event.Cell.TheVariants.{Free};
 ghost use Rattle.control_word.specs.declared.model.handle.Kind.TheVariants as kind;
 ghost use Rattle.control_word.specs.declared.model.handle.Kind.TheVariants.{Owner};
 ghost use Rattle.shared_handle.specs.declared.pile.Gone.{Gone};
-ghost use Rattle.owned.specs.Cells.{Exchanged, IsOwnerOf, Loaded, Stored, weak_cell_at};
+ghost use Rattle.owned.specs.Cells.{Exchanged, IsOwnerOf, Loaded, Stored, WhyNotDone, WhyNotLocked, weak_cell_at};
+ghost use Rattle.owned.specs.declared.fault.call.Spot.TheVariants as spot;
 ghost use Rattle.owned.specs.declared.known.Known.{Known};
 ghost use Rattle.owned.specs.Beside.{seen_by};
 
@@ -16,6 +17,7 @@ use crate::claim::shared_claim::SharedClaim;
 use crate::desk::Desk;
 use crate::domain::Domain;
 use crate::fault::Fault;
+use crate::fault::call::{Call, Spot};
 use crate::shared::Shared;
 use atomic_cells::SharedMember;
 use std::sync::Wait;
@@ -58,7 +60,8 @@ impl<'t, D: Domain> Shared<'t, D> {
     /// The pointer goes into the cell, in C++ `store(std::move(p))`, and what that held lets go.
     #[inline(always)]
     pub fn store(self, cell: SharedCell) -> Result<(), Fault>
-        ensures { OnOk result ((gone : Gone) × Stored D.opened None (Free cell.0) (Some self.entry) gone) }
+        ensures stored { OnOk result ((gone : Gone) × Stored D.opened None (Free cell.0) (Some self.entry) gone) }
+        ensures refused { IfErr result (WhyNotDone D.opened D.opened.shape.shared_cells None cell.0 (Call.Store (spot.Shared cell.0))) }
     {
         let desk = self.desk;
         desk.cell(cell).store(Some(self))
@@ -67,7 +70,8 @@ impl<'t, D: Domain> Shared<'t, D> {
     /// The pointer goes into the cell, and what that held comes out, in C++ `exchange(std::move(p))`.
     #[inline(always)]
     pub fn exchange(self, cell: SharedCell) -> Result<Option<Shared<'t, D>>, Fault>
-        ensures { IfOk result (Exchanged D.opened None (Free cell.0) Owner (Some self.entry)) }
+        ensures exchanged { IfOk result (Exchanged D.opened None (Free cell.0) Owner (Some self.entry)) }
+        ensures refused { IfErr result (WhyNotDone D.opened D.opened.shape.shared_cells None cell.0 (Call.Exchange (spot.Shared cell.0))) }
     {
         let desk = self.desk;
         desk.cell(cell).exchange(Some(self))
@@ -120,8 +124,10 @@ impl<'t, D: Domain> Shared<'t, D> {
     /// An owner of what its weak member is of (waits). None where that is empty or expired.
     #[inline(always)]
     pub fn parent<R: Wait>(&self, rt: &R) -> Result<Option<Shared<'t, D>>, Fault>
-        ensures { IfOk result (λ r. (w : Option (Known D.Value)) × Loaded D.opened (Some self.now)
+        ensures parent { IfOk result (λ r. (w : Option (Known D.Value)) × Loaded D.opened (Some self.now)
             (weak_cell_at D.opened (Some self.now) 0) kind.Weak w × IsOwnerOf D.opened w r) }
+        ensures refused { IfErr result
+            (WhyNotLocked D.opened D.opened.shape.weak_cells (Some self.now) 0 (Call.Load Spot.Up)) }
     {
         self.up().lock(rt)
     }

@@ -1,8 +1,9 @@
 //! A weak pointer that goes into a cell.
-ghost use Rattle.std.specs.Prelude.{◌≡◌, ◌+◌, IfOk, None, OnOk, Some};
+ghost use Rattle.std.specs.Prelude.{◌≡◌, ◌+◌, IfErr, IfOk, None, OnOk, Some};
 ghost use Rattle.control_word.specs.declared.model.event.Cell.TheVariants.{Free};
 ghost use Rattle.control_word.specs.declared.model.handle.Kind.TheVariants as kind;
-ghost use Rattle.owned.specs.Cells.{Exchanged, StoredWeakly};
+ghost use Rattle.owned.specs.Cells.{Exchanged, StoredWeakly, WhyNotDone};
+ghost use Rattle.owned.specs.declared.fault.call.Spot.TheVariants as spot;
 ghost use Rattle.owned.specs.Beside.{seen_by};
 
 use crate::cells::WeakCell;
@@ -10,6 +11,7 @@ use crate::claim::weak_claim::WeakClaim;
 use crate::desk::Desk;
 use crate::domain::Domain;
 use crate::fault::Fault;
+use crate::fault::call::Call;
 use crate::weak::Weak;
 
 /// The pointer of a claim, if there is one.
@@ -50,8 +52,9 @@ impl<'t, D: Domain> Weak<'t, D> {
     /// The pointer goes into the cell, in C++ `store(std::move(w))`, and what that held lets go.
     #[inline(always)]
     pub fn store(self, cell: WeakCell) -> Result<(), Fault>
-        ensures { OnOk result
+        ensures stored { OnOk result
             (StoredWeakly D.opened None (Free (D.opened.shape.shared_cells + cell.0)) (Some self.entry)) }
+        ensures refused { IfErr result (WhyNotDone D.opened D.opened.shape.weak_cells None cell.0 (Call.Store (spot.Weak cell.0))) }
     {
         let desk = self.desk;
         desk.weak_cell(cell).store(Some(self))
@@ -60,8 +63,9 @@ impl<'t, D: Domain> Weak<'t, D> {
     /// The pointer goes into the cell, and what that held comes out, in C++ `exchange(std::move(w))`.
     #[inline(always)]
     pub fn exchange(self, cell: WeakCell) -> Result<Option<Weak<'t, D>>, Fault>
-        ensures { IfOk result
+        ensures exchanged { IfOk result
             (Exchanged D.opened None (Free (D.opened.shape.shared_cells + cell.0)) kind.Weak (Some self.entry)) }
+        ensures refused { IfErr result (WhyNotDone D.opened D.opened.shape.weak_cells None cell.0 (Call.Exchange (spot.Weak cell.0))) }
     {
         let desk = self.desk;
         desk.weak_cell(cell).exchange(Some(self))

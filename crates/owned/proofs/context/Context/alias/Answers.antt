@@ -1,9 +1,9 @@
-use Rattle.std.proofs.Common.{ap, sym, ◌∙◌}
+use Rattle.std.proofs.Common.{ap, sym, ◌∙◌, refl}
 use Rattle.control_word.specs.declared.model.handle.Kind.TheVariants.{Owner}
 use Rattle.control_block.specs.Desks.{bag_of}
 use Rattle.control_block.specs.declared.handles.Held.TheVariants as held
 use Rattle.owned.proofs.Calls.{by_share}
-use Rattle.owned.proofs.Handles.{bag_by, more_kept, of_one, owner_held}
+use Rattle.owned.proofs.Handles.{bag_by, more_kept, of_one, owner_held, passed_on, was}
 use Rattle.owned.specs.Known.{block_of}
 use Rattle.owned.proofs.context.Context.alias.Goals as goal
 
@@ -29,3 +29,11 @@ returns-clause-one g c =
     let h = c.in_ok-handle.handle in let of = c.look-of.result.now in let says = c.in_ok-handle.ensures in
     of_one o d e p p cs c.args.of.now.at c.args.of.now.known c.came.result.known (held.Owner h) c.self.invariant
     c.look-of.ensures.has (by_share d of.block of.place _ e says.event) c.came.ensures.known (says.handle.0 ∙ ap block_of (sym c.look-of.ensures.handle))
+
+pub returns-in_err-handle-clause-refused : goal.returns-in_err-handle-clause-refused
+returns-in_err-handle-clause-refused g c =
+    let o = g.D.Domain.opened in let d = c.self.inside.desk in let says = c.in_err-handle.ensures in
+    passed_on _ _ c.in_err-handle.field-0.0 (c.from_residual.ensures.1) (
+      says.refused.0,
+      was o d c.self.inside.pile c.self.inside.claims.entries c.args.of.now.at c.args.of.now.known c.self.invariant c.look-of.ensures.has (says.limit.0 refl),
+    )

@@ -1,7 +1,8 @@
-use Rattle.std.proofs.Common.{List, [], ◌∷◌, Option, sym, subst}
+use Rattle.std.proofs.Common.{List, [], ◌∷◌, Option, sym, subst, refl}
 use Rattle.control_block.specs.declared.handles.Held.TheVariants as held
 use Rattle.control_word.specs.declared.model.handle.Kind.TheVariants.{Weak}
 use Rattle.owned.proofs.CellCalls.{loaded, open_weak, weak_alike, stays}
+use Rattle.owned.proofs.Handles.{passed_on, was_at}
 use Rattle.owned.proofs.InHand.{bears_on, comes, nothing_beside}
 use Rattle.owned.proofs.Later.{by_event}
 use Rattle.owned.specs.Beside.{IsWholeBeside}
@@ -26,3 +27,8 @@ returns-clause-loaded g c =
     let says = c.in_ok-found.ensures in let w = nothing_beside o d p cs c.self.invariant in
     loaded o d e _ _ _ Weak (held.Weak c.in_ok-found.found) _ (stays o d p [] cs _ w c.look_at.ensures.has)
     (weak_alike o d c.args.at.site _ (stays o d p [] cs _ w c.look_at.ensures.has) c.requires.cell) says.event c.arrived_weak.ensures.came
+
+pub returns-in_err-found-clause-refused : goal.returns-in_err-found-clause-refused
+returns-in_err-found-clause-refused g c =
+    let o = g.D.Domain.opened in let d = c.self.inside.desk in let says = c.in_err-found.ensures in
+    passed_on _ _ c.in_err-found.field-0.0 (c.from_residual.ensures.1) (says.refused.0, was_at o d c.self.inside.pile c.self.inside.claims.entries _ c.self.invariant c.look_at.ensures.has (says.limit.0 refl))

@@ -1,10 +1,8 @@
-use Rattle.std.proofs.Common.{Err, Ok, ap, sym, subst, ◌∙◌}
-use Rattle.control_block.specs.declared.handles.Held.{Held}
+use Rattle.std.proofs.Common.{Err, Ok, ap, sym, ◌∙◌}
 use Rattle.control_block.specs.declared.handles.Held.TheVariants as held
-use Rattle.owned.proofs.Calls.{by_upgrade, found_none, upgraded}
-use Rattle.owned.proofs.Handles.{alike, bears_by, more_kept, of_one, since, weak_held}
-use Rattle.owned.specs.Known.{block_of, place_of}
-use Rattle.owned.specs.Objects.{FindsNoOwner}
+use Rattle.owned.proofs.Calls.{by_upgrade, upgraded}
+use Rattle.owned.proofs.Handles.{alike, bears_by, more_kept, no_owner, of_one, weak_held}
+use Rattle.owned.specs.Known.{block_of}
 use Rattle.owned.proofs.context.Context.upgrade.Goals as goal
 
 pub upgrade-requires-clause-holds : goal.upgrade-requires-clause-holds
@@ -39,10 +37,8 @@ returns-in-Ok-clause-one g c =
     c.look-of.ensures.has (by_upgrade d of.block of.place (Ok h) e says.upgrade) c.came.ensures.known
     ((upgraded d of.block of.place h e says.upgrade).0 ∙ ap block_of (sym c.look-of.ensures.handle))
 
-pub returns-in-Err-clause-none : goal.returns-in-Err-clause-none
-returns-in-Err-clause-none g c =
-    let o = g.D.Domain.opened in let d = c.self.inside.desk in let e = c.upgrade.new.desk in let of = c.look-of.result.now in
-    λ bad.
-    since o d e c.self.inside.pile c.self.inside.claims.entries c.args.of.now.at c.args.of.now.known c.self.invariant c.look-of.ensures.has
-    (subst (λ (h : Held). FindsNoOwner d (block_of h) (place_of h) e) (sym c.look-of.ensures.handle)
-    (found_none d of.block of.place c.in-Err.why e c.in-Err.ensures.upgrade bad))
+pub returns-in-Err-clause-refused : goal.returns-in-Err-clause-refused
+returns-in-Err-clause-refused g c =
+    let o = g.D.Domain.opened in let d = c.self.inside.desk in let e = c.upgrade.new.desk in let cs = c.self.inside.claims.entries in
+    no_owner o d e c.self.inside.pile cs c.args.of.now.at c.args.of.now.known (held.Weak c.look-of.result.now) c.in-Err.why c.self.invariant
+    c.look-of.ensures.has c.look-of.ensures.handle c.in-Err.ensures.upgrade

@@ -1,4 +1,4 @@
-use Rattle.std.proofs.Common.{◌≡◌, Option, None, Some, Result, Ok, Err, IfErr, IfOk, sym, subst, refl}
+use Rattle.std.proofs.Common.{◌≡◌, ℕ, List, slice_get, Option, None, Some, Result, Ok, Err, IfErr, IfOk, sym, subst, refl}
 use Rattle.control_word.specs.declared.place.Block.{Block}
 use Rattle.control_word.specs.declared.place.Place.{Place}
 use Rattle.control_word.specs.declared.refusal.Refusal.TheVariants.{Null}
@@ -7,8 +7,11 @@ use Rattle.control_block.specs.Desks.{DeskNow}
 use Rattle.control_block.specs.declared.handles.Held.{Held}
 use Rattle.shared_handle.specs.Visits.{IsVisit}
 use Rattle.owned.proofs.Calls.{by_visit}
-use Rattle.owned.proofs.Handles.{alike, bears_by, owner_held}
-use Rattle.owned.specs.Known.{GoesOn, Since, block_of, place_of}
+use Rattle.owned.proofs.Handles.{alike, bears_by, owner_held, since}
+use Rattle.shared_handle.specs.declared.pile.Pile.{Pile}
+use Rattle.owned.specs.Known.{Since, block_of, place_of}
+use Rattle.owned.specs.Whole.{IsWhole}
+use Rattle.owned.specs.declared.known.Known.{Known}
 use Rattle.owned.proofs.context.Context.visit.Goals as goal
 
 pub visit-requires-clause-holds : goal.visit-requires-clause-holds
@@ -40,18 +43,18 @@ module _ {V R F : Type 0} (changes : V → R → V → Type 0) (f : F) (d : Desk
       go (Err x) (Some b) is = elim is [ ]
 
   -- a visit that was done, was done since
-  done_since : (o : DeskNow V) (b : Option Block) (p : Option Place) → GoesOn o d → IsVisit changes f d b p r e
-      → IfOk r (λ (a : R). Since o (λ d e. IsVisit changes f d b p (Ok a) e))
-  done_since o b p goes is = go r is
+  done_since : (o : DeskNow V) (q : Pile V) (cs : List (Option (Known V))) (i : ℕ) (c : Known V) (b : Option Block) (p : Option Place) → IsWhole o d q cs
+      → slice_get cs i ≡ Some (Some c) → IsVisit changes f d b p r e → IfOk r (λ (a : R). Since o c (λ d e. IsVisit changes f d b p (Ok a) e))
+  done_since o q cs i c b p w at is = go r is
     where
-      go : (s : Result R (Refused F)) → IsVisit changes f d b p s e → IfOk s (λ (a : R). Since o (λ d e. IsVisit changes f d b p (Ok a) e))
-      go (Ok a) is = (d, e, goes, is)
+      go : (s : Result R (Refused F)) → IsVisit changes f d b p s e → IfOk s (λ (a : R). Since o c (λ d e. IsVisit changes f d b p (Ok a) e))
+      go (Ok a) is = since o d e q cs i c w at is
       go (Err x) is = _
 
 pub returns-clause-visit : goal.returns-clause-visit
 returns-clause-visit g c =
     let d = c.self.inside.desk in let e = c.visit.new.desk in let known = c.args.of.now.known in
-    done_since _ _ d c.visit.result e _ _ _ (c.self.invariant.lives c.args.of.now.at known c.look-of.ensures.has).goes
+    done_since _ _ d c.visit.result e _ _ _ _ known _ _ c.self.invariant c.look-of.ensures.has
     (same_visit _ _ d c.visit.result e _ _ (sym c.look-of.ensures.handle) c.visit.ensures.visit)
 
 pub returns-clause-refused : goal.returns-clause-refused

@@ -1,7 +1,7 @@
 use Rattle.std.proofs.Common.{ap, sym, ◌∙◌}
 use Rattle.control_block.specs.declared.handles.Held.TheVariants as held
 use Rattle.owned.proofs.Calls.{by_weak_share}
-use Rattle.owned.proofs.Handles.{more_kept, of_one, owner_held}
+use Rattle.owned.proofs.Handles.{more_kept, no_this, of_one, owner_held, passed_on}
 use Rattle.owned.specs.Known.{block_of}
 use Rattle.owned.proofs.context.Context.weak_from_this.Goals as goal
 
@@ -27,3 +27,9 @@ returns-clause-one g c =
     let h = c.in_ok-handle.handle in let of = c.look-of.result.now in let says = c.in_ok-handle.ensures in
     of_one o d e p p cs c.args.of.now.at c.args.of.now.known c.came.result.known (held.Weak h) c.self.invariant
     c.look-of.ensures.has (by_weak_share d h.block h.place e says.event) c.came.ensures.known (says.handle.0 ∙ ap block_of (sym c.look-of.ensures.handle))
+
+pub returns-in_err-handle-clause-refused : goal.returns-in_err-handle-clause-refused
+returns-in_err-handle-clause-refused g c =
+    let o = g.D.Domain.opened in let d = c.self.inside.desk in let cs = c.self.inside.claims.entries in
+    passed_on _ _ c.in_err-handle.field-0.0 (c.from_residual.ensures.1) (no_this o d c.self.inside.pile cs c.args.of.now.at c.args.of.now.known (held.Owner c.look-of.result.now) _ c.self.invariant c.look-of.ensures.has
+    c.look-of.ensures.handle c.in_err-handle.ensures.refused.0)

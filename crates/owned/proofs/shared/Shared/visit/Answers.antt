@@ -1,7 +1,7 @@
 use Rattle.std.proofs.Common.{◌≡◌, IfOk, Ok, Result, subst}
 use Rattle.std.specs.Fn.{FnOnceReturnsAtMut}
 use Rattle.shared_handle.specs.Visits.{IsVisit}
-use Rattle.owned.specs.Known.{Since, desk_at, owned, pointed}
+use Rattle.owned.specs.Known.{Since, owned, pointed}
 use Rattle.owned.proofs.shared.Shared.visit.Goals as goal
 
 -- what is said of a result's value, of the value that it has, and of what is seen
@@ -10,6 +10,6 @@ of_ok Does k l r a seen is does = subst (λ x. Does x a) seen (subst (λ s. IfOk
 
 pub returns-in-Ok-clause-done : goal.returns-in-Ok-clause-done
 returns-in-Ok-clause-done g c =
-    of_ok (λ k a. Since (desk_at g.D.Domain.opened k) (λ d e.
+    of_ok (λ k a. Since g.D.Domain.opened k (λ d e.
     IsVisit (λ was r becomes. FnOnceReturnsAtMut g.F.FnOnce c.args.f was r becomes) c.args.f d (owned k) (pointed k) (Ok a) e))
     c.self.inside.owner.known c.args.self.now c.visit-done.result c.in-Ok.answer c.self.view_is c.in-Ok.is c.visit-done.ensures.visit
