@@ -87,14 +87,14 @@ module _ {V : Type 0} where
       pub came : CameTo got after
 
   -- since the owner and the pointer came, the pointer went into the cell and what that held came out, by one step on it
-  pub record Exchanged (o : DeskNow V) (of : Option (Known V)) (x : Cell) (k : Kind) (new got : Option (Known V)) : Type 0
-    where
-      pub before : DeskNow V
-      pub after : DeskNow V
-      pub member : Stays o of before
-      pub pointer : Stays o new before
-      pub exchanges : Exchanges before x k (block_by new) (place_by new) (block_by got) (place_by got) after
-      pub came : CameTo got after
+  pub record Exchanged (o : DeskNow V) (of : Option (Known V)) (x : Cell) (k : Kind) (new got : Option (Known V))
+      : Type 0 where
+    pub before : DeskNow V
+    pub after : DeskNow V
+    pub member : Stays o of before
+    pub pointer : Stays o new before
+    pub exchanges : Exchanges before x k (block_by new) (place_by new) (block_by got) (place_by got) after
+    pub came : CameTo got after
 
   -- the same, and then what came out left
   pub record Stored (o : DeskNow V) (of : Option (Known V)) (x : Cell) (new : Option (Known V)) (gone : Gone) : Type 0
@@ -144,8 +144,8 @@ module _ {V : Type 0} where
       ((pointed c ≡ None) × (why ≡ fault.Refused call refusal.Null))
       ⊎ (IsOutside (owned c) (pointed c) × (why ≡ fault.Refused call refusal.Outside))
 
-  -- why a call on a place wasn't done: there is no cell, or else it came within a visit, or the desk had as many handles
-  -- as it may have
+  -- why a call on a place wasn't done: there is no cell, or else it came within a visit, or the desk had as many
+  -- handles as it may have
   abbrev pub WhyNotDone : DeskNow V → ℕ → Option (Known V) → ℕ → Call → Fault → Type 0
   WhyNotDone o many of n call why = WhyNoCell many of n call why ⊎ WhyNoMore o of call why
 

@@ -37,7 +37,8 @@ module _ {V : Type 0} where
     pub allowance : allowance_of e ≡ allowance_of d
 
   -- so it was of each worker from this number on
-  abbrev pub EachWorked : (ℕ → Answer) → ℕ → List (DeskNow V) → List (Result (Unit {0}) Fault) → List (DeskNow V) → Type 0
+  abbrev pub EachWorked : (ℕ → Answer) → ℕ → List (DeskNow V) → List (Result (Unit {0}) Fault) → List (DeskNow V)
+      → Type 0
   EachWorked answers n [] [] [] = Unit {0}
   EachWorked answers n (t ∷ ts) (r ∷ rs) (u ∷ us) = HasWorked (answers n) t r u × EachWorked answers (suc n) ts rs us
   EachWorked answers n _ _ _ = ⊥
@@ -57,8 +58,8 @@ module _ {V : Type 0} where
     pub blocks : ℕ
     pub shelves : Shelved blocks first d
 
-  -- each worker of a team worked once, with a part of the desk, which got all back; these are the faults that their work
-  -- ended with
+  -- each worker of a team worked once, with a part of the desk, which got all back; these are the faults that their
+  -- work ended with
   pub record Lends (answers : ℕ → Answer) (team : Team) (d : DeskNow V) (failed : List Failed) (e : DeskNow V) : Type 0
     where
       pub lent : List (DeskNow V)

@@ -21,8 +21,8 @@ pub record ContextNow (V : Type 0) : Type 0 where
   pub claims : List (Option (Known V))
 
 module _ {V : Type 0} where
-  -- the desk goes on legally from when it was opened, with the allowance that it had; the pile has what ends with it; it
-  -- has all handles that were claimed and didn't leave, and each is of the object that it was of when it came
+  -- the desk goes on legally from when it was opened, with the allowance that it had; the pile has what ends with it;
+  -- it has all handles that were claimed and didn't leave, and each is of the object that it was of when it came
   pub record IsWhole (o d : DeskNow V) (p : Pile V) (cs : List (Option (Known V))) : Type 0 where
     pub opened : GoesOn o d
     pub legal : IsLegal (opening_of o.shape) d.seen

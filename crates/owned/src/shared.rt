@@ -212,8 +212,8 @@ impl<'t, D: Domain> Shared<'t, D> {
     }
 
     /// Work on the object's value, in C++ `p->f()` (waits). Another visit of it waits meanwhile; calls on this desk
-    /// within `f` are refused `Busy`, and pointers that are dropped there let go when it is done. `Memory` where there is
-    /// none to list them, before `f` is called.
+    /// within `f` are refused `Busy`, and pointers that are dropped there let go when it is done. `Memory` where there
+    /// is none to list them, before `f` is called.
     #[inline(always)]
     pub fn visit<A, F: FnOnce(&mut D::Value) -> A + Drop, R: Wait>(
         &self,

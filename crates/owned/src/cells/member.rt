@@ -87,7 +87,8 @@ impl<'p, 't, D: Domain> Member<'p, 't, D> {
         ensures loaded { IfOk result (Loaded D.opened (seen_by (λ x. x.now.known) self.now.of)
             (shared_cell_at D.opened (seen_by (λ x. x.now.known) self.now.of)
             self.now.which self.now.number) Owner) }
-        ensures refused { IfErr result (WhyNotDone D.opened D.opened.shape.shared_cells (seen_by (λ x. x.now.known) self.now.of)
+        ensures refused { IfErr result
+            (WhyNotDone D.opened D.opened.shape.shared_cells (seen_by (λ x. x.now.known) self.now.of)
             self.now.number
             (Call.Load (shared_spot (seen_by (λ x. x.now.known) self.now.of) self.now.which self.now.number))) }
     {
@@ -107,7 +108,8 @@ impl<'p, 't, D: Domain> Member<'p, 't, D> {
         ensures stored { OnOk result ((gone : Gone) × Stored D.opened (seen_by (λ x. x.now.known) self.now.of)
             (shared_cell_at D.opened (seen_by (λ x. x.now.known) self.now.of)
             self.now.which self.now.number) new.entry gone) }
-        ensures refused { IfErr result (WhyNotDone D.opened D.opened.shape.shared_cells (seen_by (λ x. x.now.known) self.now.of)
+        ensures refused { IfErr result
+            (WhyNotDone D.opened D.opened.shape.shared_cells (seen_by (λ x. x.now.known) self.now.of)
             self.now.number
             (Call.Store (shared_spot (seen_by (λ x. x.now.known) self.now.of) self.now.which self.now.number))) }
     {
@@ -119,7 +121,8 @@ impl<'p, 't, D: Domain> Member<'p, 't, D> {
         ensures stored { OnOk result ((gone : Gone) × Stored D.opened (seen_by (λ x. x.now.known) self.now.of)
             (shared_cell_at D.opened (seen_by (λ x. x.now.known) self.now.of)
             self.now.which self.now.number) new.entry gone) }
-        ensures refused { IfErr result (WhyNotDone D.opened D.opened.shape.shared_cells (seen_by (λ x. x.now.known) self.now.of)
+        ensures refused { IfErr result
+            (WhyNotDone D.opened D.opened.shape.shared_cells (seen_by (λ x. x.now.known) self.now.of)
             self.now.number call) }
     {
         let desk = self.desk;
@@ -142,7 +145,8 @@ impl<'p, 't, D: Domain> Member<'p, 't, D> {
         ensures exchanged { IfOk result (Exchanged D.opened (seen_by (λ x. x.now.known) self.now.of)
             (shared_cell_at D.opened (seen_by (λ x. x.now.known) self.now.of)
             self.now.which self.now.number) Owner new.entry) }
-        ensures refused { IfErr result (WhyNotDone D.opened D.opened.shape.shared_cells (seen_by (λ x. x.now.known) self.now.of)
+        ensures refused { IfErr result
+            (WhyNotDone D.opened D.opened.shape.shared_cells (seen_by (λ x. x.now.known) self.now.of)
             self.now.number
             (Call.Exchange (shared_spot (seen_by (λ x. x.now.known) self.now.of) self.now.which self.now.number))) }
     {
@@ -164,7 +168,8 @@ impl<'p, 't, D: Domain> Member<'p, 't, D> {
         ensures taken { IfOk result (Exchanged D.opened (seen_by (λ x. x.now.known) self.now.of)
             (shared_cell_at D.opened (seen_by (λ x. x.now.known) self.now.of)
             self.now.which self.now.number) Owner None) }
-        ensures refused { IfErr result (WhyNotDone D.opened D.opened.shape.shared_cells (seen_by (λ x. x.now.known) self.now.of)
+        ensures refused { IfErr result
+            (WhyNotDone D.opened D.opened.shape.shared_cells (seen_by (λ x. x.now.known) self.now.of)
             self.now.number
             (Call.Exchange (shared_spot (seen_by (λ x. x.now.known) self.now.of) self.now.which self.now.number))) }
     {
@@ -177,7 +182,8 @@ impl<'p, 't, D: Domain> Member<'p, 't, D> {
         ensures cleared { OnOk result ((gone : Gone) × Stored D.opened (seen_by (λ x. x.now.known) self.now.of)
             (shared_cell_at D.opened (seen_by (λ x. x.now.known) self.now.of)
             self.now.which self.now.number) None gone) }
-        ensures refused { IfErr result (WhyNotDone D.opened D.opened.shape.shared_cells (seen_by (λ x. x.now.known) self.now.of)
+        ensures refused { IfErr result
+            (WhyNotDone D.opened D.opened.shape.shared_cells (seen_by (λ x. x.now.known) self.now.of)
             self.now.number
             (Call.Clear (shared_spot (seen_by (λ x. x.now.known) self.now.of) self.now.which self.now.number))) }
     {

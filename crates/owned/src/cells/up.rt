@@ -80,7 +80,8 @@ impl<'p, 't, D: Domain> Up<'p, 't, D> {
         ensures loaded { IfOk result (Loaded D.opened (seen_by (λ x. x.now.known) self.now.of)
             (weak_cell_at D.opened (seen_by (λ x. x.now.known) self.now.of)
             self.now.number) kind.Weak) }
-        ensures refused { IfErr result (WhyNotDone D.opened D.opened.shape.weak_cells (seen_by (λ x. x.now.known) self.now.of)
+        ensures refused { IfErr result
+            (WhyNotDone D.opened D.opened.shape.weak_cells (seen_by (λ x. x.now.known) self.now.of)
             self.now.number (Call.Load (weak_spot (seen_by (λ x. x.now.known) self.now.of) self.now.number))) }
     {
         let desk = self.desk;
@@ -116,7 +117,8 @@ impl<'p, 't, D: Domain> Up<'p, 't, D> {
         ensures stored { OnOk result (StoredWeakly D.opened (seen_by (λ x. x.now.known) self.now.of)
             (weak_cell_at D.opened (seen_by (λ x. x.now.known) self.now.of)
             self.now.number) new.entry) }
-        ensures refused { IfErr result (WhyNotDone D.opened D.opened.shape.weak_cells (seen_by (λ x. x.now.known) self.now.of)
+        ensures refused { IfErr result
+            (WhyNotDone D.opened D.opened.shape.weak_cells (seen_by (λ x. x.now.known) self.now.of)
             self.now.number (Call.Store (weak_spot (seen_by (λ x. x.now.known) self.now.of) self.now.number))) }
     {
         self.put(Call::Store(self.spot()), new)
@@ -127,7 +129,8 @@ impl<'p, 't, D: Domain> Up<'p, 't, D> {
         ensures stored { OnOk result (StoredWeakly D.opened (seen_by (λ x. x.now.known) self.now.of)
             (weak_cell_at D.opened (seen_by (λ x. x.now.known) self.now.of)
             self.now.number) new.entry) }
-        ensures refused { IfErr result (WhyNotDone D.opened D.opened.shape.weak_cells (seen_by (λ x. x.now.known) self.now.of)
+        ensures refused { IfErr result
+            (WhyNotDone D.opened D.opened.shape.weak_cells (seen_by (λ x. x.now.known) self.now.of)
             self.now.number call) }
     {
         let desk = self.desk;
@@ -147,7 +150,8 @@ impl<'p, 't, D: Domain> Up<'p, 't, D> {
         ensures exchanged { IfOk result (Exchanged D.opened (seen_by (λ x. x.now.known) self.now.of)
             (weak_cell_at D.opened (seen_by (λ x. x.now.known) self.now.of)
             self.now.number) kind.Weak new.entry) }
-        ensures refused { IfErr result (WhyNotDone D.opened D.opened.shape.weak_cells (seen_by (λ x. x.now.known) self.now.of)
+        ensures refused { IfErr result
+            (WhyNotDone D.opened D.opened.shape.weak_cells (seen_by (λ x. x.now.known) self.now.of)
             self.now.number (Call.Exchange (weak_spot (seen_by (λ x. x.now.known) self.now.of) self.now.number))) }
     {
         let desk = self.desk;
@@ -168,7 +172,8 @@ impl<'p, 't, D: Domain> Up<'p, 't, D> {
         ensures taken { IfOk result (Exchanged D.opened (seen_by (λ x. x.now.known) self.now.of)
             (weak_cell_at D.opened (seen_by (λ x. x.now.known) self.now.of)
             self.now.number) kind.Weak None) }
-        ensures refused { IfErr result (WhyNotDone D.opened D.opened.shape.weak_cells (seen_by (λ x. x.now.known) self.now.of)
+        ensures refused { IfErr result
+            (WhyNotDone D.opened D.opened.shape.weak_cells (seen_by (λ x. x.now.known) self.now.of)
             self.now.number (Call.Exchange (weak_spot (seen_by (λ x. x.now.known) self.now.of) self.now.number))) }
     {
         self.exchange(None)
@@ -180,7 +185,8 @@ impl<'p, 't, D: Domain> Up<'p, 't, D> {
         ensures cleared { OnOk result (StoredWeakly D.opened (seen_by (λ x. x.now.known) self.now.of)
             (weak_cell_at D.opened (seen_by (λ x. x.now.known) self.now.of)
             self.now.number) None) }
-        ensures refused { IfErr result (WhyNotDone D.opened D.opened.shape.weak_cells (seen_by (λ x. x.now.known) self.now.of)
+        ensures refused { IfErr result
+            (WhyNotDone D.opened D.opened.shape.weak_cells (seen_by (λ x. x.now.known) self.now.of)
             self.now.number (Call.Clear (weak_spot (seen_by (λ x. x.now.known) self.now.of) self.now.number))) }
     {
         self.put(Call::Clear(self.spot()), None)

@@ -3,7 +3,8 @@ ghost use Rattle.std.specs.Prelude.{◌≡◌, ◌+◌, IfErr, IfOk, None, OnOk,
 ghost use Rattle.control_word.specs.declared.model.event.Cell.TheVariants.{Free};
 ghost use Rattle.control_word.specs.declared.model.handle.Kind.TheVariants as kind;
 ghost use Rattle.shared_handle.specs.declared.pile.Gone.{Gone};
-ghost use Rattle.owned.specs.Cells.{Exchanged, IsOwnerOf, Loaded, Stored, StoredWeakly, WhyNotDone, WhyNotLocked, weak_cell_at};
+ghost use Rattle.owned.specs.Cells.{Exchanged, IsOwnerOf, Loaded, Stored};
+ghost use Rattle.owned.specs.Cells.{StoredWeakly, WhyNotDone, WhyNotLocked, weak_cell_at};
 ghost use Rattle.owned.specs.declared.fault.call.Spot.TheVariants as spot;
 ghost use Rattle.owned.specs.declared.known.Known.{Known};
 ghost use Rattle.owned.specs.Beside.{seen_by};
@@ -50,7 +51,8 @@ impl<'d, D: Domain> Desk<'d, D> {
     #[inline(always)]
     pub fn load<R: Wait>(&self, rt: &R, cell: SharedCell) -> Result<Option<Shared<'_, D>>, Fault>
         ensures loaded { IfOk result (Loaded D.opened None (Free cell.0) kind.Owner) }
-        ensures refused { IfErr result (WhyNotDone D.opened D.opened.shape.shared_cells None cell.0 (Call.Load (spot.Shared cell.0))) }
+        ensures refused { IfErr result
+            (WhyNotDone D.opened D.opened.shape.shared_cells None cell.0 (Call.Load (spot.Shared cell.0))) }
     {
         self.cell(cell).load(rt)
     }
@@ -60,7 +62,8 @@ impl<'d, D: Domain> Desk<'d, D> {
     pub fn load_weak<R: Wait>(&self, rt: &R, cell: WeakCell) -> Result<Option<Weak<'_, D>>, Fault>
         ensures loaded { IfOk result
             (Loaded D.opened None (Free (D.opened.shape.shared_cells + cell.0)) kind.Weak) }
-        ensures refused { IfErr result (WhyNotDone D.opened D.opened.shape.weak_cells None cell.0 (Call.Load (spot.Weak cell.0))) }
+        ensures refused { IfErr result
+            (WhyNotDone D.opened D.opened.shape.weak_cells None cell.0 (Call.Load (spot.Weak cell.0))) }
     {
         self.weak_cell(cell).load(rt)
     }
@@ -70,7 +73,8 @@ impl<'d, D: Domain> Desk<'d, D> {
     pub fn lock<R: Wait>(&self, rt: &R, cell: WeakCell) -> Result<Option<Shared<'_, D>>, Fault>
         ensures locked { IfOk result (λ r. (w : Option (Known D.Value)) × Loaded D.opened None
             (weak_cell_at D.opened None cell.0) kind.Weak w × IsOwnerOf D.opened w r) }
-        ensures refused { IfErr result (WhyNotLocked D.opened D.opened.shape.weak_cells None cell.0 (Call.Load (spot.Weak cell.0))) }
+        ensures refused { IfErr result
+            (WhyNotLocked D.opened D.opened.shape.weak_cells None cell.0 (Call.Load (spot.Weak cell.0))) }
     {
         self.weak_cell(cell).lock(rt)
     }
@@ -79,7 +83,8 @@ impl<'d, D: Domain> Desk<'d, D> {
     #[inline(always)]
     pub fn store<'t>(&'t self, cell: SharedCell, new: Option<Shared<'t, D>>) -> Result<(), Fault>
         ensures stored { OnOk result ((gone : Gone) × Stored D.opened None (Free cell.0) new.entry gone) }
-        ensures refused { IfErr result (WhyNotDone D.opened D.opened.shape.shared_cells None cell.0 (Call.Store (spot.Shared cell.0))) }
+        ensures refused { IfErr result
+            (WhyNotDone D.opened D.opened.shape.shared_cells None cell.0 (Call.Store (spot.Shared cell.0))) }
     {
         self.cell(cell).store(new)
     }
@@ -89,7 +94,8 @@ impl<'d, D: Domain> Desk<'d, D> {
     pub fn store_weak<'t>(&'t self, cell: WeakCell, new: Option<Weak<'t, D>>) -> Result<(), Fault>
         ensures stored { OnOk result
             (StoredWeakly D.opened None (Free (D.opened.shape.shared_cells + cell.0)) new.entry) }
-        ensures refused { IfErr result (WhyNotDone D.opened D.opened.shape.weak_cells None cell.0 (Call.Store (spot.Weak cell.0))) }
+        ensures refused { IfErr result
+            (WhyNotDone D.opened D.opened.shape.weak_cells None cell.0 (Call.Store (spot.Weak cell.0))) }
     {
         self.weak_cell(cell).store(new)
     }
@@ -98,7 +104,8 @@ impl<'d, D: Domain> Desk<'d, D> {
     #[inline(always)]
     pub fn clear(&self, cell: SharedCell) -> Result<(), Fault>
         ensures cleared { OnOk result ((gone : Gone) × Stored D.opened None (Free cell.0) None gone) }
-        ensures refused { IfErr result (WhyNotDone D.opened D.opened.shape.shared_cells None cell.0 (Call.Clear (spot.Shared cell.0))) }
+        ensures refused { IfErr result
+            (WhyNotDone D.opened D.opened.shape.shared_cells None cell.0 (Call.Clear (spot.Shared cell.0))) }
     {
         self.cell(cell).clear()
     }
@@ -108,7 +115,8 @@ impl<'d, D: Domain> Desk<'d, D> {
     pub fn clear_weak(&self, cell: WeakCell) -> Result<(), Fault>
         ensures cleared { OnOk result
             (StoredWeakly D.opened None (Free (D.opened.shape.shared_cells + cell.0)) None) }
-        ensures refused { IfErr result (WhyNotDone D.opened D.opened.shape.weak_cells None cell.0 (Call.Clear (spot.Weak cell.0))) }
+        ensures refused { IfErr result
+            (WhyNotDone D.opened D.opened.shape.weak_cells None cell.0 (Call.Clear (spot.Weak cell.0))) }
     {
         self.weak_cell(cell).clear()
     }
@@ -117,7 +125,8 @@ impl<'d, D: Domain> Desk<'d, D> {
     #[inline(always)]
     pub fn take(&self, cell: SharedCell) -> Result<Option<Shared<'_, D>>, Fault>
         ensures taken { IfOk result (Exchanged D.opened None (Free cell.0) kind.Owner None) }
-        ensures refused { IfErr result (WhyNotDone D.opened D.opened.shape.shared_cells None cell.0 (Call.Exchange (spot.Shared cell.0))) }
+        ensures refused { IfErr result
+            (WhyNotDone D.opened D.opened.shape.shared_cells None cell.0 (Call.Exchange (spot.Shared cell.0))) }
     {
         self.cell(cell).take()
     }

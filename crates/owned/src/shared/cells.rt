@@ -61,7 +61,8 @@ impl<'t, D: Domain> Shared<'t, D> {
     #[inline(always)]
     pub fn store(self, cell: SharedCell) -> Result<(), Fault>
         ensures stored { OnOk result ((gone : Gone) × Stored D.opened None (Free cell.0) (Some self.entry) gone) }
-        ensures refused { IfErr result (WhyNotDone D.opened D.opened.shape.shared_cells None cell.0 (Call.Store (spot.Shared cell.0))) }
+        ensures refused { IfErr result
+            (WhyNotDone D.opened D.opened.shape.shared_cells None cell.0 (Call.Store (spot.Shared cell.0))) }
     {
         let desk = self.desk;
         desk.cell(cell).store(Some(self))
@@ -71,7 +72,8 @@ impl<'t, D: Domain> Shared<'t, D> {
     #[inline(always)]
     pub fn exchange(self, cell: SharedCell) -> Result<Option<Shared<'t, D>>, Fault>
         ensures exchanged { IfOk result (Exchanged D.opened None (Free cell.0) Owner (Some self.entry)) }
-        ensures refused { IfErr result (WhyNotDone D.opened D.opened.shape.shared_cells None cell.0 (Call.Exchange (spot.Shared cell.0))) }
+        ensures refused { IfErr result
+            (WhyNotDone D.opened D.opened.shape.shared_cells None cell.0 (Call.Exchange (spot.Shared cell.0))) }
     {
         let desk = self.desk;
         desk.cell(cell).exchange(Some(self))

@@ -54,7 +54,8 @@ impl<'t, D: Domain> Weak<'t, D> {
     pub fn store(self, cell: WeakCell) -> Result<(), Fault>
         ensures stored { OnOk result
             (StoredWeakly D.opened None (Free (D.opened.shape.shared_cells + cell.0)) (Some self.entry)) }
-        ensures refused { IfErr result (WhyNotDone D.opened D.opened.shape.weak_cells None cell.0 (Call.Store (spot.Weak cell.0))) }
+        ensures refused { IfErr result
+            (WhyNotDone D.opened D.opened.shape.weak_cells None cell.0 (Call.Store (spot.Weak cell.0))) }
     {
         let desk = self.desk;
         desk.weak_cell(cell).store(Some(self))
@@ -65,7 +66,8 @@ impl<'t, D: Domain> Weak<'t, D> {
     pub fn exchange(self, cell: WeakCell) -> Result<Option<Weak<'t, D>>, Fault>
         ensures exchanged { IfOk result
             (Exchanged D.opened None (Free (D.opened.shape.shared_cells + cell.0)) kind.Weak (Some self.entry)) }
-        ensures refused { IfErr result (WhyNotDone D.opened D.opened.shape.weak_cells None cell.0 (Call.Exchange (spot.Weak cell.0))) }
+        ensures refused { IfErr result
+            (WhyNotDone D.opened D.opened.shape.weak_cells None cell.0 (Call.Exchange (spot.Weak cell.0))) }
     {
         let desk = self.desk;
         desk.weak_cell(cell).exchange(Some(self))

@@ -31,4 +31,5 @@ returns-clause-loaded g c =
 pub returns-in_err-found-clause-refused : goal.returns-in_err-found-clause-refused
 returns-in_err-found-clause-refused g c =
     let o = g.D.Domain.opened in let d = c.self.inside.desk in let says = c.in_err-found.ensures in
-    passed_on _ _ c.in_err-found.field-0.0 (c.from_residual.ensures.1) (says.refused.0, was_at o d c.self.inside.pile c.self.inside.claims.entries _ c.self.invariant c.look_at.ensures.has (says.limit.0 refl))
+    let was = was_at o d c.self.inside.pile c.self.inside.claims.entries _ c.self.invariant c.look_at.ensures.has (says.limit.0 refl) in
+    passed_on _ _ c.in_err-found.field-0.0 c.from_residual.ensures.1 (says.refused.0, was)

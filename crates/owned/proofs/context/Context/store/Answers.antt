@@ -53,4 +53,5 @@ returns-clause-stored g c =
 pub returns-in_err-handle-clause-refused : goal.returns-in_err-handle-clause-refused
 returns-in_err-handle-clause-refused g c =
     let o = g.D.Domain.opened in let d = c.self.inside.desk in let says = c.in_err-handle.ensures in
-    passed_on _ _ c.in_err-handle.field-0.0 (c.from_residual.ensures.1) (says.refused.0, was_at o d c.self.inside.pile c.self.inside.claims.entries _ c.self.invariant c.look_at.ensures.has (says.limit.0 refl).1)
+    let was = was_at o d c.self.inside.pile c.self.inside.claims.entries _ c.self.invariant c.look_at.ensures.has (says.limit.0 refl).1 in
+    passed_on _ _ c.in_err-handle.field-0.0 c.from_residual.ensures.1 (says.refused.0, was)

@@ -31,5 +31,6 @@ returns-clause-one g c =
 pub returns-in_err-handle-clause-refused : goal.returns-in_err-handle-clause-refused
 returns-in_err-handle-clause-refused g c =
     let o = g.D.Domain.opened in let d = c.self.inside.desk in let cs = c.self.inside.claims.entries in
-    passed_on _ _ c.in_err-handle.field-0.0 (c.from_residual.ensures.1) (no_this o d c.self.inside.pile cs c.args.of.now.at c.args.of.now.known (held.Owner c.look-of.result.now) _ c.self.invariant c.look-of.ensures.has
-    c.look-of.ensures.handle c.in_err-handle.ensures.refused.0)
+    let no = no_this o d c.self.inside.pile cs c.args.of.now.at c.args.of.now.known (held.Owner c.look-of.result.now) _ c.self.invariant c.look-of.ensures.has
+    c.look-of.ensures.handle c.in_err-handle.ensures.refused.0 in
+    passed_on _ _ c.in_err-handle.field-0.0 c.from_residual.ensures.1 no
