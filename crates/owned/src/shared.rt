@@ -243,7 +243,9 @@ impl<'t, D: Domain> Shared<'t, D> {
     pub fn snapshot<R: Wait>(&self, rt: &R) -> Result<D::Value, Fault>
     where
         D::Value: Clone,
-        ensures { IfErr result (WhyNotVisited self.now) }
+        ensures copy { IfOk result (λ v. Since D.opened self.now (λ d e. IsVisit (λ was r becomes.
+            D.Value.is_clone was r) v d (owned self.now) (pointed self.now) (Ok v) e)) }
+        ensures fault { IfErr result (WhyNotVisited self.now) }
     {
         match self.visit(rt, |value| value.clone())? {
             Ok(value) => Ok(value),
