@@ -6,6 +6,7 @@ use shared_handle::Pile;
 use std::marker::Model;
 
 mod cells;
+pub(crate) mod compares;
 mod ending;
 mod leaving;
 mod looks;
@@ -17,6 +18,7 @@ mod sharing;
 mod shelf;
 mod visiting;
 mod weak_cells;
+mod weak_compares;
 mod weaks;
 
 /// What lies in a desk's cell: the domain's desk, what is left to end with it, and what is known of its handles.

@@ -4,6 +4,8 @@
 #[cfg(test)]
 mod cells;
 #[cfg(test)]
+mod compares;
+#[cfg(test)]
 mod owners;
 pub mod places;
 #[cfg(test)]

@@ -46,7 +46,7 @@ impl<'p, 't, D: Domain> Drop for Member<'p, 't, D> {
 impl<'p, 't, D: Domain> Member<'p, 't, D> {
     /// What messages call it.
     #[inline(always)]
-    fn spot(&self) -> Spot
+    pub(crate) fn spot(&self) -> Spot
         ensures { result ≡ shared_spot (seen_by (λ x. x.now.known) self.now.of) self.now.which self.now.number }
     {
         match self.of {
@@ -60,7 +60,7 @@ impl<'p, 't, D: Domain> Member<'p, 't, D> {
 
     /// The cell, for a call.
     #[inline(always)]
-    fn at(&self, call: Call) -> Result<SharedAt<'p>, Fault>
+    pub(crate) fn at(&self, call: Call) -> Result<SharedAt<'p>, Fault>
         ensures cell { IfOk result (λ a. IsSharedSite D.opened a.site (seen_by (λ x. x.now.known) self.now.of)) }
         ensures there { IfOk result (λ a. a.site ≡ shared_site_of (seen_by (λ x. x.now.known) self.now.of)
             self.now.which self.now.number) }

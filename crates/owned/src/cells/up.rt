@@ -42,7 +42,7 @@ impl<'p, 't, D: Domain> Drop for Up<'p, 't, D> {
 impl<'p, 't, D: Domain> Up<'p, 't, D> {
     /// What messages call it.
     #[inline(always)]
-    fn spot(&self) -> Spot
+    pub(crate) fn spot(&self) -> Spot
         ensures { result ≡ weak_spot (seen_by (λ x. x.now.known) self.now.of) self.now.number }
     {
         match self.of {
@@ -53,7 +53,7 @@ impl<'p, 't, D: Domain> Up<'p, 't, D> {
 
     /// The cell, for a call.
     #[inline(always)]
-    fn at(&self, call: Call) -> Result<WeakAt<'p>, Fault>
+    pub(crate) fn at(&self, call: Call) -> Result<WeakAt<'p>, Fault>
         ensures cell { IfOk result (λ a. IsWeakSite D.opened a.site (seen_by (λ x. x.now.known) self.now.of)) }
         ensures there { IfOk result (λ a. a.site ≡ weak_site_of (seen_by (λ x. x.now.known) self.now.of)
             self.now.number) }

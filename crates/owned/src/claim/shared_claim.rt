@@ -86,6 +86,34 @@ impl<D: Domain> SharedClaim<D> {
         self.handle.place()
     }
 
+    /// The owner, which is the desk's, and its entry, for a call that may give it back.
+    #[inline(always)]
+    pub(crate) fn split(
+        self,
+        claims: &mut Claims<D>,
+    ) -> (handles::Shared, GhostEntry<D, Known<D::Value>>)
+        ensures claims { claims.new.entries ≡ claims.old.entries }
+        ensures has { slice_get claims.old.entries self.at ≡ Some (Some self.known) }
+        ensures handle { self.known.handle ≡ held.Owner result.0 }
+        ensures entry { (result.1.at ≡ self.at) × (result.1.value ≡ self.known) }
+    {
+        let SharedClaim { handle, entry } = self;
+        claims.look(&entry);
+        (handle, entry)
+    }
+
+    /// The owner is a claim again.
+    #[inline(always)]
+    pub(crate) fn join(
+        handle: handles::Shared,
+        entry: GhostEntry<D, Known<D::Value>>,
+    ) -> SharedClaim<D>
+        requires { entry.value.handle ≡ held.Owner handle }
+        ensures { (result.at ≡ entry.at) × (result.known ≡ entry.value) }
+    {
+        SharedClaim { handle, entry }
+    }
+
     /// The owner is forgotten: its desk holds it still.
     pub(crate) fn forget(self) {
         let SharedClaim { handle, entry: _ } = self;

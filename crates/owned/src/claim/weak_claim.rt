@@ -78,6 +78,31 @@ impl<D: Domain> WeakClaim<D> {
         self.handle.place()
     }
 
+    /// The handle, which is the desk's, and its entry, for a call that may give it back.
+    #[inline(always)]
+    pub(crate) fn split(
+        self,
+        claims: &mut Claims<D>,
+    ) -> (handles::Weak, GhostEntry<D, Known<D::Value>>)
+        ensures claims { claims.new.entries ≡ claims.old.entries }
+        ensures has { slice_get claims.old.entries self.at ≡ Some (Some self.known) }
+        ensures handle { self.known.handle ≡ held.Weak result.0 }
+        ensures entry { (result.1.at ≡ self.at) × (result.1.value ≡ self.known) }
+    {
+        let WeakClaim { handle, entry } = self;
+        claims.look(&entry);
+        (handle, entry)
+    }
+
+    /// The handle is a claim again.
+    #[inline(always)]
+    pub(crate) fn join(handle: handles::Weak, entry: GhostEntry<D, Known<D::Value>>) -> WeakClaim<D>
+        requires { entry.value.handle ≡ held.Weak handle }
+        ensures { (result.at ≡ entry.at) × (result.known ≡ entry.value) }
+    {
+        WeakClaim { handle, entry }
+    }
+
     /// The handle is forgotten: its desk holds it still.
     pub(crate) fn forget(self) {
         let WeakClaim { handle, entry: _ } = self;
