@@ -91,15 +91,15 @@ module _ {V : Type 0} where
       ap (λ (n : ℕ). cell.Member n 2) (object_of (desk_at o c) d c.handle b is stays.object)
 
   -- what arrived, by what is known of it
-  block_arrived : (h : Held) (e : DeskNow V) (got : Option (Known V)) → Arrives h e got → block_of h ≡ block_by got
+  pub block_arrived : (h : Held) (e : DeskNow V) (got : Option (Known V)) → Arrives h e got → block_of h ≡ block_by got
   block_arrived h e None is = is.0
   block_arrived h e (Some r) is = ap (λ (x : Known V). block_of x.handle) (sym is)
 
-  place_arrived : (h : Held) (e : DeskNow V) (got : Option (Known V)) → Arrives h e got → place_of h ≡ place_by got
+  pub place_arrived : (h : Held) (e : DeskNow V) (got : Option (Known V)) → Arrives h e got → place_of h ≡ place_by got
   place_arrived h e None is = is.1
   place_arrived h e (Some r) is = ap (λ (x : Known V). place_of x.handle) (sym is)
 
-  came_to : (h : Held) (e : DeskNow V) (got : Option (Known V)) → Arrives h e got → CameTo got e
+  pub came_to : (h : Held) (e : DeskNow V) (got : Option (Known V)) → Arrives h e got → CameTo got e
   came_to h e None is = tt
   came_to h e (Some r) is = ap (λ (x : Known V). x.seen) is
 
@@ -117,11 +117,11 @@ module _ {V : Type 0} where
       }
 
   -- what went in, by what is known of it
-  block_given : (new : Option (Known V)) (h : Held) → IsHandleOf new h → block_of h ≡ block_by new
+  pub block_given : (new : Option (Known V)) (h : Held) → IsHandleOf new h → block_of h ≡ block_by new
   block_given None h is = is.0
   block_given (Some c) h is = ap block_of (sym is)
 
-  place_given : (new : Option (Known V)) (h : Held) → IsHandleOf new h → place_of h ≡ place_by new
+  pub place_given : (new : Option (Known V)) (h : Held) → IsHandleOf new h → place_of h ≡ place_by new
   place_given None h is = is.1
   place_given (Some c) h is = ap place_of (sym is)
 

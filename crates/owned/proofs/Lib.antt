@@ -15,3 +15,4 @@ pub mod Lends
 pub mod Faults
 pub mod Runs
 pub mod CellCalls
+pub mod Compares

@@ -4,6 +4,7 @@ pub mod Whole
 pub mod Objects
 pub mod Beside
 pub mod Cells
+pub mod Compares
 pub mod Faults
 pub mod Shares
 pub mod Programs

@@ -1,8 +1,8 @@
 //! Places for pointers that other threads see too: free cells, and members of objects.
 ghost use Rattle.std.specs.Prelude.{◌≡◌, ◌<◌, ◌≤◌, ◌^◌};
 
-pub mod comparing;
-pub mod comparing_weak;
+mod comparing;
+mod comparing_weak;
 pub mod link;
 pub mod member;
 pub mod pool;

@@ -1,7 +1,15 @@
 //! Compares of places for owners.
+ghost use Rattle.std.specs.Prelude.{◌≡◌, true, false, IfErr, IfOk, IfSome, Some};
+ghost use Rattle.control_word.specs.declared.model.handle.Kind.TheVariants.{Owner};
+ghost use Rattle.owned.specs.Beside.{IsEmptyHandle, seen_by};
+ghost use Rattle.owned.specs.Cells.{IsSharedSite, WhyNotDone, shared_cell_at, shared_cell_of};
+ghost use Rattle.owned.specs.Cells.{shared_spot};
+ghost use Rattle.owned.specs.Compares.{Compared, Finds, desired_after};
+ghost use Rattle.owned.specs.Faults.{WhyNoMore};
 
 use crate::cells::member::Member;
-use crate::context::compares::{Came, Compare, Differs};
+use crate::claim::shared_claim::SharedClaim;
+use crate::context::compares::{Compare, Differs};
 use crate::desk::Desk;
 use crate::domain::Domain;
 use crate::fault::call::Call;
@@ -15,8 +23,11 @@ use std::sync::Wait;
 impl<'d, D: Domain> Desk<'d, D> {
     /// An empty owner, for a compare.
     #[inline(always)]
-    fn empty_owner(&self, call: Call) -> Result<Shared<'_, D>, Fault> {
-        match self.open(call)?.empty_owner(self.domain) {
+    fn empty_owner(&self, call: Call, of: Option<&SharedClaim<D>>) -> Result<Shared<'_, D>, Fault>
+        ensures empty { IfOk result (λ r. IsEmptyHandle r.handle) }
+        ensures refused { IfErr result (WhyNoMore D.opened (seen_by (λ x. x.now.known) of.entry) call) }
+    {
+        match self.open(call)?.empty_owner(self.domain, of) {
             Ok(owner) => Ok(Shared { desk: self, owner }),
             Err(why) => Err(Fault::of(call, why)),
         }
@@ -24,13 +35,22 @@ impl<'d, D: Domain> Desk<'d, D> {
 
     /// The compare, of pointers that are there.
     #[inline(always)]
-    fn compare_both<'t, R: Wait>(
+    fn compare_both<'t, 'a, R: Wait>(
         &'t self,
         rt: &R,
-        how: &Compare<'_, SharedAt<'_>, D>,
+        how: &Compare<'a, SharedAt<'a>, D>,
         hoped: &Shared<'t, D>,
         new: Shared<'t, D>,
-    ) -> Result<Option<Differs<Shared<'t, D>>>, Refused<Shared<'t, D>>> {
+    ) -> Result<Option<Differs<Shared<'t, D>>>, Refused<Shared<'t, D>>>
+        requires { IsSharedSite D.opened how.now.at.site (seen_by (λ x. x.now.known) how.now.of) }
+        ensures compared { IfOk result (λ r. Finds D.opened (seen_by (λ x. x.now.known) how.now.of)
+            (shared_cell_of D.opened (seen_by (λ x. x.now.known) how.now.of) how.now.at.site) Owner how.now.weak
+            (Some hoped.now) (Some new.entry) (seen_by (λ d. d.held) r)) }
+        ensures stays { IfOk result (λ r. IfSome r (λ d. d.desired ≡ new.entry)) }
+        ensures back { IfErr result (λ r. r.back ≡ new.entry) }
+        ensures refused { IfErr result
+            (λ r. WhyNoMore D.opened (seen_by (λ x. x.now.known) how.now.of) how.now.call r.why) }
+    {
         let mut context = match self.open(how.call) {
             Ok(context) => context,
             Err(why) => return Err(Refused { why, back: new }),
@@ -38,19 +58,22 @@ impl<'d, D: Domain> Desk<'d, D> {
         let came = context.compare(rt, self.domain, how, &hoped.owner, new.into_claim());
         drop(context);
         match came {
-            Ok(Came::Swapped(gone)) => {
+            Ok((None, gone)) => {
                 if let Gone::Last = gone {
                     self.end_some();
                 }
                 Ok(None)
             }
-            Ok(Came::Differs(Differs { held, desired })) => Ok(Some(Differs {
-                held: pointer(self, held),
-                desired: Shared {
-                    desk: self,
-                    owner: desired,
-                },
-            })),
+            Ok((Some(differs), _)) => {
+                let Differs { held, desired } = differs;
+                Ok(Some(Differs {
+                    held: pointer(self, held),
+                    desired: Shared {
+                        desk: self,
+                        owner: desired,
+                    },
+                }))
+            }
             Err(refused) => Err(Refused {
                 why: Fault::of(how.call, refused.why),
                 back: Shared {
@@ -63,24 +86,30 @@ impl<'d, D: Domain> Desk<'d, D> {
 
     /// The same, where an empty one may be desired: what the cell holds, where it differs.
     #[inline(always)]
-    fn compare_with<'t, R: Wait>(
+    fn compare_with<'t, 'a, R: Wait>(
         &'t self,
         rt: &R,
-        how: &Compare<'_, SharedAt<'_>, D>,
+        how: &Compare<'a, SharedAt<'a>, D>,
         hoped: &Shared<'t, D>,
         desired: &mut Option<Shared<'t, D>>,
-    ) -> Result<Option<Option<Shared<'t, D>>>, Fault> {
+    ) -> Result<Option<Option<Shared<'t, D>>>, Fault>
+        requires { IsSharedSite D.opened how.now.at.site (seen_by (λ x. x.now.known) how.now.of) }
+        ensures compared { IfOk result (Finds D.opened (seen_by (λ x. x.now.known) how.now.of)
+            (shared_cell_of D.opened (seen_by (λ x. x.now.known) how.now.of) how.now.at.site) Owner how.now.weak
+            (Some hoped.now) desired.old) }
+        ensures stays { IfOk result (λ found. desired.new ≡ desired_after found desired.old) }
+        ensures stay { IfErr result (λ _. desired.new ≡ desired.old) }
+        ensures refused { IfErr result
+            (WhyNoMore D.opened (seen_by (λ x. x.now.known) how.now.of) how.now.call) }
+    {
         match desired.take() {
             Some(new) => match self.compare_both(rt, how, hoped, new) {
                 Ok(None) => Ok(None),
-                Ok(
-                    Some(
-                        Differs {
-                            held,
-                            desired: back,
-                        },
-                    ),
-                ) => {
+                Ok(Some(differs)) => {
+                    let Differs {
+                        held,
+                        desired: back,
+                    } = differs;
                     *desired = Some(back);
                     Ok(Some(held))
                 }
@@ -90,12 +119,46 @@ impl<'d, D: Domain> Desk<'d, D> {
                 }
             },
             None => {
-                let new = self.empty_owner(how.call)?;
+                let new = self.empty_owner(how.call, how.of)?;
                 match self.compare_both(rt, how, hoped, new) {
                     Ok(None) => Ok(None),
-                    Ok(Some(Differs { held, desired: _ })) => Ok(Some(held)),
+                    Ok(Some(differs)) => {
+                        let Differs {
+                            held,
+                            desired: back,
+                        } = differs;
+                        drop(back);
+                        Ok(Some(held))
+                    }
                     Err(refused) => Err(refused.why),
                 }
+            }
+        }
+    }
+
+    /// The same, where an empty one may be expected too.
+    #[inline(always)]
+    fn compare_any<'t, 'a, R: Wait>(
+        &'t self,
+        rt: &R,
+        how: &Compare<'a, SharedAt<'a>, D>,
+        expected: &Option<Shared<'t, D>>,
+        desired: &mut Option<Shared<'t, D>>,
+    ) -> Result<Option<Option<Shared<'t, D>>>, Fault>
+        requires { IsSharedSite D.opened how.now.at.site (seen_by (λ x. x.now.known) how.now.of) }
+        ensures compared { IfOk result (Finds D.opened (seen_by (λ x. x.now.known) how.now.of)
+            (shared_cell_of D.opened (seen_by (λ x. x.now.known) how.now.of) how.now.at.site) Owner how.now.weak
+            expected.now desired.old) }
+        ensures stays { IfOk result (λ found. desired.new ≡ desired_after found desired.old) }
+        ensures stay { IfErr result (λ _. desired.new ≡ desired.old) }
+        ensures refused { IfErr result
+            (WhyNoMore D.opened (seen_by (λ x. x.now.known) how.now.of) how.now.call) }
+    {
+        match expected {
+            Some(hoped) => self.compare_with(rt, how, hoped, desired),
+            None => {
+                let hoped = self.empty_owner(how.call, how.of)?;
+                self.compare_with(rt, how, &hoped, desired)
             }
         }
     }
@@ -111,7 +174,16 @@ impl<'p, 't, D: Domain> Member<'p, 't, D> {
         rt: &R,
         expected: &mut Option<Shared<'t, D>>,
         desired: &mut Option<Shared<'t, D>>,
-    ) -> Result<bool, Fault> {
+    ) -> Result<bool, Fault>
+        ensures compared { IfOk result (λ swapped. Compared D.opened (seen_by (λ x. x.now.known) self.now.of)
+            (shared_cell_at D.opened (seen_by (λ x. x.now.known) self.now.of)
+            self.now.which self.now.number) Owner false expected.old desired.old swapped expected.new desired.new) }
+        ensures refused { IfErr result
+            (WhyNotDone D.opened D.opened.shape.shared_cells (seen_by (λ x. x.now.known) self.now.of)
+            self.now.number (Call.CompareExchange
+            (shared_spot (seen_by (λ x. x.now.known) self.now.of) self.now.which self.now.number))) }
+        ensures stay { IfErr result (λ _. (expected.new ≡ expected.old) × (desired.new ≡ desired.old)) }
+    {
         self.compare(rt, false, expected, desired)
     }
 
@@ -122,7 +194,16 @@ impl<'p, 't, D: Domain> Member<'p, 't, D> {
         rt: &R,
         expected: &mut Option<Shared<'t, D>>,
         desired: &mut Option<Shared<'t, D>>,
-    ) -> Result<bool, Fault> {
+    ) -> Result<bool, Fault>
+        ensures compared { IfOk result (λ swapped. Compared D.opened (seen_by (λ x. x.now.known) self.now.of)
+            (shared_cell_at D.opened (seen_by (λ x. x.now.known) self.now.of)
+            self.now.which self.now.number) Owner true expected.old desired.old swapped expected.new desired.new) }
+        ensures refused { IfErr result
+            (WhyNotDone D.opened D.opened.shape.shared_cells (seen_by (λ x. x.now.known) self.now.of)
+            self.now.number (Call.CompareExchange
+            (shared_spot (seen_by (λ x. x.now.known) self.now.of) self.now.which self.now.number))) }
+        ensures stay { IfErr result (λ _. (expected.new ≡ expected.old) × (desired.new ≡ desired.old)) }
+    {
         self.compare(rt, true, expected, desired)
     }
 
@@ -133,7 +214,16 @@ impl<'p, 't, D: Domain> Member<'p, 't, D> {
         weak: bool,
         expected: &mut Option<Shared<'t, D>>,
         desired: &mut Option<Shared<'t, D>>,
-    ) -> Result<bool, Fault> {
+    ) -> Result<bool, Fault>
+        ensures compared { IfOk result (λ swapped. Compared D.opened (seen_by (λ x. x.now.known) self.now.of)
+            (shared_cell_at D.opened (seen_by (λ x. x.now.known) self.now.of)
+            self.now.which self.now.number) Owner weak expected.old desired.old swapped expected.new desired.new) }
+        ensures refused { IfErr result
+            (WhyNotDone D.opened D.opened.shape.shared_cells (seen_by (λ x. x.now.known) self.now.of)
+            self.now.number (Call.CompareExchange
+            (shared_spot (seen_by (λ x. x.now.known) self.now.of) self.now.which self.now.number))) }
+        ensures stay { IfErr result (λ _. (expected.new ≡ expected.old) × (desired.new ≡ desired.old)) }
+    {
         let desk = self.desk;
         let call = Call::CompareExchange(self.spot());
         let how = Compare {
@@ -142,13 +232,7 @@ impl<'p, 't, D: Domain> Member<'p, 't, D> {
             of: self.of,
             weak,
         };
-        let found = match &*expected {
-            Some(hoped) => desk.compare_with(rt, &how, hoped, desired)?,
-            None => {
-                let hoped = desk.empty_owner(call)?;
-                desk.compare_with(rt, &how, &hoped, desired)?
-            }
-        };
+        let found = desk.compare_any(rt, &how, expected, desired)?;
         match found {
             None => Ok(true),
             Some(held) => {

@@ -1,4 +1,15 @@
 //! Compares of cells of owners.
+ghost use Rattle.std.specs.Prelude.{◌≡◌, ◌↔◌, ◌+◌, cond, IfErr, IfOk, IfSome, IsErr, OnOk, Some};
+ghost use Rattle.control_word.specs.declared.model.handle.Kind.TheVariants.{Owner};
+ghost use Rattle.control_block.specs.CellCalls.{HoldsHandle};
+ghost use Rattle.control_block.specs.Desks.{Belongs, Keeps, bag_of};
+ghost use Rattle.atomic_cells.specs.Compares.{Compares, GivesBackDesired, bag_compared, came_out, has_swapped};
+ghost use Rattle.atomic_cells.specs.Sites.{IsOpenSite, shared_cell};
+ghost use Rattle.owned.specs.Beside.{IsEmptyHandle, seen_by};
+ghost use Rattle.owned.specs.Cells.{IsSharedSite, shared_cell_of};
+ghost use Rattle.owned.specs.Compares.{Finds};
+ghost use Rattle.owned.specs.Faults.{Was};
+ghost use Rattle.owned.specs.Known.{IsAtAllowance};
 
 use crate::claim::shared_claim::SharedClaim;
 use crate::context::Context;
@@ -38,28 +49,40 @@ pub(crate) struct Differs<C> {
     pub desired: C,
 }
 
-/// What a compare did.
-pub(crate) enum Came<C> {
-    /// What was desired is in the cell, and what that held left.
-    Swapped(Gone),
-    /// The cell holds something else.
-    Differs(Differs<C>),
-}
-
-/// The compare of handles, in its form.
-#[inline(always)]
-fn compared<V: Drop, R: Wait>(
-    rt: &R,
-    domain: &domain::Domain<V>,
-    desk: &mut Desk<V>,
-    (at, weak): (SharedAt<'_>, bool),
-    hoped: &handles::Shared,
-    new: handles::Shared,
-) -> Result<Compared<handles::Shared>, Refused<handles::Shared>> {
-    if weak {
-        at.compare_exchange_weak(rt, domain, desk, hoped, new)
-    } else {
-        at.compare_exchange_strong(rt, domain, desk, hoped, new)
+impl<'a, D: Domain> Compare<'a, SharedAt<'a>, D> {
+    /// The compare of handles, in its form.
+    #[inline(always)]
+    fn handles<R: Wait>(
+        &self,
+        rt: &R,
+        domain: &domain::Domain<D::Value>,
+        desk: &mut Desk<D::Value>,
+        hoped: &handles::Shared,
+        new: handles::Shared,
+    ) -> Result<Compared<handles::Shared>, Refused<handles::Shared>>
+        requires domain { Belongs desk.old domain.now }
+        requires cell { IsOpenSite desk.old self.now.at.site }
+        requires holds { HoldsHandle desk.old Owner hoped.now.block hoped.now.place
+            × HoldsHandle desk.old Owner new.block new.place }
+        ensures limit { IsErr result ↔ IsAtAllowance desk.old }
+        ensures refused { IfErr result
+            (λ r. (r.why ≡ Refusal.Limit) × (r.back ≡ new) × (desk.new ≡ desk.old)) }
+        ensures compared { IfOk result (λ c. let h = came_out c in
+            Compares desk.old (shared_cell desk.old self.now.at.site) Owner hoped.now.block hoped.now.place
+            new.block new.place (has_swapped c) h.block h.place self.now.weak desk.new) }
+        ensures back { IfOk result (λ c. GivesBackDesired new c) }
+        ensures bag { IfOk result (λ c. let h = came_out c in
+            bag_of desk.new ≡ bag_compared (has_swapped c) Owner new.block new.place h.block h.place
+            (bag_of desk.old)) }
+        ensures held { IfOk result (λ c. desk.new.held ≡ desk.old.held + cond (has_swapped c) 0 1) }
+        ensures keeps { OnOk result (Keeps desk.old desk.new) }
+    {
+        if self.weak {
+            self.at.compare_exchange_weak(rt, domain, desk, hoped, new)
+        } else {
+            self.at
+                .compare_exchange_strong(rt, domain, desk, hoped, new)
+        }
     }
 }
 
@@ -69,8 +92,15 @@ impl<D: Domain> Context<D> {
     pub(crate) fn empty_owner(
         &mut self,
         domain: &domain::Domain<D::Value>,
-    ) -> Result<SharedClaim<D>, Refusal> {
+        of: Option<&SharedClaim<D>>,
+    ) -> Result<SharedClaim<D>, Refusal>
+        requires { Belongs D.opened domain.now }
+        ensures empty { IfOk result (λ r. IsEmptyHandle r.known.handle) }
+        ensures refused { IfErr result
+            (λ why. (why ≡ Refusal.Limit) × Was D.opened (seen_by (λ x. x.now.known) of.entry) IsAtAllowance) }
+    {
         self.desk.stands();
+        look_at(of, &mut self.claims);
         let handle = empty(domain, &mut self.desk)?;
         Ok(SharedClaim::came(handle, &self.desk, &mut self.claims))
     }
@@ -78,23 +108,34 @@ impl<D: Domain> Context<D> {
     /// Where the cell holds what is expected, or its like, what is desired goes into it, and what it held leaves. Else
     /// a copy of what it holds.
     #[inline(always)]
-    pub(crate) fn compare<R: Wait>(
+    pub(crate) fn compare<'a, R: Wait>(
         &mut self,
         rt: &R,
         domain: &domain::Domain<D::Value>,
-        how: &Compare<'_, SharedAt<'_>, D>,
+        how: &Compare<'a, SharedAt<'a>, D>,
         expected: &SharedClaim<D>,
         desired: SharedClaim<D>,
-    ) -> Result<Came<SharedClaim<D>>, Refused<SharedClaim<D>>> {
+    ) -> Result<(Option<Differs<SharedClaim<D>>>, Gone), Refused<SharedClaim<D>>>
+        requires domain { Belongs D.opened domain.now }
+        requires cell { IsSharedSite D.opened how.now.at.site (seen_by (λ x. x.now.known) how.now.of) }
+        ensures compared { IfOk result (λ r. Finds D.opened (seen_by (λ x. x.now.known) how.now.of)
+            (shared_cell_of D.opened (seen_by (λ x. x.now.known) how.now.of) how.now.at.site) Owner how.now.weak
+            (Some expected.now.known) (Some desired.known)
+            (seen_by (λ d. seen_by (λ x. x.known) d.held) r.0)) }
+        ensures stays { IfOk result (λ r. IfSome r.0 (λ d. d.desired.known ≡ desired.known)) }
+        ensures back { IfErr result (λ r. r.back.known ≡ desired.known) }
+        ensures refused { IfErr result (λ r. (r.why ≡ Refusal.Limit)
+            × Was D.opened (seen_by (λ x. x.now.known) how.now.of) IsAtAllowance) }
+    {
         self.desk.stands();
         look_at(how.of, &mut self.claims);
         let hoped = expected.look(&mut self.claims);
         let (new, entry) = desired.split(&mut self.claims);
-        match compared(rt, domain, &mut self.desk, (how.at, how.weak), hoped, new) {
+        match how.handles(rt, domain, &mut self.desk, hoped, new) {
             Ok(Compared::Swapped(found)) => {
                 self.claims.remove(entry);
                 let gone = drop_shared(domain, &mut self.desk, &mut self.pile, found);
-                Ok(Came::Swapped(gone))
+                Ok((None, gone))
             }
             Ok(Compared::Differs { held, desired }) => {
                 let held = arrived(
@@ -105,7 +146,7 @@ impl<D: Domain> Context<D> {
                     held,
                 );
                 let desired = SharedClaim::join(desired, entry);
-                Ok(Came::Differs(Differs { held, desired }))
+                Ok((Some(Differs { held, desired }), Gone::Empty))
             }
             Err(refused) => Err(Refused {
                 why: refused.why,
