@@ -11,5 +11,9 @@ pub mod places;
 #[cfg(test)]
 mod plays;
 #[cfg(test)]
+mod refused_compares;
+#[cfg(test)]
 mod running;
 pub mod trees;
+#[cfg(test)]
+mod weak_compares;

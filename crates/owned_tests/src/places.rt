@@ -1,12 +1,14 @@
 //! What callers of cells prove with no proof file.
-ghost use Rattle.std.specs.Prelude.{◌≡◌, IfOk, OnOk, None, Some};
+ghost use Rattle.std.specs.Prelude.{◌≡◌, IfOk, OnOk, None, Some, false};
 ghost use Rattle.control_word.specs.declared.model.event.Cell.TheVariants.{Free};
 ghost use Rattle.control_word.specs.declared.model.handle.Kind.TheVariants.{Owner};
 ghost use Rattle.atomic_cells.specs.declared.sites.SharedMember.TheVariants.{First};
 ghost use Rattle.shared_handle.specs.declared.pile.Gone.{Gone};
 ghost use Rattle.owned.specs.Cells.{Exchanged, Stored, shared_cell_at};
+ghost use Rattle.owned.specs.Compares.{Compared};
 
 use owned::{Desk, Domain, Fault, Shared, SharedCell};
+use std::sync::Wait;
 
 /// A child is hung under its parent.
 pub fn hangs<'t, D: Domain>(parent: &Shared<'t, D>, child: Shared<'t, D>) -> Result<(), Fault>
@@ -25,4 +27,18 @@ pub fn replaces<'t, D: Domain>(
     ensures { IfOk result (Exchanged D.opened None (Free cell.0) Owner (Some new.entry)) }
 {
     desk.cell(cell).exchange(Some(new))
+}
+
+/// What is expected is swapped for another, if the cell holds it.
+pub fn swaps<'t, D: Domain, R: Wait>(
+    rt: &R,
+    desk: &'t Desk<'t, D>,
+    cell: SharedCell,
+    expected: &mut Option<Shared<'t, D>>,
+    new: &mut Option<Shared<'t, D>>,
+) -> Result<bool, Fault>
+    ensures { IfOk result (λ swapped. Compared D.opened None (Free cell.0) Owner false expected.old new.old swapped
+        expected.new new.new) }
+{
+    desk.cell(cell).compare_exchange_strong(rt, expected, new)
 }

@@ -32,7 +32,8 @@ release_weak-requires-clause-holds g c =
     let first = c.look-hoped.ensures in let second = c.split-entry.ensures in let same = c.look_at.ensures.claims in
     let x = weak_cell d c.args.how.now.at.site in let hoped = c.look-hoped.result.now in let new = c.split-entry.result.0 in
     let raw = c.in-Ok-Swapped.ensures in
-    let says = says_by d x Weak hoped.block hoped.place new.block new.place c.args.how.now.weak e (λ (h : WeakHandle). h.block) (λ (h : WeakHandle). h.place) _ (Swapped c.in-Ok-Swapped.found)
+    let says = says_by d x Weak hoped.block hoped.place new.block new.place c.args.how.now.weak e
+    (λ (h : WeakHandle). h.block) (λ (h : WeakHandle). h.place) _ (Swapped c.in-Ok-Swapped.found)
     c.in-Ok-Swapped.field-0-is raw.compared raw.bag raw.held in
     let f = held.Weak c.in-Ok-Swapped.found in
     let v = hand_swapped o d e p cs _ _ _ _ _ (held.Weak new) f w c.stands.ensures (at_same cs _ _ _ (first.claims ∙ same) second.has) second.handle
@@ -46,7 +47,8 @@ invariant_of-self g c =
     let first = c.look-hoped.ensures in let second = c.split-entry.ensures in let same = c.look_at.ensures.claims in
     let x = weak_cell d c.args.how.now.at.site in let hoped = c.look-hoped.result.now in let new = c.split-entry.result.0 in
     let raw = c.in-Ok-Swapped.ensures in
-    let says = says_by d x Weak hoped.block hoped.place new.block new.place c.args.how.now.weak e (λ (h : WeakHandle). h.block) (λ (h : WeakHandle). h.place) _ (Swapped c.in-Ok-Swapped.found)
+    let says = says_by d x Weak hoped.block hoped.place new.block new.place c.args.how.now.weak e
+    (λ (h : WeakHandle). h.block) (λ (h : WeakHandle). h.place) _ (Swapped c.in-Ok-Swapped.found)
     c.in-Ok-Swapped.field-0-is raw.compared raw.bag raw.held in
     let f = held.Weak c.in-Ok-Swapped.found in
     let v = hand_swapped o d e p cs _ _ _ _ _ (held.Weak new) f w c.stands.ensures (at_same cs _ _ _ (first.claims ∙ same) second.has) second.handle
@@ -63,7 +65,8 @@ arrived_weak-held-requires-clause-hand g c =
     let first = c.look-hoped.ensures in let second = c.split-entry.ensures in let same = c.look_at.ensures.claims in
     let x = weak_cell d c.args.how.now.at.site in let hoped = c.look-hoped.result.now in let new = c.split-entry.result.0 in
     let raw = c.in-Ok-Differs.ensures in
-    let says = says_by d x Weak hoped.block hoped.place new.block new.place c.args.how.now.weak e (λ (h : WeakHandle). h.block) (λ (h : WeakHandle). h.place) _ (Differs c.in-Ok-Differs.held c.in-Ok-Differs.desired)
+    let says = says_by d x Weak hoped.block hoped.place new.block new.place c.args.how.now.weak e
+    (λ (h : WeakHandle). h.block) (λ (h : WeakHandle). h.place) _ (Differs c.in-Ok-Differs.held c.in-Ok-Differs.desired)
     c.in-Ok-Differs.field-0-is raw.compared raw.bag raw.held in
     hand_more o d e p cs _ (held.Weak c.in-Ok-Differs.held) w c.stands.ensures (second.claims ∙ (first.claims ∙ same)) (by_event d _ e says.compared)
     raw.keeps says.bag says.held
@@ -75,7 +78,8 @@ returns-in-Ok-Swapped-clause-compared g c =
     let first = c.look-hoped.ensures in let second = c.split-entry.ensures in let same = c.look_at.ensures.claims in
     let x = weak_cell d c.args.how.now.at.site in let hoped = c.look-hoped.result.now in let new = c.split-entry.result.0 in
     let raw = c.in-Ok-Swapped.ensures in
-    let says = says_by d x Weak hoped.block hoped.place new.block new.place c.args.how.now.weak e (λ (h : WeakHandle). h.block) (λ (h : WeakHandle). h.place) _ (Swapped c.in-Ok-Swapped.found)
+    let says = says_by d x Weak hoped.block hoped.place new.block new.place c.args.how.now.weak e
+    (λ (h : WeakHandle). h.block) (λ (h : WeakHandle). h.place) _ (Swapped c.in-Ok-Swapped.found)
     c.in-Ok-Swapped.field-0-is raw.compared raw.bag raw.held in
     let of = stays o d p [] cs _ (nothing_beside o d p cs w) c.look_at.ensures.has in
     swapped o d e _ _ _ Weak (held.Weak hoped) (held.Weak new) (held.Weak c.in-Ok-Swapped.found) _ _ c.args.how.now.weak w.opened of
@@ -89,7 +93,8 @@ returns-in-Ok-Differs-clause-compared g c =
     let first = c.look-hoped.ensures in let second = c.split-entry.ensures in let same = c.look_at.ensures.claims in
     let x = weak_cell d c.args.how.now.at.site in let hoped = c.look-hoped.result.now in let new = c.split-entry.result.0 in
     let raw = c.in-Ok-Differs.ensures in
-    let says = says_by d x Weak hoped.block hoped.place new.block new.place c.args.how.now.weak e (λ (h : WeakHandle). h.block) (λ (h : WeakHandle). h.place) _ (Differs c.in-Ok-Differs.held c.in-Ok-Differs.desired)
+    let says = says_by d x Weak hoped.block hoped.place new.block new.place c.args.how.now.weak e
+    (λ (h : WeakHandle). h.block) (λ (h : WeakHandle). h.place) _ (Differs c.in-Ok-Differs.held c.in-Ok-Differs.desired)
     c.in-Ok-Differs.field-0-is raw.compared raw.bag raw.held in
     let of = stays o d p [] cs _ (nothing_beside o d p cs w) c.look_at.ensures.has in
     differed o d e _ _ _ Weak (held.Weak hoped) (held.Weak new) (held.Weak c.in-Ok-Differs.held) _ _ _ c.args.how.now.weak w.opened of
