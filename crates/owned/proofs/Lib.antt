@@ -14,5 +14,6 @@ pub mod Staffs
 pub mod Lends
 pub mod Faults
 pub mod Runs
+pub mod Blocks
 pub mod CellCalls
 pub mod Compares

@@ -2,6 +2,7 @@ pub mod Known
 pub mod Claims
 pub mod Whole
 pub mod Objects
+pub mod Blocks
 pub mod Beside
 pub mod Cells
 pub mod Compares

@@ -2,7 +2,7 @@
 use Rattle.std.specs.Prelude.{◌≡◌, ℕ, suc, ◌+◌, List, [], ◌∷◌, length, Result, Ok, Err}
 use Rattle.control_word.specs.declared.shape.Shape.{Shape}
 use Rattle.control_block.specs.Census.{CensusNow, HasBlock, TellsAll}
-use Rattle.control_block.specs.Desks.{DeskNow, DomainNow, IsFirstDesk, allowance_of, endings_of, state_of}
+use Rattle.control_block.specs.Desks.{DeskNow, DomainNow, IsFirstDesk, allowance_of, endings_of, state_of, stock_of}
 use Rattle.control_block.specs.Holders.{TellsCells, TellsHolders}
 use Rattle.control_block.specs.Own.{IsSole}
 use Rattle.control_block.specs.Shelf.{Shelved}
@@ -30,11 +30,12 @@ abbrev pub any_answer : Answer
 any_answer r = Unit {0}
 
 module _ {V : Type 0} where
-  -- a worker answered so, and its desk went on to this one
+  -- a worker answered so, and its desk went on to this one, which has no vacant block: they are on the shelf
   pub record HasWorked (answers : Answer) (d : DeskNow V) (r : Result (Unit {0}) Fault) (e : DeskNow V) : Type 0 where
     pub answered : answers r
     pub goes : GoesOn d e
     pub allowance : allowance_of e ≡ allowance_of d
+    pub bare : length (stock_of e) ≡ 0
 
   -- so it was of each worker from this number on
   abbrev pub EachWorked : (ℕ → Answer) → ℕ → List (DeskNow V) → List (Result (Unit {0}) Fault) → List (DeskNow V)

@@ -15,7 +15,7 @@ mod opening;
 mod passing;
 mod passing_weak;
 mod sharing;
-mod shelf;
+pub(crate) mod shelf;
 mod visiting;
 mod weak_cells;
 mod weak_compares;

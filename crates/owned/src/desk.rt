@@ -12,6 +12,7 @@ use control_block::domain;
 use std::alloc::Global;
 use std::cell::{RefCell, RefMut};
 
+pub(crate) mod blocks;
 mod ending;
 mod free_cells;
 mod making;

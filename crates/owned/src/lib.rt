@@ -17,6 +17,7 @@ pub use crate::cells::member::Member;
 pub use crate::cells::pool::FreeCells;
 pub use crate::cells::up::Up;
 pub use crate::cells::{SharedCell, WeakCell};
+pub use crate::context::shelf::RESERVE;
 pub use crate::desk::Desk;
 pub use crate::domain::Domain;
 pub use crate::fault::call::{Call, Spot};

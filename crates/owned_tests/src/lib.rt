@@ -14,6 +14,8 @@ mod plays;
 mod refused_compares;
 #[cfg(test)]
 mod running;
+#[cfg(test)]
+mod spares;
 pub mod trees;
 #[cfg(test)]
 mod weak_compares;

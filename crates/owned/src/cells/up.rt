@@ -135,11 +135,12 @@ impl<'p, 't, D: Domain> Up<'p, 't, D> {
     {
         let desk = self.desk;
         let at = self.at(call)?;
-        let came = desk
-            .open(call)?
-            .store_weak(desk.domain, at, self.of, claim(new));
-        match came {
-            Ok(()) => Ok(()),
+        let mut context = desk.open(call)?;
+        match context.store_weak(desk.domain, at, self.of, claim(new)) {
+            Ok(()) => {
+                context.spare(desk.domain);
+                Ok(())
+            }
             Err(why) => Err(Fault::of(call, why)),
         }
     }

@@ -1,6 +1,7 @@
 //! Objects that end.
-ghost use Rattle.std.specs.Prelude.{◌<◌, IfSome};
+ghost use Rattle.std.specs.Prelude.{◌≡◌, ◌⊎◌, ◌<◌, IfNone, IfSome};
 ghost use Rattle.control_block.specs.Desks.{Belongs};
+ghost use Rattle.owned.specs.Blocks.{Settles, SinceOpened};
 
 use crate::context::Context;
 use crate::domain::Domain;
@@ -17,6 +18,7 @@ impl<D: Domain> Context<D> {
     ) -> Option<D::Value>
         requires { Belongs D.opened domain.now }
         ensures fewer { IfSome result (λ _. rounds.new < rounds.old) }
+        ensures none { IfNone result ((rounds.new ≡ 0) ⊎ SinceOpened D.opened Settles) }
     {
         self.pile.next_value(domain, &mut self.desk, rounds)
     }

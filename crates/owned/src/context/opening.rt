@@ -1,6 +1,6 @@
 //! How what lies in a desk's cell comes there, and what comes of it.
-ghost use Rattle.std.specs.Prelude.{◌≡◌, []};
-ghost use Rattle.control_block.specs.Desks.{Belongs, allowance_of};
+ghost use Rattle.std.specs.Prelude.{◌≡◌, [], length};
+ghost use Rattle.control_block.specs.Desks.{Belongs, allowance_of, stock_of};
 ghost use Rattle.shared_handle.specs.Piles.{Bears};
 ghost use Rattle.owned.specs.Known.{GoesOn};
 
@@ -32,7 +32,7 @@ impl<D: Domain> Context<D> {
         }
     }
 
-    /// What is left to end does so, and the desk comes out.
+    /// What is left to end does so, all vacant blocks go to the shelf, and the desk comes out.
     pub(crate) fn into_part<R: Wait>(
         self,
         rt: &R,
@@ -43,6 +43,7 @@ impl<D: Domain> Context<D> {
         ensures allowance { allowance_of result.desk ≡ allowance_of D.opened }
         ensures bears { Bears domain.now result.desk result.pile }
         ensures settled { result.pile.endings.items ≡ [] }
+        ensures bare { length (stock_of result.desk) ≡ 0 }
     {
         let Self {
             mut desk,
@@ -50,6 +51,8 @@ impl<D: Domain> Context<D> {
             claims: _,
         } = self;
         pile.settle(rt, domain, &mut desk);
+        let count = desk.stock();
+        desk.shelve(domain, count);
         Part { desk, pile }
     }
 }

@@ -1,13 +1,10 @@
 //! Pointers that let go, and objects that end.
 use crate::claim::shared_claim::SharedClaim;
 use crate::claim::weak_claim::WeakClaim;
+use crate::desk::blocks::ROUNDS;
 use crate::desk::{Desk, Late};
 use crate::domain::Domain;
 use shared_handle::Gone;
-
-/// How many rounds of ends a pointer's drop makes at most: four for each object that a domain can have. What other
-/// threads lengthened meanwhile may be left then, and ends with a later drop or by `settle`.
-const ROUNDS: u32 = 4 * 65_535;
 
 impl<'d, D: Domain> Desk<'d, D> {
     /// An owner lets go.
@@ -25,11 +22,14 @@ impl<'d, D: Domain> Desk<'d, D> {
         }
     }
 
-    /// A weak pointer lets go.
+    /// A weak pointer lets go. Its object's block may become vacant by it.
     #[inline(always)]
     pub(crate) fn let_go_weak(&self, weak: WeakClaim<D>) {
         match self.context.try_borrow_mut() {
-            Ok(mut context) => context.leave_weak(self.domain, weak),
+            Ok(mut context) => {
+                context.leave_weak(self.domain, weak);
+                context.spare(self.domain);
+            }
             Err(_) => self.put_off(Late::Weak(weak)),
         }
     }
@@ -55,10 +55,17 @@ impl<'d, D: Domain> Desk<'d, D> {
         }
     }
 
-    /// What is left to end does so, in so many rounds at most.
+    /// What is left to end does so, in so many rounds at most: what other threads lengthened meanwhile may be left
+    /// then, and ends with a later drop or by `settle`.
     #[cold]
     #[inline(never)]
     pub(crate) fn end_some(&self) {
+        self.end_within();
+        self.spare();
+    }
+
+    #[inline(always)]
+    fn end_within(&self) {
         let mut rounds = ROUNDS;
         while rounds > 0 {
             let ended = match self.context.try_borrow_mut() {

@@ -1,6 +1,6 @@
 //! How a desk is opened, and what comes of it.
-ghost use Rattle.std.specs.Prelude.{◌≡◌, []};
-ghost use Rattle.control_block.specs.Desks.{Belongs, allowance_of};
+ghost use Rattle.std.specs.Prelude.{◌≡◌, [], length};
+ghost use Rattle.control_block.specs.Desks.{Belongs, allowance_of, stock_of};
 ghost use Rattle.shared_handle.specs.Piles.{Bears};
 ghost use Rattle.owned.specs.Known.{GoesOn};
 
@@ -30,12 +30,14 @@ impl<'d, D: Domain> Desk<'d, D> {
         }
     }
 
-    /// What was put off lets go, what is left to end does so, and the desk comes out.
+    /// What was put off lets go, what is left to end does so, all vacant blocks go to the shelf, and the desk comes
+    /// out.
     pub(crate) fn into_part<R: Wait>(self, rt: &R) -> Part<D::Value>
         ensures goes { GoesOn D.opened result.desk }
         ensures allowance { allowance_of result.desk ≡ allowance_of D.opened }
         ensures bears { Bears self.entry.domain.now result.desk result.pile }
         ensures settled { result.pile.endings.items ≡ [] }
+        ensures bare { length (stock_of result.desk) ≡ 0 }
     {
         let Desk {
             domain,
