@@ -1,5 +1,5 @@
 -- What workers had of a desk, and what came back to it.
-use Rattle.std.proofs.Common.{◌≡◌, ℕ, zero, suc, ◌+◌, ◌<◌, Bool, true, false, All, List, [], ◌∷◌, length, ap, refl, subst, sym, ◌∙◌, arith}
+use Rattle.std.proofs.Common.{◌≡◌, ℕ, zero, suc, ◌+◌, ◌<◌, ◌≤◌, Bool, true, false, All, List, [], ◌∷◌, length, ap, refl, subst, sym, ◌∙◌, arith}
 use Rattle.std.proofs.lemmas.List.{length-map}
 use Rattle.std.proofs.lemmas.List.Elements.{All-cons, All-nil, length_all_zip}
 use Rattle.std.specs.List.{AllZip}
@@ -7,7 +7,7 @@ use Rattle.control_block.specs.Desks.{Belongs, DeskNow, DomainNow, allowance_of,
 use Rattle.shared_handle.specs.Piles.{Bears}
 use Rattle.owned.proofs.Staffs.{desks_of, dones_of}
 use Rattle.owned.specs.Programs.{Answer, EachWorked, HasWorked, Lends, faults_from}
-use Rattle.owned.specs.Shares.{HasShares, IsPartedInto, JoinsAll}
+use Rattle.owned.specs.Shares.{GivesBack, HasShares, IsPartedInto, JoinsAll}
 use Rattle.owned.specs.Staffs.{AreHired, Worked}
 use Rattle.owned.specs.declared.program.Failed.{Failed}
 use Rattle.owned.specs.declared.program.team.Team.{Team}
@@ -137,6 +137,20 @@ module _ {V : Type 0} where
     parts_each d m a b w [] many is parts = parts
     parts_each d m a b w (x ∷ xs) many is parts =
         subst (λ (n : ℕ). IsPartedInto d n (desks_of (x ∷ xs)) m) (is (omega (arith, many))) parts
+
+    -- parts that nobody worked with came back
+    pub gives_back : (d m e : DeskNow V) (a b w : ℕ) (ws xs : List (Worker V P)) → length ws ≤ w → (0 < w → a ≡ b) → IsPartedInto d a (desks_of ws) m
+        → xs ≡ ws → JoinsAll m (desks_of xs) e → GivesBack d b e
+    gives_back d m e a b w ws xs few is parts same joins =
+        record {
+          lent = desks_of ws;
+          between = m;
+          parts = parts_each d m a b (length ws) ws refl (λ some. is (omega (arith, some, few))) parts;
+          joins = subst (λ (l : List (Worker V P)). JoinsAll m (desks_of l) e) same joins;
+        }
+
+  pub gives_none : (d : DeskNow V) (a : ℕ) → GivesBack d a d
+  gives_none d a = record { lent = []; between = d; parts = refl; joins = refl }
 
   pub shares_each : (d : DeskNow V) (a b w : ℕ) → 0 < a → (0 < w → a ≡ b) → HasShares d b w → HasShares d a w
   shares_each d a b zero some is shares = let room = shares.room in record { some = some; room = omega (arith, room) }

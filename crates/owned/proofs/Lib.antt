@@ -15,5 +15,6 @@ pub mod Lends
 pub mod Faults
 pub mod Runs
 pub mod Blocks
+pub mod Leading
 pub mod CellCalls
 pub mod Compares

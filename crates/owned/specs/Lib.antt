@@ -11,3 +11,4 @@ pub mod Shares
 pub mod Programs
 pub mod Teams
 pub mod Staffs
+pub mod Leading

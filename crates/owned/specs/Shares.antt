@@ -24,3 +24,10 @@ module _ {V : Type 0} where
   abbrev pub JoinsAll : DeskNow V → List (DeskNow V) → DeskNow V → Type 0
   JoinsAll d [] e = e ≡ d
   JoinsAll d (x ∷ xs) e = (m : DeskNow V) × JoinsAll d xs m × Joins m x e
+
+  -- a desk gave such parts, and got them back as they were
+  pub record GivesBack (d : DeskNow V) (each : ℕ) (e : DeskNow V) : Type 0 where
+    pub lent : List (DeskNow V)
+    pub between : DeskNow V
+    pub parts : IsPartedInto d each lent between
+    pub joins : JoinsAll between lent e

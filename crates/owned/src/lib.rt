@@ -22,6 +22,7 @@ pub use crate::desk::Desk;
 pub use crate::domain::Domain;
 pub use crate::fault::call::{Call, Spot};
 pub use crate::fault::{Fault, Refused};
+pub use crate::program::leader::{Leader, Manned, run_leader};
 pub use crate::program::not_run::{Limit, NotRun, Number};
 pub use crate::program::team::Team;
 pub use crate::program::{Failed, Program, Ran, run};

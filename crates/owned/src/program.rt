@@ -20,12 +20,15 @@ use std::thread::Threads;
 
 pub(crate) mod brand;
 mod closing;
+pub mod leader;
+mod leading;
 pub mod not_run;
 mod opening;
 pub(crate) mod part;
 pub(crate) mod sitting;
 pub(crate) mod staff;
 pub mod team;
+pub(crate) mod teams;
 pub(crate) mod worker;
 
 /// What each worker of a team does, in a thread with a desk of its own. What it answers is told by `run`. `answers`

@@ -6,6 +6,8 @@ mod cells;
 #[cfg(test)]
 mod compares;
 #[cfg(test)]
+mod leaders;
+#[cfg(test)]
 mod owners;
 pub mod places;
 #[cfg(test)]

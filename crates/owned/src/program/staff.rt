@@ -6,19 +6,17 @@ ghost use Rattle.control_block.specs.Desks.{Belongs, allowance_of, endings_of};
 ghost use Rattle.control_block.specs.Parting.{IsTooMuch, SplitsOff};
 ghost use Rattle.shared_handle.specs.Piles.{Bears};
 ghost use Rattle.owned.specs.Programs.{Lends, faults_from};
-ghost use Rattle.owned.specs.Shares.{HasShares, IsPartedInto, JoinsAll};
+ghost use Rattle.owned.specs.Shares.{GivesBack, HasShares, IsPartedInto, JoinsAll};
 ghost use Rattle.owned.specs.Staffs.{AreHired, IsHired, Worked};
 
 use crate::fault::Fault;
-use crate::program::part::Part;
+use crate::program::part::{Part, cut};
 use crate::program::sitting::Post;
 use crate::program::team::Team;
 use crate::program::worker::Worker;
 use crate::program::{Failed, Program};
 use control_block::desk::Desk;
 use control_block::domain::Domain;
-use control_block::handles::Held;
-use shared_handle::Pile;
 use std::alloc::Global;
 use std::sync::Wait;
 use std::thread::Threads;
@@ -36,20 +34,11 @@ fn hire<'w, V: Drop, P>(
     ensures hired { IfSome result (IsHired post.entry.domain.now post.entry.program.now post.entry.number) }
     ensures same { IfNone result (desk.new ≡ desk.old) }
 {
-    let Ok(pile) = Pile::new(post.alloc, post.domain) else {
+    let Some(part) = cut(desk, post.alloc, post.domain, each) else {
         return None;
     };
-    match desk.split_slots::<Held>(post.alloc, post.domain, each, 0, &[]) {
-        Ok(desk) => {
-            let part = Part { desk, pile };
-            let done = Ok(());
-            Some(Worker { post, part, done })
-        }
-        Err(_) => {
-            pile.close();
-            None
-        }
-    }
+    let done = Ok(());
+    Some(Worker { post, part, done })
 }
 
 /// So many workers, each with a part of the desk that has so many handles. Whether all are hired: else memory is
@@ -165,6 +154,7 @@ pub(crate) fn lend<V: Drop + Send, R: Threads + Wait + Sync, P: Program<V, R> + 
     requires few { 0 < team.workers → team.pointers + 2 < 2 ^ 32 }
     ensures lends { IfSome result
         (λ failed. Lends (P.answers first.entry.program.now) team desk.old failed.items desk.new) }
+    ensures back { IfNone result (GivesBack desk.old (team.pointers + 2) desk.new) }
     ensures whole { (allowance_of desk.new ≡ allowance_of desk.old) × (endings_of desk.new ≡ endings_of desk.old) }
     ensures here { Belongs desk.new first.entry.domain.now }
 {
