@@ -57,7 +57,10 @@ impl<'d, D: Domain> Desk<'d, D> {
         let came = context.compare_weak(rt, self.domain, how, &hoped.weak, new.into_claim());
         drop(context);
         match came {
-            Ok(None) => Ok(None),
+            Ok(None) => {
+                self.spare();
+                Ok(None)
+            }
             Ok(Some(differs)) => {
                 let Differs { held, desired } = differs;
                 Ok(Some(Differs {
