@@ -18,3 +18,4 @@ pub mod Blocks
 pub mod Leading
 pub mod CellCalls
 pub mod Compares
+pub mod Walks

@@ -12,3 +12,4 @@ pub mod Programs
 pub mod Teams
 pub mod Staffs
 pub mod Leading
+pub mod Lists

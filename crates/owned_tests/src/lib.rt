@@ -8,6 +8,8 @@ mod compares;
 #[cfg(test)]
 mod leaders;
 #[cfg(test)]
+mod lists;
+#[cfg(test)]
 mod owners;
 pub mod places;
 #[cfg(test)]
