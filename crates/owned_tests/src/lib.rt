@@ -20,6 +20,8 @@ mod refused_compares;
 mod running;
 #[cfg(test)]
 mod spares;
+#[cfg(test)]
+mod structures;
 pub mod trees;
 #[cfg(test)]
 mod weak_compares;
