@@ -12,8 +12,8 @@ pub loop-init : goal.loop-init
 loop-init g c = (
   λ always. always,
   reached_none g.D.Domain.opened g.E.Element.copied g.E.Element.refused g.F.FnMut
-  (site (seen_by (λ x. x.now.known) c.args.self.now.head.of) c.args.self.now.head.which c.args.self.now.head.number)
-  tt c.args.f,
+      (site (seen_by (λ x. x.now.known) c.args.self.now.head.of) c.args.self.now.head.which c.args.self.now.head.number)
+      tt c.args.f,
 )
 
 pub returns-in_err-node-clause-fault : goal.returns-in_err-node-clause-fault
