@@ -1,113 +1,119 @@
-//! Each call on a place of pointers that other threads see too, with ample memory.
+//! Each call on a free cell for owners.
 
-use crate::plays::{plays, row};
-use owned::{Call, Desk, Domain, Fault, Program, SharedCell, Spot, WeakCell};
-use std::sync::Wait;
-use std::thread::Threads;
+use crate::players::{answers, answers_often};
+use crate::steps::Answer::{Done, Not, Nothing, Number};
+use crate::steps::Look::Read;
+use crate::steps::New::Object;
+use crate::steps::Step::{Clear, Drop, Ends, Exchange, Load, Lock, Look, Make, Store, Take};
+use crate::steps::{Cell, Row};
+use owned::{Call, Fault, Spot};
 
-/// Free cells.
-struct Free;
-
-impl<R: Threads + Wait> Program<u64, R> for Free {
-    fn work<D: Domain<Value = u64>>(
-        &self,
-        rt: &R,
-        _number: usize,
-        desk: &Desk<D>,
-    ) -> Result<(), Fault> {
-        let (cell, beyond) = (SharedCell(1), SharedCell(2));
-        row(1, desk.load(rt, cell)?.is_none())?;
-        let one = desk.make([10, 20, 30, 40], 1)?;
-        desk.store(cell, Some(one.share()?))?;
-        let Some(came) = desk.load(rt, cell)? else {
-            return row(2, false);
-        };
-        row(3, came.is(&one) && came.use_count()? == 3)?;
-        let two = desk.make([50, 0, 0, 0], 2)?;
-        let Some(was) = two.share()?.exchange(cell)? else {
-            return row(4, false);
-        };
-        row(5, was.is(&one) && one.use_count()? == 3)?;
-        row(6, desk.take(cell)?.is_some() && desk.take(cell)?.is_none())?;
-        one.share()?.store(cell)?;
-        desk.clear(cell)?;
-        row(7, one.use_count()? == 3 && two.use_count()? == 1)?;
-        let why = Fault::Cell(Call::Load(Spot::Shared(2)));
-        row(8, desk.load(rt, beyond).err() == Some(why))?;
-        let weak_cell = WeakCell(0);
-        one.downgrade()?.store(weak_cell)?;
-        row(9, desk.load_weak(rt, weak_cell)?.is_some())?;
-        row(10, desk.lock(rt, weak_cell)?.is_some())?;
-        drop(one);
-        drop(came);
-        drop(was);
-        row(11, desk.lock(rt, weak_cell)?.is_none())?;
-        let left = two.downgrade()?.exchange(weak_cell)?;
-        row(12, left.is_some())?;
-        desk.store_weak(weak_cell, None)?;
-        desk.clear_weak(weak_cell)?;
-        row(13, desk.weak_cell(weak_cell).take()?.is_none())
-    }
-}
-
-#[test]
-fn free_cells_answer_as_they_should(rt: HostRuntime) {
-    plays(&rt, rt.alloc(), 16, &Free);
-}
-
-/// Members: children under a parent, which each of them finds.
-struct Members;
-
-impl<R: Threads + Wait> Program<u64, R> for Members {
-    fn work<D: Domain<Value = u64>>(
-        &self,
-        rt: &R,
-        _number: usize,
-        desk: &Desk<D>,
-    ) -> Result<(), Fault> {
-        let parent = desk.make([1, 0, 0, 0], 1)?;
-        for number in 2..=4 {
-            let child = desk.make([number, 0, 0, 0], number)?;
-            child.up().store(Some(parent.downgrade()?))?;
-            child.next().store(parent.first().take()?)?;
-            parent.first().store(Some(child))?;
-        }
-        let mut now = parent.first().load(rt)?;
-        for number in [4, 3, 2] {
-            let Some(child) = now else {
-                return row(1, false);
-            };
-            let Some(of) = child.parent(rt)? else {
-                return row(2, false);
-            };
-            row(3, of.is(&parent) && child.read()? == number)?;
-            now = child.next().load(rt)?;
-        }
-        row(4, now.is_none())?;
-        let Some(first) = parent.first().exchange(None)? else {
-            return row(5, false);
-        };
-        row(
-            6,
-            first.up().load(rt)?.is_some() && first.up().lock(rt)?.is_some(),
-        )?;
-        first.up().clear()?;
-        row(
-            7,
-            first.up().take()?.is_none() && first.parent(rt)?.is_none(),
-        )?;
-        let link = first.into_next();
-        row(8, link.load(rt)?.is_some())?;
-        let rest = link.take()?;
-        link.store(rest)?;
-        row(9, link.exchange(None)?.is_some())?;
-        row(10, link.into_owner().next().load(rt)?.is_none())?;
-        let none = parent.alias(None)?;
-        row(11, none.first().load(rt).is_err())
-    }
-}
+/// Stores, loads, exchanges, and cells that are emptied in each way.
+const CALLS: [Row; 37] = [
+    (Load(Cell::Free(0), 0), Nothing),
+    (Make(Object, 1, 0), Done),
+    (Store(0, Cell::Free(0)), Done),
+    (Drop(0), Nothing),
+    (Load(Cell::Free(0), 0), Done),
+    (Look(0, Read), Number(1)),
+    (Drop(0), Done),
+    (Make(Object, 2, 0), Done),
+    (Store(0, Cell::Place(0)), Done),
+    (Ends, Number(1)),
+    (Make(Object, 3, 0), Done),
+    (Exchange(0, Cell::Free(0)), Done),
+    (Look(0, Read), Number(2)),
+    (Load(Cell::Place(0), 1), Done),
+    (Look(1, Read), Number(3)),
+    (Drop(1), Done),
+    (Store(0, Cell::Desk(0)), Done),
+    (Ends, Number(3)),
+    (Store(9, Cell::Desk(0)), Done),
+    (Ends, Number(2)),
+    (Load(Cell::Free(0), 0), Nothing),
+    (Take(Cell::Free(1), 0), Nothing),
+    (Make(Object, 4, 0), Done),
+    (Store(0, Cell::Free(1)), Done),
+    (Take(Cell::Free(1), 0), Done),
+    (Look(0, Read), Number(4)),
+    (Load(Cell::Free(1), 1), Nothing),
+    (Exchange(0, Cell::Place(1)), Nothing),
+    (Exchange(9, Cell::Place(1)), Done),
+    (Drop(9), Done),
+    (Ends, Number(4)),
+    (Clear(Cell::Free(1)), Done),
+    (Make(Object, 5, 0), Done),
+    (Store(0, Cell::Free(1)), Done),
+    (Clear(Cell::Place(1)), Done),
+    (Ends, Number(5)),
+    (Take(Cell::Place(1), 0), Nothing),
+];
 
 #[test]
-fn members_hold_a_tree(rt: HostRuntime) {
-    plays(&rt, rt.alloc(), 16, &Members);
+fn a_free_cell_has_an_owner(rt: HostRuntime) {
+    answers(&rt, rt.alloc(), &CALLS);
+}
+
+const OUTSIDE: Spot = Spot::Shared(2);
+
+/// A cell that isn't there: what was handed in lets go.
+const NO_CELL: [Row; 14] = [
+    (
+        Load(Cell::Free(2), 0),
+        Not(Fault::Cell(Call::Load(OUTSIDE))),
+    ),
+    (Clear(Cell::Free(2)), Not(Fault::Cell(Call::Clear(OUTSIDE)))),
+    (
+        Store(9, Cell::Desk(2)),
+        Not(Fault::Cell(Call::Store(OUTSIDE))),
+    ),
+    (
+        Take(Cell::Free(2), 0),
+        Not(Fault::Cell(Call::Exchange(OUTSIDE))),
+    ),
+    (Make(Object, 1, 0), Done),
+    (
+        Store(0, Cell::Free(2)),
+        Not(Fault::Cell(Call::Store(OUTSIDE))),
+    ),
+    (Ends, Number(1)),
+    (Make(Object, 2, 0), Done),
+    (
+        Exchange(0, Cell::Free(2)),
+        Not(Fault::Cell(Call::Exchange(OUTSIDE))),
+    ),
+    (Ends, Number(2)),
+    (Make(Object, 3, 0), Done),
+    (
+        Store(0, Cell::Place(2)),
+        Not(Fault::Cell(Call::Store(OUTSIDE))),
+    ),
+    (Ends, Number(3)),
+    (
+        Load(Cell::Free(u32::MAX), 0),
+        Not(Fault::Cell(Call::Load(Spot::Shared(u32::MAX)))),
+    ),
+];
+
+#[test]
+fn a_call_on_no_cell_is_refused(rt: HostRuntime) {
+    answers(&rt, rt.alloc(), &NO_CELL);
+}
+
+/// What finds nothing.
+const FINDS: [Row; 5] = [
+    (Load(Cell::Free(0), 0), Nothing),
+    (Lock(Cell::Weak(0), 0), Nothing),
+    (Take(Cell::Free(0), 0), Nothing),
+    (Take(Cell::Weak(0), 10), Nothing),
+    (
+        Load(Cell::Free(2), 0),
+        Not(Fault::Cell(Call::Load(OUTSIDE))),
+    ),
+];
+
+/// A desk of 16 pointers keeps none for what found nothing.
+#[test]
+fn what_finds_nothing_keeps_no_pointer(rt: HostRuntime) {
+    answers_often(&rt, rt.alloc(), &FINDS);
 }

@@ -1,162 +1,227 @@
-//! Compares of places for owners.
+//! Compares, of owners and of weak pointers. Slots 8 and 9, 18 and 19 are vacant: there an empty pointer is expected or desired.
 
-use crate::plays::{plays, row};
-use owned::{Desk, Domain, Fault, Program, SharedCell};
-use std::sync::Wait;
-use std::thread::Threads;
+use crate::players::{answers, answers_within};
+use crate::steps::Answer::{Done, Is, Not, Nothing, Number};
+use crate::steps::Form::{Strong, Until, Weak};
+use crate::steps::Look::{Read, UseCount};
+use crate::steps::New::Object;
+use crate::steps::Step::{Both, Clear, Come, Compare, Drop, Ends, Load, Look, Make, Shares, Store};
+use crate::steps::Way::{Downgrade, Nowhere, Share};
+use crate::steps::{Cell, Look as Asks, Pair, Row, Way};
+use owned::{Call, Fault, Refusal, Spot};
 
-/// Places that hold what is expected: what is desired goes in, and what they held lets go.
-struct Swaps;
+/// A free cell, by its place.
+const CELL: Cell = Cell::Place(0);
 
-impl<R: Threads + Wait> Program<u64, R> for Swaps {
-    fn work<D: Domain<Value = u64>>(
-        &self,
-        rt: &R,
-        _number: usize,
-        desk: &Desk<D>,
-    ) -> Result<(), Fault> {
-        let cell = desk.cell(SharedCell(0));
-        let one = desk.make([10, 20, 30, 40], 1)?;
-        let (mut hoped, mut new) = (None, Some(one.share()?));
-        row(1, cell.compare_exchange_strong(rt, &mut hoped, &mut new)?)?;
-        row(2, hoped.is_none() && new.is_none() && one.use_count()? == 2)?;
-        let (mut hoped, mut new) = (Some(one), Some(desk.make([50, 0, 0, 0], 2)?));
-        row(3, cell.compare_exchange_strong(rt, &mut hoped, &mut new)?)?;
-        row(4, new.is_none())?;
-        let Some(one) = hoped else {
-            return row(5, false);
-        };
-        row(6, one.read()? == 10 && one.use_count()? == 1)?;
-        let mut hoped = cell.load(rt)?;
-        let Some(two) = &hoped else {
-            return row(7, false);
-        };
-        let (watch, mut none) = (two.downgrade()?, None);
-        row(8, two.read()? == 50 && two.use_count()? == 2)?;
-        row(9, cell.compare_exchange_strong(rt, &mut hoped, &mut none)?)?;
-        row(10, none.is_none() && watch.use_count()? == 1)?;
-        drop(hoped);
-        row(11, watch.expired()? && cell.load(rt)?.is_none())?;
-        let mut other = None;
-        row(12, cell.compare_exchange_strong(rt, &mut none, &mut other)?)?;
-        row(13, none.is_none() && other.is_none())?;
-        let child = desk.make([60, 0, 0, 0], 3)?;
-        let (watch, mut new) = (child.downgrade()?, Some(child));
-        row(
-            14,
-            one.first()
-                .compare_exchange_strong(rt, &mut none, &mut new)?,
-        )?;
-        row(
-            15,
-            one.next()
-                .compare_exchange_strong(rt, &mut none, &mut other)?,
-        )?;
-        let mut hoped = one.first().load(rt)?;
-        row(
-            16,
-            one.first()
-                .compare_exchange_strong(rt, &mut hoped, &mut none)?,
-        )?;
-        drop(hoped);
-        row(17, watch.expired()? && one.first().load(rt)?.is_none())
-    }
-}
+/// An empty cell, and one that holds what was expected.
+const SWAPS: [Row; 15] = [
+    (Make(Object, 1, 0), Done),
+    (Come(0, Share, 1), Done),
+    (Compare(Strong, CELL, 9, 1), Is(true)),
+    (Drop(9), Nothing),
+    (Drop(1), Nothing),
+    (Look(0, UseCount), Number(2)),
+    (Make(Object, 2, 1), Done),
+    (Compare(Until, CELL, 0, 1), Is(true)),
+    (Drop(1), Nothing),
+    (Look(0, UseCount), Number(1)),
+    (Drop(0), Done),
+    (Ends, Number(1)),
+    (Load(CELL, 0), Done),
+    (Compare(Strong, CELL, 0, 9), Is(true)),
+    (Load(CELL, 1), Nothing),
+];
 
 #[test]
-fn what_is_expected_is_swapped(rt: HostRuntime) {
-    plays(&rt, rt.alloc(), 16, &Swaps);
+fn what_is_expected_is_exchanged(rt: HostRuntime) {
+    answers(&rt, rt.alloc(), &SWAPS);
 }
 
-/// Places that hold something else: what is expected becomes a copy of that, and lets go of what it was.
-struct Differs;
-
-impl<R: Threads + Wait> Program<u64, R> for Differs {
-    fn work<D: Domain<Value = u64>>(
-        &self,
-        rt: &R,
-        _number: usize,
-        desk: &Desk<D>,
-    ) -> Result<(), Fault> {
-        let cell = desk.cell(SharedCell(1));
-        let one = desk.make([10, 20, 30, 40], 1)?;
-        let two = desk.make([50, 0, 0, 0], 2)?;
-        cell.store(Some(one.share()?))?;
-        let (mut hoped, mut new) = (Some(two.share()?), Some(two.share()?));
-        row(1, !cell.compare_exchange_strong(rt, &mut hoped, &mut new)?)?;
-        let (Some(found), Some(kept)) = (hoped, new) else {
-            return row(2, false);
-        };
-        row(
-            3,
-            found.is(&one) && found.read()? == 10 && one.use_count()? == 3,
-        )?;
-        row(4, kept.is(&two) && two.use_count()? == 2)?;
-        let (mut hoped, mut new) = (None, None);
-        row(5, !cell.compare_exchange_weak(rt, &mut hoped, &mut new)?)?;
-        row(6, new.is_none() && one.use_count()? == 4)?;
-        let Some(again) = hoped else {
-            return row(7, false);
-        };
-        row(8, again.is(&one))?;
-        cell.clear()?;
-        let (mut hoped, mut new) = (Some(again), Some(kept));
-        row(9, !cell.compare_exchange_strong(rt, &mut hoped, &mut new)?)?;
-        row(10, hoped.is_none() && one.use_count()? == 2)?;
-        row(11, cell.load(rt)?.is_none() && two.use_count()? == 2)?;
-        let last = desk.make([60, 0, 0, 0], 3)?;
-        let (watch, mut hoped) = (last.downgrade()?, Some(last));
-        row(12, !cell.compare_exchange_weak(rt, &mut hoped, &mut new)?)?;
-        row(13, hoped.is_none() && watch.expired()? && new.is_some())
-    }
-}
+/// A cell that holds something else: what was expected becomes a copy of that.
+const DIFFERS: [Row; 16] = [
+    (Make(Object, 3, 0), Done),
+    (Store(0, CELL), Done),
+    (Compare(Strong, CELL, 8, 9), Is(false)),
+    (Look(8, Read), Number(3)),
+    (Compare(Strong, CELL, 8, 9), Is(true)),
+    (Drop(8), Done),
+    (Ends, Number(3)),
+    (Make(Object, 4, 1), Done),
+    (Make(Object, 5, 2), Done),
+    (Compare(Weak, CELL, 1, 2), Is(false)),
+    (Ends, Number(4)),
+    (Drop(1), Nothing),
+    (Look(2, Read), Number(5)),
+    (Compare(Strong, CELL, 9, 2), Is(true)),
+    (Clear(CELL), Done),
+    (Ends, Number(5)),
+];
 
 #[test]
 fn what_differs_is_told(rt: HostRuntime) {
-    plays(&rt, rt.alloc(), 16, &Differs);
+    answers(&rt, rt.alloc(), &DIFFERS);
+}
+
+/// The same of weak pointers.
+const WEAK: [Row; 13] = [
+    (Make(Object, 6, 0), Done),
+    (Come(0, Downgrade, 10), Done),
+    (Compare(Until, Cell::WeakPlace(0), 19, 10), Is(true)),
+    (Drop(19), Nothing),
+    (Drop(10), Nothing),
+    (Compare(Strong, Cell::WeakPlace(0), 18, 19), Is(false)),
+    (Compare(Strong, Cell::WeakPlace(0), 18, 19), Is(true)),
+    (Drop(18), Done),
+    (Load(Cell::WeakPlace(0), 11), Nothing),
+    (Come(0, Downgrade, 10), Done),
+    (Compare(Weak, Cell::WeakPlace(0), 10, 19), Is(false)),
+    (Drop(10), Nothing),
+    (Look(0, UseCount), Number(1)),
+];
+
+#[test]
+fn weak_pointers_are_compared(rt: HostRuntime) {
+    answers(&rt, rt.alloc(), &WEAK);
+}
+
+/// A cell that isn't there: both pointers stay.
+const NO_CELL: [Row; 10] = [
+    (Make(Object, 7, 0), Done),
+    (
+        Compare(Strong, Cell::Place(9), 9, 0),
+        Not(Fault::Cell(Call::CompareExchange(Spot::Shared(9)))),
+    ),
+    (Drop(9), Nothing),
+    (Look(0, UseCount), Number(1)),
+    (Come(0, Downgrade, 10), Done),
+    (
+        Compare(Weak, Cell::WeakPlace(9), 10, 19),
+        Not(Fault::Cell(Call::CompareExchange(Spot::Weak(9)))),
+    ),
+    (Drop(19), Nothing),
+    (Drop(10), Done),
+    (Drop(0), Done),
+    (Ends, Number(7)),
+];
+
+#[test]
+fn a_refused_compare_keeps_both(rt: HostRuntime) {
+    answers(&rt, rt.alloc(), &NO_CELL);
 }
 
 /// Equivalent is what has the same place, and the same object or none.
-struct Places;
-
-impl<R: Threads + Wait> Program<u64, R> for Places {
-    fn work<D: Domain<Value = u64>>(
-        &self,
-        rt: &R,
-        _number: usize,
-        desk: &Desk<D>,
-    ) -> Result<(), Fault> {
-        let cell = desk.cell(SharedCell(0));
-        let one = desk.make([10, 20, 30, 40], 1)?;
-        let two = desk.make([50, 0, 0, 0], 2)?;
-        let Some(place) = one.place() else {
-            return row(1, false);
-        };
-        cell.store(Some(one.share()?))?;
-        let (mut hoped, mut none) = (Some(two.alias(Some(place))?), None);
-        row(2, !cell.compare_exchange_strong(rt, &mut hoped, &mut none)?)?;
-        hoped = Some(one.alias(None)?);
-        row(3, !cell.compare_exchange_strong(rt, &mut hoped, &mut none)?)?;
-        let Some(found) = &hoped else {
-            return row(4, false);
-        };
-        row(5, found.place() == Some(place))?;
-        cell.store(Some(one.alias(None)?))?;
-        row(
-            6,
-            !cell.compare_exchange_strong(rt, &mut none, &mut Some(two))?,
-        )?;
-        let Some(found) = &none else {
-            return row(7, false);
-        };
-        row(8, found.place().is_none() && one.use_count()? == 4)?;
-        let (mut hoped, mut new) = (Some(one.alias(None)?), None);
-        row(9, cell.compare_exchange_strong(rt, &mut hoped, &mut new)?)?;
-        row(10, cell.load(rt)?.is_none() && hoped.is_some())
-    }
-}
+const PLACES: [Row; 15] = [
+    (Make(Object, 1, 0), Done),
+    (Make(Object, 2, 1), Done),
+    (Come(0, Share, 2), Done),
+    (Store(2, CELL), Done),
+    (Come(1, Way::Into(0), 2), Done),
+    (Compare(Strong, CELL, 2, 9), Is(false)),
+    (Both(2, Pair::Is, 0), Is(true)),
+    (Come(0, Nowhere, 2), Done),
+    (Compare(Strong, CELL, 2, 9), Is(false)),
+    (Look(2, Asks::Field), Number(0)),
+    (Come(0, Nowhere, 2), Done),
+    (Store(2, CELL), Done),
+    (Compare(Strong, CELL, 8, 1), Is(false)),
+    (Look(8, Asks::Field), Nothing),
+    (Compare(Strong, CELL, 8, 9), Is(true)),
+];
 
 #[test]
 fn places_and_objects_are_compared(rt: HostRuntime) {
-    plays(&rt, rt.alloc(), 16, &Places);
+    answers(&rt, rt.alloc(), &PLACES);
+}
+
+/// Members by a pointer that points nowhere, and by one that points into another object: both pointers stay.
+const NOWHERE: [Row; 14] = [
+    (Make(Object, 1, 0), Done),
+    (Make(Object, 2, 1), Done),
+    (Come(0, Nowhere, 2), Done),
+    (Come(1, Way::Into(0), 3), Done),
+    (Come(0, Share, 4), Done),
+    (Come(0, Downgrade, 14), Done),
+    (
+        Compare(Weak, Cell::First(2), 9, 4),
+        Not(Fault::Refused(FIRST, Refusal::Null)),
+    ),
+    (
+        Compare(Strong, Cell::Next(3), 4, 9),
+        Not(Fault::Refused(NEXT, Refusal::Outside)),
+    ),
+    (
+        Compare(Weak, Cell::Up(2), 19, 14),
+        Not(Fault::Refused(UP, Refusal::Null)),
+    ),
+    (Both(4, Pair::Is, 0), Is(true)),
+    (Drop(4), Done),
+    (Drop(14), Done),
+    (Look(0, UseCount), Number(2)),
+    (Look(1, UseCount), Number(2)),
+];
+
+const FIRST: Call = Call::CompareExchange(Spot::First);
+
+const NEXT: Call = Call::CompareExchange(Spot::Next);
+
+const UP: Call = Call::CompareExchange(Spot::Up);
+
+#[test]
+fn a_pointer_to_nowhere_compares_no_members(rt: HostRuntime) {
+    answers(&rt, rt.alloc(), &NOWHERE);
+}
+
+/// Members, and links.
+const MEMBERS: [Row; 10] = [
+    (Make(Object, 1, 0), Done),
+    (Make(Object, 2, 1), Done),
+    (Compare(Strong, Cell::First(0), 9, 1), Is(true)),
+    (Drop(1), Nothing),
+    (Load(Cell::First(0), 1), Done),
+    (Compare(Until, Cell::First(0), 1, 9), Is(true)),
+    (Drop(1), Done),
+    (Ends, Number(2)),
+    (Come(0, Downgrade, 10), Done),
+    (Compare(Until, Cell::Up(0), 19, 10), Is(true)),
+];
+
+#[test]
+fn members_are_compared(rt: HostRuntime) {
+    answers(&rt, rt.alloc(), &MEMBERS);
+}
+
+/// Two pointers, which are all that lie in slots but for copies of the first.
+const HOLDS: [Row; 3] = [
+    (Make(Object, 1, 0), Done),
+    (Come(0, Share, 1), Done),
+    (Come(0, Downgrade, 20), Done),
+];
+
+/// Calls within a visit.
+const BUSY: [Row; 2] = [
+    (Compare(Strong, CELL, 0, 1), Not(Fault::Busy(SHARED))),
+    (
+        Compare(Strong, Cell::WeakPlace(0), 20, 19),
+        Not(Fault::Busy(WEAK_CELL)),
+    ),
+];
+
+/// Both pointers stayed. Then as many pointers as a desk may have: a compare brings a copy of what the cell holds.
+const CROWDED: [Row; 7] = [
+    (Look(0, UseCount), Number(2)),
+    (Shares(0, 2, 15), Done),
+    (Come(0, Share, 18), Not(Fault::Crowded(Call::Share))),
+    (Compare(Strong, CELL, 0, 1), Not(Fault::Crowded(SHARED))),
+    (Compare(Weak, CELL, 21, 1), Not(Fault::Crowded(SHARED))),
+    (Look(0, UseCount), Number(17)),
+    (Compare(Strong, CELL, 21, 22), Not(Fault::Crowded(SHARED))),
+];
+
+const SHARED: Call = Call::CompareExchange(Spot::Shared(0));
+
+const WEAK_CELL: Call = Call::CompareExchange(Spot::Weak(0));
+
+#[test]
+fn a_crowded_or_busy_compare_keeps_both(rt: HostRuntime) {
+    answers_within(&rt, rt.alloc(), &HOLDS, &BUSY, &CROWDED);
 }

@@ -1,156 +1,110 @@
-//! Each call on an owner and on a weak pointer, with ample memory.
+//! Each call on an owner.
 
-use crate::plays::{plays, row};
-use owned::{Block, Call, Desk, Domain, Fault, Place, Program, Refusal};
-use std::sync::Wait;
-use std::thread::Threads;
+use crate::players::answers;
+use crate::steps::Answer::{Done, Is, Not, Nothing, Number};
+use crate::steps::Look::{Read, UseCount, Visit};
+use crate::steps::New::{Enabled, Null, Object, Zeros};
+use crate::steps::Pair::{Before, SamePlace};
+use crate::steps::Step::{Both, Come, Drop, Ends, Look, Make};
+use crate::steps::Way::{AtItsDesk, Nowhere, Share, This, WeakOfThis};
+use crate::steps::{Look as Asks, Pair, Row, Way};
+use owned::{Call, Fault, Refusal};
 
-/// Owners of one object, and of none.
-struct Owners;
-
-impl<R: Threads + Wait> Program<u64, R> for Owners {
-    fn work<D: Domain<Value = u64>>(
-        &self,
-        rt: &R,
-        _number: usize,
-        desk: &Desk<D>,
-    ) -> Result<(), Fault> {
-        let one = desk.make([10, 20, 30, 40], 1)?;
-        let two = one.share()?;
-        row(1, one.use_count()? == 2)?;
-        row(2, one.is(&two) && one.same_place(&two))?;
-        row(3, two.read()? == 10)?;
-        drop(one);
-        row(4, two.use_count()? == 1)?;
-        let Some(place) = two.place() else {
-            return row(5, false);
-        };
-        let third = Place { field: 2, ..place };
-        let part = two.alias(Some(third))?;
-        row(
-            6,
-            part.read()? == 30 && part.is(&two) && !part.same_place(&two),
-        )?;
-        let none = two.alias(None)?;
-        row(
-            7,
-            none.read() == Err(Fault::Refused(Call::Read, Refusal::Null)),
-        )?;
-        let fourth = Place { field: 4, ..place };
-        row(
-            8,
-            two.alias(Some(fourth)).err() == Some(Fault::Place(Call::Alias)),
-        )?;
-        let other = desk.new(2)?;
-        row(9, other.read()? == 0)?;
-        let crossed = other.alias(two.place())?;
-        row(
-            10,
-            crossed.read() == Err(Fault::Refused(Call::Read, Refusal::Outside)),
-        )?;
-        row(11, crossed.same_place(&two) && !crossed.is(&two))?;
-        row(12, two.owner_before(&other) != other.owner_before(&two))?;
-        row(13, two.visit(rt, |value| *value)? == 1)?;
-        two.visit(rt, |value| *value = 7)?;
-        row(14, two.snapshot(rt)? == 7)?;
-        let null = desk.make_null(3)?;
-        row(15, null.place() == None && null.use_count()? == 1)?;
-        row(16, null.visit(rt, |value| *value)? == 3)
-    }
-}
+/// Two owners of one object.
+const SHARED: [Row; 12] = [
+    (Make(Object, 1, 0), Done),
+    (Look(0, Read), Number(1)),
+    (Look(0, UseCount), Number(1)),
+    (Come(0, Share, 1), Done),
+    (Look(1, UseCount), Number(2)),
+    (Both(0, Pair::Is, 1), Is(true)),
+    (Both(0, SamePlace, 1), Is(true)),
+    (Drop(0), Done),
+    (Look(1, UseCount), Number(1)),
+    (Ends, Number(0)),
+    (Drop(1), Done),
+    (Ends, Number(1)),
+];
 
 #[test]
-fn owners_answer_as_they_should(rt: HostRuntime) {
-    plays(&rt, rt.alloc(), 16, &Owners);
+fn the_last_owner_ends_its_object(rt: HostRuntime) {
+    answers(&rt, rt.alloc(), &SHARED);
 }
 
-/// Weak pointers, while an owner remains and then.
-struct Weaks;
-
-impl<R: Threads + Wait> Program<u64, R> for Weaks {
-    fn work<D: Domain<Value = u64>>(
-        &self,
-        rt: &R,
-        _number: usize,
-        desk: &Desk<D>,
-    ) -> Result<(), Fault> {
-        let one = desk.make([10, 20, 30, 40], 1)?;
-        let weak = one.downgrade()?;
-        let more = weak.share()?;
-        row(1, weak.is(&more) && !weak.owner_before(&more))?;
-        row(2, !weak.expired()? && weak.use_count()? == 1)?;
-        let Some(again) = weak.lock(rt)? else {
-            return row(3, false);
-        };
-        row(4, again.is(&one) && again.read()? == 10)?;
-        row(5, more.upgrade(rt)?.use_count()? == 3)?;
-        row(
-            6,
-            !weak.owner_before_shared(&one) && !one.owner_before_weak(&weak),
-        )?;
-        drop(one);
-        row(7, weak.use_count()? == 1)?;
-        drop(again);
-        row(8, weak.expired()? && weak.use_count()? == 0)?;
-        row(9, weak.lock(rt)?.is_none())?;
-        row(
-            10,
-            weak.upgrade(rt).err() == Some(Fault::Refused(Call::Upgrade, Refusal::BadWeak)),
-        )?;
-        let own = desk.make_enabled([50, 0, 0, 0], 2)?;
-        row(11, own.shared_from_this()?.read()? == 50)?;
-        row(12, own.weak_from_this()?.upgrade(rt)?.is(&own))?;
-        let plain = desk.new(3)?;
-        let why = Fault::Refused(Call::SharedFromThis, Refusal::NotEnabled);
-        row(13, plain.shared_from_this().err() == Some(why))?;
-        let why = Fault::Refused(Call::WeakFromThis, Refusal::NotEnabled);
-        row(14, plain.weak_from_this().err() == Some(why))
-    }
-}
+/// Owners that point at a field, nowhere, and into another object.
+const ALIASES: [Row; 26] = [
+    (Make(Object, 1, 0), Done),
+    (Look(0, Asks::Field), Number(0)),
+    (Come(0, Way::Field(2), 1), Done),
+    (Look(1, Read), Number(30)),
+    (Both(1, Pair::Is, 0), Is(true)),
+    (Both(1, SamePlace, 0), Is(false)),
+    (Come(0, Nowhere, 2), Done),
+    (Look(2, Asks::Field), Nothing),
+    (
+        Look(2, Read),
+        Not(Fault::Refused(Call::Read, Refusal::Null)),
+    ),
+    (Look(2, Visit), Number(1)),
+    (Come(0, Way::Field(4), 3), Not(Fault::Place(Call::Alias))),
+    (Look(2, UseCount), Number(3)),
+    (Make(Object, 2, 3), Done),
+    (Come(0, Way::Into(3), 4), Done),
+    (Both(4, SamePlace, 3), Is(true)),
+    (Both(4, Pair::Is, 3), Is(false)),
+    (
+        Look(4, Read),
+        Not(Fault::Refused(Call::Read, Refusal::Outside)),
+    ),
+    (Look(4, Visit), Number(1)),
+    (Both(0, Before, 4), Is(false)),
+    (Drop(0), Done),
+    (Drop(1), Done),
+    (Drop(2), Done),
+    (Drop(3), Done),
+    (Ends, Number(2)),
+    (Drop(4), Done),
+    (Ends, Number(1)),
+];
 
 #[test]
-fn weak_pointers_answer_as_they_should(rt: HostRuntime) {
-    plays(&rt, rt.alloc(), 16, &Weaks);
+fn an_alias_owns_one_object_and_points_at_another(rt: HostRuntime) {
+    answers(&rt, rt.alloc(), &ALIASES);
 }
 
-/// As many pointers as a desk may have, and one more; and calls within a visit.
-struct Crowds;
-
-impl<R: Threads + Wait> Program<u64, R> for Crowds {
-    fn work<D: Domain<Value = u64>>(
-        &self,
-        rt: &R,
-        _number: usize,
-        desk: &Desk<D>,
-    ) -> Result<(), Fault> {
-        let one = desk.make([10, 20, 30, 40], 1)?;
-        let two = one.share()?;
-        let three = one.share()?;
-        let four = one.share()?;
-        row(1, one.share().err() == Some(Fault::Crowded(Call::Share)))?;
-        row(
-            2,
-            one.downgrade().err() == Some(Fault::Crowded(Call::Downgrade)),
-        )?;
-        let Err(refused) = desk.make([0; 4], 9) else {
-            return row(3, false);
-        };
-        row(
-            4,
-            refused.why == Fault::Crowded(Call::Make) && refused.back == 9,
-        )?;
-        drop(four);
-        row(5, one.share()?.use_count()? == 4)?;
-        let busy = one.visit(rt, move |_| {
-            drop(three);
-            two.share().err()
-        })?;
-        row(6, busy == Some(Fault::Busy(Call::Share)))?;
-        row(7, one.use_count()? == 1)
-    }
-}
+/// Pointers that an object gives of itself, and owners of null.
+const THIS: [Row; 22] = [
+    (Make(Enabled, 5, 0), Done),
+    (Come(0, This, 1), Done),
+    (Look(1, UseCount), Number(2)),
+    (Both(1, SamePlace, 0), Is(true)),
+    (Come(0, WeakOfThis, 10), Done),
+    (Come(10, Way::Lock, 2), Done),
+    (Both(2, Pair::Is, 0), Is(true)),
+    (Make(Zeros, 2, 3), Done),
+    (Look(3, Read), Number(0)),
+    (
+        Come(3, This, 4),
+        Not(Fault::Refused(Call::SharedFromThis, Refusal::NotEnabled)),
+    ),
+    (
+        Come(3, WeakOfThis, 11),
+        Not(Fault::Refused(Call::WeakFromThis, Refusal::NotEnabled)),
+    ),
+    (Make(Null, 3, 4), Done),
+    (Look(4, Asks::Field), Nothing),
+    (Look(4, UseCount), Number(1)),
+    (Look(4, Visit), Number(3)),
+    (Look(4, Asks::Number(9)), Number(9)),
+    (Look(4, Visit), Number(9)),
+    (Drop(4), Done),
+    (Ends, Number(9)),
+    (Come(3, AtItsDesk(7), 5), Done),
+    (Look(5, Read), Number(7)),
+    (Both(3, Pair::Is, 5), Is(false)),
+];
 
 #[test]
-fn a_crowded_or_busy_desk_refuses(rt: HostRuntime) {
-    plays(&rt, rt.alloc(), 2, &Crowds);
+fn an_object_gives_pointers_of_itself(rt: HostRuntime) {
+    answers(&rt, rt.alloc(), &THIS);
 }

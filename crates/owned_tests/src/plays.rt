@@ -2,6 +2,7 @@
 
 use owned::{Fault, Program, Ran, Team, run};
 use std::alloc::Global;
+use std::fmt::Debug;
 use std::process::Abort;
 use std::sync::Wait;
 use std::thread::Threads;
@@ -36,7 +37,12 @@ where
         pointers,
     };
     match run(rt, alloc, team.shape(BLOCKS, CELLS, CELLS), team, play) {
-        Ok(ran) => assert_eq!(rt; of_run(&ran), (None, BLOCKS)),
+        Ok(ran) => same(rt, of_run(&ran), (None, BLOCKS)),
         Err(why) => panic!(rt; "not run: {why}"),
     }
+}
+
+/// What was found is what was wanted, or the test fails with both.
+pub(crate) fn same<T: PartialEq + Debug + Drop>(rt: &impl Abort, found: T, wanted: T) {
+    assert_eq!(rt; found, wanted);
 }

@@ -1,0 +1,73 @@
+//! Programs that are not run.
+
+use owned::{Desk, Domain, Fault, Program, Shape, Team, run};
+use std::alloc::Global;
+use std::sync::Wait;
+use std::thread::Threads;
+
+/// A worker that is never to work.
+struct Idle;
+
+impl<R: Threads + Wait + Sync> Program<u64, R> for Idle {
+    fn work<D: Domain<Value = u64>>(
+        &self,
+        _rt: &R,
+        _number: usize,
+        _desk: &Desk<D>,
+    ) -> Result<(), Fault> {
+        Err(Fault::Other(1))
+    }
+}
+
+/// Blocks, shared cells, weak cells, allowance; workers, pointers; and why no program is run so.
+const ROWS: [([u32; 4], (usize, u32), &str); 9] = [
+    ([0, 0, 0, 9], (1, 4), "blocks 0, at least 1"),
+    ([65_536, 0, 0, 9], (1, 4), "blocks 65536, at most 65535"),
+    ([1, 300, 0, 9], (1, 4), "shared_cells 300, at most 256"),
+    ([1, 200, 57, 9], (1, 4), "weak_cells 57, at most 56"),
+    ([1, 0, 0, 0], (1, 4), "allowance 0, at least 1"),
+    (
+        [1, 0, 0, 4_194_305],
+        (1, 4),
+        "allowance 4194305, at most 4194304",
+    ),
+    ([1, 0, 0, 6], (1, 4), "allowance 6, at least 7"),
+    ([1, 0, 0, 18], (3, 4), "allowance 18, at least 19"),
+    ([65_535, 256, 0, 7], (1, 4), ""),
+];
+
+/// Why the program is not run, or nothing where it is.
+fn why_not<R: Threads + Wait + Sync>(
+    rt: &R,
+    alloc: Global,
+    shape: [u32; 4],
+    team: (usize, u32),
+) -> Result<String, Fault> {
+    let [blocks, shared_cells, weak_cells, allowance] = shape;
+    let shape = Shape {
+        blocks,
+        shared_cells,
+        weak_cells,
+        allowance,
+    };
+    let (workers, pointers) = team;
+    match run::<u64, R, Idle>(rt, alloc, shape, Team { workers, pointers }, &Idle) {
+        Ok(_) => Ok(String::new(alloc)),
+        Err(why) => Ok(format!(in alloc; "{why}")?),
+    }
+}
+
+#[cfg(test)]
+mod tests {
+    use super::*;
+
+    #[test]
+    fn a_number_that_does_not_fit_is_told(rt: HostRuntime) {
+        for (shape, team, wanted) in &ROWS {
+            match why_not(&rt, rt.alloc(), *shape, *team) {
+                Ok(why) => assert_eq!(rt; why.as_str(), *wanted),
+                Err(why) => panic!(rt; "{why}"),
+            }
+        }
+    }
+}

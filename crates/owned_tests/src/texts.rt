@@ -1,0 +1,94 @@
+//! What faults are called.
+
+use owned::{Call, Fault, Refusal, Spot};
+use std::alloc::Global;
+
+/// Faults, and their texts.
+const ROWS: [(Fault, &str); 22] = [
+    (Fault::Busy(Call::Read), "read: busy, within a visit"),
+    (
+        Fault::Crowded(Call::Share),
+        "share: crowded, no pointer is left to the desk",
+    ),
+    (
+        Fault::Cell(Call::Load(Spot::Shared(7))),
+        "load of shared cell 7: no such cell",
+    ),
+    (
+        Fault::Cell(Call::Store(Spot::Weak(7))),
+        "store of weak cell 7: no such cell",
+    ),
+    (Fault::Place(Call::Alias), "alias: no such place"),
+    (
+        Fault::Refused(Call::Exchange(Spot::First), Refusal::Null),
+        "exchange of member first: null",
+    ),
+    (
+        Fault::Refused(Call::Clear(Spot::Next), Refusal::Outside),
+        "clear of member next: outside",
+    ),
+    (
+        Fault::Refused(Call::CompareExchange(Spot::Up), Refusal::Limit),
+        "compare_exchange of member up: limit",
+    ),
+    (Fault::Refused(Call::Make, Refusal::Full), "make: full"),
+    (
+        Fault::Cell(Call::Stack(Spot::Shared(7))),
+        "stack of shared cell 7: no such cell",
+    ),
+    (
+        Fault::Cell(Call::Observers(Spot::Shared(7))),
+        "observers of shared cell 7: no such cell",
+    ),
+    (Fault::Refused(Call::Push, Refusal::Full), "push: full"),
+    (Fault::Refused(Call::Pop, Refusal::Limit), "pop: limit"),
+    (Fault::Refused(Call::Attach, Refusal::Full), "attach: full"),
+    (Fault::Refused(Call::Prune, Refusal::Limit), "prune: limit"),
+    (
+        Fault::Refused(Call::AddChild, Refusal::Null),
+        "add_child: null",
+    ),
+    (Fault::Refused(Call::Detach, Refusal::Null), "detach: null"),
+    (Fault::Busy(Call::Scene), "scene: busy, within a visit"),
+    (
+        Fault::Busy(Call::Teardown),
+        "teardown: busy, within a visit",
+    ),
+    (Fault::Memory, "no memory"),
+    (Fault::Output, "input or output failed"),
+    (Fault::Other(3), "fault 3"),
+];
+
+/// The text of a fault.
+fn text(alloc: Global, fault: Fault) -> Option<String> {
+    format!(in alloc; "{fault}").ok()
+}
+
+/// Whether a fault is a refusal for this reason alone.
+fn is_bad_weak(fault: Fault) -> bool {
+    fault.is_refusal(Refusal::BadWeak) && !fault.is_refusal(Refusal::Full)
+}
+
+#[cfg(test)]
+mod tests {
+    use super::*;
+
+    #[test]
+    fn a_refusal_is_told_apart(rt: HostRuntime) {
+        let why = Fault::Refused(Call::Upgrade, Refusal::BadWeak);
+        assert_eq!(rt;
+            (is_bad_weak(why), is_bad_weak(Fault::Memory)),
+            (true, false)
+        );
+    }
+
+    #[test]
+    fn a_fault_tells_its_call(rt: HostRuntime) {
+        for (fault, wanted) in &ROWS {
+            match text(rt.alloc(), *fault) {
+                Some(text) => assert_eq!(rt; text.as_str(), *wanted),
+                None => panic!(rt; "no memory"),
+            }
+        }
+    }
+}
