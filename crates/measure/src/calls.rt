@@ -1,139 +1,127 @@
-//! The calls by which a handle comes and leaves again, in each way to call this runtime.
-use crate::rows::{Label, Row};
-use crate::timing::tell;
-use std::io;
-use std::rt::Clock;
+//! The calls that each worker makes over and over. By each a pointer comes and leaves.
+use crate::own::{FIELDS, Own};
+use crate::rows::Row;
+use owned::{Domain, Fault};
+use std::hint::black_box;
 use std::sync::Wait;
-use std::time::CpuClock;
 
-/// A way to call this runtime, on a `T`. By each call a handle comes and leaves again; it tells whether none was
-/// refused.
-pub(crate) trait Calls<T> {
-    /// What the calls ask.
-    ghost is_ready: { Self → T → Type 0 } = { λ _ _. Unit {0} };
+/// How many exchanges are a turn.
+const EXCHANGES: u32 = 2_000;
 
-    /// How the way is called.
-    fn peer(&self) -> &'static str;
+/// A new object's owner, and the object ends.
+#[derive(Clone, Copy, Drop)]
+pub(crate) struct Make;
 
-    /// A new object's owner, and the object ends.
-    fn make<R: Wait>(&self, rt: &R, on: &mut T) -> bool
-        requires { is_ready self.now on.old }
-        ensures { is_ready self.now on.new };
-
-    /// A copy of an owner.
-    fn share<R: Wait>(&self, rt: &R, on: &mut T) -> bool
-        requires { is_ready self.now on.old }
-        ensures { is_ready self.now on.new };
-
-    /// A weak handle of an owner.
-    fn downgrade<R: Wait>(&self, rt: &R, on: &mut T) -> bool
-        requires { is_ready self.now on.old }
-        ensures { is_ready self.now on.new };
-
-    /// An owner of a weak handle.
-    fn lock<R: Wait>(&self, rt: &R, on: &mut T) -> bool
-        requires { is_ready self.now on.old }
-        ensures { is_ready self.now on.new };
-
-    /// A copy of what a cell holds.
-    fn load<R: Wait>(&self, rt: &R, on: &mut T) -> bool
-        requires { is_ready self.now on.old }
-        ensures { is_ready self.now on.new };
-}
-
-/// The row of `Calls::make`.
-#[derive(Drop)]
-pub(crate) struct Make<'a, C> {
-    pub(crate) calls: &'a C,
-}
-
-impl<T, C: Calls<T>> Row<T> for Make<'_, C> {
-    ghost is_ready = { λ row on. C.is_ready row.calls.now on };
-
+impl<'t, D: Domain<Value = ()>> Row<Own<'t, D>> for Make {
     #[inline(always)]
-    fn once<R: Wait>(&self, rt: &R, on: &mut T) -> bool {
-        self.calls.make(rt, on)
+    fn once<R: Wait>(&self, _rt: &R, own: &mut Own<'t, D>) -> bool {
+        own.desk.make(FIELDS, ()).is_ok()
     }
 }
 
-/// The row of `Calls::share`.
-#[derive(Drop)]
-pub(crate) struct Share<'a, C> {
-    pub(crate) calls: &'a C,
-}
+/// A copy of the owner.
+#[derive(Clone, Copy, Drop)]
+pub(crate) struct Share;
 
-impl<T, C: Calls<T>> Row<T> for Share<'_, C> {
-    ghost is_ready = { λ row on. C.is_ready row.calls.now on };
-
+impl<'t, D: Domain<Value = ()>> Row<Own<'t, D>> for Share {
     #[inline(always)]
-    fn once<R: Wait>(&self, rt: &R, on: &mut T) -> bool {
-        self.calls.share(rt, on)
+    fn once<R: Wait>(&self, _rt: &R, own: &mut Own<'t, D>) -> bool {
+        own.shared.share().is_ok()
     }
 }
 
-/// The row of `Calls::downgrade`.
-#[derive(Drop)]
-pub(crate) struct Downgrade<'a, C> {
-    pub(crate) calls: &'a C,
-}
+/// A weak pointer of the owner.
+#[derive(Clone, Copy, Drop)]
+pub(crate) struct Downgrade;
 
-impl<T, C: Calls<T>> Row<T> for Downgrade<'_, C> {
-    ghost is_ready = { λ row on. C.is_ready row.calls.now on };
-
+impl<'t, D: Domain<Value = ()>> Row<Own<'t, D>> for Downgrade {
     #[inline(always)]
-    fn once<R: Wait>(&self, rt: &R, on: &mut T) -> bool {
-        self.calls.downgrade(rt, on)
+    fn once<R: Wait>(&self, _rt: &R, own: &mut Own<'t, D>) -> bool {
+        own.shared.downgrade().is_ok()
     }
 }
 
-/// The row of `Calls::lock`.
-#[derive(Drop)]
-pub(crate) struct Lock<'a, C> {
-    pub(crate) calls: &'a C,
-}
+/// How many owners there are.
+#[derive(Clone, Copy, Drop)]
+pub(crate) struct Count;
 
-impl<T, C: Calls<T>> Row<T> for Lock<'_, C> {
-    ghost is_ready = { λ row on. C.is_ready row.calls.now on };
-
+impl<'t, D: Domain<Value = ()>> Row<Own<'t, D>> for Count {
     #[inline(always)]
-    fn once<R: Wait>(&self, rt: &R, on: &mut T) -> bool {
-        self.calls.lock(rt, on)
+    fn once<R: Wait>(&self, _rt: &R, own: &mut Own<'t, D>) -> bool {
+        black_box(own.shared.use_count()).is_ok()
     }
 }
 
-/// The row of `Calls::load`.
-#[derive(Drop)]
-pub(crate) struct Load<'a, C> {
-    pub(crate) calls: &'a C,
-}
+/// An owner of the weak pointer's object.
+#[derive(Clone, Copy, Drop)]
+pub(crate) struct Lock;
 
-impl<T, C: Calls<T>> Row<T> for Load<'_, C> {
-    ghost is_ready = { λ row on. C.is_ready row.calls.now on };
-
+impl<'t, D: Domain<Value = ()>> Row<Own<'t, D>> for Lock {
     #[inline(always)]
-    fn once<R: Wait>(&self, rt: &R, on: &mut T) -> bool {
-        self.calls.load(rt, on)
+    fn once<R: Wait>(&self, rt: &R, own: &mut Own<'t, D>) -> bool {
+        matches!(own.weak.lock(rt), Ok(Some(_)))
     }
 }
 
-/// The rows of all of them by one thread, under the names that they have by handles in registers.
-pub(crate) fn tell_all<T, C: Calls<T>, R: Clock + CpuClock + Wait + Print>(
-    rt: &R,
-    calls: &C,
-    on: &mut T,
-) -> io::Result<()>
-    requires { C.is_ready calls.now on.old }
-    ensures { C.is_ready calls.now on.new }
-{
-    let peer = calls.peer();
-    let make = Label::of_turns("make + end", peer, 2_000);
-    tell(rt, &Make { calls }, on, &make)?;
-    let share = Label::of_turns("share + release, own object", peer, 2_000);
-    tell(rt, &Share { calls }, on, &share)?;
-    let downgrade = Label::of_turns("downgrade + release_weak, own object", peer, 2_000);
-    tell(rt, &Downgrade { calls }, on, &downgrade)?;
-    let lock = Label::of_turns("lock + release, own object", peer, 2_000);
-    tell(rt, &Lock { calls }, on, &lock)?;
-    let load = Label::of_turns("cell load + release, own cell", peer, 2_000);
-    tell(rt, &Load { calls }, on, &load)
+/// A copy of what the cell holds.
+#[derive(Clone, Copy, Drop)]
+pub(crate) struct Load;
+
+impl<'t, D: Domain<Value = ()>> Row<Own<'t, D>> for Load {
+    #[inline(always)]
+    fn once<R: Wait>(&self, rt: &R, own: &mut Own<'t, D>) -> bool {
+        matches!(own.desk.load(rt, own.cell), Ok(Some(_)))
+    }
+}
+
+/// A copy of the owner goes into the cell, and what it held leaves.
+#[derive(Clone, Copy, Drop)]
+pub(crate) struct Store;
+
+impl<'t, D: Domain<Value = ()>> Row<Own<'t, D>> for Store {
+    #[inline(always)]
+    fn once<R: Wait>(&self, _rt: &R, own: &mut Own<'t, D>) -> bool {
+        match own.shared.share() {
+            Ok(copy) => copy.store(own.cell).is_ok(),
+            Err(_) => false,
+        }
+    }
+}
+
+/// A copy of the owner goes into the cell, and what comes out goes in again, so many times.
+#[derive(Clone, Copy, Drop)]
+pub(crate) struct Exchange;
+
+impl<'t, D: Domain<Value = ()>> Row<Own<'t, D>> for Exchange {
+    fn once<R: Wait>(&self, _rt: &R, own: &mut Own<'t, D>) -> bool {
+        exchange_all(own).is_ok()
+    }
+}
+
+fn exchange_all<D: Domain<Value = ()>>(own: &Own<'_, D>) -> Result<(), Fault> {
+    let place = own.desk.cell(own.cell);
+    let mut now = Some(own.shared.share()?);
+    for _ in 0..EXCHANGES {
+        now = place.exchange(now)?;
+    }
+    drop(now);
+    Ok(())
+}
+
+/// A copy of the owner is for the cell, which holds an equivalent one, and what came out leaves.
+#[derive(Clone, Copy, Drop)]
+pub(crate) struct Compare;
+
+impl<'t, D: Domain<Value = ()>> Row<Own<'t, D>> for Compare {
+    #[inline]
+    fn once<R: Wait>(&self, rt: &R, own: &mut Own<'t, D>) -> bool {
+        let Ok(copy) = own.shared.share() else {
+            return false;
+        };
+        let mut desired = Some(copy);
+        let place = own.desk.cell(own.cell);
+        place
+            .compare_exchange_strong(rt, &mut own.expected, &mut desired)
+            .unwrap_or(false)
+    }
 }

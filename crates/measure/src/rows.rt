@@ -3,20 +3,15 @@ use crate::timing::Spent;
 use std::io;
 use std::sync::Wait;
 
-/// The ways to call this runtime that have a line or more here: by handles in registers, and by scene_structures.
-pub(crate) const HANDLES: &str = "this runtime";
+/// How this runtime's rows are called: by pointers, and by the structures on them.
+pub(crate) const POINTERS: &str = "this runtime";
 
-pub(crate) const STRUCTURES: &str = "this runtime, scene_structures";
+pub(crate) const STRUCTURES: &str = "this runtime, structures";
 
 /// What is done over and over, on a `T`.
 pub(crate) trait Row<T> {
-    /// What its calls ask.
-    ghost is_ready: { Self → T → Type 0 } = { λ _ _. Unit {0} };
-
     /// A turn: whether no call was refused.
-    fn once<R: Wait>(&self, rt: &R, on: &mut T) -> bool
-        requires { is_ready self.now on.old }
-        ensures { is_ready self.now on.new };
+    fn once<R: Wait>(&self, rt: &R, on: &mut T) -> bool;
 
     /// Whether something is to be made before a turn.
     fn prepares(&self) -> bool {
@@ -24,10 +19,7 @@ pub(crate) trait Row<T> {
     }
 
     /// What a turn is to find is made, outside of the row's time: whether no call was refused.
-    fn prepare<R: Wait>(&self, _rt: &R, _on: &mut T) -> bool
-        requires { is_ready self.now _on.old }
-        ensures { is_ready self.now _on.new }
-    {
+    fn prepare<R: Wait>(&self, _rt: &R, _on: &mut T) -> bool {
         true
     }
 }

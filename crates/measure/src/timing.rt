@@ -94,10 +94,7 @@ fn prepare<T, W: Row<T>, R: Clock + CpuClock + Wait>(
     row: &W,
     on: &mut T,
     watch: &mut Stopwatch,
-) -> io::Result<()>
-    requires { W.is_ready row.now on.old }
-    ensures { W.is_ready row.now on.new }
-{
+) -> io::Result<()> {
     if row.prepares() {
         let mut spent = watch.stop(rt)?;
         spent.whole &= row.prepare(rt, on);
@@ -107,10 +104,7 @@ fn prepare<T, W: Row<T>, R: Clock + CpuClock + Wait>(
 }
 
 /// So many turns, or until a call is refused: whether none was.
-fn repeat<T, W: Row<T>, R: Wait>(rt: &R, row: &W, on: &mut T, turns: u32) -> bool
-    requires { W.is_ready row.now on.old }
-    ensures { W.is_ready row.now on.new }
-{
+fn repeat<T, W: Row<T>, R: Wait>(rt: &R, row: &W, on: &mut T, turns: u32) -> bool {
     for _ in 0..turns {
         if !row.once(rt, on) {
             return false;
@@ -126,10 +120,7 @@ pub(crate) fn time<T, W: Row<T>, R: Clock + CpuClock + Wait>(
     on: &mut T,
     turns: u32,
     until: Until<'_>,
-) -> io::Result<Spent>
-    requires { W.is_ready row.now on.old }
-    ensures { W.is_ready row.now on.new }
-{
+) -> io::Result<Spent> {
     let mut watch = Stopwatch::start(rt, Spent::NOTHING)?;
     for number in 1..=CHUNKS {
         prepare(rt, row, on, &mut watch)?;
@@ -148,10 +139,7 @@ pub(crate) fn tell<T, W: Row<T>, R: Clock + CpuClock + Wait + Print>(
     row: &W,
     on: &mut T,
     label: &Label<'_>,
-) -> io::Result<()>
-    requires { W.is_ready row.now on.old }
-    ensures { W.is_ready row.now on.new }
-{
+) -> io::Result<()> {
     time(rt, row, on, label.turns, Until::Spent)?;
     let spent = time(rt, row, on, label.turns, Until::Spent)?;
     line(rt, label, &[spent], &[spent])

@@ -1,14 +1,9 @@
 //! The rows by one, two and four threads.
-ghost use Rattle.measure.specs.Hands.{IsHand};
-
-use crate::calls::{Downgrade, Load, Lock, Make, Share};
-use crate::hands::Hand;
-use crate::hands::handles::Handles;
-use crate::hands::leaving::InRegisters;
-use crate::hands::on_cells::{Compare, Count, Exchange, PushAndPop, Store};
-use crate::rows::{HANDLES, Label, STRUCTURES, line};
+use crate::calls::{Compare, Count, Downgrade, Exchange, Load, Lock, Make, Share, Store};
+use crate::own::Own;
+use crate::rows::{Label, POINTERS, line};
 use crate::timing::{Spent, Until, time};
-use control_block::domain::Domain;
+use owned::Domain;
 use std::io;
 use std::rt::Clock;
 use std::sync::Wait;
@@ -26,8 +21,6 @@ pub(crate) enum Call {
     Store,
     Exchange,
     Compare,
-    /// A push and a pop of the stack of scene_structures.
-    Stack,
 }
 
 /// What a thread does in a row, under its name: on what it has for itself, or on the common cell and its object.
@@ -38,7 +31,7 @@ pub(crate) enum Part {
 }
 
 /// Those of one, two and four threads, of which the first does this.
-pub(crate) const ROWS: [Part; 13] = [
+pub(crate) const ROWS: [Part; 12] = [
     Part::Own("make + end", Call::Make),
     Part::Own("share + release, own object", Call::Share),
     Part::Common("share + release, one object", Call::Share),
@@ -51,7 +44,6 @@ pub(crate) const ROWS: [Part; 13] = [
     Part::Own("cell exchange, own cell", Call::Exchange),
     Part::Own("cell compare_exchange of a copy, own cell", Call::Compare),
     Part::Common("cell store of a copy, others load", Call::Store),
-    Part::Common("stack push + pop", Call::Stack),
 ];
 
 /// What the others do beside one that stores.
@@ -62,15 +54,6 @@ impl Part {
     pub(crate) fn beside(self) -> Part {
         match self {
             Part::Common(_, Call::Store) => BESIDE,
-            part => part,
-        }
-    }
-
-    /// What the threads do until each has a processor: not a stack's, in which a node's block goes to the thread that
-    /// leaves it last, so that in the end one would have none left.
-    pub(crate) fn settling(self) -> Part {
-        match self {
-            Part::Common(name, Call::Stack) => Part::Common(name, Call::Share),
             part => part,
         }
     }
@@ -92,38 +75,28 @@ impl Part {
     }
 
     fn label(self) -> Label<'static> {
-        let (Part::Own(name, call) | Part::Common(name, call)) = self;
-        let peer = match call {
-            Call::Stack => STRUCTURES,
-            _ => HANDLES,
-        };
-        Label::of_turns(name, peer, self.turns())
+        let (Part::Own(name, _) | Part::Common(name, _)) = self;
+        Label::of_turns(name, POINTERS, self.turns())
     }
 
     /// A thread's turns.
-    pub(crate) fn time<R: Clock + CpuClock + Wait>(
+    pub(crate) fn time<D: Domain<Value = ()>, R: Clock + CpuClock + Wait>(
         self,
         rt: &R,
-        domain: &Domain<()>,
-        on: &mut Hand<()>,
+        own: &mut Own<'_, D>,
         until: Until<'_>,
-    ) -> io::Result<Spent>
-        requires { IsHand domain.now on.old }
-        ensures { IsHand domain.now on.new }
-    {
+    ) -> io::Result<Spent> {
         let turns = self.turns();
-        let calls = &Handles::<(), InRegisters>::of(domain);
         match self.call() {
-            Call::Make => time(rt, &Make { calls }, on, turns, until),
-            Call::Share => time(rt, &Share { calls }, on, turns, until),
-            Call::Downgrade => time(rt, &Downgrade { calls }, on, turns, until),
-            Call::Count => time(rt, &Count { domain }, on, turns, until),
-            Call::Lock => time(rt, &Lock { calls }, on, turns, until),
-            Call::Load => time(rt, &Load { calls }, on, turns, until),
-            Call::Store => time(rt, &Store { domain }, on, turns, until),
-            Call::Exchange => time(rt, &Exchange { domain }, on, 1, until),
-            Call::Compare => time(rt, &Compare { domain }, on, turns, until),
-            Call::Stack => time(rt, &PushAndPop { domain }, on, turns, until),
+            Call::Make => time(rt, &Make, own, turns, until),
+            Call::Share => time(rt, &Share, own, turns, until),
+            Call::Downgrade => time(rt, &Downgrade, own, turns, until),
+            Call::Count => time(rt, &Count, own, turns, until),
+            Call::Lock => time(rt, &Lock, own, turns, until),
+            Call::Load => time(rt, &Load, own, turns, until),
+            Call::Store => time(rt, &Store, own, turns, until),
+            Call::Exchange => time(rt, &Exchange, own, 1, until),
+            Call::Compare => time(rt, &Compare, own, turns, until),
         }
     }
 

@@ -1,4 +1,0 @@
-pub mod Hands
-pub mod Seats
-pub mod Nodes
-pub mod Observers
