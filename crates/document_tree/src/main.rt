@@ -1,7 +1,7 @@
 //! A document: elements own their children and know their parents, subtrees move, and the root's end ends what is left.
 #![tactic(auto)]
 
-use pointers::{Desk, Domain, Fault, Program, Shared, Team, run};
+use owned::{Desk, Domain, Fault, Program, Shared, Team, run};
 use std::alloc::Global;
 use std::io;
 use std::sync::atomic::{AtomicU32, Ordering};
@@ -36,7 +36,7 @@ fn is_under<'t, D: Domain, R: Wait>(
         let Some(node) = at else {
             break;
         };
-        if node.is(other)? {
+        if node.is(other) {
             return Ok(true);
         }
         at = node.parent(rt)?;
@@ -57,7 +57,7 @@ fn append<'t, D: Domain<Value = Object>, R: Wait>(
         before.first().list().remove(rt, element)?;
     }
     element.up().store(Some(parent.downgrade()?))?;
-    parent.first().list().push(rt, element.share()?, None)
+    parent.first().list().push(rt, element.share()?)
 }
 
 /// Prints an element's name.

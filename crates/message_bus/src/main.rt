@@ -1,7 +1,7 @@
 //! A bus: topics know their subscribers by weak pointers, and who drops its subscriber is unsubscribed.
 #![tactic(auto)]
 
-use pointers::{Desk, Domain, Fault, Program, Shared, SharedCell, Team, run};
+use owned::{Desk, Domain, Fault, Program, Shared, SharedCell, Team, run};
 use std::alloc::Global;
 use std::io;
 use std::sync::atomic::{AtomicU32, Ordering};
@@ -45,7 +45,7 @@ impl Topic {
     ) -> Result<(), Fault> {
         let _alone = self.alone.lock(rt);
         let list = mine.desk().cell(self.subscribers).weak_list();
-        list.push_front(rt, mine.downgrade()?, None)
+        list.push_front(rt, mine.downgrade()?)
     }
 
     /// Each subscriber that is there gets the message, and the topic forgets the others: how many took it.
