@@ -34,22 +34,6 @@ impl<'p, 't, D: Domain> Observers<'p, 't, D> {
         self.list.push_front_with(rt, subject.downgrade()?, value)
     }
 
-    /// `tell` gets the field of each observer's subject that has an owner when the call comes to it, the one that was
-    /// attached last first (waits). Where it answers a fault the walk ends with it.
-    pub fn each<R: Wait, F: FnMut(u64) -> Result<(), Fault>>(
-        &self,
-        rt: &R,
-        tell: F,
-    ) -> Result<(), Fault>
-        requires { F.IsAlwaysCallable tell }
-    {
-        let mut tell = tell;
-        self.list.each(rt, |weak| match weak.lock(rt)? {
-            Some(subject) => tell(subject.read()?),
-            None => Ok(()),
-        })
-    }
-
     /// The observers whose subject has no owner go out and end (waits): how many did. One thread at a time may call it.
     pub fn prune<R: Wait>(&self, rt: &R) -> Result<usize, Fault> {
         self.list.retain(rt, |weak| Ok(!weak.expired()?))
