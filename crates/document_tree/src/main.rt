@@ -1,7 +1,7 @@
 //! A document: elements own their children and know their parents, subtrees move, and the root's end ends what is left.
 #![tactic(auto)]
 
-use owned::{Desk, Domain, Fault, Program, Shared, Team, run};
+use pointers::{Desk, Domain, Fault, Program, Shared, Team, run};
 use std::alloc::Global;
 use std::io;
 use std::sync::atomic::{AtomicU32, Ordering};

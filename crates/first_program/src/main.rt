@@ -1,7 +1,7 @@
 //! One thread publishes versions of a configuration, and two read the current one.
 #![tactic(auto)]
 
-use owned::{Desk, Domain, Fault, Program, SharedCell, Team, run};
+use pointers::{Desk, Domain, Fault, Program, SharedCell, Team, run};
 use std::io;
 use std::sync::Wait;
 use std::thread::Threads;

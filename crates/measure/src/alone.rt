@@ -2,7 +2,7 @@
 use crate::own::FIELDS;
 use crate::rows::{Label, POINTERS, Row};
 use crate::timing::tell;
-use owned::{Desk, Domain, Fault, Program, Shared, Team, Weak, run};
+use pointers::{Desk, Domain, Fault, Program, Shared, Team, Weak, run};
 use std::alloc::Global;
 use std::hint::black_box;
 use std::io;

@@ -1,7 +1,7 @@
 //! The calls that each worker makes over and over. By each a pointer comes and leaves.
 use crate::own::{FIELDS, Own};
 use crate::rows::Row;
-use owned::{Domain, Fault};
+use pointers::{Domain, Fault};
 use std::hint::black_box;
 use std::sync::Wait;
 

@@ -1,5 +1,5 @@
 //! What a worker's calls are on.
-use owned::{Desk, Domain, Fault, Shared, SharedCell, Weak};
+use pointers::{Desk, Domain, Fault, Shared, SharedCell, Weak};
 use std::sync::Wait;
 
 /// The fields of each object, as the peers have them.

@@ -3,7 +3,7 @@ use crate::calls::{Compare, Count, Downgrade, Exchange, Load, Lock, Make, Share,
 use crate::own::Own;
 use crate::rows::{Label, POINTERS, line};
 use crate::timing::{Spent, Until, time};
-use owned::Domain;
+use pointers::Domain;
 use std::io;
 use std::rt::Clock;
 use std::sync::Wait;

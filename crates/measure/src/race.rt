@@ -3,7 +3,7 @@ use crate::own::{FIELDS, Own};
 use crate::parts::{Part, ROWS};
 use crate::start::Start;
 use crate::timing::{SPAN, Spent, Until};
-use owned::{Desk, Domain, Fault, Program, SharedCell, Team, run};
+use pointers::{Desk, Domain, Fault, Program, SharedCell, Team, run};
 use std::alloc::Global;
 use std::io;
 use std::rt::Clock;

@@ -3,7 +3,7 @@
 //! domain's shelf to the one that makes.
 use crate::own::FIELDS;
 use crate::timing::nanos;
-use owned::{Desk, Domain, Fault, Program, Refusal, SharedCell, Team, run};
+use pointers::{Desk, Domain, Fault, Program, Refusal, SharedCell, Team, run};
 use std::alloc::Global;
 use std::io;
 use std::rt::Clock;

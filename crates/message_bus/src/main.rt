@@ -1,7 +1,7 @@
 //! A bus: topics know their subscribers by weak pointers, and who drops its subscriber is unsubscribed.
 #![tactic(auto)]
 
-use owned::{Desk, Domain, Fault, Program, Shared, SharedCell, Team, run};
+use pointers::{Desk, Domain, Fault, Program, Shared, SharedCell, Team, run};
 use std::alloc::Global;
 use std::io;
 use std::sync::atomic::{AtomicU32, Ordering};

@@ -1,7 +1,7 @@
 //! An observer list: a subject knows its observers by weak pointers, tells those that are there, and drops the others.
 #![tactic(auto)]
 
-use owned::{Desk, Domain, Fault, Program, Team, Weak, run};
+use pointers::{Desk, Domain, Fault, Program, Team, Weak, run};
 use std::io;
 use std::sync::Wait;
 use std::thread::Threads;

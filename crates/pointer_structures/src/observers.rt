@@ -1,6 +1,6 @@
 //! Observers in a place, each of which watches a subject by a weak pointer.
 
-use owned::{Domain, Fault, List, Member, Shared, Weak};
+use pointers::{Domain, Fault, List, Member, Shared, Weak};
 use std::sync::Wait;
 
 /// Observers in a place for an owner: a list of nodes, each of which watches a subject by its member `up`, and has a

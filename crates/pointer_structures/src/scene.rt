@@ -1,7 +1,7 @@
 //! Trees of nodes: each owns its first child and its next sibling, and knows its parent.
 
 use crate::stack::goes_first;
-use owned::{Domain, Fault, Shared};
+use pointers::{Domain, Fault, Shared};
 use std::sync::Wait;
 
 /// The child becomes the parent's first one, and has the one that was first as its next sibling (waits). Where it has a

@@ -1,6 +1,6 @@
 //! A stack in a place, which threads push on and pop from without a lock.
 
-use owned::{Domain, Fault, Member, Shared};
+use pointers::{Domain, Fault, Member, Shared};
 use std::sync::Wait;
 
 /// A stack in a place for an owner, in C++ an `atomic<shared_ptr<Node>>` with the top: each object owns the one below

@@ -1,14 +1,11 @@
 //! Pointers that let go by themselves, wherever they lie.
 
-use crate::plays::{answers, answers_then};
-use crate::steps::Answer::{Done, Not, Number};
-use crate::steps::Cell::{First, Next};
-use crate::steps::Keep::{Assigned, Early, Retained};
+use crate::players::{answers, answers_then};
+use crate::steps::Answer::{Done, Number};
 use crate::steps::New::Object;
-use crate::steps::Row;
-use crate::steps::Step::{Chain, Come, Drop, Ends, EndsCount, Keep, Make, Store};
+use crate::steps::Step::{Chain, Come, Drop, Ends, EndsCount, Make, Store};
 use crate::steps::Way::Share;
-use pointers::{Call, Fault, Refusal};
+use crate::steps::{Cell, Row};
 
 /// A tree of four: 1 owns 2 as its first child and 4 as its next; 2 owns 3 as its next. All four lie in slots too, 1 in
 /// slot 0.
@@ -18,11 +15,11 @@ const TREE: [Row; 10] = [
     (Make(Object, 3, 2), Done),
     (Make(Object, 4, 3), Done),
     (Come(2, Share, 4), Done),
-    (Store(4, Next(1)), Done),
+    (Store(4, Cell::Next(1)), Done),
     (Come(1, Share, 4), Done),
-    (Store(4, First(0)), Done),
+    (Store(4, Cell::First(0)), Done),
     (Come(3, Share, 4), Done),
-    (Store(4, Next(0)), Done),
+    (Store(4, Cell::Next(0)), Done),
 ];
 
 /// In which order the pointers to a tree let go, and which objects end by each, as digits in the order of their ends.
@@ -144,21 +141,15 @@ fn a_tree_ends_in_each_order(rt: HostRuntime) {
     }
 }
 
-/// A chain of all blocks, and pointers that a function, a vector and a variable keep.
-const KEPT: [Row; 10] = [
+/// A chain of all blocks.
+const CHAIN: [Row; 4] = [
     (Chain(64, 0), Done),
     (EndsCount, Number(0)),
     (Drop(0), Done),
     (EndsCount, Number(64)),
-    (Keep(Early), Not(Fault::Refused(Call::Read, Refusal::Null))),
-    (EndsCount, Number(1)),
-    (Keep(Retained), Number(13)),
-    (Ends, Number(24)),
-    (Keep(Assigned), Number(5)),
-    (Ends, Number(6)),
 ];
 
 #[test]
-fn pointers_end_where_they_lie(rt: HostRuntime) {
-    answers(&rt, rt.alloc(), &KEPT);
+fn a_chain_ends_by_one_drop(rt: HostRuntime) {
+    answers(&rt, rt.alloc(), &CHAIN);
 }

@@ -7,9 +7,13 @@ mod cells;
 #[cfg(test)]
 mod compares;
 #[cfg(test)]
+mod crowd;
+#[cfg(test)]
 mod crowds;
 #[cfg(test)]
 mod drops;
+#[cfg(test)]
+mod keeping;
 #[cfg(test)]
 mod leaders;
 #[cfg(test)]
@@ -20,15 +24,17 @@ mod members;
 mod memory;
 #[cfg(test)]
 mod owners;
+pub mod places;
+#[cfg(test)]
+mod players;
 #[cfg(test)]
 mod plays;
+#[cfg(test)]
+mod random;
 #[cfg(test)]
 mod refusals;
 #[cfg(test)]
 mod runs;
-pub mod shapes;
-#[cfg(test)]
-mod shared_structures;
 #[cfg(test)]
 mod snapshots;
 #[cfg(test)]
@@ -41,6 +47,7 @@ mod structures;
 mod teams;
 #[cfg(test)]
 mod texts;
+pub mod trees;
 #[cfg(test)]
 mod values;
 #[cfg(test)]

@@ -1,7 +1,7 @@
 //! Memory that is refused. `tests/refuse_allocations` runs these with each allocation refused in turn: a run that was
 //! refused is made again, and none leaves a block or a value behind.
 
-use crate::values::row;
+use crate::plays::row;
 use pointers::{
     Desk, Domain, Fault, FreeCells, Leader, Manned, NotRun, Program, Ran, Shared, SharedCell, Team,
     run, run_leader,
@@ -74,25 +74,17 @@ impl Writer {
         Ok(Text { text, counted })
     }
 
-    /// A list of two texts, of which copies are read, and two free cells, of which one is taken.
+    /// An object that owns two others, of which copies are read, and two free cells, of which one is taken.
     fn write<D: Domain<Value = Text>, R: Wait>(&self, rt: &R, desk: &Desk<D>) -> Result<(), Fault> {
-        let of = desk.new(self.text("list")?)?;
-        self.put(rt, &of)?;
-        self.put(rt, &of)?;
-        reads(rt, &of)?;
+        let of = desk.new(self.text("root")?)?;
+        of.first().store(Some(desk.new(self.text("leaf")?)?))?;
+        of.next().store(Some(desk.new(self.text("leaf")?)?))?;
+        is_leaf(rt, of.first().load(rt)?)?;
+        is_leaf(rt, of.next().load(rt)?)?;
+        drops_within(rt, &of)?;
         takes(rt, self.alloc)?;
         self.done.fetch_add(1, Ordering::SeqCst);
         Ok(())
-    }
-
-    /// A text comes into a list.
-    fn put<D: Domain<Value = Text>, R: Wait>(
-        &self,
-        rt: &R,
-        of: &Shared<'_, D>,
-    ) -> Result<(), Fault> {
-        let element = of.desk().new(self.text("element")?)?;
-        of.first().list().push(rt, element, self.text("node")?)
     }
 
     /// A run left no block and no text, and each worker that worked either did all or has a fault.
@@ -115,16 +107,23 @@ fn workers_in(ran: &Ran<Text>) -> usize {
     workers.count()
 }
 
-/// A copy of each element is read.
-fn reads<D: Domain<Value = Text>, R: Wait>(rt: &R, of: &Shared<'_, D>) -> Result<(), Fault> {
-    of.first()
-        .list()
-        .each(rt, |element| is_element(rt, element))
+/// A copy of the value is read.
+fn is_leaf<D: Domain<Value = Text>, R: Wait>(
+    rt: &R,
+    of: Option<Shared<'_, D>>,
+) -> Result<(), Fault> {
+    let Some(of) = of else {
+        return row(3, false);
+    };
+    let copy = of.snapshot(rt)?;
+    row(1, copy.text.as_str() == "leaf")
 }
 
-fn is_element<D: Domain<Value = Text>, R: Wait>(rt: &R, of: &Shared<'_, D>) -> Result<(), Fault> {
-    let copy = of.snapshot(rt)?;
-    row(1, copy.text.as_str() == "element")
+/// A pointer is dropped within a visit, and lets go when that is over.
+fn drops_within<D: Domain<Value = Text>, R: Wait>(rt: &R, of: &Shared<'_, D>) -> Result<(), Fault> {
+    let one = of.share()?;
+    of.visit(rt, move |_| drop(one))?;
+    row(4, of.use_count()? == 1)
 }
 
 /// A free cell is taken out of a pool.

@@ -1,13 +1,13 @@
 //! Each call on an owner.
 
-use crate::plays::answers;
+use crate::players::answers;
 use crate::steps::Answer::{Done, Is, Not, Nothing, Number};
-use crate::steps::Look::{self as Asks, Field, Read, UseCount, Visit};
+use crate::steps::Look::{Read, UseCount, Visit};
 use crate::steps::New::{Enabled, Null, Object, Zeros};
-use crate::steps::Pair::{self, OwnerBefore, SamePlace};
-use crate::steps::Step::{Both, Come, Drop, Ends, Look, Make, Rise, Watch};
-use crate::steps::Way::{AtItsDesk, Into, Nowhere, Share, This};
-use crate::steps::{self, Row, Way};
+use crate::steps::Pair::{Before, SamePlace};
+use crate::steps::Step::{Both, Come, Drop, Ends, Look, Make};
+use crate::steps::Way::{AtItsDesk, Nowhere, Share, This, WeakOfThis};
+use crate::steps::{Look as Asks, Pair, Row, Way};
 use pointers::{Call, Fault, Refusal};
 
 /// Two owners of one object.
@@ -34,13 +34,13 @@ fn the_last_owner_ends_its_object(rt: HostRuntime) {
 /// Owners that point at a field, nowhere, and into another object.
 const ALIASES: [Row; 26] = [
     (Make(Object, 1, 0), Done),
-    (Look(0, Field), Number(0)),
+    (Look(0, Asks::Field), Number(0)),
     (Come(0, Way::Field(2), 1), Done),
     (Look(1, Read), Number(30)),
     (Both(1, Pair::Is, 0), Is(true)),
     (Both(1, SamePlace, 0), Is(false)),
     (Come(0, Nowhere, 2), Done),
-    (Look(2, Field), Nothing),
+    (Look(2, Asks::Field), Nothing),
     (
         Look(2, Read),
         Not(Fault::Refused(Call::Read, Refusal::Null)),
@@ -49,7 +49,7 @@ const ALIASES: [Row; 26] = [
     (Come(0, Way::Field(4), 3), Not(Fault::Place(Call::Alias))),
     (Look(2, UseCount), Number(3)),
     (Make(Object, 2, 3), Done),
-    (Come(0, Into(3), 4), Done),
+    (Come(0, Way::Into(3), 4), Done),
     (Both(4, SamePlace, 3), Is(true)),
     (Both(4, Pair::Is, 3), Is(false)),
     (
@@ -57,7 +57,7 @@ const ALIASES: [Row; 26] = [
         Not(Fault::Refused(Call::Read, Refusal::Outside)),
     ),
     (Look(4, Visit), Number(1)),
-    (Both(0, OwnerBefore, 4), Is(false)),
+    (Both(0, Before, 4), Is(false)),
     (Drop(0), Done),
     (Drop(1), Done),
     (Drop(2), Done),
@@ -78,8 +78,8 @@ const THIS: [Row; 22] = [
     (Come(0, This, 1), Done),
     (Look(1, UseCount), Number(2)),
     (Both(1, SamePlace, 0), Is(true)),
-    (Watch(0, steps::Watch::This, 0), Done),
-    (Rise(0, steps::Rise::Lock, 2), Done),
+    (Come(0, WeakOfThis, 10), Done),
+    (Come(10, Way::Lock, 2), Done),
     (Both(2, Pair::Is, 0), Is(true)),
     (Make(Zeros, 2, 3), Done),
     (Look(3, Read), Number(0)),
@@ -88,11 +88,11 @@ const THIS: [Row; 22] = [
         Not(Fault::Refused(Call::SharedFromThis, Refusal::NotEnabled)),
     ),
     (
-        Watch(3, steps::Watch::This, 1),
+        Come(3, WeakOfThis, 11),
         Not(Fault::Refused(Call::WeakFromThis, Refusal::NotEnabled)),
     ),
     (Make(Null, 3, 4), Done),
-    (Look(4, Field), Nothing),
+    (Look(4, Asks::Field), Nothing),
     (Look(4, UseCount), Number(1)),
     (Look(4, Visit), Number(3)),
     (Look(4, Asks::Number(9)), Number(9)),

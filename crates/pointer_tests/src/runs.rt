@@ -1,6 +1,6 @@
-//! Runs of several workers and of leaders, over objects whose values are numbers.
+//! Runs of several workers, over objects whose values are numbers.
 
-use pointers::{Fault, Leader, NotRun, Program, Ran, Shape, Team, run, run_leader};
+use pointers::{Fault, NotRun, Program, Ran, Team, run};
 use std::alloc::Global;
 use std::sync::Wait;
 use std::thread::Threads;
@@ -25,15 +25,4 @@ pub(crate) fn worked<R: Threads + Wait + Sync, P: Program<u64, R> + Sync>(
     program: &P,
 ) -> Told {
     told(run(rt, alloc, team.shape(blocks, cells, 0), team, program))
-}
-
-/// The leader leads in a domain of this shape, with so many pointers.
-pub(crate) fn led<R: Threads + Wait + Sync, P: Leader<u64, R> + Sync>(
-    rt: &R,
-    alloc: Global,
-    shape: Shape,
-    pointers: u32,
-    leader: &mut P,
-) -> Told {
-    told(run_leader(rt, alloc, shape, pointers, leader))
 }

@@ -1,41 +1,128 @@
-//! Vacant blocks, and ends by hand.
+//! Vacant blocks between desks and the shelf, and what is left to end.
 
-use crate::plays::answers;
-use crate::steps::Answer::{Done, Is, Number};
-use crate::steps::AtDesk::{Settle, SettleWith, Shelve, ShelvesReserve, Unshelve};
-use crate::steps::New::Object;
-use crate::steps::Row;
-use crate::steps::Step::{AtDesk, Chain, Drop, EndsCount, Make};
+use crate::plays::{plays, row};
+use pointers::{Call, Desk, Domain, Fault, Program, RESERVE, SharedCell, Team, run};
+use std::alloc::Global;
+use std::rt::{HostRuntime, Runtime};
+use std::sync::Wait;
+use std::thread::Threads;
 
-/// What a desk has above its reserve goes to the shelf as objects end, and its reserve by hand and back.
-const SHELF: [Row; 9] = [
-    (Chain(10, 0), Done),
-    (Drop(0), Done),
-    (EndsCount, Number(10)),
-    (AtDesk(ShelvesReserve), Is(true)),
-    (AtDesk(Shelve), Number(0)),
-    (AtDesk(Unshelve), Number(2)),
-    (AtDesk(Unshelve), Number(0)),
-    (AtDesk(Shelve), Number(2)),
-    (AtDesk(Shelve), Number(0)),
-];
-
-#[test]
-fn a_desk_keeps_two_vacant_blocks(rt: HostRuntime) {
-    answers(&rt, rt.alloc(), &SHELF);
+/// A desk fills its reserve and gives it away, and has no more than that after objects end.
+#[derive(Drop)]
+struct Spares {
+    alloc: Global,
 }
 
-/// Nothing is left to end after a drop.
-const SETTLED: [Row; 6] = [
-    (Make(Object, 1, 0), Done),
-    (Drop(0), Done),
-    (EndsCount, Number(1)),
-    (AtDesk(SettleWith), Number(0)),
-    (AtDesk(Settle), Done),
-    (EndsCount, Number(0)),
-];
+impl<R: Threads + Wait> Program<u64, R> for Spares {
+    fn work<D: Domain<Value = u64>>(
+        &self,
+        rt: &R,
+        _number: usize,
+        desk: &Desk<D>,
+    ) -> Result<(), Fault> {
+        row(1, desk.unshelve()? == 2)?;
+        row(2, desk.unshelve()? == 0)?;
+        row(3, desk.shelve()? == 2)?;
+        row(4, desk.shelve()? == 0)?;
+        let mut owners = Vec::new(self.alloc);
+        for value in 0..6u64 {
+            owners.push(desk.new(value)?)?;
+        }
+        drop(owners);
+        row(5, desk.shelve()? <= RESERVE)?;
+        let mut weaks = Vec::new(self.alloc);
+        for value in 0..6u64 {
+            weaks.push(desk.new(value)?.downgrade()?)?;
+        }
+        row(6, desk.shelve()? == 0)?;
+        drop(weaks);
+        row(7, desk.shelve()? <= RESERVE)?;
+        row(8, desk.settle(rt) == Ok(()))?;
+        let busy = desk.new(1)?.visit(rt, |_| {
+            (
+                desk.settle(rt).err(),
+                desk.shelve().err(),
+                desk.unshelve().err(),
+            )
+        })?;
+        row(9, busy.0 == Some(Fault::Busy(Call::Settle)))?;
+        row(10, busy.1 == Some(Fault::Busy(Call::Shelve)))?;
+        row(11, busy.2 == Some(Fault::Busy(Call::Shelve)))
+    }
+}
 
 #[test]
-fn nothing_is_left_to_end(rt: HostRuntime) {
-    answers(&rt, rt.alloc(), &SETTLED);
+fn a_desk_keeps_its_reserve(rt: HostRuntime) {
+    let alloc = rt.alloc();
+    plays(&rt, alloc, 16, &Spares { alloc });
+}
+
+/// The first worker ends seven objects, keeps one and waits; then the second makes as many as there are blocks, but for
+/// that one and the first worker's reserve.
+#[derive(Drop)]
+struct Relay {
+    alloc: Global,
+}
+
+const BLOCKS: u32 = 10;
+
+const MADE: u64 = 7;
+
+/// The cell by which the second worker learns that it may begin, and that by which the first learns that it is done.
+const BEGUN: SharedCell = SharedCell(0);
+
+const DONE: SharedCell = SharedCell(1);
+
+/// So many owners of new objects.
+fn made<D: Domain<Value = u64>>(desk: &Desk<D>, alloc: Global) -> Result<(), Fault> {
+    let mut owners = Vec::new(alloc);
+    for value in 0..MADE {
+        owners.push(desk.new(value)?)?;
+    }
+    Ok(())
+}
+
+/// The cell has a pointer.
+fn wait_for<R: Wait, D: Domain>(rt: &R, desk: &Desk<D>, cell: SharedCell) -> Result<(), Fault> {
+    for _ in 0..u64::MAX {
+        if desk.load(rt, cell)?.is_some() {
+            break;
+        }
+    }
+    Ok(())
+}
+
+impl<R: Threads + Wait> Program<u64, R> for Relay {
+    fn work<D: Domain<Value = u64>>(
+        &self,
+        rt: &R,
+        number: usize,
+        desk: &Desk<D>,
+    ) -> Result<(), Fault> {
+        if number == 0 {
+            made(desk, self.alloc)?;
+            desk.new(0)?.store(BEGUN)?;
+            return wait_for(rt, desk, DONE);
+        }
+        wait_for(rt, desk, BEGUN)?;
+        let end = made(desk, self.alloc);
+        desk.store(DONE, desk.load(rt, BEGUN)?)?;
+        end
+    }
+}
+
+#[test]
+fn blocks_are_the_domains(rt: HostRuntime) {
+    let team = Team {
+        workers: 2,
+        pointers: 16,
+    };
+    let alloc = rt.alloc();
+    match run(&rt, alloc, team.shape(BLOCKS, 2, 0), team, &Relay { alloc }) {
+        Ok(ran) => {
+            assert_eq!(&rt; ran.fault(), None);
+            assert_eq!(&rt; ran.census.vacant(), 9);
+        }
+        Err(why) => panic!(&rt; "not run: {why}"),
+    }
 }

@@ -1,16 +1,13 @@
-//! Calls on pointers as data, each with what it answers: a test is a list of them. A desk's pointers lie in slots,
-//! owners in some and weak pointers in others.
+//! Calls on pointers as data, each with what it answers: a test is a list of them. A desk's pointers lie in slots.
 
 pub(crate) mod answer;
+mod cells;
 mod coming;
+mod compares;
 pub(crate) mod hands;
-mod keeping;
-mod listed;
 mod looks;
-mod places;
 pub(crate) mod running;
-pub(crate) mod structures;
-mod weak_places;
+mod weak_cells;
 
 pub(crate) use answer::Answer;
 
@@ -26,7 +23,7 @@ pub(crate) enum New {
     Null,
 }
 
-/// How an owner comes of another.
+/// How a pointer comes of another.
 #[derive(Clone, Copy, Drop)]
 pub(crate) enum Way {
     Share,
@@ -37,25 +34,16 @@ pub(crate) enum Way {
     /// One that points where the owner in a slot does.
     Into(usize),
     This,
-    /// A new object of that number, by the owner's desk.
+    WeakOfThis,
+    Downgrade,
+    Parent,
+    Lock,
+    Upgrade,
+    /// A new object of that number, by the pointer's desk.
     AtItsDesk(u64),
 }
 
-/// How a weak pointer comes of an owner.
-#[derive(Clone, Copy, Drop)]
-pub(crate) enum Watch {
-    Downgrade,
-    This,
-}
-
-/// How an owner comes of a weak pointer.
-#[derive(Clone, Copy, Drop)]
-pub(crate) enum Rise {
-    Lock,
-    Upgrade,
-}
-
-/// A cell for owners.
+/// A cell, for owners or for weak pointers.
 #[derive(Clone, Copy, Drop)]
 pub(crate) enum Cell {
     /// A free one, by the calls of a pointer and of a desk on it.
@@ -67,14 +55,10 @@ pub(crate) enum Cell {
     /// A member of the object that the owner in a slot owns.
     First(usize),
     Next(usize),
-}
-
-/// A cell for weak pointers.
-#[derive(Clone, Copy, Drop)]
-pub(crate) enum WatchCell {
-    Free(u32),
-    Desk(u32),
-    Place(u32),
+    /// A free one for weak pointers, by the same three ways.
+    Weak(u32),
+    WeakDesk(u32),
+    WeakPlace(u32),
     Up(usize),
 }
 
@@ -87,11 +71,12 @@ pub(crate) enum Form {
     Until,
 }
 
-/// What an owner is asked.
+/// What a pointer is asked.
 #[derive(Clone, Copy, Drop)]
 pub(crate) enum Look {
     Read,
     UseCount,
+    Expired,
     /// The field of the place where it points.
     Field,
     /// The value's number, by a visit.
@@ -100,89 +85,22 @@ pub(crate) enum Look {
     Number(u64),
 }
 
-/// What a weak pointer is asked.
-#[derive(Clone, Copy, Drop)]
-pub(crate) enum WeakLook {
-    Expired,
-    UseCount,
-}
-
 /// What two pointers are asked.
 #[derive(Clone, Copy, Drop)]
 pub(crate) enum Pair {
     Is,
     SamePlace,
-    OwnerBefore,
-    OwnerBeforeWeak,
-    WeakIs,
-    WeakBefore,
-    WeakBeforeOwner,
+    Before,
 }
 
-/// A call by the member `first` of an owner's object as a link, or by its member `next`.
+/// A call by a member of an owner's object as a link.
 #[derive(Clone, Copy, Drop)]
-pub(crate) enum LinkCall {
+pub(crate) enum ByLink {
     Load(usize),
-    LoadNext(usize),
     Store(usize),
     Exchange(usize),
     Take(usize),
     Clear,
-}
-
-/// A call on a list.
-#[derive(Clone, Copy, Drop)]
-pub(crate) enum ListCall {
-    Push(usize),
-    PushFront(usize),
-    Remove(usize),
-    /// Of owners, those with an odd field go out; of weak pointers, the expired ones.
-    Retain,
-    Count,
-    /// Of owners, their fields as decimal digits; of weak pointers, how many aren't expired.
-    Each,
-    Clear,
-}
-
-/// A call on a structure.
-#[derive(Clone, Copy, Drop)]
-pub(crate) enum Structure {
-    /// An access is sought, in a free cell.
-    Stack(u32),
-    Observers(u32),
-    Scene,
-    Push(u64),
-    Pop(usize),
-    Attach(usize, u64),
-    Each,
-    /// Within the tale a pointer is dropped, and a call is made on that in slot 0.
-    EachDrops(usize),
-    Prune,
-    AddChild(usize, u64, usize),
-    Detach(usize),
-    Teardown(usize),
-}
-
-/// A call of the desk's own.
-#[derive(Clone, Copy, Drop)]
-pub(crate) enum AtDesk {
-    Shelve,
-    Unshelve,
-    /// Whether as many blocks go to the shelf as the reserve has, or fewer.
-    ShelvesReserve,
-    Settle,
-    SettleWith,
-}
-
-/// A function that keeps pointers of its own.
-#[derive(Clone, Copy, Drop)]
-pub(crate) enum Keep {
-    /// A fault ends it.
-    Early,
-    /// Those with an odd field go out of a vector: the digits of what ends by that.
-    Retained,
-    /// A variable gets another pointer: the same.
-    Assigned,
 }
 
 /// A call, with the numbers of its slots. What comes into a slot replaces what lies there, which lets go.
@@ -192,40 +110,21 @@ pub(crate) enum Step {
     /// A chain of so many objects by their members `next`.
     Chain(u64, usize),
     Come(usize, Way, usize),
-    Watch(usize, Watch, usize),
-    ShareWeak(usize, usize),
-    Rise(usize, Rise, usize),
-    Parent(usize, usize),
+    /// So many copies of an owner, from a slot on.
+    Shares(usize, usize, usize),
     Drop(usize),
-    DropWeak(usize),
-    Forget(usize),
-    ForgetWeak(usize),
     Look(usize, Look),
-    LookWeak(usize, WeakLook),
     Both(usize, Pair, usize),
     Load(Cell, usize),
+    Lock(Cell, usize),
     Take(Cell, usize),
     Store(usize, Cell),
     Exchange(usize, Cell),
     Clear(Cell),
     /// The cell is compared with what lies in the first slot, and that in the second is desired.
     Compare(Form, Cell, usize, usize),
-    LoadWeak(WatchCell, usize),
-    LockIn(WatchCell, usize),
-    TakeWeak(WatchCell, usize),
-    StoreWeak(usize, WatchCell),
-    ExchangeWeak(usize, WatchCell),
-    ClearWeak(WatchCell),
-    CompareWeak(Form, WatchCell, usize, usize),
-    Link(usize, LinkCall),
-    /// The list whose first node lies in the cell.
-    List(Cell, ListCall),
-    WeakList(Cell, ListCall),
-    Structure(Structure),
-    AtDesk(AtDesk),
-    Keep(Keep),
-    /// What a free cell's owner points at, by the desk of a weak pointer.
-    AtItsDesk(usize, u32),
+    First(usize, ByLink),
+    Next(usize, ByLink),
     /// The numbers of the values that ended since this was asked last, as decimal digits, or how many did.
     Ends,
     EndsCount,

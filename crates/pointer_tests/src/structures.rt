@@ -1,188 +1,213 @@
-//! Stacks, observers and trees at a desk.
+//! A stack, observers and trees, with ample memory.
 
-use crate::plays::answers;
-use crate::steps::Answer::{self, Done, Is, Not, Nothing, Number};
-use crate::steps::ListCall::Retain;
-use crate::steps::New::Object;
-use crate::steps::Step::{
-    Both, Clear, Come, Drop, Ends, Load, Look, Make, Parent, Structure, Take, WeakList,
-};
-use crate::steps::{Cell, Look as Asks, Pair, Row, Structure as Built, Way};
-use pointers::{Call, Fault, Refusal, Spot};
+use crate::plays::{plays, row};
+use pointer_structures::{Observers, Stack, add_child, detach};
+use pointers::{Desk, Domain, Fault, Program, Refusal, Shared, SharedCell, Team, run};
+use std::sync::Wait;
+use std::sync::atomic::{AtomicU64, Ordering};
+use std::thread::Threads;
 
-/// A stack: the last comes first.
-const STACK: [Row; 19] = [
-    (Structure(Built::Push(1)), Not(Fault::Other(1_002))),
-    (Ends, Number(1)),
-    (Structure(Built::Stack(0)), Done),
-    (Structure(Built::Pop(0)), Nothing),
-    (Structure(Built::Push(1)), Done),
-    (Structure(Built::Push(2)), Done),
-    (Structure(Built::Push(3)), Done),
-    (Structure(Built::Pop(0)), Done),
-    (Look(0, Asks::Read), Number(3)),
-    (Take(Cell::Next(0), 1), Done),
-    (Look(1, Asks::Read), Number(2)),
-    (Drop(0), Done),
-    (Structure(Built::Pop(0)), Done),
-    (Look(0, Asks::UseCount), Number(2)),
-    (Structure(Built::Pop(2)), Done),
-    (Look(2, Asks::Read), Number(1)),
-    (Structure(Built::Pop(3)), Nothing),
-    (
-        Structure(Built::Stack(2)),
-        Not(Fault::Cell(Call::Stack(Spot::Shared(2)))),
-    ),
-    (Ends, Number(3)),
-];
+/// A new object with the number as its first field.
+fn numbered<'t, D: Domain<Value = u64>>(
+    desk: &'t Desk<'t, D>,
+    number: u64,
+) -> Result<Shared<'t, D>, Fault> {
+    Ok(desk.make([number, 0, 0, 0], number)?)
+}
+
+/// A stack in a free cell: the last comes first.
+struct OneStack;
+
+impl<R: Threads + Wait> Program<u64, R> for OneStack {
+    fn work<D: Domain<Value = u64>>(
+        &self,
+        rt: &R,
+        _number: usize,
+        desk: &Desk<D>,
+    ) -> Result<(), Fault> {
+        let stack = Stack::at(desk.cell(SharedCell(0)));
+        row(1, stack.pop(rt)?.is_none())?;
+        for number in 1..4 {
+            stack.push(rt, numbered(desk, number)?)?;
+        }
+        let Some(three) = stack.pop(rt)? else {
+            return row(2, false);
+        };
+        row(3, three.read()? == 3)?;
+        let Some(two) = three.next().take()? else {
+            return row(4, false);
+        };
+        row(5, two.read()? == 2 && three.use_count()? == 1)?;
+        let Some(popped) = stack.pop(rt)? else {
+            return row(6, false);
+        };
+        row(7, popped.is(&two) && two.use_count()? == 2)?;
+        stack.push(rt, three)?;
+        row(8, popped_field(rt, &stack)? == 3)?;
+        row(9, popped_field(rt, &stack)? == 1)?;
+        row(10, stack.pop(rt)?.is_none())?;
+        let beyond = Stack::at(desk.cell(SharedCell(2)));
+        row(11, beyond.push(rt, two).is_err() && beyond.pop(rt).is_err())
+    }
+}
+
+/// The field of the top object, which comes out.
+fn popped_field<R: Wait, D: Domain>(rt: &R, stack: &Stack<'_, '_, D>) -> Result<u64, Fault> {
+    match stack.pop(rt)? {
+        Some(top) => top.read(),
+        None => Err(Fault::Other(1_000)),
+    }
+}
 
 #[test]
 fn a_stack_pops_what_was_pushed_last(rt: HostRuntime) {
-    answers(&rt, rt.alloc(), &STACK);
+    plays(&rt, rt.alloc(), 16, &OneStack);
 }
 
-/// Observers: those are told whose subject lives. Their nodes have the number 8.
-const OBSERVERS: [Row; 19] = [
-    (Structure(Built::Observers(1)), Done),
-    (Make(Object, 1, 0), Done),
-    (Make(Object, 2, 1), Done),
-    (Structure(Built::Attach(0, 8)), Done),
-    (Structure(Built::Attach(1, 8)), Done),
-    (Structure(Built::Each), Number(21)),
-    (Drop(1), Done),
-    (Ends, Number(2)),
-    (Structure(Built::Each), Number(1)),
-    (
-        Structure(Built::Prune),
-        Not(Fault::Refused(Call::Prune, Refusal::NotSole)),
-    ),
-    (WeakList(Cell::Place(1), Retain), Number(1)),
-    (Ends, Number(8)),
-    (Structure(Built::Each), Number(1)),
-    (Make(Object, 7, 2), Done),
-    (
-        Structure(Built::EachDrops(2)),
-        Not(Fault::Busy(Call::UseCount)),
-    ),
-    (Ends, Number(7)),
-    (Clear(Cell::Free(1)), Done),
-    (
-        Structure(Built::Observers(2)),
-        Not(Fault::Cell(Call::Observers(Spot::Shared(2)))),
-    ),
-    (Ends, Number(8)),
-];
+/// Observers in a free cell: those are told whose subject lives.
+struct Watchers;
+
+/// The fields of the subjects that live, as decimal digits, the one that was attached last first.
+fn heard<R: Wait, D: Domain>(rt: &R, desk: &Desk<D>) -> Result<u64, Fault> {
+    let mut heard = 0u64;
+    desk.cell(SharedCell(1)).weak_list().each(rt, |weak| {
+        if let Some(subject) = weak.lock(rt)? {
+            heard = heard.wrapping_mul(10).wrapping_add(subject.read()?);
+        }
+        Ok(())
+    })?;
+    Ok(heard)
+}
+
+impl<R: Threads + Wait> Program<u64, R> for Watchers {
+    fn work<D: Domain<Value = u64>>(
+        &self,
+        rt: &R,
+        _number: usize,
+        desk: &Desk<D>,
+    ) -> Result<(), Fault> {
+        let observers = Observers::at(desk.cell(SharedCell(1)));
+        let one = numbered(desk, 1)?;
+        let two = numbered(desk, 2)?;
+        observers.attach(rt, &one, 8)?;
+        observers.attach(rt, &two, 8)?;
+        row(1, heard(rt, desk)? == 21)?;
+        row(2, observers.prune(rt)? == 0)?;
+        drop(two);
+        row(3, heard(rt, desk)? == 1)?;
+        row(4, desk.cell(SharedCell(1)).weak_list().count(rt)? == 2)?;
+        row(5, observers.prune(rt)? == 1)?;
+        row(6, desk.cell(SharedCell(1)).weak_list().count(rt)? == 1)?;
+        row(7, one.use_count()? == 1)?;
+        drop(one);
+        row(8, heard(rt, desk)? == 0 && observers.prune(rt)? == 1)?;
+        row(9, desk.load(rt, SharedCell(1))?.is_none())
+    }
+}
 
 #[test]
 fn observers_are_told_of_what_lives(rt: HostRuntime) {
-    answers(&rt, rt.alloc(), &OBSERVERS);
+    plays(&rt, rt.alloc(), 16, &Watchers);
 }
 
 /// A tree: a child that comes last is its parent's first, and knows it.
-const TREE: [Row; 24] = [
-    (Structure(Built::Scene), Done),
-    (Make(Object, 1, 0), Done),
-    (Structure(Built::AddChild(0, 2, 1)), Done),
-    (Structure(Built::AddChild(0, 3, 2)), Done),
-    (Structure(Built::AddChild(1, 4, 3)), Done),
-    (Drop(3), Done),
-    (Parent(1, 3), Done),
-    (Both(3, Pair::Is, 0), Is(true)),
-    (Drop(3), Done),
-    (Load(Cell::Next(2), 3), Done),
-    (Both(3, Pair::Is, 1), Is(true)),
-    (Drop(3), Done),
-    (Drop(1), Done),
-    (Structure(Built::Detach(2)), Done),
-    (Parent(2, 3), Nothing),
-    (Load(Cell::Next(2), 3), Nothing),
-    (Structure(Built::Detach(2)), Done),
-    (Drop(2), Done),
-    (Ends, Number(3)),
-    (Come(0, Way::Nowhere, 4), Done),
-    (
-        Structure(Built::AddChild(4, 5, 5)),
-        Not(Fault::Refused(Call::AddChild, Refusal::Null)),
-    ),
-    (
-        Structure(Built::Detach(4)),
-        Not(Fault::Refused(Call::Detach, Refusal::Null)),
-    ),
-    (Drop(4), Done),
-    (Ends, Number(5)),
-];
+struct Family;
+
+impl<R: Threads + Wait> Program<u64, R> for Family {
+    fn work<D: Domain<Value = u64>>(
+        &self,
+        rt: &R,
+        _number: usize,
+        desk: &Desk<D>,
+    ) -> Result<(), Fault> {
+        let root = numbered(desk, 1)?;
+        let two = numbered(desk, 2)?;
+        let three = numbered(desk, 3)?;
+        add_child(rt, &root, two.share()?)?;
+        add_child(rt, &root, three.share()?)?;
+        add_child(rt, &two, numbered(desk, 4)?)?;
+        let (Some(first), Some(second)) = (root.first().load(rt)?, three.next().load(rt)?) else {
+            return row(1, false);
+        };
+        row(2, first.is(&three) && second.is(&two))?;
+        drop(first);
+        drop(second);
+        let Some(parent) = two.parent(rt)? else {
+            return row(3, false);
+        };
+        row(4, parent.is(&root))?;
+        detach(rt, &two)?;
+        row(
+            5,
+            two.parent(rt)?.is_none() && three.next().load(rt)?.is_none(),
+        )?;
+        row(6, two.use_count()? == 1 && two.first().load(rt)?.is_some())?;
+        detach(rt, &two)?;
+        add_child(rt, &root, two.share()?)?;
+        detach(rt, &three)?;
+        row(7, three.use_count()? == 1 && two.next().load(rt)?.is_none())?;
+        add_child(rt, &three, two.share()?)?;
+        row(8, root.first().load(rt)?.is_none() && two.use_count()? == 2)?;
+        let nowhere = root.alias(None)?;
+        let refused = add_child(rt, &nowhere, two.share()?);
+        let Err(why) = refused else {
+            return row(9, false);
+        };
+        row(
+            10,
+            why.is_refusal(Refusal::Null) && detach(rt, &nowhere).is_err(),
+        )?;
+        let Some(parent) = two.parent(rt)? else {
+            return row(11, false);
+        };
+        row(12, parent.is(&three))
+    }
+}
 
 #[test]
 fn a_tree_has_children(rt: HostRuntime) {
-    answers(&rt, rt.alloc(), &TREE);
+    plays(&rt, rt.alloc(), 16, &Family);
 }
 
-/// A tree's end: the values come out, the root's first.
-const TEARDOWN: [Row; 8] = [
-    (Structure(Built::Scene), Done),
-    (Make(Object, 1, 0), Done),
-    (Structure(Built::AddChild(0, 2, 1)), Done),
-    (Structure(Built::AddChild(1, 4, 2)), Done),
-    (Drop(1), Done),
-    (Drop(2), Done),
-    (Structure(Built::Teardown(0)), Number(124)),
-    (Drop(0), Nothing),
-];
-
-#[test]
-fn a_teardown_hands_values_out(rt: HostRuntime) {
-    answers(&rt, rt.alloc(), &TEARDOWN);
+/// Workers that push and pop, each as often.
+#[derive(Drop)]
+struct Pushers {
+    pushed: AtomicU64,
+    popped: AtomicU64,
 }
 
-/// The refusal of a call that wants more handles than the desk has left.
-const PUSH: Answer = Not(Fault::Refused(Call::Push, Refusal::Limit));
-
-const POP: Answer = Not(Fault::Refused(Call::Pop, Refusal::Limit));
-
-const ADD_CHILD: Answer = Not(Fault::Refused(Call::AddChild, Refusal::Limit));
-
-const DETACH: Answer = Not(Fault::Refused(Call::Detach, Refusal::Limit));
-
-const ATTACH: Answer = Not(Fault::Refused(Call::Attach, Refusal::Limit));
-
-/// Calls at a desk with fewer than four pointers left: slots 0 to 12 have owners.
-const FULL: [Row; 33] = [
-    (Structure(Built::Stack(0)), Done),
-    (Structure(Built::Observers(1)), Done),
-    (Structure(Built::Scene), Done),
-    (Make(Object, 1, 0), Done),
-    (Come(0, Way::Share, 1), Done),
-    (Come(0, Way::Share, 2), Done),
-    (Come(0, Way::Share, 3), Done),
-    (Come(0, Way::Share, 4), Done),
-    (Come(0, Way::Share, 5), Done),
-    (Come(0, Way::Share, 6), Done),
-    (Come(0, Way::Share, 7), Done),
-    (Come(0, Way::Share, 8), Done),
-    (Come(0, Way::Share, 9), Done),
-    (Come(0, Way::Share, 10), Done),
-    (Come(0, Way::Share, 11), Done),
-    (Come(0, Way::Share, 12), Done),
-    (Structure(Built::Push(2)), PUSH),
-    (Structure(Built::Pop(13)), POP),
-    (Structure(Built::Pop(13)), POP),
-    (Structure(Built::Pop(13)), POP),
-    (Structure(Built::Pop(13)), POP),
-    (Structure(Built::AddChild(0, 3, 13)), ADD_CHILD),
-    (Structure(Built::AddChild(0, 3, 13)), ADD_CHILD),
-    (Structure(Built::AddChild(0, 3, 13)), ADD_CHILD),
-    (Structure(Built::AddChild(0, 3, 13)), ADD_CHILD),
-    (Structure(Built::Detach(0)), DETACH),
-    (Structure(Built::Attach(0, 4)), ATTACH),
-    (Ends, Number(233_334)),
-    (Drop(12), Done),
-    (Structure(Built::Pop(13)), Nothing),
-    (Structure(Built::Push(5)), Done),
-    (Structure(Built::Pop(13)), Done),
-    (Look(13, Asks::Read), Number(5)),
-];
+impl<R: Threads + Wait + Sync> Program<u64, R> for Pushers {
+    fn work<D: Domain<Value = u64>>(
+        &self,
+        rt: &R,
+        _number: usize,
+        desk: &Desk<D>,
+    ) -> Result<(), Fault> {
+        let stack = Stack::at(desk.cell(SharedCell(0)));
+        for number in 0..500u64 {
+            stack.push(rt, numbered(desk, number)?)?;
+            self.pushed.fetch_add(number, Ordering::SeqCst);
+            let top = popped_field(rt, &stack)?;
+            self.popped.fetch_add(top, Ordering::SeqCst);
+        }
+        Ok(())
+    }
+}
 
 #[test]
-fn a_structure_wants_four_pointers(rt: HostRuntime) {
-    answers(&rt, rt.alloc(), &FULL);
+fn what_four_workers_push_is_popped_once(rt: HostRuntime) {
+    let team = Team {
+        workers: 4,
+        pointers: 8,
+    };
+    let pushers = Pushers {
+        pushed: AtomicU64::new(0),
+        popped: AtomicU64::new(0),
+    };
+    match run(&rt, rt.alloc(), team.shape(64, 1, 0), team, &pushers) {
+        Ok(ran) => assert_eq!(rt; (ran.fault(), ran.census.vacant()), (None, 64)),
+        Err(why) => panic!(rt; "not run: {why}"),
+    }
+    assert_eq!(rt; pushers.pushed.load(Ordering::SeqCst), 499_000);
+    assert_eq!(rt; pushers.popped.load(Ordering::SeqCst), 499_000);
 }

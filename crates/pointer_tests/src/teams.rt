@@ -1,11 +1,8 @@
-//! Several workers at once, and a leader.
+//! Several workers at once.
 
 use crate::plays::same;
-use crate::runs::{led, worked};
-use crate::values::row;
-use pointers::{
-    Desk, Domain, Fault, FreeCells, Leader, Manned, Program, Shared, SharedCell, Team, WeakCell,
-};
+use crate::runs::worked;
+use pointers::{Desk, Domain, Fault, FreeCells, Program, Shared, SharedCell, Team, WeakCell};
 use std::alloc::{AllocError, Global};
 use std::sync::atomic::{AtomicU64, Ordering};
 use std::sync::{Mutex, Wait};
@@ -59,80 +56,8 @@ impl<R: Threads + Wait + Sync> Program<u64, R> for Crowd {
     }
 }
 
-/// A leader that keeps a pointer over two teams, which read it in a cell.
-#[derive(Drop)]
-struct Keeper {
-    sum: AtomicU64,
-    teams: u32,
-}
-
-impl Keeper {
-    /// What it does before a team.
-    fn before<'t, D: Domain<Value = u64>>(
-        &mut self,
-        desk: &'t Desk<D>,
-        kept: &mut Vec<Shared<'t, D>>,
-    ) -> Result<Option<Team>, Fault> {
-        self.teams = self.teams.saturating_add(1);
-        if self.teams == 1 {
-            kept.push(desk.make([5, 0, 0, 0], 0)?)?;
-        }
-        let Some(it) = kept.first() else {
-            return Err(Fault::Other(1));
-        };
-        is_alone(it)?;
-        if self.teams == 3 {
-            return Ok(None);
-        }
-        shown(it)?;
-        Ok(Some(Team {
-            workers: 2,
-            pointers: 2,
-        }))
-    }
-}
-
-/// What is kept is as it was.
-fn is_alone<D: Domain<Value = u64>>(kept: &Shared<'_, D>) -> Result<(), Fault> {
-    row(2, kept.read()? == 5 && kept.use_count()? == 1)
-}
-
-/// The team finds it in a cell.
-fn shown<D: Domain<Value = u64>>(kept: &Shared<'_, D>) -> Result<(), Fault> {
-    kept.share()?.store(SharedCell(0))
-}
-
-impl<R: Threads + Wait + Sync> Program<u64, R> for Keeper {
-    fn work<D: Domain<Value = u64>>(
-        &self,
-        rt: &R,
-        _number: usize,
-        desk: &Desk<D>,
-    ) -> Result<(), Fault> {
-        if let Some(it) = desk.load(rt, SharedCell(0))? {
-            self.sum.fetch_add(it.read()?, Ordering::SeqCst);
-        }
-        Ok(())
-    }
-}
-
-impl<R: Threads + Wait + Sync> Leader<u64, R> for Keeper {
-    fn lead<'t, D: Domain<Value = u64>>(
-        &mut self,
-        _rt: &R,
-        before: Option<Manned>,
-        desk: &'t Desk<D>,
-        kept: &mut Vec<Shared<'t, D>>,
-    ) -> Result<Option<Team>, Fault> {
-        if before.is_some() {
-            desk.clear(SharedCell(0))?;
-        }
-        self.before(desk, kept)
-    }
-}
-
 /// An object that owns another.
-fn two<D: Domain<Value = u64>>(desk: &Desk<D>) -> Result<Shared<'_, D>, Fault> {
+fn two<'t, D: Domain<Value = u64>>(desk: &'t Desk<'t, D>) -> Result<Shared<'t, D>, Fault> {
     let of = desk.new(3)?;
     of.next().store(Some(desk.new(2)?))?;
     Ok(of)
@@ -164,6 +89,46 @@ fn value_of<R: Wait, D: Domain<Value = u64>>(
     value: u64,
 ) -> Result<u64, Fault> {
     desk.new(value)?.visit(rt, |value| *value)
+}
+
+/// Workers that visit one object. Its value counts in two steps, so that visits at the same time would be lost.
+#[derive(Drop)]
+struct Visitors {
+    most: AtomicU64,
+}
+
+/// How often each of them visits it.
+const VISITS: u32 = 1_000;
+
+impl<R: Threads + Wait + Sync> Program<u64, R> for Visitors {
+    fn work<D: Domain<Value = u64>>(
+        &self,
+        rt: &R,
+        _number: usize,
+        desk: &Desk<D>,
+    ) -> Result<(), Fault> {
+        let cell = SharedCell(0);
+        let (mut none, mut new) = (None, Some(desk.new(0)?));
+        if !desk
+            .cell(cell)
+            .compare_exchange_strong(rt, &mut none, &mut new)?
+        {
+            drop(new);
+        }
+        let Some(common) = desk.load(rt, cell)? else {
+            return Err(Fault::Other(1));
+        };
+        let mut seen = 0;
+        for _ in 0..VISITS {
+            seen = common.visit(rt, |value| {
+                let before = *value;
+                *value = before.wrapping_add(1);
+                *value
+            })?;
+        }
+        self.most.fetch_max(seen, Ordering::SeqCst);
+        Ok(())
+    }
 }
 
 /// Workers with a state of their own each, behind a lock that no other worker takes.
@@ -247,6 +212,20 @@ mod tests {
     }
 
     #[test]
+    fn no_visit_of_four_workers_is_lost(rt: HostRuntime) {
+        let team = Team {
+            workers: 4,
+            pointers: 4,
+        };
+        let visitors = Visitors {
+            most: AtomicU64::new(0),
+        };
+        let told = worked(&rt, rt.alloc(), team, (16, 1), &visitors);
+        same(&rt, told, Ok((None, 4, 15)));
+        same(&rt, visitors.most.load(Ordering::SeqCst), 4_000);
+    }
+
+    #[test]
     fn blocks_are_the_domains(rt: HostRuntime) {
         let team = Team {
             workers: 3,
@@ -269,21 +248,6 @@ mod tests {
         let told = worked(&rt, rt.alloc(), team, (9, 0), &counters);
         same(&rt, told, Ok((None, 3, 9)));
         same(&rt, sums(&rt, &counters), 10_020);
-    }
-
-    #[test]
-    fn a_leader_keeps_a_pointer(rt: HostRuntime) {
-        let mut keeper = Keeper {
-            sum: AtomicU64::new(0),
-            teams: 0,
-        };
-        let team = Team {
-            workers: 4,
-            pointers: 4,
-        };
-        let told = led(&rt, rt.alloc(), team.shape(16, 1, 0), 4, &mut keeper);
-        same(&rt, told, Ok((None, 4, 16)));
-        same(&rt, keeper.sum.load(Ordering::SeqCst), 20);
     }
 
     #[test]

@@ -5,9 +5,10 @@ use std::alloc::Global;
 use std::sync::Arc;
 use std::sync::atomic::{AtomicU32, AtomicU64, Ordering};
 
-/// How many values ended, and the numbers of these as decimal digits, the first one first.
+/// How many values were made, how many ended, and the numbers of these as decimal digits, the first one first.
 #[derive(Drop)]
 pub(crate) struct Ends {
+    pub made: AtomicU32,
     pub count: AtomicU32,
     pub order: AtomicU64,
 }
@@ -34,6 +35,7 @@ impl Drop for Value {
 /// New ends, of nothing yet.
 pub(crate) fn new_ends(alloc: Global) -> Result<Told, Fault> {
     let ends = Ends {
+        made: AtomicU32::new(0),
         count: AtomicU32::new(0),
         order: AtomicU64::new(0),
     };
@@ -46,16 +48,22 @@ pub(crate) fn new_ends(alloc: Global) -> Result<Told, Fault> {
 /// A value of that number.
 pub(crate) fn numbered(told: &Told, number: u64) -> Result<Value, Fault> {
     let told = Arc::try_clone(told)?;
+    told.made.fetch_add(1, Ordering::SeqCst);
     Ok(Value { told, number })
 }
 
 /// A new object of that number.
 pub(crate) fn object<'t, D: Domain<Value = Value>>(
-    desk: &'t Desk<D>,
+    desk: &'t Desk<'t, D>,
     told: &Told,
     number: u64,
 ) -> Result<Shared<'t, D>, Fault> {
     Ok(desk.make([number, 20, 30, 40], numbered(told, number)?)?)
+}
+
+/// How many values were made.
+pub(crate) fn made(told: &Told) -> u32 {
+    told.made.load(Ordering::SeqCst)
 }
 
 /// How many values ended.
@@ -66,15 +74,6 @@ pub(crate) fn ended(told: &Told) -> u32 {
 /// In which order.
 pub(crate) fn order(told: &Told) -> u64 {
     told.order.load(Ordering::SeqCst)
-}
-
-/// A row: what is to be so. Where it isn't, its number is told.
-pub(crate) fn row(number: u32, holds: bool) -> Result<(), Fault> {
-    if holds {
-        Ok(())
-    } else {
-        Err(Fault::Other(number))
-    }
 }
 
 /// Nothing has ended yet.

@@ -1,38 +1,33 @@
 //! Each call on a weak pointer, and on free cells for them.
 
-use crate::plays::answers;
+use crate::players::answers;
 use crate::steps::Answer::{Done, Is, Not, Nothing, Number};
+use crate::steps::Look::{Expired, Read, UseCount};
 use crate::steps::New::Object;
-use crate::steps::Pair::{self, OwnerBeforeWeak, WeakBefore, WeakBeforeOwner, WeakIs};
-use crate::steps::Rise::{Lock, Upgrade};
-use crate::steps::Step::{
-    AtItsDesk, Both, ClearWeak, Drop, DropWeak, ExchangeWeak, LoadWeak, LockIn, Look, LookWeak,
-    Make, Rise, ShareWeak, Store, StoreWeak, TakeWeak, Watch,
-};
-use crate::steps::Watch::Downgrade;
-use crate::steps::WatchCell::{Desk, Free, Place};
-use crate::steps::WeakLook::{Expired, UseCount};
-use crate::steps::{self, Cell, Row};
+use crate::steps::Pair::Before;
+use crate::steps::Step::{Both, Clear, Come, Drop, Exchange, Load, Lock, Look, Make, Store, Take};
+use crate::steps::Way::{AtItsDesk, Downgrade, Share};
+use crate::steps::{Cell, Pair, Row, Way};
 use pointers::{Call, Fault, Refusal, Spot};
 
 /// While the object lives, and after its end.
 const LOCKS: [Row; 15] = [
     (Make(Object, 1, 0), Done),
-    (Watch(0, Downgrade, 0), Done),
-    (LookWeak(0, Expired), Is(false)),
-    (LookWeak(0, UseCount), Number(1)),
-    (Rise(0, Lock, 1), Done),
+    (Come(0, Downgrade, 10), Done),
+    (Look(10, Expired), Is(false)),
+    (Look(10, UseCount), Number(1)),
+    (Come(10, Way::Lock, 1), Done),
     (Both(1, Pair::Is, 0), Is(true)),
     (Drop(1), Done),
-    (Rise(0, Upgrade, 1), Done),
-    (Look(1, steps::Look::UseCount), Number(2)),
+    (Come(10, Way::Upgrade, 1), Done),
+    (Look(1, UseCount), Number(2)),
     (Drop(0), Done),
     (Drop(1), Done),
-    (LookWeak(0, Expired), Is(true)),
-    (LookWeak(0, UseCount), Number(0)),
-    (Rise(0, Lock, 1), Nothing),
+    (Look(10, Expired), Is(true)),
+    (Look(10, UseCount), Number(0)),
+    (Come(10, Way::Lock, 1), Nothing),
     (
-        Rise(0, Upgrade, 1),
+        Come(10, Way::Upgrade, 1),
         Not(Fault::Refused(Call::Upgrade, Refusal::BadWeak)),
     ),
 ];
@@ -43,18 +38,19 @@ fn a_weak_pointer_locks_while_an_owner_remains(rt: HostRuntime) {
 }
 
 /// Copies, and whose they are. The first object has the lower block, or the higher one.
-const COPIES: [Row; 11] = [
+const COPIES: [Row; 12] = [
     (Make(Object, 1, 0), Done),
     (Make(Object, 2, 1), Done),
-    (Watch(0, Downgrade, 0), Done),
-    (ShareWeak(0, 1), Done),
-    (Watch(1, Downgrade, 2), Done),
-    (Both(0, WeakIs, 1), Is(true)),
-    (Both(0, WeakIs, 2), Is(false)),
-    (Both(0, WeakBefore, 1), Is(false)),
-    (Both(0, WeakBeforeOwner, 0), Is(false)),
-    (Both(0, OwnerBeforeWeak, 0), Is(false)),
-    (AtItsDesk(0, 0), Number(0)),
+    (Come(0, Downgrade, 10), Done),
+    (Come(10, Share, 11), Done),
+    (Come(1, Downgrade, 12), Done),
+    (Both(10, Pair::Is, 11), Is(true)),
+    (Both(10, Pair::Is, 12), Is(false)),
+    (Both(10, Before, 11), Is(false)),
+    (Both(10, Before, 0), Is(false)),
+    (Both(0, Before, 10), Is(false)),
+    (Come(10, AtItsDesk(7), 3), Done),
+    (Look(3, Read), Number(7)),
 ];
 
 #[test]
@@ -64,34 +60,34 @@ fn copies_are_of_one_object(rt: HostRuntime) {
 
 /// Free cells, with what a desk stores and what their places do.
 const CELLS: [Row; 28] = [
-    (LoadWeak(Free(1), 0), Nothing),
-    (LockIn(Free(1), 0), Nothing),
+    (Load(Cell::Weak(1), 10), Nothing),
+    (Lock(Cell::Weak(1), 0), Nothing),
     (Make(Object, 1, 0), Done),
-    (Watch(0, Downgrade, 0), Done),
-    (StoreWeak(0, Free(1)), Done),
-    (LockIn(Free(1), 1), Done),
-    (LockIn(Place(1), 1), Done),
+    (Come(0, Downgrade, 10), Done),
+    (Store(10, Cell::Weak(1)), Done),
+    (Lock(Cell::Weak(1), 1), Done),
+    (Lock(Cell::WeakPlace(1), 1), Done),
     (Make(Object, 2, 2), Done),
-    (Watch(2, Downgrade, 1), Done),
-    (ExchangeWeak(1, Free(1)), Done),
-    (Watch(0, Downgrade, 0), Done),
-    (Both(0, WeakIs, 1), Is(true)),
+    (Come(2, Downgrade, 11), Done),
+    (Exchange(11, Cell::Weak(1)), Done),
+    (Come(0, Downgrade, 10), Done),
+    (Both(10, Pair::Is, 11), Is(true)),
     (Drop(2), Done),
-    (LockIn(Free(1), 3), Nothing),
-    (LoadWeak(Free(1), 3), Done),
-    (LookWeak(3, Expired), Is(true)),
-    (ClearWeak(Free(1)), Done),
-    (LoadWeak(Place(1), 3), Nothing),
-    (StoreWeak(0, Desk(1)), Done),
-    (StoreWeak(4, Desk(1)), Done),
-    (TakeWeak(Place(1), 3), Nothing),
-    (StoreWeak(1, Place(1)), Done),
-    (ExchangeWeak(4, Place(1)), Done),
-    (Rise(4, Lock, 3), Done),
-    (StoreWeak(4, Free(1)), Done),
-    (TakeWeak(Free(1), 4), Done),
-    (StoreWeak(5, Free(1)), Done),
-    (ClearWeak(Place(1)), Done),
+    (Lock(Cell::Weak(1), 3), Nothing),
+    (Load(Cell::Weak(1), 13), Done),
+    (Look(13, Expired), Is(true)),
+    (Clear(Cell::Weak(1)), Done),
+    (Load(Cell::WeakPlace(1), 13), Nothing),
+    (Store(10, Cell::WeakDesk(1)), Done),
+    (Store(14, Cell::WeakDesk(1)), Done),
+    (Take(Cell::WeakPlace(1), 13), Nothing),
+    (Store(11, Cell::WeakPlace(1)), Done),
+    (Exchange(14, Cell::WeakPlace(1)), Done),
+    (Come(14, Way::Lock, 3), Done),
+    (Store(14, Cell::Weak(1)), Done),
+    (Take(Cell::Weak(1), 14), Done),
+    (Store(15, Cell::Weak(1)), Done),
+    (Clear(Cell::WeakPlace(1)), Done),
 ];
 
 #[test]
@@ -102,35 +98,38 @@ fn a_free_cell_has_a_weak_pointer(rt: HostRuntime) {
 const OUTSIDE: Spot = Spot::Weak(2);
 
 /// A cell that isn't there: what was handed in lets go.
-const NO_CELL: [Row; 16] = [
+const NO_CELL: [Row; 13] = [
     (Make(Object, 3, 0), Done),
-    (Watch(0, Downgrade, 0), Done),
-    (ShareWeak(0, 1), Done),
-    (LoadWeak(Free(2), 2), Not(Fault::Cell(Call::Load(OUTSIDE)))),
-    (LockIn(Free(2), 2), Not(Fault::Cell(Call::Load(OUTSIDE)))),
+    (Come(0, Downgrade, 10), Done),
+    (Come(10, Share, 11), Done),
     (
-        StoreWeak(0, Free(2)),
+        Load(Cell::Weak(2), 12),
+        Not(Fault::Cell(Call::Load(OUTSIDE))),
+    ),
+    (
+        Lock(Cell::Weak(2), 2),
+        Not(Fault::Cell(Call::Load(OUTSIDE))),
+    ),
+    (
+        Store(10, Cell::Weak(2)),
         Not(Fault::Cell(Call::Store(OUTSIDE))),
     ),
-    (DropWeak(0), Nothing),
+    (Drop(10), Nothing),
     (
-        ExchangeWeak(1, Free(2)),
+        Exchange(11, Cell::Weak(2)),
         Not(Fault::Cell(Call::Exchange(OUTSIDE))),
     ),
-    (DropWeak(1), Nothing),
+    (Drop(11), Nothing),
     (
-        StoreWeak(3, Desk(2)),
-        Not(Fault::Cell(Call::Clear(OUTSIDE))),
+        Store(13, Cell::WeakDesk(2)),
+        Not(Fault::Cell(Call::Store(OUTSIDE))),
     ),
-    (ClearWeak(Free(2)), Not(Fault::Cell(Call::Clear(OUTSIDE)))),
+    (Clear(Cell::Weak(2)), Not(Fault::Cell(Call::Clear(OUTSIDE)))),
     (
-        TakeWeak(Place(2), 2),
+        Take(Cell::WeakPlace(2), 12),
         Not(Fault::Cell(Call::Exchange(OUTSIDE))),
     ),
-    (Look(0, steps::Look::UseCount), Number(1)),
-    (Store(0, Cell::Free(1)), Done),
-    (AtItsDesk(0, 1), Not(Fault::Other(1_000))),
-    (Store(9, Cell::Free(1)), Done),
+    (Look(0, UseCount), Number(1)),
 ];
 
 #[test]

@@ -1,2 +1,15 @@
+pub mod Known
+pub mod Claims
+pub mod Whole
+pub mod Objects
+pub mod Blocks
+pub mod Beside
+pub mod Cells
+pub mod Compares
+pub mod Faults
+pub mod Shares
 pub mod Programs
 pub mod Teams
+pub mod Staffs
+pub mod Leading
+pub mod Lists

@@ -1,14 +1,12 @@
 //! Places for pointers that other threads see too: free cells, and members of objects.
 ghost use Rattle.std.specs.Prelude.{◌≡◌, ◌<◌, ◌≤◌, ◌^◌};
 
-use crate::desk::placing::Target;
-use crate::fault::call::Spot;
-use handle_table::Cell as At;
-
-pub(crate) mod link;
-pub(crate) mod member;
-pub(crate) mod pool;
-pub(crate) mod up;
+mod comparing;
+mod comparing_weak;
+pub mod link;
+pub mod member;
+pub mod pool;
+pub mod up;
 
 /// A free cell of the domain for owners, by its number from 0, in C++ `atomic<shared_ptr>`
 /// ([util.smartptr.atomic.shared]).
@@ -27,14 +25,6 @@ impl SharedCell {
     {
         SharedCell(u32::try_from(number).unwrap_or(u32::MAX))
     }
-
-    #[inline(always)]
-    pub(crate) fn target(self) -> Target {
-        Target {
-            at: At::Shared(self.0),
-            spot: Spot::Shared(self.0),
-        }
-    }
 }
 
 impl WeakCell {
@@ -44,13 +34,5 @@ impl WeakCell {
         ensures none { 2 ^ 32 ≤ number → result.0 ≡ 4294967295 }
     {
         WeakCell(u32::try_from(number).unwrap_or(u32::MAX))
-    }
-
-    #[inline(always)]
-    pub(crate) fn target(self) -> Target {
-        Target {
-            at: At::Weak(self.0),
-            spot: Spot::Weak(self.0),
-        }
     }
 }

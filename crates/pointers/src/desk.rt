@@ -1,79 +1,84 @@
 //! A thread's desk.
+ghost use Rattle.control_block.specs.Desks.{Belongs};
+ghost use Rattle.std.specs.Prelude.{◌≡◌, IfErr};
 
+use crate::claim::shared_claim::SharedClaim;
+use crate::claim::weak_claim::WeakClaim;
+use crate::context::Context;
 use crate::domain::Domain;
 use crate::fault::Fault;
 use crate::fault::call::Call;
+use control_block::domain;
 use std::alloc::Global;
-use std::cell::{Cell, RefCell, RefMut};
+use std::cell::{RefCell, RefMut};
 
-pub(crate) mod bringing;
-pub(crate) mod comparing;
+pub(crate) mod blocks;
 mod ending;
 mod free_cells;
-mod looking;
 mod making;
-pub(crate) mod placing;
-mod slots;
+mod opening;
 
-/// How many vacant blocks a desk keeps for itself at most, between two calls. All above it lie on the domain's shelf.
-pub const RESERVE: u32 = 2;
+/// A pointer that was dropped within a visit.
+pub(crate) enum Late<D: Domain> {
+    Shared(SharedClaim<D>),
+    Weak(WeakClaim<D>),
+}
 
-/// The end of a list of slots: no slot has this number.
-pub(crate) const END: usize = usize::MAX;
+impl<D: Domain> Late<D> {
+    /// Its handle is forgotten: the desk holds it still.
+    fn forget(self) {
+        match self {
+            Late::Shared(owner) => owner.forget(),
+            Late::Weak(weak) => weak.forget(),
+        }
+    }
+}
 
 /// A thread's desk: where its pointers come from. It is seen by `&` alone, and so are they, so that both stay in their
 /// thread. A program gets one of each thread; nothing else makes one, so that no pointer meets another desk.
 ///
-/// A call on a pointer or a desk is refused `Busy` within a visit, and `Crowded` where it would bring a pointer more
-/// than the desk may have; else as it says. What waits takes `rt`.
-pub struct Desk<D: Domain> {
-    pub(crate) table: RefCell<D>,
-    /// Of each slot that is on a list the next one.
-    pub(crate) links: Vec<Cell<usize>, Global>,
-    /// The first vacant slot.
-    pub(crate) vacant: Cell<usize>,
-    /// The first slot of a pointer that was dropped within a visit.
-    pub(crate) late: Cell<usize>,
+/// A call on a pointer or a desk is refused `Busy` within a visit, and `Crowded` where it would bring a handle more
+/// than the desk may have: its team's `pointers` and two. Else it is refused as it says. What waits takes `rt`.
+pub struct Desk<'d, D: Domain> {
+    pub(crate) domain: &'d domain::Domain<D::Value>,
+    pub(crate) context: RefCell<Context<D>>,
+    pub(crate) late: RefCell<Vec<Late<D>, Global>>,
+    pub(crate) ghost home: { Belongs D.opened domain.now },
 }
 
-/// A list of so many slots, each of which links to the next. None where there is no memory for it.
-pub(crate) fn linked(alloc: Global, slots: usize) -> Option<Vec<Cell<usize>, Global>> {
-    let mut links = Vec::with_capacity(alloc, slots).ok()?;
-    for at in 0..slots {
-        links.push(Cell::new(at.wrapping_add(1))).ok()?;
-    }
-    Some(links)
-}
-
-impl<D: Domain> Desk<D> {
-    /// A desk over a table of as many slots as there are links. Slot 0 is the desk's own, and no handle lies in any.
-    pub(crate) fn over(table: D, links: Vec<Cell<usize>, Global>) -> Desk<D> {
-        Desk {
-            table: RefCell::new(table),
-            links,
-            vacant: Cell::new(1),
-            late: Cell::new(END),
+impl<'d, D: Domain> Desk<'d, D> {
+    /// What the desk has, for a call; within a visit it is `Busy`.
+    #[inline(always)]
+    pub(crate) fn open(&self, call: Call) -> Result<RefMut<'_, Context<D>>, Fault>
+        ensures { IfErr result (λ why. why ≡ Fault.Busy call) }
+    {
+        match self.context.try_borrow_mut() {
+            Ok(context) => Ok(context),
+            Err(_) => Err(Fault::Busy(call)),
         }
     }
 
-    /// The end of a desk: its table.
-    pub(crate) fn into_table(self) -> D {
-        let Desk {
-            table,
-            links,
-            vacant: _,
-            late: _,
-        } = self;
-        drop(links);
-        table.into_inner()
+    /// The list of pointers that a visit puts off has room for so many.
+    #[inline(always)]
+    pub(crate) fn make_room(&self, count: u32) -> Result<(), Fault>
+        ensures { IfErr result (λ why. why ≡ Fault.Memory) }
+    {
+        if let Ok(mut late) = self.late.try_borrow_mut() {
+            late.reserve(count as usize)?;
+        }
+        Ok(())
     }
 
-    /// The table, for a call; within a visit it is `Busy`.
-    #[inline(always)]
-    pub(crate) fn open(&self, call: Call) -> Result<RefMut<'_, D>, Fault> {
-        match self.table.try_borrow_mut() {
-            Ok(table) => Ok(table),
-            Err(_) => Err(Fault::Busy(call)),
+    /// The pointer was dropped within a visit: it lets go when that is over.
+    #[cold]
+    #[inline(never)]
+    pub(crate) fn put_off(&self, late: Late<D>) {
+        match self.late.try_borrow_mut() {
+            Ok(mut list) => match list.push(late) {
+                Ok(()) => {}
+                Err(failed) => failed.value.forget(),
+            },
+            Err(_) => late.forget(),
         }
     }
 }

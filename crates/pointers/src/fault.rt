@@ -1,9 +1,9 @@
 //! Why a call on a pointer or a desk was not done.
-ghost use Rattle.std.specs.Prelude.{◌≡◌};
+ghost use Rattle.std.specs.Prelude.{◌≡◌, ◌↔◌, IsTrue};
+ghost use Rattle.pointers.specs.Faults.{IsRefusedFor, fault_of};
 
 use crate::fault::call::Call;
 use control_word::Refusal;
-use handle_table::{self, Returned};
 use std::alloc::{AllocError, AllocFailed};
 use std::error::Error;
 use std::{fmt, io};
@@ -23,8 +23,6 @@ pub enum Fault {
     Place(Call),
     /// The domain refused it.
     Refused(Call, Refusal),
-    /// The table below refused it for what lies in a slot.
-    Slot(Call, handle_table::Fault),
     /// No memory.
     Memory,
     /// Input or output failed.
@@ -34,21 +32,23 @@ pub enum Fault {
 }
 
 impl Fault {
-    /// What the table below answered, of a call.
+    /// What the domain refused, of a call.
     #[cold]
     #[inline(never)]
-    pub(crate) fn of(call: Call, why: handle_table::Fault) -> Fault {
+    pub(crate) fn of(call: Call, why: Refusal) -> Fault
+        ensures { result ≡ fault_of call why }
+    {
         match why {
-            handle_table::Fault::Call(Refusal::Memory) => Fault::Memory,
-            handle_table::Fault::Call(why) => Fault::Refused(call, why),
-            handle_table::Fault::Cell => Fault::Cell(call),
-            handle_table::Fault::Place => Fault::Place(call),
-            _ => Fault::Slot(call, why),
+            Refusal::Limit => Fault::Crowded(call),
+            Refusal::Memory => Fault::Memory,
+            _ => Fault::Refused(call, why),
         }
     }
 
     /// Whether it is that refusal of the domain, of whatever call.
-    pub fn is_refusal(&self, refusal: Refusal) -> bool {
+    pub fn is_refusal(&self, refusal: Refusal) -> bool
+        ensures { IsTrue result ↔ IsRefusedFor refusal self.now }
+    {
         match self {
             Fault::Refused(_, why) => *why == refusal,
             _ => false,
@@ -64,7 +64,6 @@ impl fmt::Display for Fault {
             Fault::Cell(call) => write!(f, "{call}: no such cell"),
             Fault::Place(call) => write!(f, "{call}: no such place"),
             Fault::Refused(call, why) => write!(f, "{call}: {why}"),
-            Fault::Slot(call, why) => write!(f, "{call}: {why:?}"),
             Fault::Memory => f.write_str("no memory"),
             Fault::Output => f.write_str("input or output failed"),
             Fault::Other(number) => write!(f, "fault {number}"),
@@ -104,29 +103,11 @@ impl From<io::Error> for Fault {
     }
 }
 
-/// What the table below answered, of a call.
-#[inline(always)]
-pub(crate) fn told<T: Drop>(call: Call, is: Result<T, handle_table::Fault>) -> Result<T, Fault> {
-    match is {
-        Ok(is) => Ok(is),
-        Err(why) => Err(Fault::of(call, why)),
-    }
-}
-
 /// A refused make, with the value that was handed in (own). `?` turns it into its fault, and drops the value.
 #[derive(Drop)]
 pub struct Refused<T> {
     pub why: Fault,
     pub back: T,
-}
-
-impl<T: Drop> Refused<T> {
-    /// What the table below handed back, of a call.
-    pub(crate) fn of(call: Call, returned: Returned<T>) -> Refused<T> {
-        let Returned { why, back } = returned;
-        let why = Fault::of(call, why);
-        Refused { why, back }
-    }
 }
 
 impl<T: Drop> From<Refused<T>> for Fault {

@@ -1,37 +1,35 @@
-//! Shared pointers that let go by themselves: values over a thread's handle table, which users keep in variables,
-//! vectors, options and structs.
+//! Shared pointers that own their handles.
 #![tactic(auto)]
 
 mod cells;
+mod claim;
+mod context;
 mod desk;
 mod domain;
 mod fault;
-mod leader;
+mod known;
 mod list;
 mod program;
 mod shared;
-mod structures;
 mod weak;
 
-pub use cells::link::Link;
-pub use cells::member::Member;
-pub use cells::pool::FreeCells;
-pub use cells::up::Up;
-pub use cells::{SharedCell, WeakCell};
+pub use crate::cells::link::Link;
+pub use crate::cells::member::Member;
+pub use crate::cells::pool::FreeCells;
+pub use crate::cells::up::Up;
+pub use crate::cells::{SharedCell, WeakCell};
+pub use crate::context::shelf::RESERVE;
+pub use crate::desk::Desk;
+pub use crate::domain::Domain;
+pub use crate::fault::call::{Call, Spot};
+pub use crate::fault::{Fault, Refused};
+pub use crate::list::List;
+pub use crate::list::element::Element;
+pub use crate::program::leader::{Leader, Manned, run_leader};
+pub use crate::program::not_run::{Limit, NotRun, Number};
+pub use crate::program::team::Team;
+pub use crate::program::{Failed, Program, Ran, run};
+pub use crate::shared::Shared;
+pub use crate::weak::Weak;
+pub use control_block::census::Census;
 pub use control_word::{Block, Place, Refusal, Shape};
-pub use desk::{Desk, RESERVE};
-pub use domain::Domain;
-pub use fault::call::{Call, Spot};
-pub use fault::{Fault, Refused};
-pub use handle_table::Manned;
-pub use leader::{Leader, run_leader};
-pub use list::List;
-pub use list::element::Element;
-pub use program::not_run::{Limit, NotRun, Number};
-pub use program::team::Team;
-pub use program::{Failed, Program, Ran, run};
-pub use shared::Shared;
-pub use structures::observers::Observers;
-pub use structures::scene::Scene;
-pub use structures::stack::Stack;
-pub use weak::Weak;

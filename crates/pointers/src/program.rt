@@ -1,33 +1,45 @@
 //! A program over a domain of its own, with a desk for each of its threads.
-ghost use Rattle.std.specs.Prelude.{◌≡◌, IfOk, None, Some, is_some, true};
-ghost use Rattle.control_word.specs.Layout.{IsWithinLimits};
-ghost use Rattle.handle_table.specs.declared.program.Manned.{Manned};
-ghost use Rattle.pointers.specs.Programs.{Runs, RunsTeam};
+ghost use Rattle.std.specs.Prelude.{◌≡◌, ◌⊎◌, ℕ, IfErr, IfOk, None};
+ghost use Rattle.pointers.specs.Programs.{Runs};
+ghost use Rattle.pointers.specs.Teams.{Fits, IsMisfit};
 
-use crate::desk::{Desk, linked};
-use crate::domain::{Domain, Seat, seated};
+use crate::desk::Desk;
+use crate::domain::Domain;
 use crate::fault::Fault;
+use crate::program::closing::close_whole;
 use crate::program::not_run::NotRun;
+use crate::program::opening::open_domain;
+use crate::program::sitting::Post;
+use crate::program::staff::lend;
 use crate::program::team::Team;
 use control_block::census::Census;
 use control_word::{Refusal, Shape};
-use handle_table::{self, HandleTable, Home, Manned};
 use std::alloc::Global;
-use std::cell::Cell;
-use std::sync::{Mutex, Wait};
+use std::sync::Wait;
 use std::thread::Threads;
 
-pub(crate) mod not_run;
-pub(crate) mod team;
+pub(crate) mod brand;
+mod closing;
+pub mod leader;
+mod leading;
+pub mod not_run;
+mod opening;
+pub(crate) mod part;
+pub(crate) mod sitting;
+pub(crate) mod staff;
+pub mod team;
+pub(crate) mod teams;
+pub(crate) mod worker;
 
-/// What each worker of a team does, in a thread with a desk of its own. What it answers is told by `run`.
-pub trait Program<V: Drop, R: Threads + Wait + Sync> {
-    fn work<D: Domain<Value = V>>(
-        &self,
-        rt: &R,
-        number: usize,
-        desk: &Desk<D>,
-    ) -> Result<(), Fault>;
+/// What each worker of a team does, in a thread with a desk of its own. What it answers is told by `run`. `answers`
+/// says what it may answer, by the program and the worker's number. A program that gives no such member says nothing.
+pub trait Program<V: Drop, R: Threads + Wait> {
+    ghost use Rattle.pointers.specs.Programs.{Answer, any_answer};
+
+    ghost answers: { Self → ℕ → Answer } = { λ _ _. any_answer };
+
+    fn work<D: Domain<Value = V>>(&self, rt: &R, number: usize, desk: &Desk<D>) -> Result<(), Fault>
+        ensures { answers self.now number result };
 }
 
 /// A worker whose work ended with a fault.
@@ -56,164 +68,10 @@ impl<V: Drop> Ran<V> {
     }
 }
 
-/// A program's workers at desks.
-struct Seats<'p, P> {
-    alloc: Global,
-    program: &'p P,
-    team: handle_table::Team,
-    manned: Option<Manned>,
-    failed: Mutex<Vec<Failed, Global>>,
-}
-
-/// A worker's fault is noted.
-pub(crate) fn note<R: Wait>(
-    rt: &R,
-    failed: &Mutex<Vec<Failed, Global>>,
-    worker: usize,
-    done: Result<(), Fault>,
-) {
-    if let Err(why) = done {
-        let _ = failed.lock(rt).push(Failed { worker, why });
-    }
-}
-
-/// A worker at work, with the links of its desk's slots.
-pub(crate) struct Worker<'w, R, P> {
-    pub rt: &'w R,
-    pub program: &'w P,
-    pub number: usize,
-    pub links: Option<Vec<Cell<usize>, Global>>,
-}
-
-impl<'w, V: Drop, R: Threads + Wait + Sync, P: Program<V, R>> Seat<V> for Worker<'w, R, P> {
-    type Answer = Result<(), Fault>;
-
-    fn sit<D: Domain<Value = V> + Drop>(self, table: D) -> Result<(), Fault> {
-        let Self {
-            rt,
-            program,
-            number,
-            links,
-        } = self;
-        let Some(links) = links else {
-            return Err(Fault::Memory);
-        };
-        let desk = Desk::over(table, links);
-        let done = program.work(rt, number, &desk);
-        drop(desk.into_table());
-        done
-    }
-}
-
-impl<'p, V: Drop, R: Threads + Wait + Sync, P: Program<V, R> + Sync> handle_table::Program<V, R>
-    for Seats<'p, P> {
-    fn work<H: Home>(&self, rt: &R, number: usize, table: &mut HandleTable<'_, V, H>) {
-        let links = linked(self.alloc, self.team.slots);
-        let worker = Worker {
-            rt,
-            program: self.program,
-            number,
-            links,
-        };
-        let done = seated(table, worker);
-        note(rt, &self.failed, number, done);
-    }
-}
-
-impl<'p, V: Drop, R: Threads + Wait + Sync, P: Program<V, R> + Sync> handle_table::Leader<V, R>
-    for Seats<'p, P> {
-    ghost use Rattle.pointers.specs.Programs.{leads_once};
-
-    ghost leads = { leads_once (λ s. s.team) (λ s. s.manned) };
-
-    fn lead<H: Home>(
-        &mut self,
-        _rt: &R,
-        before: Option<Manned>,
-        table: &mut HandleTable<'_, V, H>,
-    ) -> Option<handle_table::Team> {
-        match before {
-            None => {
-                table.shelve(u32::MAX);
-                Some(self.team)
-            }
-            Some(manned) => {
-                self.manned = Some(manned);
-                None
-            }
-        }
-    }
-}
-
-impl<'p, P> Seats<'p, P> {
-    /// What is told of a run in which all workers worked, or else why they didn't.
-    fn ran<V: Drop>(self, census: Census<V>) -> Result<Ran<V>, NotRun>
-        requires manned { is_some self.manned ≡ true }
-        ensures census { IfOk result (λ r. r.census ≡ census) }
-        ensures all { IfOk result (λ r. (r.fewer ≡ None)
-            × (self.entry.manned ≡ Some (record { workers = r.workers; fewer = r.fewer }))) }
-    {
-        let Seats {
-            alloc: _,
-            program: _,
-            team: _,
-            manned,
-            failed,
-        } = self;
-        let failed = in_order(failed);
-        let Some(Manned { workers, fewer }) = manned else {
-            unreachable!()
-        };
-        match fewer {
-            None => Ok(Ran {
-                census,
-                workers,
-                fewer,
-                failed,
-            }),
-            Some(why) => Err(NotRun::of(why)),
-        }
-    }
-
-    /// Nothing is told of it.
-    fn end(self) {
-        let Seats {
-            alloc: _,
-            program: _,
-            team: _,
-            manned: _,
-            failed,
-        } = self;
-        drop(failed);
-    }
-}
-
-/// The faults, by their workers' numbers.
-fn in_order(failed: Mutex<Vec<Failed, Global>>) -> Vec<Failed, Global> {
-    let mut failed = failed.into_inner();
-    failed.sort_unstable_by_key(|failed| failed.worker);
-    failed
-}
-
-/// The team works in a new domain.
-fn at_seats<V: Drop + Send, R: Threads + Wait + Sync, P: Program<V, R> + Sync>(
-    rt: &R,
-    alloc: Global,
-    shape: Shape,
-    seats: &mut Seats<'_, P>,
-) -> Result<Census<V>, Refusal>
-    ensures runs { IfOk result
-        (λ c. (m : Manned) × (seats.new.manned ≡ Some m) × Runs V shape seats.old.team m c) }
-    ensures within { IfOk result (λ _. IsWithinLimits shape) }
-{
-    handle_table::run_leader(rt, alloc, shape, 0, seats)
-}
-
 /// A domain is opened, each worker of the team does its part of the program in a thread with a desk of its own, and the
-/// domain is closed (own). Pointers that a worker forgot or kept let go, and what is left to end does so. All vacant
-/// blocks are any worker's: they lie on the domain's shelf, but for a reserve of each desk. All workers work, or none:
-/// where a number doesn't fit (`Small`, `Large`), where memory or a thread is refused for one (`Memory`), and where the
-/// domain refuses it.
+/// domain is closed (own). What a worker left to end does so; a pointer that it forgot is in the census. All vacant
+/// blocks are any worker's: they lie on the domain's shelf. All workers work, or none: where a number doesn't fit
+/// (`Small`, `Large`), or where memory or a thread is refused for one (`Memory`).
 pub fn run<V: Drop + Send, R: Threads + Wait + Sync, P: Program<V, R> + Sync>(
     rt: &R,
     alloc: Global,
@@ -221,28 +79,33 @@ pub fn run<V: Drop + Send, R: Threads + Wait + Sync, P: Program<V, R> + Sync>(
     team: Team,
     program: &P,
 ) -> Result<Ran<V>, NotRun>
-    ensures runs { IfOk result (λ r. RunsTeam V shape team r.census) }
+    ensures runs { IfOk result (λ r. Runs V (P.answers program.now) shape team r.failed.items r.census) }
     ensures all { IfOk result (λ r. (r.workers ≡ team.workers) × (r.fewer ≡ None)) }
-    ensures within { IfOk result (λ _. IsWithinLimits shape) }
+    ensures fits { IfOk result (λ _. Fits shape team) }
+    ensures misfit { IfErr result (λ why. IsMisfit shape team why ⊎ ((why ≡ NotRun.Memory) × Fits shape team)) }
 {
     if let Some(why) = team.misfit(&shape) {
         return Err(why);
     }
-    let Ok(failed) = Vec::with_capacity(alloc, team.workers) else {
+    let Some(opened) = open_domain::<V>(alloc, shape) else {
         return Err(NotRun::Memory);
     };
-    let mut seats = Seats {
+    let (domain, mut desk) = opened;
+    let first = Post {
         alloc,
+        domain: &domain,
         program,
-        team: team.below(),
-        manned: None,
-        failed: Mutex::new(failed),
+        number: 0,
     };
-    match at_seats(rt, alloc, shape, &mut seats) {
-        Ok(census) => seats.ran(census),
-        Err(why) => {
-            seats.end();
-            Err(NotRun::of(why))
-        }
+    let failed = lend(rt, &mut desk, first, team);
+    let census = close_whole(domain, desk);
+    match failed {
+        Some(failed) => Ok(Ran {
+            census,
+            workers: team.workers,
+            fewer: None,
+            failed,
+        }),
+        None => Err(NotRun::Memory),
     }
 }

@@ -1,7 +1,7 @@
 //! A published configuration: one thread publishes new versions of it, and others read the current one.
 #![tactic(auto)]
 
-use owned::{Desk, Domain, Fault, Program, SharedCell, Team, run};
+use pointers::{Desk, Domain, Fault, Program, SharedCell, Team, run};
 use std::io;
 use std::sync::Wait;
 use std::sync::atomic::{AtomicU32, Ordering};

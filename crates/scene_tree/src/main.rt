@@ -1,7 +1,7 @@
 //! A scene tree: a node owns its first child and its next sibling, and knows its parent by a weak pointer.
 #![tactic(auto)]
 
-use owned::{Desk, Domain, Fault, Program, Shared, Team, run};
+use pointers::{Desk, Domain, Fault, Program, Shared, Team, run};
 use std::io;
 use std::sync::Wait;
 use std::thread::Threads;

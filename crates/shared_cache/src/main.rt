@@ -1,7 +1,7 @@
 //! A cache that threads share: it knows each value by a weak pointer, and keeps the last four that were asked for.
 #![tactic(auto)]
 
-use owned::{Desk, Domain, Fault, Program, Shared, SharedCell, Team, WeakCell, run};
+use pointers::{Desk, Domain, Fault, Program, Shared, SharedCell, Team, WeakCell, run};
 use std::alloc::Global;
 use std::io;
 use std::sync::atomic::{AtomicU32, Ordering};

@@ -5,134 +5,113 @@ use crate::values::{Told, Value};
 use pointers::{Desk, Domain, Fault, Shared, Weak};
 use std::alloc::Global;
 
-/// The pointers of a worker's calls: owners in slots, and weak pointers in others.
+/// What lies in a slot.
+#[derive(Drop)]
+pub(crate) enum Hand<'t, D: Domain<Value = Value>> {
+    Vacant,
+    Owner(Shared<'t, D>),
+    Weak(Weak<'t, D>),
+}
+
+impl<'t, D: Domain<Value = Value>> Hand<'t, D> {
+    /// What a call brought.
+    pub(crate) fn owner(came: Option<Shared<'t, D>>) -> Hand<'t, D> {
+        match came {
+            Some(owner) => Hand::Owner(owner),
+            None => Hand::Vacant,
+        }
+    }
+
+    /// The same of a weak pointer.
+    pub(crate) fn weak(came: Option<Weak<'t, D>>) -> Hand<'t, D> {
+        match came {
+            Some(weak) => Hand::Weak(weak),
+            None => Hand::Vacant,
+        }
+    }
+
+    /// Whether a pointer lies there.
+    pub(crate) fn is_some(&self) -> bool {
+        !matches!(self, Hand::Vacant)
+    }
+
+    /// An owner or none; a weak pointer lets go.
+    pub(crate) fn into_owner(self) -> Option<Shared<'t, D>> {
+        match self {
+            Hand::Owner(owner) => Some(owner),
+            Hand::Weak(_) => None,
+            Hand::Vacant => None,
+        }
+    }
+
+    /// A weak pointer or none; an owner lets go.
+    pub(crate) fn into_weak(self) -> Option<Weak<'t, D>> {
+        match self {
+            Hand::Weak(weak) => Some(weak),
+            Hand::Owner(_) => None,
+            Hand::Vacant => None,
+        }
+    }
+}
+
+/// The pointers of a worker's calls, in slots.
+#[derive(Drop)]
 pub(crate) struct Hands<'t, D: Domain<Value = Value>> {
-    pub(crate) desk: &'t Desk<D>,
+    pub(crate) desk: &'t Desk<'t, D>,
     pub(crate) told: &'t Told,
-    owners: Vec<Option<Shared<'t, D>>>,
-    weaks: Vec<Option<Weak<'t, D>>>,
+    slots: Vec<Hand<'t, D>>,
 }
 
-impl<'t, D: Domain<Value = Value>> Drop for Hands<'t, D> {
-    fn drop(self) {
-        let Self {
-            desk: _,
-            told: _,
-            owners,
-            weaks,
-        } = self;
-        drop(owners);
-        drop(weaks);
-    }
-}
+/// How many slots there are: more than a desk may have pointers.
+const SLOTS: usize = 24;
 
-/// How many slots there are of each kind: as many as a desk may have pointers, and one more.
-const SLOTS: usize = 17;
-
-/// Vacant slots.
-fn vacant<T: Drop>(alloc: Global) -> Result<Vec<Option<T>>, Fault> {
-    let mut slots = Vec::with_capacity(alloc, SLOTS)?;
-    for _ in 0..SLOTS {
-        slots.push(None)?;
-    }
-    Ok(slots)
-}
+/// The fault of a call on a slot where nothing of its kind lies.
+pub(crate) const VACANT: Fault = Fault::Other(1_000);
 
 impl<'t, D: Domain<Value = Value>> Hands<'t, D> {
     /// Vacant slots of a desk.
     pub(crate) fn new(
-        desk: &'t Desk<D>,
+        desk: &'t Desk<'t, D>,
         told: &'t Told,
         alloc: Global,
     ) -> Result<Hands<'t, D>, Fault> {
-        Ok(Hands {
-            desk,
-            told,
-            owners: vacant(alloc)?,
-            weaks: vacant(alloc)?,
-        })
+        let mut slots = Vec::with_capacity(alloc, SLOTS)?;
+        for _ in 0..SLOTS {
+            slots.push(Hand::Vacant)?;
+        }
+        Ok(Hands { desk, told, slots })
+    }
+
+    /// What lies in a slot.
+    pub(crate) fn at(&self, at: usize) -> Result<&Hand<'t, D>, Fault> {
+        match self.slots.get(at) {
+            Some(hand) => Ok(hand),
+            None => Err(VACANT),
+        }
     }
 
     /// The owner in a slot.
     pub(crate) fn owner(&self, at: usize) -> Result<&Shared<'t, D>, Fault> {
-        let Some(slot) = self.owners.get(at) else {
-            return Err(Fault::Other(VACANT));
-        };
-        match slot {
-            Some(owner) => Ok(owner),
-            None => Err(Fault::Other(VACANT)),
+        match self.slots.get(at) {
+            Some(Hand::Owner(owner)) => Ok(owner),
+            _ => Err(VACANT),
         }
     }
 
-    /// The weak pointer in a slot.
-    pub(crate) fn weak(&self, at: usize) -> Result<&Weak<'t, D>, Fault> {
-        let Some(slot) = self.weaks.get(at) else {
-            return Err(Fault::Other(VACANT));
-        };
-        match slot {
-            Some(weak) => Ok(weak),
-            None => Err(Fault::Other(VACANT)),
+    /// What lies in a slot comes out.
+    pub(crate) fn take(&mut self, at: usize) -> Hand<'t, D> {
+        match self.slots.get_mut(at) {
+            Some(slot) => std::mem::replace(slot, Hand::Vacant),
+            None => Hand::Vacant,
         }
     }
 
-    /// What lies in a slot for owners comes out.
-    pub(crate) fn take(&mut self, at: usize) -> Option<Shared<'t, D>> {
-        let slot = self.owners.get_mut(at)?;
-        slot.take()
-    }
-
-    /// The same of a weak pointer.
-    pub(crate) fn take_weak(&mut self, at: usize) -> Option<Weak<'t, D>> {
-        let slot = self.weaks.get_mut(at)?;
-        slot.take()
-    }
-
-    /// An owner or none goes into a slot, and what lay there lets go.
-    pub(crate) fn put(&mut self, at: usize, owner: Option<Shared<'t, D>>) {
-        if let Some(slot) = self.owners.get_mut(at) {
-            *slot = owner;
+    /// What a call brought comes into a slot, and what lay there lets go.
+    pub(crate) fn put(&mut self, at: usize, hand: Hand<'t, D>) -> Answer {
+        let answer = Answer::came(hand.is_some());
+        if let Some(slot) = self.slots.get_mut(at) {
+            *slot = hand;
         }
-    }
-
-    /// The same of a weak pointer.
-    pub(crate) fn put_weak(&mut self, at: usize, weak: Option<Weak<'t, D>>) {
-        if let Some(slot) = self.weaks.get_mut(at) {
-            *slot = weak;
-        }
-    }
-
-    /// What a call brought goes into a slot.
-    pub(crate) fn arrive(
-        &mut self,
-        to: usize,
-        came: Result<Option<Shared<'t, D>>, Fault>,
-    ) -> Answer {
-        match came {
-            Ok(came) => {
-                let answer = Answer::came(came.is_some());
-                self.put(to, came);
-                answer
-            }
-            Err(why) => Answer::Not(why),
-        }
-    }
-
-    /// The same of a weak pointer.
-    pub(crate) fn arrive_weak(
-        &mut self,
-        to: usize,
-        came: Result<Option<Weak<'t, D>>, Fault>,
-    ) -> Answer {
-        match came {
-            Ok(came) => {
-                let answer = Answer::came(came.is_some());
-                self.put_weak(to, came);
-                answer
-            }
-            Err(why) => Answer::Not(why),
-        }
+        answer
     }
 }
-
-/// The number of the fault of a call on a slot where nothing lies.
-const VACANT: u32 = 1_000;

@@ -1,10 +1,16 @@
 //! Members that keep their object.
+ghost use Rattle.std.specs.Prelude.{◌≡◌, IfErr, IfOk, None, OnOk, Some};
+ghost use Rattle.control_word.specs.declared.model.handle.Kind.TheVariants.{Owner};
+ghost use Rattle.shared_handle.specs.declared.pile.Gone.{Gone};
+ghost use Rattle.pointers.specs.Beside.{seen_by};
+ghost use Rattle.pointers.specs.Cells.{Exchanged, Loaded, Stored, WhyNotDone, shared_cell_at, shared_spot};
 
 use crate::cells::member::Member;
 use crate::domain::Domain;
 use crate::fault::Fault;
+use crate::fault::call::Call;
 use crate::shared::Shared;
-use handle_table::SharedMember;
+use atomic_cells::SharedMember;
 use std::sync::Wait;
 
 /// A member of an object that holds an owner, and keeps the object: what a walk over a list is at, so that it needs no
@@ -25,38 +31,63 @@ impl<'t, D: Domain> Drop for Link<'t, D> {
 impl<'t, D: Domain> Link<'t, D> {
     /// The member, for its other calls.
     #[inline(always)]
-    pub fn member(&self) -> Member<'_, 't, D> {
+    pub fn member(&self) -> Member<'_, 't, D>
+        ensures of { seen_by (λ x. x.now.known) result.of ≡ Some self.now.of }
+        ensures which { result.which ≡ self.now.which }
+    {
         self.of.member(self.which)
     }
 
     /// The pointer that keeps the object.
     #[inline(always)]
-    pub fn into_owner(self) -> Shared<'t, D> {
+    pub fn into_owner(self) -> Shared<'t, D>
+        ensures { result ≡ self.entry.of }
+    {
         let Self { of, which: _ } = self;
         of
     }
 
     /// As `Member::load` (waits).
     #[inline(always)]
-    pub fn load<R: Wait>(&self, rt: &R) -> Result<Option<Shared<'t, D>>, Fault> {
+    pub fn load<R: Wait>(&self, rt: &R) -> Result<Option<Shared<'t, D>>, Fault>
+        ensures loaded { IfOk result (Loaded D.opened (Some self.now.of)
+            (shared_cell_at D.opened (Some self.now.of) self.now.which 0) Owner) }
+        ensures refused { IfErr result (WhyNotDone D.opened D.opened.shape.shared_cells (Some self.now.of) 0
+            (Call.Load (shared_spot (Some self.now.of) self.now.which 0))) }
+    {
         self.member().load(rt)
     }
 
     /// As `Member::store`.
     #[inline(always)]
-    pub fn store(&self, new: Option<Shared<'t, D>>) -> Result<(), Fault> {
+    pub fn store(&self, new: Option<Shared<'t, D>>) -> Result<(), Fault>
+        ensures stored { OnOk result ((gone : Gone) × Stored D.opened (Some self.now.of)
+            (shared_cell_at D.opened (Some self.now.of) self.now.which 0) new.entry gone) }
+        ensures refused { IfErr result (WhyNotDone D.opened D.opened.shape.shared_cells (Some self.now.of) 0
+            (Call.Store (shared_spot (Some self.now.of) self.now.which 0))) }
+    {
         self.member().store(new)
     }
 
     /// As `Member::exchange`.
     #[inline(always)]
-    pub fn exchange(&self, new: Option<Shared<'t, D>>) -> Result<Option<Shared<'t, D>>, Fault> {
+    pub fn exchange(&self, new: Option<Shared<'t, D>>) -> Result<Option<Shared<'t, D>>, Fault>
+        ensures exchanged { IfOk result (Exchanged D.opened (Some self.now.of)
+            (shared_cell_at D.opened (Some self.now.of) self.now.which 0) Owner new.entry) }
+        ensures refused { IfErr result (WhyNotDone D.opened D.opened.shape.shared_cells (Some self.now.of) 0
+            (Call.Exchange (shared_spot (Some self.now.of) self.now.which 0))) }
+    {
         self.member().exchange(new)
     }
 
     /// As `Member::take`.
     #[inline(always)]
-    pub fn take(&self) -> Result<Option<Shared<'t, D>>, Fault> {
+    pub fn take(&self) -> Result<Option<Shared<'t, D>>, Fault>
+        ensures taken { IfOk result (Exchanged D.opened (Some self.now.of)
+            (shared_cell_at D.opened (Some self.now.of) self.now.which 0) Owner None) }
+        ensures refused { IfErr result (WhyNotDone D.opened D.opened.shape.shared_cells (Some self.now.of) 0
+            (Call.Exchange (shared_spot (Some self.now.of) self.now.which 0))) }
+    {
         self.member().take()
     }
 }

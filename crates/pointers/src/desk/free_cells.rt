@@ -1,4 +1,13 @@
 //! Free cells of the domain.
+ghost use Rattle.std.specs.Prelude.{◌≡◌, ◌+◌, IfErr, IfOk, None, OnOk, Option};
+ghost use Rattle.control_word.specs.declared.model.event.Cell.TheVariants.{Free};
+ghost use Rattle.control_word.specs.declared.model.handle.Kind.TheVariants as kind;
+ghost use Rattle.shared_handle.specs.declared.pile.Gone.{Gone};
+ghost use Rattle.pointers.specs.Cells.{Exchanged, IsOwnerOf, Loaded, Stored};
+ghost use Rattle.pointers.specs.Cells.{StoredWeakly, WhyNotDone, WhyNotLocked, weak_cell_at};
+ghost use Rattle.pointers.specs.declared.fault.call.Spot.TheVariants as spot;
+ghost use Rattle.pointers.specs.declared.known.Known.{Known};
+ghost use Rattle.pointers.specs.Beside.{seen_by};
 
 use crate::cells::member::Member;
 use crate::cells::up::Up;
@@ -6,98 +15,119 @@ use crate::cells::{SharedCell, WeakCell};
 use crate::desk::Desk;
 use crate::domain::Domain;
 use crate::fault::Fault;
+use crate::fault::call::Call;
 use crate::shared::Shared;
 use crate::weak::Weak;
+use atomic_cells::SharedMember;
 use std::sync::Wait;
 
-impl<D: Domain> Desk<D> {
+impl<'d, D: Domain> Desk<'d, D> {
     /// A free cell for owners, by all calls of a place.
     #[inline(always)]
-    pub fn cell(&self, cell: SharedCell) -> Member<'_, '_, D> {
+    pub fn cell(&self, cell: SharedCell) -> Member<'_, '_, D>
+        ensures { (seen_by (λ x. x.now.known) result.of ≡ None) × (result.number ≡ cell.0) }
+    {
         Member {
             desk: self,
-            target: cell.target(),
             of: None,
+            which: SharedMember::First,
+            number: cell.0,
         }
     }
 
     /// The same of a cell for weak pointers.
     #[inline(always)]
-    pub fn weak_cell(&self, cell: WeakCell) -> Up<'_, '_, D> {
+    pub fn weak_cell(&self, cell: WeakCell) -> Up<'_, '_, D>
+        ensures { (seen_by (λ x. x.now.known) result.of ≡ None) × (result.number ≡ cell.0) }
+    {
         Up {
             desk: self,
-            target: cell.target(),
             of: None,
+            number: cell.0,
         }
     }
 
     /// A copy of what the cell holds, in C++ `load()` (waits). None where it holds an empty pointer.
     #[inline(always)]
-    pub fn load<R: Wait>(&self, rt: &R, cell: SharedCell) -> Result<Option<Shared<'_, D>>, Fault> {
-        match self.loaded(rt, cell.target()) {
-            Ok(Some(at)) => Ok(Some(Shared { desk: self, at })),
-            Ok(None) => Ok(None),
-            Err(why) => Err(why),
-        }
+    pub fn load<R: Wait>(&self, rt: &R, cell: SharedCell) -> Result<Option<Shared<'_, D>>, Fault>
+        ensures loaded { IfOk result (Loaded D.opened None (Free cell.0) kind.Owner) }
+        ensures refused { IfErr result
+            (WhyNotDone D.opened D.opened.shape.shared_cells None cell.0 (Call.Load (spot.Shared cell.0))) }
+    {
+        self.cell(cell).load(rt)
     }
 
     /// The same of a weak pointer.
     #[inline(always)]
-    pub fn load_weak<R: Wait>(&self, rt: &R, cell: WeakCell) -> Result<Option<Weak<'_, D>>, Fault> {
-        match self.loaded(rt, cell.target()) {
-            Ok(Some(at)) => Ok(Some(Weak { desk: self, at })),
-            Ok(None) => Ok(None),
-            Err(why) => Err(why),
-        }
+    pub fn load_weak<R: Wait>(&self, rt: &R, cell: WeakCell) -> Result<Option<Weak<'_, D>>, Fault>
+        ensures loaded { IfOk result
+            (Loaded D.opened None (Free (D.opened.shape.shared_cells + cell.0)) kind.Weak) }
+        ensures refused { IfErr result
+            (WhyNotDone D.opened D.opened.shape.weak_cells None cell.0 (Call.Load (spot.Weak cell.0))) }
+    {
+        self.weak_cell(cell).load(rt)
     }
 
     /// An owner of what a weak cell holds, in C++ `load().lock()` (waits). None where that is empty or expired.
     #[inline(always)]
-    pub fn lock<R: Wait>(&self, rt: &R, cell: WeakCell) -> Result<Option<Shared<'_, D>>, Fault> {
-        match self.load_weak(rt, cell) {
-            Ok(Some(weak)) => weak.lock(rt),
-            Ok(None) => Ok(None),
-            Err(why) => Err(why),
-        }
+    pub fn lock<R: Wait>(&self, rt: &R, cell: WeakCell) -> Result<Option<Shared<'_, D>>, Fault>
+        ensures locked { IfOk result (λ r. (w : Option (Known D.Value)) × Loaded D.opened None
+            (weak_cell_at D.opened None cell.0) kind.Weak w × IsOwnerOf D.opened w r) }
+        ensures refused { IfErr result
+            (WhyNotLocked D.opened D.opened.shape.weak_cells None cell.0 (Call.Load (spot.Weak cell.0))) }
+    {
+        self.weak_cell(cell).lock(rt)
     }
 
     /// The pointer, or an empty one, goes into the cell, in C++ `store(std::move(p))`, and what that held lets go.
     #[inline(always)]
-    pub fn store<'t>(&'t self, cell: SharedCell, new: Option<Shared<'t, D>>) -> Result<(), Fault> {
-        match new {
-            Some(new) => self.stored(new.into_slot(), cell.target()),
-            None => self.cleared(cell.target()),
-        }
+    pub fn store<'t>(&'t self, cell: SharedCell, new: Option<Shared<'t, D>>) -> Result<(), Fault>
+        ensures stored { OnOk result ((gone : Gone) × Stored D.opened None (Free cell.0) new.entry gone) }
+        ensures refused { IfErr result
+            (WhyNotDone D.opened D.opened.shape.shared_cells None cell.0 (Call.Store (spot.Shared cell.0))) }
+    {
+        self.cell(cell).store(new)
     }
 
     /// The same of a weak pointer.
     #[inline(always)]
-    pub fn store_weak<'t>(&'t self, cell: WeakCell, new: Option<Weak<'t, D>>) -> Result<(), Fault> {
-        match new {
-            Some(new) => self.stored(new.into_slot(), cell.target()),
-            None => self.cleared(cell.target()),
-        }
+    pub fn store_weak<'t>(&'t self, cell: WeakCell, new: Option<Weak<'t, D>>) -> Result<(), Fault>
+        ensures stored { OnOk result
+            (StoredWeakly D.opened None (Free (D.opened.shape.shared_cells + cell.0)) new.entry) }
+        ensures refused { IfErr result
+            (WhyNotDone D.opened D.opened.shape.weak_cells None cell.0 (Call.Store (spot.Weak cell.0))) }
+    {
+        self.weak_cell(cell).store(new)
     }
 
     /// What the cell holds lets go, in C++ `store(nullptr)`.
     #[inline(always)]
-    pub fn clear(&self, cell: SharedCell) -> Result<(), Fault> {
-        self.cleared(cell.target())
+    pub fn clear(&self, cell: SharedCell) -> Result<(), Fault>
+        ensures cleared { OnOk result ((gone : Gone) × Stored D.opened None (Free cell.0) None gone) }
+        ensures refused { IfErr result
+            (WhyNotDone D.opened D.opened.shape.shared_cells None cell.0 (Call.Clear (spot.Shared cell.0))) }
+    {
+        self.cell(cell).clear()
     }
 
     /// The same of a weak pointer.
     #[inline(always)]
-    pub fn clear_weak(&self, cell: WeakCell) -> Result<(), Fault> {
-        self.cleared(cell.target())
+    pub fn clear_weak(&self, cell: WeakCell) -> Result<(), Fault>
+        ensures cleared { OnOk result
+            (StoredWeakly D.opened None (Free (D.opened.shape.shared_cells + cell.0)) None) }
+        ensures refused { IfErr result
+            (WhyNotDone D.opened D.opened.shape.weak_cells None cell.0 (Call.Clear (spot.Weak cell.0))) }
+    {
+        self.weak_cell(cell).clear()
     }
 
     /// What the cell holds comes out, and an empty pointer stays, in C++ `exchange(nullptr)`.
     #[inline(always)]
-    pub fn take(&self, cell: SharedCell) -> Result<Option<Shared<'_, D>>, Fault> {
-        match self.taken(cell.target()) {
-            Ok(Some(at)) => Ok(Some(Shared { desk: self, at })),
-            Ok(None) => Ok(None),
-            Err(why) => Err(why),
-        }
+    pub fn take(&self, cell: SharedCell) -> Result<Option<Shared<'_, D>>, Fault>
+        ensures taken { IfOk result (Exchanged D.opened None (Free cell.0) kind.Owner None) }
+        ensures refused { IfErr result
+            (WhyNotDone D.opened D.opened.shape.shared_cells None cell.0 (Call.Exchange (spot.Shared cell.0))) }
+    {
+        self.cell(cell).take()
     }
 }

@@ -1,7 +1,4 @@
 //! Why a program was not run.
-ghost use Rattle.std.specs.Prelude.{◌≡◌};
-
-use control_word::Refusal;
 use std::error::Error;
 use std::fmt;
 
@@ -40,23 +37,8 @@ pub enum NotRun {
     Small(Limit),
     /// A number is above what it may be at most.
     Large(Limit),
-    /// No memory.
+    /// No memory, or no thread.
     Memory,
-    /// The domain refused it.
-    Refused(Refusal),
-}
-
-impl NotRun {
-    /// What the table below answered.
-    pub(crate) fn of(why: Refusal) -> NotRun
-        ensures memory { why ≡ Refusal.Memory → result ≡ NotRun.Memory }
-        ensures other { (why ≡ Refusal.Memory → ⊥) → result ≡ NotRun.Refused why }
-    {
-        match why {
-            Refusal::Memory => NotRun::Memory,
-            _ => NotRun::Refused(why),
-        }
-    }
 }
 
 impl fmt::Display for NotRun {
@@ -71,7 +53,6 @@ impl fmt::Display for NotRun {
                 write!(f, "{number} {is}, at most {limit}")
             }
             NotRun::Memory => f.write_str("no memory"),
-            NotRun::Refused(why) => write!(f, "{why}"),
         }
     }
 }

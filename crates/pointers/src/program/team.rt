@@ -1,17 +1,17 @@
 //! How many workers there are, and what each gets.
-ghost use Rattle.std.specs.Prelude.{◌≡◌, ◌+◌, ◌<◌, ◌^◌};
-ghost use Rattle.pointers.specs.Teams.{handles_of};
+ghost use Rattle.std.specs.Prelude.{◌≡◌, ◌+◌, ◌<◌, ◌≤◌, ◌^◌, IfNone, IfSome};
+ghost use Rattle.pointers.specs.Teams.{Fits, IsMisfit, handles_of};
 
 use crate::program::not_run::{Limit, NotRun, Number};
 use control_word::Shape;
 use control_word::shape::{MOST_ALLOWANCE, MOST_BLOCKS, MOST_FREE_CELLS};
-use handle_table;
 
-/// Handles that a desk may have above its pointers: an empty one on its way into a place, and what a compare copies
-/// before that which lay there leaves.
+/// Handles that a desk may have above its team's pointers: an empty one on its way into a place, and what a compare
+/// copies before that which lay there leaves. Pointers that a program has beyond its team's take this room.
 pub const SPARE: u32 = 2;
 
-/// How many workers there are, and how many pointers each may have at one time.
+/// How many workers there are, and how many pointers each needs at one time. A desk has room for two more, which calls
+/// with empty pointers and compares use: `Crowded` comes where these are taken too.
 #[derive(Clone, Copy, PartialEq, Eq, Debug, Drop)]
 pub struct Team {
     pub workers: usize,
@@ -35,65 +35,73 @@ impl Team {
 
     /// How many handles the domain must allow: for each worker its pointers and two more, and one for the first desk.
     pub(crate) fn handles(&self) -> u64
-        ensures { handles_of self.now < 2 ^ 64 → result ≡ handles_of self.now }
+        ensures is { handles_of self.now < 2 ^ 64 → result ≡ handles_of self.now }
+        ensures most { result ≤ handles_of self.now }
+        ensures few { result < 18446744073709551615 → result ≡ handles_of self.now }
     {
         let each = u64::from(self.pointers).saturating_add(u64::from(SPARE));
         let workers = u64::try_from(self.workers).unwrap_or(u64::MAX);
         workers.saturating_mul(each).saturating_add(1)
     }
 
-    /// What each worker's table gets.
-    pub(crate) fn below(&self) -> handle_table::Team
-        ensures workers { result.workers ≡ self.now.workers }
-        ensures slots { result.slots ≡ self.now.pointers + 1 }
-        ensures blocks { result.blocks ≡ 0 }
+    /// How many handles each worker's desk may have.
+    pub(crate) fn each(&self) -> u32
+        ensures is { self.now.pointers + 2 < 2 ^ 32 → result ≡ self.now.pointers + 2 }
+        ensures some { 0 < result }
     {
-        handle_table::Team {
-            workers: self.workers,
-            slots: self.pointers as usize + 1,
-            allowance: self.pointers.saturating_add(SPARE),
-            blocks: 0,
-        }
+        self.pointers.saturating_add(SPARE)
     }
 
     /// Which number doesn't fit: of a shape that no domain can have, or that has no room for the team.
-    pub(crate) fn misfit(&self, shape: &Shape) -> Option<NotRun> {
-        if let Some(why) = outside(shape) {
-            return Some(why);
+    pub(crate) fn misfit(&self, shape: &Shape) -> Option<NotRun>
+        ensures fits { IfNone result (Fits shape.now self.now) }
+        ensures misfit { IfSome result (IsMisfit shape.now self.now) }
+    {
+        let cells = MOST_FREE_CELLS.saturating_sub(shape.shared_cells);
+        if shape.blocks < 1 {
+            return Some(small(Number::Blocks, shape.blocks, 1));
         }
-        let needed = self.handles();
-        if needed > u64::from(shape.allowance) {
-            return Some(NotRun::Small(Limit {
-                number: Number::Allowance,
-                is: u64::from(shape.allowance),
-                limit: needed,
-            }));
+        if shape.blocks > MOST_BLOCKS {
+            return Some(large(Number::Blocks, shape.blocks, MOST_BLOCKS));
+        }
+        if shape.shared_cells > MOST_FREE_CELLS {
+            return Some(large(Number::SharedCells, shape.shared_cells, MOST_FREE_CELLS));
+        }
+        if shape.weak_cells > cells {
+            return Some(large(Number::WeakCells, shape.weak_cells, cells));
+        }
+        if shape.allowance < 1 {
+            return Some(small(Number::Allowance, shape.allowance, 1));
+        }
+        if shape.allowance > MOST_ALLOWANCE {
+            return Some(large(Number::Allowance, shape.allowance, MOST_ALLOWANCE));
+        }
+        let handles = self.handles();
+        if u64::from(shape.allowance) < handles {
+            return Some(small(Number::Allowance, shape.allowance, handles));
         }
         None
     }
 }
 
-/// A number that is outside its limits.
-fn misfit(number: Number, is: u32, least: u32, most: u32) -> Option<NotRun> {
-    let is_beyond = |limit: u32| Limit {
+/// A number is below what it must be at least.
+fn small(number: Number, is: u32, limit: u64) -> NotRun
+    ensures { result ≡ NotRun.Small (record { number = number; is = is; limit = limit }) }
+{
+    NotRun::Small(Limit {
+        number,
+        is: u64::from(is),
+        limit,
+    })
+}
+
+/// A number is above what it may be at most.
+fn large(number: Number, is: u32, limit: u32) -> NotRun
+    ensures { result ≡ NotRun.Large (record { number = number; is = is; limit = limit }) }
+{
+    NotRun::Large(Limit {
         number,
         is: u64::from(is),
         limit: u64::from(limit),
-    };
-    if is < least {
-        return Some(NotRun::Small(is_beyond(least)));
-    }
-    if is > most {
-        return Some(NotRun::Large(is_beyond(most)));
-    }
-    None
-}
-
-/// Which number of the shape is outside the limits.
-fn outside(shape: &Shape) -> Option<NotRun> {
-    let cells = MOST_FREE_CELLS.saturating_sub(shape.shared_cells);
-    misfit(Number::Blocks, shape.blocks, 1, MOST_BLOCKS)
-        .or(misfit(Number::SharedCells, shape.shared_cells, 0, MOST_FREE_CELLS))
-        .or(misfit(Number::WeakCells, shape.weak_cells, 0, cells))
-        .or(misfit(Number::Allowance, shape.allowance, 1, MOST_ALLOWANCE))
+    })
 }

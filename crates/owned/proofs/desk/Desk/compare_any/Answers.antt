@@ -1,4 +1,0 @@
-use Rattle.owned.proofs.desk.Desk.compare_any.Goals as goal
-
-pub returns-in-Some-clause-compared : goal.returns-in-Some-clause-compared
-returns-in-Some-clause-compared g c = rw c.in-Some.is c.compare_with.ensures.compared

@@ -1,4 +1,0 @@
-use Rattle.owned.proofs.desk.Desk.end_within.Given as goal
-
-abbrev pub decreases-loop-rounds : goal.decreases-loop-rounds
-decreases-loop-rounds g l = l.rounds

@@ -1,0 +1,44 @@
+//! What callers of cells prove with no proof file.
+ghost use Rattle.std.specs.Prelude.{◌≡◌, IfOk, OnOk, None, Some, false};
+ghost use Rattle.control_word.specs.declared.model.event.Cell.TheVariants.{Free};
+ghost use Rattle.control_word.specs.declared.model.handle.Kind.TheVariants.{Owner};
+ghost use Rattle.atomic_cells.specs.declared.sites.SharedMember.TheVariants.{First};
+ghost use Rattle.shared_handle.specs.declared.pile.Gone.{Gone};
+ghost use Rattle.pointers.specs.Cells.{Exchanged, Stored, shared_cell_at};
+ghost use Rattle.pointers.specs.Compares.{Compared};
+
+use pointers::{Desk, Domain, Fault, Shared, SharedCell};
+use std::sync::Wait;
+
+/// A child is hung under its parent.
+pub fn hangs<'t, D: Domain>(parent: &Shared<'t, D>, child: Shared<'t, D>) -> Result<(), Fault>
+    ensures { OnOk result ((gone : Gone) × Stored D.opened (Some parent.now)
+        (shared_cell_at D.opened (Some parent.now) First 0) (Some child.entry) gone) }
+{
+    parent.first().store(Some(child))
+}
+
+/// What was first goes, and another comes.
+pub fn replaces<'t, D: Domain>(
+    desk: &'t Desk<'t, D>,
+    cell: SharedCell,
+    new: Shared<'t, D>,
+) -> Result<Option<Shared<'t, D>>, Fault>
+    ensures { IfOk result (Exchanged D.opened None (Free cell.0) Owner (Some new.entry)) }
+{
+    desk.cell(cell).exchange(Some(new))
+}
+
+/// What is expected is swapped for another, if the cell holds it.
+pub fn swaps<'t, D: Domain, R: Wait>(
+    rt: &R,
+    desk: &'t Desk<'t, D>,
+    cell: SharedCell,
+    expected: &mut Option<Shared<'t, D>>,
+    new: &mut Option<Shared<'t, D>>,
+) -> Result<bool, Fault>
+    ensures { IfOk result (λ swapped. Compared D.opened None (Free cell.0) Owner false expected.old new.old swapped
+        expected.new new.new) }
+{
+    desk.cell(cell).compare_exchange_strong(rt, expected, new)
+}

@@ -1,0 +1,170 @@
+-- What compares of cells say, by what is known of handles.
+use Rattle.std.proofs.Common.{◌≡◌, ◌⊎◌, ℕ, ◌+◌, Bool, cond, true, false, List, [], ◌∷◌, slice_get, slice_set, Option, None, Some, sym, subst, ◌∙◌, arith}
+use Rattle.control_word.specs.Handles.{equivalent}
+use Rattle.control_word.specs.Histories.{IsLegal}
+use Rattle.control_word.specs.declared.model.event.Cell.{Cell}
+use Rattle.control_word.specs.declared.model.event.Entry.{Entry}
+use Rattle.control_word.specs.declared.model.event.Event.TheVariants as event
+use Rattle.control_word.specs.declared.model.handle.Kind.{Kind}
+use Rattle.control_word.specs.declared.model.handle.NumberedHandle.{NumberedHandle}
+use Rattle.control_word.specs.declared.place.Block.{Block}
+use Rattle.control_word.specs.declared.place.Place.{Place}
+use Rattle.control_block.specs.CellCalls.{handle_in}
+use Rattle.control_block.specs.Desks.{AddsEvent, DeskNow, Keeps, bag_of}
+use Rattle.control_block.specs.HandleLists.{with_held, without_held}
+use Rattle.control_block.specs.Standing.{Standing}
+use Rattle.control_block.specs.Rule.{opening_of}
+use Rattle.control_block.specs.declared.handles.Held.{Held}
+use Rattle.atomic_cells.specs.Compares.{Compares, bag_compared, came_out, has_swapped}
+use Rattle.atomic_cells.specs.declared.compared.Compared.{Compared}
+use Rattle.shared_handle.specs.declared.pile.Pile.{Pile}
+use Rattle.pointers.proofs.CellCalls.{block_arrived, block_given, came_to, place_arrived, place_given}
+use Rattle.pointers.proofs.InHand.{bears_on, claim_ends, comes, nothing_beside, swaps}
+use Rattle.pointers.specs.Beside.{Arrives, IsEmptyHandle, IsHandleOf, IsWholeBeside, Stays}
+use Rattle.pointers.specs.Cells.{block_by, place_by}
+use Rattle.pointers.specs.Compares.{Finds, IsCompared}
+use Rattle.pointers.specs.Known.{GoesOn, Later, block_of, place_of}
+use Rattle.pointers.specs.Whole.{IsWhole}
+use Rattle.pointers.specs.declared.known.Known.{Known}
+
+module _ {V : Type 0} where
+  -- a compare in a legal history tells whether the pointers were equivalent
+  told_by : (d e : DeskNow V) (x : Cell) (expected new h : NumberedHandle) (swapped weak : Bool)
+      → AddsEvent d (event.Compare x expected new h swapped weak) e → (swapped ≡ equivalent h expected) ⊎ ((weak ≡ true) × (swapped ≡ false))
+  told_by d e x expected new h swapped weak a =
+      let legal = subst (λ (l : List (Entry V)). IsLegal (opening_of d.shape) l) a.seen a.legal in legal.1.asks.4
+
+  -- by handles
+  by_handles : (d e : DeskNow V) (x y : Cell) (k : Kind) (h n : Held) (hoped new : Option (Known V)) (swapped weak : Bool) (a : Option Block) (q : Option Place)
+      → y ≡ x → IsHandleOf hoped h → IsHandleOf new n → Compares d y k (block_of h) (place_of h) (block_of n) (place_of n) swapped a q weak e
+      → Compares d x k (block_by hoped) (place_by hoped) (block_by new) (place_by new) swapped a q weak e
+  by_handles d e x y k h n hoped new swapped weak a q same is at c =
+      subst (λ (z : Cell). Compares d z k (block_by hoped) (place_by hoped) (block_by new) (place_by new) swapped a q weak e) same
+      (subst (λ (b : Option Block). Compares d y k b (place_by hoped) (block_by new) (place_by new) swapped a q weak e) (block_given hoped h is)
+      (subst (λ (p : Option Place). Compares d y k (block_of h) p (block_by new) (place_by new) swapped a q weak e) (place_given hoped h is)
+      (subst (λ (b : Option Block). Compares d y k (block_of h) (place_of h) b (place_by new) swapped a q weak e) (block_given new n at)
+      (subst (λ (p : Option Place). Compares d y k (block_of h) (place_of h) (block_of n) p swapped a q weak e) (place_given new n at) c))))
+
+  is_compared : (o d e : DeskNow V) (of : Option (Known V)) (x y : Cell) (k : Kind) (h n : Held) (hoped new : Option (Known V)) (swapped weak : Bool)
+      (a : Option Block) (q : Option Place) → GoesOn o d → Stays o of d → Stays o hoped d → Stays o new d → y ≡ x → IsHandleOf hoped h → IsHandleOf new n
+      → Compares d y k (block_of h) (place_of h) (block_of n) (place_of n) swapped a q weak e → IsCompared o of x k weak hoped new swapped a q e
+  is_compared o d e of x y k h n hoped new swapped weak a q goes member first second same is at c =
+      let by = by_handles d e x y k h n hoped new swapped weak a q same is at c in
+      record {
+        before = d;
+        opened = goes;
+        member = member;
+        expected = first;
+        desired = second;
+        compares = by;
+        told = told_by d e x (handle_in d k (block_by hoped) (place_by hoped)) (handle_in d k (block_by new) (place_by new))
+            (handle_in e k a q) swapped weak by;
+      }
+
+  -- they were swapped
+  pub swapped : (o d e : DeskNow V) (of : Option (Known V)) (x y : Cell) (k : Kind) (h n f : Held) (hoped new : Option (Known V)) (weak : Bool)
+      → GoesOn o d → Stays o of d → Stays o hoped d → Stays o new d → y ≡ x → IsHandleOf hoped h → IsHandleOf new n
+      → Compares d y k (block_of h) (place_of h) (block_of n) (place_of n) true (block_of f) (place_of f) weak e → Finds o of x k weak hoped new None
+  swapped o d e of x y k h n f hoped new weak goes member first second same is at c = (
+    block_of f,
+    place_of f,
+    e,
+    is_compared o d e of x y k h n hoped new true weak (block_of f) (place_of f) goes member first second same is at c,
+  )
+
+  -- the cell held something else, or the weak form failed
+  pub differed : (o d e : DeskNow V) (of : Option (Known V)) (x y : Cell) (k : Kind) (h n f : Held) (hoped new got : Option (Known V)) (weak : Bool)
+      → GoesOn o d → Stays o of d → Stays o hoped d → Stays o new d → y ≡ x → IsHandleOf hoped h → IsHandleOf new n
+      → Compares d y k (block_of h) (place_of h) (block_of n) (place_of n) false (block_of f) (place_of f) weak e → Arrives f e got
+      → Finds o of x k weak hoped new (Some got)
+  differed o d e of x y k h n f hoped new got weak goes member first second same is at c arrives = (
+    e,
+    subst (λ (b : Option Block). IsCompared o of x k weak hoped new false b (place_by got) e) (block_arrived f e got arrives)
+        (subst (λ (q : Option Place). IsCompared o of x k weak hoped new false (block_of f) q e) (place_arrived f e got arrives)
+        (is_compared o d e of x y k h n hoped new false weak (block_of f) (place_of f) goes member first second same is at c)),
+    came_to f e got arrives,
+  )
+
+  -- an empty pointer stands for none
+  no_hoped_in : (o : DeskNow V) (of : Option (Known V)) (x : Cell) (k : Kind) (weak : Bool) (c : Known V) (new : Option (Known V)) (s : Bool)
+      (b : Option Block) (q : Option Place) (e : DeskNow V) → IsEmptyHandle c.handle → IsCompared o of x k weak (Some c) new s b q e
+      → IsCompared o of x k weak None new s b q e
+  no_hoped_in o of x k weak c new s b q e empty is =
+      let d = is.before in
+      record {
+        before = d;
+        opened = is.opened;
+        member = is.member;
+        expected = is.opened;
+        desired = is.desired;
+        compares = subst (λ (z : Option Block). Compares d x k z None (block_by new) (place_by new) s b q weak e) empty.0
+            (subst (λ (p : Option Place). Compares d x k (block_of c.handle) p (block_by new) (place_by new) s b q weak e) empty.1 is.compares);
+        told = subst (λ (z : Option Block). (s ≡ equivalent (handle_in e k b q) (handle_in d k z None)) ⊎ ((weak ≡ true) × (s ≡ false))) empty.0
+            (subst (λ (p : Option Place). (s ≡ equivalent (handle_in e k b q) (handle_in d k (block_of c.handle) p)) ⊎ ((weak ≡ true) × (s ≡ false)))
+            empty.1 is.told);
+      }
+
+  no_new_in : (o : DeskNow V) (of : Option (Known V)) (x : Cell) (k : Kind) (weak : Bool) (hoped : Option (Known V)) (c : Known V) (s : Bool)
+      (b : Option Block) (q : Option Place) (e : DeskNow V) → IsEmptyHandle c.handle → IsCompared o of x k weak hoped (Some c) s b q e
+      → IsCompared o of x k weak hoped None s b q e
+  no_new_in o of x k weak hoped c s b q e empty is =
+      let d = is.before in
+      record {
+        before = d;
+        opened = is.opened;
+        member = is.member;
+        expected = is.expected;
+        desired = is.opened;
+        compares = subst (λ (z : Option Block). Compares d x k (block_by hoped) (place_by hoped) z None s b q weak e) empty.0
+            (subst (λ (p : Option Place). Compares d x k (block_by hoped) (place_by hoped) (block_of c.handle) p s b q weak e) empty.1 is.compares);
+        told = is.told;
+      }
+
+  pub no_hoped : (o : DeskNow V) (of : Option (Known V)) (x : Cell) (k : Kind) (weak : Bool) (c : Known V) (new : Option (Known V))
+      (found : Option (Option (Known V))) → IsEmptyHandle c.handle → Finds o of x k weak (Some c) new found → Finds o of x k weak None new found
+  no_hoped o of x k weak c new None empty (b, q, e, is) = (b, q, e, no_hoped_in o of x k weak c new true b q e empty is)
+  no_hoped o of x k weak c new (Some held) empty (e, is, came) =
+      (e, no_hoped_in o of x k weak c new false (block_by held) (place_by held) e empty is, came)
+
+  pub no_new : (o : DeskNow V) (of : Option (Known V)) (x : Cell) (k : Kind) (weak : Bool) (hoped : Option (Known V)) (c : Known V)
+      (found : Option (Option (Known V))) → IsEmptyHandle c.handle → Finds o of x k weak hoped (Some c) found → Finds o of x k weak hoped None found
+  no_new o of x k weak hoped c None empty (b, q, e, is) = (b, q, e, no_new_in o of x k weak hoped c true b q e empty is)
+  no_new o of x k weak hoped c (Some held) empty (e, is, came) =
+      (e, no_new_in o of x k weak hoped c false (block_by held) (place_by held) e empty is, came)
+
+  -- a claim stands in a list that is the same
+  pub at_same : (cs ds : List (Option (Known V))) (i : ℕ) (c : Known V) → ds ≡ cs → slice_get ds i ≡ Some (Some c) → slice_get cs i ≡ Some (Some c)
+  at_same cs ds i c same at = subst (λ (l : List (Option (Known V))). slice_get l i ≡ Some (Some c)) same at
+
+  -- what was desired went, its claim ended, and what the cell held is in hand
+  pub hand_swapped : (o d e : DeskNow V) (p : Pile V) (cs ds es : List (Option (Known V))) (i j : ℕ) (c : Known V) (h f : Held) → IsWhole o d p cs
+      → Standing d → slice_get cs i ≡ Some (Some c) → c.handle ≡ h → ds ≡ cs → j ≡ i → es ≡ slice_set ds j None → Later d e → Keeps d e
+      → bag_of e ≡ with_held f (without_held h (bag_of d)) → e.held ≡ d.held + 0 → IsWholeBeside o e p (f ∷ []) es
+  hand_swapped o d e p cs ds es i j c h f w stands at is same there gone later keeps bag held =
+      let ended = claim_ends o d p cs es i c w at (gone ∙ (λ t. slice_set (same t) (there t) None)) in
+      let was = subst (λ (x : Held). IsWholeBeside o d p (x ∷ []) es) is ended in
+      let few : e.held ≡ d.held = omega (arith, held) in
+      swaps o d e p p h f [] es was stands later (bears_on o d e p (h ∷ []) es was keeps) bag few
+
+  -- a copy of what the cell holds is in hand
+  pub hand_more : (o d e : DeskNow V) (p : Pile V) (cs ds : List (Option (Known V))) (f : Held) → IsWhole o d p cs → Standing d → ds ≡ cs → Later d e
+      → Keeps d e → bag_of e ≡ with_held f (bag_of d) → e.held ≡ d.held + 1 → IsWholeBeside o e p (f ∷ []) ds
+  hand_more o d e p cs ds f w stands same later keeps bag held =
+      let was = nothing_beside o d p cs w in
+      subst (λ (l : List (Option (Known V))). IsWholeBeside o e p (f ∷ []) l) (sym same)
+      (comes o d e p p f [] cs was stands later (bears_on o d e p [] cs was keeps) bag held)
+
+  -- what a compare of handles said, by what came of it
+  pub record Says {H : Type 0} (d : DeskNow V) (x : Cell) (j : Kind) (eb : Option Block) (ep : Option Place) (b : Option Block) (p : Option Place)
+      (weak : Bool) (e : DeskNow V) (block : H → Option Block) (place : H → Option Place) (k : Compared H) : Type 0 where
+    pub compared : Compares d x j eb ep b p (has_swapped k) (block (came_out k)) (place (came_out k)) weak e
+    pub bag : bag_of e ≡ bag_compared (has_swapped k) j b p (block (came_out k)) (place (came_out k)) (bag_of d)
+    pub held : e.held ≡ d.held + cond (has_swapped k) 0 1
+
+  pub says_by : {H : Type 0} (d : DeskNow V) (x : Cell) (j : Kind) (eb : Option Block) (ep : Option Place) (b : Option Block) (p : Option Place)
+      (weak : Bool) (e : DeskNow V) (block : H → Option Block) (place : H → Option Place) (k l : Compared H) → k ≡ l
+      → Compares d x j eb ep b p (has_swapped k) (block (came_out k)) (place (came_out k)) weak e
+      → bag_of e ≡ bag_compared (has_swapped k) j b p (block (came_out k)) (place (came_out k)) (bag_of d)
+      → e.held ≡ d.held + cond (has_swapped k) 0 1 → Says d x j eb ep b p weak e block place l
+  says_by d x j eb ep b p weak e block place k l is compared bag held =
+      subst (λ (m : Compared _). Says d x j eb ep b p weak e block place m) is (record { compared = compared; bag = bag; held = held })

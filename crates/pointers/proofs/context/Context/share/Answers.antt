@@ -1,0 +1,39 @@
+use Rattle.std.proofs.Common.{ap, sym, ◌∙◌, refl}
+use Rattle.control_word.specs.declared.model.handle.Kind.TheVariants.{Owner}
+use Rattle.control_block.specs.Desks.{bag_of}
+use Rattle.control_block.specs.declared.handles.Held.TheVariants as held
+use Rattle.pointers.proofs.Calls.{by_share}
+use Rattle.pointers.proofs.Handles.{bag_by, more_kept, of_one, owner_held, passed_on, was}
+use Rattle.pointers.specs.Known.{block_of}
+use Rattle.pointers.proofs.context.Context.share.Goals as goal
+
+pub share-requires-clause-holds : goal.share-requires-clause-holds
+share-requires-clause-holds g c =
+    owner_held g.D.Domain.opened c.self.inside.desk c.self.inside.pile c.self.inside.claims.entries c.args.of.now.at c.args.of.now.known c.look-of.result.now
+    c.self.invariant c.look-of.ensures.has c.look-of.ensures.handle
+
+pub invariant_of-self-2 : goal.invariant_of-self-2
+invariant_of-self-2 g c =
+    let o = g.D.Domain.opened in let d = c.self.inside.desk in let e = c.share.new.desk in let p = c.self.inside.pile in
+    let cs = c.self.inside.claims.entries in
+    let h = c.in_ok-handle.handle in let of = c.look-of.result.now in let says = c.in_ok-handle.ensures in
+    more_kept o d e p cs c.look-of.new.claims.entries c.came.new.claims.entries (held.Owner h) c.came.result.known c.self.invariant
+    c.stands.ensures (by_share d of.block of.place of.place e says.event) says.keeps
+    (bag_by Owner h.block of.block h.place of.place (bag_of d) (bag_of e) says.handle.0 says.handle.1 says.bag)
+    says.held c.look-of.ensures.claims c.came.ensures.claims c.came.ensures.known
+
+pub returns-clause-one : goal.returns-clause-one
+returns-clause-one g c =
+    let o = g.D.Domain.opened in let d = c.self.inside.desk in let e = c.share.new.desk in let p = c.self.inside.pile in
+    let cs = c.self.inside.claims.entries in
+    let h = c.in_ok-handle.handle in let of = c.look-of.result.now in let says = c.in_ok-handle.ensures in
+    of_one o d e p p cs c.args.of.now.at c.args.of.now.known c.came.result.known (held.Owner h) c.self.invariant
+    c.look-of.ensures.has (by_share d of.block of.place of.place e says.event) c.came.ensures.known (says.handle.0 ∙ ap block_of (sym c.look-of.ensures.handle))
+
+pub returns-in_err-handle-clause-refused : goal.returns-in_err-handle-clause-refused
+returns-in_err-handle-clause-refused g c =
+    let o = g.D.Domain.opened in let d = c.self.inside.desk in let says = c.in_err-handle.ensures in
+    passed_on _ _ c.in_err-handle.field-0.0 (c.from_residual.ensures.1) (
+      says.refused.0,
+      was o d c.self.inside.pile c.self.inside.claims.entries c.args.of.now.at c.args.of.now.known c.self.invariant c.look-of.ensures.has (says.limit.0 refl),
+    )

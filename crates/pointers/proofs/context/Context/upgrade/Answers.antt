@@ -1,0 +1,44 @@
+use Rattle.std.proofs.Common.{Err, Ok, ap, sym, ◌∙◌}
+use Rattle.control_block.specs.declared.handles.Held.TheVariants as held
+use Rattle.pointers.proofs.Calls.{by_upgrade, upgraded}
+use Rattle.pointers.proofs.Handles.{alike, bears_by, more_kept, no_owner, of_one, weak_held}
+use Rattle.pointers.specs.Known.{block_of}
+use Rattle.pointers.proofs.context.Context.upgrade.Goals as goal
+
+pub upgrade-requires-clause-holds : goal.upgrade-requires-clause-holds
+upgrade-requires-clause-holds g c =
+    weak_held g.D.Domain.opened c.self.inside.desk c.self.inside.pile c.self.inside.claims.entries c.args.of.now.at c.args.of.now.known c.look-of.result.now
+    c.self.invariant c.look-of.ensures.has c.look-of.ensures.handle
+
+pub invariant_of-self : goal.invariant_of-self
+invariant_of-self g c =
+    let o = g.D.Domain.opened in let d = c.self.inside.desk in let e = c.upgrade.new.desk in let p = c.self.inside.pile in
+    let cs = c.self.inside.claims.entries in
+    let h = c.in-Ok.handle in let of = c.look-of.result.now in let says = c.in-Ok.ensures in
+    more_kept o d e p cs c.look-of.new.claims.entries c.came.new.claims.entries (held.Owner h) c.came.result.known c.self.invariant
+    c.stands.ensures (by_upgrade d of.block of.place (Ok h) e says.upgrade) says.keeps
+    says.bag says.held c.look-of.ensures.claims c.came.ensures.claims c.came.ensures.known
+
+pub invariant_of-self-in-Err : goal.invariant_of-self-in-Err
+invariant_of-self-in-Err g c =
+    let o = g.D.Domain.opened in let d = c.self.inside.desk in let e = c.upgrade.new.desk in let p = c.self.inside.pile in
+    let cs = c.self.inside.claims.entries in
+    let of = c.look-of.result.now in let says = c.in-Err.ensures in
+    alike o d e p p cs c.look-of.new.claims.entries c.self.invariant (by_upgrade d of.block of.place (Err c.in-Err.why) e says.upgrade)
+    (bears_by o d e p cs c.self.invariant says.keeps)
+    says.refused.0 says.refused.1 c.look-of.ensures.claims
+
+pub returns-in-Ok-clause-one : goal.returns-in-Ok-clause-one
+returns-in-Ok-clause-one g c =
+    let o = g.D.Domain.opened in let d = c.self.inside.desk in let e = c.upgrade.new.desk in let p = c.self.inside.pile in
+    let cs = c.self.inside.claims.entries in
+    let h = c.in-Ok.handle in let of = c.look-of.result.now in let says = c.in-Ok.ensures in
+    of_one o d e p p cs c.args.of.now.at c.args.of.now.known c.came.result.known (held.Owner h) c.self.invariant
+    c.look-of.ensures.has (by_upgrade d of.block of.place (Ok h) e says.upgrade) c.came.ensures.known
+    ((upgraded d of.block of.place h e says.upgrade).0 ∙ ap block_of (sym c.look-of.ensures.handle))
+
+pub returns-in-Err-clause-refused : goal.returns-in-Err-clause-refused
+returns-in-Err-clause-refused g c =
+    let o = g.D.Domain.opened in let d = c.self.inside.desk in let e = c.upgrade.new.desk in let cs = c.self.inside.claims.entries in
+    no_owner o d e c.self.inside.pile cs c.args.of.now.at c.args.of.now.known (held.Weak c.look-of.result.now) c.in-Err.why c.self.invariant
+    c.look-of.ensures.has c.look-of.ensures.handle c.in-Err.ensures.upgrade

@@ -1,0 +1,108 @@
+//! Calls on cells of owners.
+ghost use Rattle.std.specs.Prelude.{◌≡◌, ◌↔◌, IfErr, IfOk, IsErr, None};
+ghost use Rattle.control_word.specs.declared.model.handle.Kind.TheVariants.{Owner};
+ghost use Rattle.control_block.specs.Desks.{Belongs};
+ghost use Rattle.pointers.specs.Beside.{seen_by};
+ghost use Rattle.pointers.specs.Faults.{Was};
+ghost use Rattle.pointers.specs.Known.{IsAtAllowance};
+ghost use Rattle.pointers.specs.Cells.{Exchanged, IsSharedSite, Loaded, Stored, shared_cell_of};
+
+use crate::claim::shared_claim::SharedClaim;
+use crate::context::Context;
+use crate::context::passing::{arrived, given, look_at};
+use crate::domain::Domain;
+use atomic_cells::SharedAt;
+use control_block::domain;
+use control_word::Refusal;
+use shared_handle::{Gone, drop_shared};
+use std::sync::Wait;
+
+impl<D: Domain> Context<D> {
+    /// A copy of what the cell holds, which is a member of what the owner is of, or free.
+    #[inline(always)]
+    pub(crate) fn load<R: Wait>(
+        &mut self,
+        rt: &R,
+        domain: &domain::Domain<D::Value>,
+        at: SharedAt<'_>,
+        of: Option<&SharedClaim<D>>,
+    ) -> Result<Option<SharedClaim<D>>, Refusal>
+        requires domain { Belongs D.opened domain.now }
+        requires cell { IsSharedSite D.opened at.site (seen_by (λ x. x.now.known) of) }
+        ensures loaded { IfOk result (λ r. Loaded D.opened (seen_by (λ x. x.now.known) of.entry)
+            (shared_cell_of D.opened (seen_by (λ x. x.now.known) of.entry) at.entry.site) Owner
+            (seen_by (λ x. x.known) r)) }
+        ensures limit { IsErr result ↔ IsAtAllowance self.old.desk }
+        ensures refused { IfErr result
+            (λ why. (why ≡ Refusal.Limit) × Was D.opened (seen_by (λ x. x.now.known) of.entry) IsAtAllowance) }
+    {
+        self.desk.stands();
+        look_at(of, &mut self.claims);
+        let found = at.load(rt, domain, &mut self.desk)?;
+        Ok(arrived(
+            domain,
+            &mut self.desk,
+            &mut self.pile,
+            &mut self.claims,
+            found,
+        ))
+    }
+
+    /// The pointer, or an empty one, goes into the cell, and what that held comes out.
+    #[inline(always)]
+    pub(crate) fn exchange(
+        &mut self,
+        domain: &domain::Domain<D::Value>,
+        at: SharedAt<'_>,
+        of: Option<&SharedClaim<D>>,
+        new: Option<SharedClaim<D>>,
+    ) -> Result<Option<SharedClaim<D>>, Refusal>
+        requires domain { Belongs D.opened domain.now }
+        requires cell { IsSharedSite D.opened at.site (seen_by (λ x. x.now.known) of) }
+        ensures exchanged { IfOk result (λ r. Exchanged D.opened (seen_by (λ x. x.now.known) of.entry)
+            (shared_cell_of D.opened (seen_by (λ x. x.now.known) of.entry) at.entry.site) Owner
+            (seen_by (λ x. x.known) new) (seen_by (λ x. x.known) r)) }
+        ensures limit { IsErr result ↔ ((new ≡ None) × IsAtAllowance self.old.desk) }
+        ensures refused { IfErr result
+            (λ why. (why ≡ Refusal.Limit) × Was D.opened (seen_by (λ x. x.now.known) of.entry) IsAtAllowance) }
+    {
+        look_at(of, &mut self.claims);
+        let handle = given(domain, &mut self.desk, &self.pile, &mut self.claims, new)?;
+        self.desk.stands();
+        look_at(of, &mut self.claims);
+        let found = at.exchange(domain, &mut self.desk, handle);
+        Ok(arrived(
+            domain,
+            &mut self.desk,
+            &mut self.pile,
+            &mut self.claims,
+            found,
+        ))
+    }
+
+    /// The pointer, or an empty one, goes into the cell, and what that held leaves.
+    #[inline(always)]
+    pub(crate) fn store(
+        &mut self,
+        domain: &domain::Domain<D::Value>,
+        at: SharedAt<'_>,
+        of: Option<&SharedClaim<D>>,
+        new: Option<SharedClaim<D>>,
+    ) -> Result<Gone, Refusal>
+        requires domain { Belongs D.opened domain.now }
+        requires cell { IsSharedSite D.opened at.site (seen_by (λ x. x.now.known) of) }
+        ensures stored { IfOk result (λ gone. Stored D.opened (seen_by (λ x. x.now.known) of.entry)
+            (shared_cell_of D.opened (seen_by (λ x. x.now.known) of.entry) at.entry.site)
+            (seen_by (λ x. x.known) new) gone) }
+        ensures limit { IsErr result ↔ ((new ≡ None) × IsAtAllowance self.old.desk) }
+        ensures refused { IfErr result
+            (λ why. (why ≡ Refusal.Limit) × Was D.opened (seen_by (λ x. x.now.known) of.entry) IsAtAllowance) }
+    {
+        look_at(of, &mut self.claims);
+        let handle = given(domain, &mut self.desk, &self.pile, &mut self.claims, new)?;
+        self.desk.stands();
+        look_at(of, &mut self.claims);
+        let found = at.exchange(domain, &mut self.desk, handle);
+        Ok(drop_shared(domain, &mut self.desk, &mut self.pile, found))
+    }
+}

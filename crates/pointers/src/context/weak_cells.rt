@@ -1,0 +1,99 @@
+//! Calls on cells of weak handles.
+ghost use Rattle.std.specs.Prelude.{◌≡◌, ◌↔◌, IfErr, IfOk, IsErr, None, OnOk};
+ghost use Rattle.control_word.specs.declared.model.handle.Kind.TheVariants.{Weak};
+ghost use Rattle.control_block.specs.Desks.{Belongs};
+ghost use Rattle.pointers.specs.Beside.{seen_by};
+ghost use Rattle.pointers.specs.Faults.{Was};
+ghost use Rattle.pointers.specs.Known.{IsAtAllowance};
+ghost use Rattle.pointers.specs.Cells.{Exchanged, IsWeakSite, Loaded, StoredWeakly, weak_cell_of};
+
+use crate::claim::shared_claim::SharedClaim;
+use crate::claim::weak_claim::WeakClaim;
+use crate::context::Context;
+use crate::context::passing::look_at;
+use crate::context::passing_weak::{arrived_weak, given_weak};
+use crate::domain::Domain;
+use atomic_cells::WeakAt;
+use control_block::domain;
+use control_word::Refusal;
+use shared_handle::release_weak;
+use std::sync::Wait;
+
+impl<D: Domain> Context<D> {
+    /// A copy of what the cell holds, which is the weak member of what the owner is of, or free.
+    #[inline(always)]
+    pub(crate) fn load_weak<R: Wait>(
+        &mut self,
+        rt: &R,
+        domain: &domain::Domain<D::Value>,
+        at: WeakAt<'_>,
+        of: Option<&SharedClaim<D>>,
+    ) -> Result<Option<WeakClaim<D>>, Refusal>
+        requires domain { Belongs D.opened domain.now }
+        requires cell { IsWeakSite D.opened at.site (seen_by (λ x. x.now.known) of) }
+        ensures loaded { IfOk result (λ r. Loaded D.opened (seen_by (λ x. x.now.known) of.entry)
+            (weak_cell_of D.opened (seen_by (λ x. x.now.known) of.entry) at.entry.site) Weak
+            (seen_by (λ x. x.known) r)) }
+        ensures limit { IsErr result ↔ IsAtAllowance self.old.desk }
+        ensures refused { IfErr result
+            (λ why. (why ≡ Refusal.Limit) × Was D.opened (seen_by (λ x. x.now.known) of.entry) IsAtAllowance) }
+    {
+        self.desk.stands();
+        look_at(of, &mut self.claims);
+        let found = at.load(rt, domain, &mut self.desk)?;
+        Ok(arrived_weak(domain, &mut self.desk, &self.pile, &mut self.claims, found))
+    }
+
+    /// The pointer, or an empty one, goes into the cell, and what that held comes out.
+    #[inline(always)]
+    pub(crate) fn exchange_weak(
+        &mut self,
+        domain: &domain::Domain<D::Value>,
+        at: WeakAt<'_>,
+        of: Option<&SharedClaim<D>>,
+        new: Option<WeakClaim<D>>,
+    ) -> Result<Option<WeakClaim<D>>, Refusal>
+        requires domain { Belongs D.opened domain.now }
+        requires cell { IsWeakSite D.opened at.site (seen_by (λ x. x.now.known) of) }
+        ensures exchanged { IfOk result (λ r. Exchanged D.opened (seen_by (λ x. x.now.known) of.entry)
+            (weak_cell_of D.opened (seen_by (λ x. x.now.known) of.entry) at.entry.site) Weak
+            (seen_by (λ x. x.known) new) (seen_by (λ x. x.known) r)) }
+        ensures limit { IsErr result ↔ ((new ≡ None) × IsAtAllowance self.old.desk) }
+        ensures refused { IfErr result
+            (λ why. (why ≡ Refusal.Limit) × Was D.opened (seen_by (λ x. x.now.known) of.entry) IsAtAllowance) }
+    {
+        look_at(of, &mut self.claims);
+        let handle = given_weak(domain, &mut self.desk, &self.pile, &mut self.claims, new)?;
+        self.desk.stands();
+        look_at(of, &mut self.claims);
+        let found = at.exchange(domain, &mut self.desk, handle);
+        Ok(arrived_weak(domain, &mut self.desk, &self.pile, &mut self.claims, found))
+    }
+
+    /// The pointer, or an empty one, goes into the cell, and what that held leaves.
+    #[inline(always)]
+    pub(crate) fn store_weak(
+        &mut self,
+        domain: &domain::Domain<D::Value>,
+        at: WeakAt<'_>,
+        of: Option<&SharedClaim<D>>,
+        new: Option<WeakClaim<D>>,
+    ) -> Result<(), Refusal>
+        requires domain { Belongs D.opened domain.now }
+        requires cell { IsWeakSite D.opened at.site (seen_by (λ x. x.now.known) of) }
+        ensures stored { OnOk result (StoredWeakly D.opened (seen_by (λ x. x.now.known) of.entry)
+            (weak_cell_of D.opened (seen_by (λ x. x.now.known) of.entry) at.entry.site)
+            (seen_by (λ x. x.known) new)) }
+        ensures limit { IsErr result ↔ ((new ≡ None) × IsAtAllowance self.old.desk) }
+        ensures refused { IfErr result
+            (λ why. (why ≡ Refusal.Limit) × Was D.opened (seen_by (λ x. x.now.known) of.entry) IsAtAllowance) }
+    {
+        look_at(of, &mut self.claims);
+        let handle = given_weak(domain, &mut self.desk, &self.pile, &mut self.claims, new)?;
+        self.desk.stands();
+        look_at(of, &mut self.claims);
+        let found = at.exchange(domain, &mut self.desk, handle);
+        release_weak(domain, &mut self.desk, found);
+        Ok(())
+    }
+}
