@@ -10,7 +10,7 @@ import subprocess
 import tempfile
 from pathlib import Path
 
-from recorder.record_text import Block, Place, Record
+from recorder.record_text import Making, Record, Spot
 from recorder.type_names import short
 
 HERE = Path(__file__).resolve().parent
@@ -56,16 +56,16 @@ class Answers:
         found = [it for (_, address), it in by_unit.items() if not address]
         return found[0] if found and all(it == found[0] for it in found) else None
 
-    def member(self, name: str, block: Block | None, offset: int, inner: int) -> list:
+    def member(self, name: str, making: Making | None, offset: int, inner: int) -> list:
         """The declaring class, the path and the declared type of what lies at a byte of a type, and the same
         of what a unique pointer there points to; nothing where it isn't known."""
-        if block and (self.size(block) or 0) > block.size and block.kind != "array":
+        if making and (self.size(making) or 0) > making.size and making.kind != "array":
             return []
-        found = (self.of_unit("members", name, block.unit if block else ()) or {}).get(offset, {})
+        found = (self.of_unit("members", name, making.unit if making else ()) or {}).get(offset, {})
         return found.get(inner) or found.get(-1, [])
 
-    def size(self, block: Block) -> int | None:
-        return self.of_unit("sizes", block.name, block.unit)
+    def size(self, making: Making) -> int | None:
+        return self.of_unit("sizes", making.name, making.unit)
 
 
 def ask_gdb(path: str, questions: dict) -> dict | None:
@@ -91,24 +91,24 @@ class Questions:
         self.symbols, self.names = collections.defaultdict(set), collections.defaultdict(set)
         self.callables = collections.defaultdict(lambda: collections.defaultdict(set))
         self.modules = Modules(record)
-        for it in record.handles + record.raw_pointers + record.links:
-            self.ask(it.place)
+        for it in record.spots:
+            self.ask(it)
 
-    def ask(self, place: Place):
-        if place.kind == "object":
-            block = self.record.blocks[place.number]
-            self.places[block.name][place.offset].add(place.inner if place.maker == "d" else -1)
-            self.units[block.name].add(block.unit)
-        elif place.kind == "static":
-            self.symbols[place.number].add(place.offset)
-        if place.maker.startswith("v:"):
-            self.places[self.record.plain[place.maker[2:]]][place.inner].add(-1)
-        elif place.maker.startswith(("f:", "c:", "a:")):
-            module, at = self.modules.place_of(int(place.maker[2:], 16))
-            if place.maker.startswith("a:"):
+    def ask(self, spot: Spot):
+        if spot.kind == "object":
+            making = spot.making
+            self.places[making.name][spot.offset].add(spot.inner if spot.maker == "d" else -1)
+            self.units[making.name].add(making.unit)
+        elif spot.kind == "static":
+            self.symbols[spot.number].add(spot.offset)
+        if spot.maker == "v":
+            self.places[self.record.plain[spot.told]][spot.inner].add(-1)
+        elif spot.maker in ("f", "c", "a"):
+            module, at = self.modules.place_of(int(spot.told, 16))
+            if spot.maker == "a":
                 self.names[module].add(at)
             else:
-                self.callables[module][at, place.maker[0] == "c"].add(place.inner)
+                self.callables[module][at, spot.maker == "c"].add(spot.inner)
 
     def of_module(self, number: int, is_of_the_system: bool) -> dict:
         """Of the system's libraries only symbols are asked."""
@@ -214,9 +214,9 @@ def first_place(frames: list[tuple]) -> tuple[str, tuple]:
 
 
 def name_places(record: Record):
-    """Gives each block the place of its making: the first on the stack that isn't the library's."""
+    """Gives each making its place: the first on the stack that isn't the library's."""
     modules, asked = Modules(record), collections.defaultdict(set)
-    for frames in {it.frames for it in record.blocks}:
+    for frames in {it.frames for it in record.makings}:
         for frame in frames:
             number, at = modules.place_of(frame - 1)
             if not re.search(r"/lib(c|stdc\+\+|gcc_s)\.so", record.modules[number][1]):
@@ -227,8 +227,8 @@ def name_places(record: Record):
         for at, places in lines_of(record.modules[number][1], addresses).items()
     }
     places = {}
-    for block in record.blocks:
-        frames = block.frames
+    for making in record.makings:
+        frames = making.frames
         if frames not in places:
             units = [modules.place_of(frame - 1) for frame in frames]
             every = [(unit, place, own_name(it)) for unit in units for place, it in said.get(unit, [])]
@@ -243,4 +243,4 @@ def name_places(record: Record):
                 if not place.startswith("??")
             )
             places[frames] = *first_place(ours), stack
-        block.made, block.unit, block.stack = places[frames]
+        making.made, making.unit, making.stack = places[frames]

@@ -33,7 +33,7 @@ def dot(findings: Findings) -> str:
     cuts = {cut for knot in knots if not knot.is_owned for cut in owner_search.cuts(knot.objects, knot.ties)}
     lines = ["digraph record {", "node [style=filled, fillcolor=white];"]
     for number, block in enumerate(findings.blocks, 1):
-        label = quoted(f"{number} {short(block.name)}")
+        label = quoted(f"{number} {short(block.making.name)}")
         lines.append(f"o{number} [label={label}, fillcolor={color(findings, number, in_knots)}];")
     roots = {
         label: f"r{at}"

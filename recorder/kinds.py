@@ -4,7 +4,7 @@ import collections
 import re
 from collections.abc import Iterable
 
-from recorder.record_text import Block, Handle, Place, Record
+from recorder.record_text import Block, Handle, Record
 
 MOST_MEMBERS = 12  # of those that depend on each other, to be tried in each way
 MOST_ANSWERS = 32
@@ -65,7 +65,7 @@ class Counts:
         """Drops so many of a kind that lie in statics themselves."""
         if excess <= 0:
             return
-        for handle in [it for it in self.handles if it.kind == kind and is_in_static(it.place)][:excess]:
+        for handle in [it for it in self.handles if it.kind == kind and it.spot.is_in_static][:excess]:
             handle.kind = "old"
         self.forget_old()
 
@@ -74,9 +74,12 @@ class Counts:
         self.count()
 
 
+MET = Counts(Block(None, 0, 0, 0), [])  # of all blocks on which nothing is left to decide
+
+
 def is_storage(handle: Handle) -> bool:
     """Whether the declared type is bytes, in which anything may have been."""
-    return bool(re.search(r"\b(char|byte)\b|aligned_storage|aligned_buffer", handle.declared))
+    return bool(re.search(r"\b(char|byte)\b|aligned_storage|aligned_buffer", handle.spot.declared))
 
 
 def drop_from_storage(record: Record, counts: list[Counts], leaked: set[int]) -> bool:
@@ -87,7 +90,7 @@ def drop_from_storage(record: Record, counts: list[Counts], leaked: set[int]) ->
         if it.owners_missing >= 0:
             continue
         old = [owner for owner in it.handles if owner.kind == "owner" and is_storage(owner)]
-        old = [owner for owner in old if owner.place.kind == "object" and owner.place.number in leaked]
+        old = [owner for owner in old if owner.spot.kind == "object" and owner.object in leaked]
         for owner in old[: -it.owners_missing]:
             owner.kind = "old"
             dropped = True
@@ -97,32 +100,53 @@ def drop_from_storage(record: Record, counts: list[Counts], leaked: set[int]) ->
     return dropped
 
 
-def is_in_static(place: Place) -> bool:
-    return place.kind in ("static", "thread-local") and place.inner < 0
-
-
 def kind_by_type(declared: str) -> str:
     is_weak = "weak_ptr<" in declared or "enable_shared_from_this<" in declared
     is_owner = "shared_ptr<" in declared
     return "either" if is_weak == is_owner else "weak" if is_weak else "owner"
 
 
-def member_of(place: Place, record: Record) -> tuple:
-    """What places of one declaration have in common."""
-    name = record.blocks[place.number].name if place.kind in ("object", "deleter") else place.number
-    return place.kind, name, place.offset, place.inner, place.maker
+def member_of(handle: Handle) -> tuple:
+    """What handles of one declaration have in common."""
+    spot = handle.spot
+    name = spot.making.name if spot.making else spot.number
+    return spot.kind, name, spot.offset, spot.inner + handle.byte, spot.maker, spot.told
+
+
+def decided_at_once(record: Record) -> list[bool]:
+    """Decides the handles of each block on which just as many were found as it counts, and the open ones are
+    all of one kind. Returns by block whether that was so."""
+    owners, weaks = [it.uses for it in record.blocks], [it.weaks - it.is_live for it in record.blocks]
+    open_ = [0] * len(owners)
+    for it in record.handles:
+        if it.kind == "either":
+            open_[it.block] += 1
+        elif it.kind == "owner":
+            owners[it.block] -= 1
+        else:
+            weaks[it.block] -= 1
+    is_met = [a + b == c and not a * b for a, b, c in zip(owners, weaks, open_)]
+    for it in record.handles:
+        if it.kind == "either" and is_met[it.block]:
+            it.kind = "owner" if owners[it.block] else "weak"
+    return is_met
 
 
 def decide_kinds(record: Record) -> list[Counts]:
     """Decides each handle as far as it can be. Returns the counts of each block."""
-    on = collections.defaultdict(list)
+    is_met = decided_at_once(record)
+    on = {number: [] for number, is_one in enumerate(is_met) if not is_one}
     for handle in record.handles:
-        on[handle.block].append(handle)
-    counts = [Counts(block, on[number]) for number, block in enumerate(record.blocks)]
+        if not is_met[handle.block]:
+            on[handle.block].append(handle)
+    counts = [MET] * len(is_met)
+    for number, handles in on.items():
+        counts[number] = Counts(record.blocks[number], handles)
+    hard = [counts[number] for number in on]
     if record.when == "exit":
-        drop_old(counts)
+        drop_old(hard)
     known = collections.defaultdict(set)
-    undecided = counts
+    undecided = hard
     while True:
         for it in undecided:
             it.decide()
@@ -130,9 +154,9 @@ def decide_kinds(record: Record) -> list[Counts]:
         if not undecided or not by_declaration(record, undecided, known):
             break
     if undecided:
-        Together(record, undecided).decide()
+        Together(undecided).decide()
     if record.when == "exit":
-        drop_old(it for it in counts if not it.are_met)
+        drop_old(it for it in hard if not it.are_met)
     record.handles = [it for it in record.handles if it.kind != "old"]
     return counts
 
@@ -142,13 +166,13 @@ def by_declaration(record: Record, undecided: list[Counts], known: dict) -> bool
     any."""
     for handle in record.handles:
         if handle.kind in ("owner", "weak"):
-            known[member_of(handle.place, record)].add(handle.kind)
+            known[member_of(handle)].add(handle.kind)
     changed = False
     for counts in undecided:
         for handle in counts.handles:
             if handle.kind == "either":
-                same = known[member_of(handle.place, record)]
-                kind = kind_by_type(handle.declared)
+                same = known[member_of(handle)]
+                kind = kind_by_type(handle.spot.declared)
                 handle.kind = next(iter(same)) if kind == "either" and len(same) == 1 else kind
                 changed |= handle.kind != "either"
         counts.count()
@@ -164,29 +188,22 @@ def drop_old(counts: Iterable[Counts]):
         it.drop("weak", -it.weaks_missing)
 
 
-def is_of_itself(handle: Handle) -> bool:
-    """Whether it lies in the very object that it is on."""
-    return handle.place.kind == "object" and handle.place.inner < 0 and handle.place.number == handle.block
-
-
 class Together:
     """The members whose handles are open: all handles in one member are of one kind, and each block has as
     many owners among them as it counts. Where one answer alone fits, it is that. Where several do, the
     handles stay open, and `guess` is the kind that each would have in the likeliest."""
 
-    def __init__(self, record: Record, undecided: list[Counts]):
-        self.record, self.undecided = record, undecided
+    def __init__(self, undecided: list[Counts]):
+        self.undecided = undecided
         self.rows_of = collections.defaultdict(list)
         for row in dict.fromkeys(self.row_of(it) for it in undecided):
             for member, _ in row[0]:
                 self.rows_of[member].append(row)
         open_ = [handle for it in undecided for handle in it.handles if handle.kind == "either"]
-        self.own_members = {member_of(it.place, record) for it in open_ if is_of_itself(it)}
+        self.own_members = {member_of(it) for it in open_ if it.is_of_itself}
 
     def open_members(self, counts: Counts):
-        return collections.Counter(
-            member_of(it.place, self.record) for it in counts.handles if it.kind == "either"
-        )
+        return collections.Counter(member_of(it) for it in counts.handles if it.kind == "either")
 
     def row_of(self, counts: Counts):
         return frozenset(self.open_members(counts).items()), counts.least_owners, counts.most_owners
@@ -204,7 +221,7 @@ class Together:
         for it in self.undecided:
             for handle in it.handles:
                 if handle.kind == "either":
-                    member = member_of(handle.place, self.record)
+                    member = member_of(handle)
                     handle.kind = kinds.get(member, "either")
                     handle.guess = guesses.get(member, "owner")
             it.count()
@@ -256,6 +273,6 @@ def guess_the_rest(counts: Counts):
     owners = sum(it.guess == "owner" for it in open_)
     if counts.least_owners <= owners <= counts.most_owners:
         return
-    open_.sort(key=lambda it: (it.guess != "owner", is_of_itself(it)))
+    open_.sort(key=lambda it: (it.guess != "owner", it.is_of_itself))
     for at, handle in enumerate(open_):
         handle.guess = "owner" if at < counts.most_owners else "weak"

@@ -40,6 +40,7 @@ class Knot:
     objects: list
     ties: list
     is_owned: bool  # by another object
+    shape: owner_search.Shape
     weakens: list = field(default_factory=list)
 
 
@@ -72,43 +73,59 @@ def ask(graph: Graph) -> Answer:
         {it for it in numbers if verdicts[it] == "leaked"},
         {it for it in numbers if lost and verdicts[it] == "kept" and it not in kept},
     )
+    known = {}  # by shape: it, and what mends it
     for objects, ties, is_owned in owner_search.knots(verdicts, graph.owners):
-        knot = Knot(objects, ties, is_owned)
+        shape = owner_search.shape_of(objects, ties)
+        knot = Knot(objects, ties, is_owned, shape)
         if not is_owned:
-            knot.weakens = owner_search.weakens(objects, ties)
+            if shape not in known:
+                known[shape] = shape, owner_search.weakens(len(objects), shape)
+            knot.shape, knot.weakens = known[shape]
         answer.knots.append(knot)
     return answer
 
 
-def graph_of(record: Record, counts: list[Counts]) -> tuple[Graph, dict[int, int], Memories]:
-    """The graph of the objects that are left, in it the number of each block's object, and the uncertain
-    memory. An owner that a block counts and nobody found is a root; where it isn't certain whether a handle
-    owns, it is what it most likely is."""
-    graph, numbers = Graph(), {}
-    for at, block in enumerate(record.blocks):
-        if block.is_live:
-            graph.objects.append(plain(block.name))
-            numbers[at] = len(graph.objects)
+def numbers_of(record: Record) -> list[int]:
+    """By block: the number of its object in the graph, from 1; 0 of what has ended."""
+    numbers, count = [], 0
+    for block in record.blocks:
+        count += block.is_live
+        numbers.append(count if block.is_live else 0)
+    return numbers
+
+
+def graph_of(record: Record, counts: list[Counts]) -> tuple[Graph, Memories]:
+    """The graph of the objects that are left, and the uncertain memory. An owner that a block counts and
+    nobody found is a root; where it isn't certain whether a handle owns, it is what it most likely is."""
+    numbers = numbers_of(record)
+    graph = Graph([plain(it.making.name) for it in record.blocks if it.is_live])
     memories = Memories(record, numbers, counts)
+    labels = {it: plain(it.label) for it in record.spots}
     for it in record.handles:
-        if it.block not in numbers:
+        to = numbers[it.block]
+        if not to:
             continue
-        to, owner = numbers[it.block], memories.owner_at(it.place, it.label)
-        if (it.guess or it.kind) == "weak":
-            if owner:
-                graph.weaks.append((owner[0], to, plain(owner[1])))
-        elif owner:
-            graph.owners.append((owner[0], to, plain(owner[1])))
-            if it.change:
-                graph.changes[graph.owners[-1]] = it.change
-        elif memories.is_lost(it.place):
-            graph.lost.append((to, memories.root_label(it.place, it.label)))
+        if it.memory >= 0:
+            holder, label = memories.owner_of(it) or (0, "")
+            label = plain(label)
         else:
-            graph.roots.append((to, plain(memories.root_label(it.place, it.label))))
-    for at, number in numbers.items():
-        graph.roots += [(number, "an owner that was not found")] * counts[at].owners_nowhere
-    graph.undecided = memories.kept - memories.surely_kept
-    return graph, numbers, memories
+            holder, label = memories.holder(it), labels[it.spot]
+        if (it.guess or it.kind) == "weak":
+            if holder:
+                graph.weaks.append((holder, to, label))
+        elif holder:
+            graph.owners.append((holder, to, label))
+            if it.spot.change:
+                graph.changes[graph.owners[-1]] = it.spot.change
+        elif memories.is_lost(it):
+            graph.lost.append((to, memories.root_label(it)))
+        else:
+            graph.roots.append((to, plain(memories.root_label(it))))
+    for number, it in zip(numbers, counts):
+        if number and it.owners_nowhere:
+            graph.roots += [(number, "an owner that was not found")] * it.owners_nowhere
+    graph.undecided = memories.undecided()
+    return graph, memories
 
 
 def tied_by(knot: Knot) -> collections.Counter:

@@ -93,14 +93,21 @@ def strong_parts(vertices, owns):
     return parts
 
 
-class Ties:
-    """The owners of a knot, (from, to, label), and what ends without some of them."""
+Shape = tuple[tuple[int, int, str], ...]
 
-    def __init__(self, objects, ties):
-        place = {number: at for at, number in enumerate(objects)}
-        self.count = len(objects)
-        self.ties = [(place[a], place[b], label) for a, b, label in ties]
-        self.owns = [[] for _ in objects]
+
+def shape_of(objects: list[int], ties: list[tuple]) -> Shape:
+    """A knot's ties by the places of its objects: knots of one shape are mended alike."""
+    place = {number: at for at, number in enumerate(objects)}
+    return tuple((place[a], place[b], label) for a, b, label in ties)
+
+
+class Ties:
+    """The owners of a knot of so many objects, by their places, and what ends without some of them."""
+
+    def __init__(self, count: int, ties: Shape):
+        self.count, self.ties = count, ties
+        self.owns = [[] for _ in range(count)]
         for a, b, label in self.ties:
             self.owns[a].append((b, label))
 
@@ -122,13 +129,14 @@ class Ties:
 
 def cuts(objects: list[int], ties: list[tuple]) -> list[tuple]:
     """The ties without each of which alone the knot ends."""
-    single = Ties(objects, [(a, b, at) for at, (a, b, _) in enumerate(ties)])
+    single = Ties(len(objects), shape_of(objects, [(a, b, at) for at, (a, b, _) in enumerate(ties)]))
     return [it for at, it in enumerate(ties) if single.all_end_without({at})]
 
 
-def weakens(objects: list[int], ties: list[tuple]) -> list[tuple]:
-    """Each label without whose owners all of a knot ends; where there is none, each pair of labels."""
-    found = Ties(objects, ties)
+def weakens(count: int, ties: Shape) -> list[tuple]:
+    """Each label without whose owners all of a knot of so many objects ends; where there is none, each pair
+    of labels."""
+    found = Ties(count, ties)
     labels = list(dict.fromkeys(label for _, _, label in ties))
     single = [(it,) for it in labels if found.all_end_without({it})]
     if single or len(labels) > MOST_LABELS:

@@ -1,32 +1,16 @@
 """Reads what the library wrote of a process's memory."""
+from array import array
 from dataclasses import dataclass, field
 from pathlib import Path
-from typing import NamedTuple
 
 
-class Place(NamedTuple):
-    """Where a word lies: in an object, a control block with a deleter, a static, a thread's variables or
-    stack, or on the heap. `inner` is its byte in a chunk that pointers lead to from `offset`, or -1; `memory`
-    is what this chunk is a part of where it isn't certain whose that is, or -1. `maker` says of which type
-    the chunk is, or `-`."""
+@dataclass(slots=True, eq=False)
+class Making:
+    """What blocks have in common that were made alike: by the same calls, of the same type and size."""
 
-    kind: str
-    number: int
-    offset: int
-    inner: int
-    memory: int = -1
-    maker: str = "-"
-
-
-@dataclass(slots=True)
-class Block:
-    at: int
-    object: int
-    size: int
-    uses: int
-    weaks: int
     kind: str
     in_pool: bool
+    size: int
     control_type: str
     dynamic_type: str
     frames: tuple
@@ -36,30 +20,74 @@ class Block:
     stack: tuple = ()  # the places and functions of its frames
     unit: tuple = ()  # the module and the byte of the first that is the user's
 
+
+@dataclass(slots=True)
+class Block:
+    making: Making
+    at: int
+    uses: int
+    weaks: int
+
     @property
     def is_live(self):
         return self.uses > 0
 
 
-@dataclass(slots=True)
-class Handle:
+@dataclass(slots=True, eq=False)
+class Spot:
+    """Where words lie that have one name: at a byte of the objects of one making, or of the blocks of their
+    deleters; of a module's statics, of a thread's variables or stack, or on the heap. `inner` is the byte in
+    a chunk that pointers lead to from `offset`, or -1; `is_uncertain` where it isn't known for certain whose
+    this chunk is. `maker` says of which type the chunk is, or `-`."""
+
     kind: str
-    block: int
-    place: Place
+    number: int  # of the module or the thread
+    making: Making | None
+    offset: int
+    inner: int
+    is_uncertain: bool
+    is_of_handle: bool
+    maker: str
+    told: str = ""  # by the maker: a type or an address
     label: str = ""
     declared: str = ""
     change: str = ""  # what to change where that isn't the labelled member itself
+
+    @property
+    def is_in_object(self):
+        return self.making is not None
+
+    @property
+    def is_in_static(self):
+        return self.kind in ("static", "thread-local") and self.inner < 0
+
+
+@dataclass(slots=True)
+class Handle:
+    """`object` is the number of the block in whose object it lies, or -1; `byte` its place in a vector;
+    `memory` the number of the chunk of which it isn't certain whose it is, or -1."""
+
+    kind: str
+    block: int
+    object: int
+    spot: Spot
+    byte: int
+    memory: int
     guess: str = ""  # of `owner` or `weak`, where its kind stays `either`
+
+    @property
+    def is_of_itself(self):
+        """Whether it lies in the very object that it is on."""
+        return self.object == self.block and self.spot.kind == "object" and self.spot.inner < 0
 
 
 @dataclass(slots=True)
 class RawPointer:
     to: int
     to_byte: int
-    place: Place
-    label: str = ""
-    declared: str = ""
-    change: str = ""
+    object: int
+    spot: Spot
+    memory: int
 
 
 @dataclass(slots=True)
@@ -67,10 +95,9 @@ class Link:
     """A pointer to memory of which it isn't certain whose it is."""
 
     to: int
-    place: Place
-    label: str = ""
-    declared: str = ""
-    change: str = ""
+    object: int
+    spot: Spot
+    memory: int
 
 
 @dataclass
@@ -79,6 +106,8 @@ class Record:
     when: str = ""
     refused: str = ""
     modules: list = field(default_factory=list)
+    makings: list = field(default_factory=list)
+    spots: list = field(default_factory=list)  # of handles, raw pointers and links
     blocks: list = field(default_factory=list)
     handles: list = field(default_factory=list)
     raw_pointers: list = field(default_factory=list)
@@ -92,46 +121,81 @@ class Record:
     mapped_bytes: int = 0  # of such memory that was not looked at
 
 
-def place_of(words: list[str]) -> Place:
-    return Place(words[0], int(words[1]), int(words[2]), int(words[3]), int(words[4]), words[5])
+HANDLES = "owner", "weak", "either"
 
 
-def block_of(words: list[str], known: dict) -> Block:
-    """`known` are the frames so far by their text: few places make all blocks."""
-    at, start = int(words[0], 16), int(words[1], 16)
-    size, uses, weaks = map(int, words[2:5])
-    text = words[9] if len(words) > 9 else ""
-    if text not in known:
-        known[text] = tuple(int(it, 16) for it in text.split())
-    return Block(at, start, size, uses, weaks, words[5], words[6] == "1", words[7], words[8], known[text])
+def making_of(words: list[str]) -> Making:
+    frames = tuple(int(it, 16) for it in words[5:])
+    return Making(words[0], words[1] == "1", int(words[2]), words[3], words[4], frames)
+
+
+def spot_of(words: list[str], makings: list[Making]) -> Spot:
+    kind, number, offset, inner = words[0], *map(int, words[1:4])
+    making = makings[number] if kind in ("object", "deleter") else None
+    return Spot(
+        kind, 0 if making else number, making, offset, inner, words[4] == "1", words[5] == "1", *words[6:]
+    )
+
+
+class Columns:
+    """The numbers of many rows: of each of their words one line."""
+
+    def __init__(self):
+        self.columns = {}
+
+    def add(self, name: str, numbers: str):
+        self.columns[name] = array("q", map(int, numbers.split()))
+
+    def rows(self, table: str, *names: str) -> zip:
+        """Tuples of what these columns of a table have."""
+        return zip(*(self.columns.pop(f"{table}.{name}", ()) for name in names), strict=True)
+
+
+def fill(record: Record, columns: Columns):
+    """Makes blocks, handles and pointers of the columns."""
+    makings, spots = record.makings, record.spots
+    rows = columns.rows("blocks", "making", "at", "uses", "weaks")
+    record.blocks = [Block(makings[making], at, uses, weaks) for making, at, uses, weaks in rows]
+    rows = columns.rows("handles", "kind", "block", "object", "spot", "byte", "memory")
+    record.handles = [
+        Handle(HANDLES[kind], block, object_, spots[spot], byte, memory)
+        for kind, block, object_, spot, byte, memory in rows
+    ]
+    rows = columns.rows("raw", "to", "to_byte", "object", "spot", "memory")
+    record.raw_pointers = [
+        RawPointer(to, to_byte, object_, spots[spot], memory) for to, to_byte, object_, spot, memory in rows
+    ]
+    rows = columns.rows("links", "to", "object", "spot", "memory")
+    record.links = [Link(to, object_, spots[spot], memory) for to, object_, spot, memory in rows]
 
 
 def read(path: Path) -> Record:
     """The record in a file, whose last line has to be `end`."""
-    record, line, known = Record(), "", {}
+    record, line, columns = Record(), "", Columns()
     with open(path, errors="replace") as lines:
         for line in lines:
-            kind, *words = line.split(None, 11)
-            if kind == "handle":
-                record.handles.append(Handle(words[0], int(words[1]), place_of(words[2:])))
-            elif kind == "raw":
-                record.raw_pointers.append(RawPointer(int(words[0]), int(words[1]), place_of(words[2:])))
-            elif kind == "link":
-                record.links.append(Link(int(words[0]), place_of(words[1:])))
-            elif kind == "block":
-                record.blocks.append(block_of(words[1:], known))
+            kind, _, rest = line.rstrip("\n").partition(" ")
+            if "." in kind:
+                columns.add(kind, rest)
+            elif kind == "making":
+                record.makings.append(making_of(rest.split()))
             elif kind == "told":
-                record.blocks[int(words[0])].told_type = line.split(" ", 2)[2].strip()
+                record.makings[-1].told_type = rest
+            elif kind == "spot":
+                record.spots.append(spot_of(rest.split(), record.makings))
             elif kind == "closed":
-                record.closed.append((int(words[0]), line.split(" ", 2)[2].rstrip("\n")))
+                count, library = rest.split(" ", 1)
+                record.closed.append((int(count), library))
             elif kind == "module":
-                record.modules.append((int(words[0], 16), line.split(" ", 2)[2].rstrip("\n")))
+                base, file = rest.split(" ", 1)
+                record.modules.append((int(base, 16), file))
             elif kind == "recorded":
-                record.how, record.when = words
+                record.how, record.when = rest.split()
             elif kind == "refused":
-                record.refused = line.split(" ", 1)[1].strip()
+                record.refused = rest.strip()
             elif kind in ("untyped", "lost", "unread", "mapped_blocks", "mapped_bytes"):
-                setattr(record, kind, int(words[0]))
+                setattr(record, kind, int(rest))
     if line.strip() != "end":
         raise ValueError("it is not whole")
+    fill(record, columns)
     return record

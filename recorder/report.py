@@ -7,6 +7,7 @@ from collections.abc import Iterator
 
 from recorder import owner_graph, verdicts
 from recorder.options import VERSION
+from recorder.owner_graph import Knot
 from recorder.type_names import short
 from recorder.verdicts import Findings
 
@@ -25,7 +26,7 @@ def kind_text(kind):
 
 def stack_lines(findings, numbers, wanted):
     """Of objects of one kind: by which functions they were made, the most often first."""
-    stacks = collections.Counter(findings.blocks[it - 1].stack for it in numbers) if wanted else {}
+    stacks = collections.Counter(findings.blocks[it - 1].making.stack for it in numbers) if wanted else {}
     for stack, count in stacks.most_common() if wanted else ():
         if len(stacks) > 1:
             yield f"  {count} of them:"
@@ -34,10 +35,13 @@ def stack_lines(findings, numbers, wanted):
 
 def by_kind(findings, numbers, more=None):
     """Objects by their kind, and by what `more` says of them, the most first."""
-    found = collections.defaultdict(list)
+    by_making = collections.defaultdict(list)
     for it in sorted(numbers):
-        found[findings.kind(it), more[it] if more else ""].append(it)
-    return sorted(found.items(), key=lambda it: -len(it[1]))
+        by_making[findings.blocks[it - 1].making, more[it] if more else ""].append(it)
+    found = collections.defaultdict(list)
+    for (making, said), of_it in by_making.items():
+        found[verdicts.kind_of(making), said] += of_it
+    return sorted(((kind, sorted(of_it)) for kind, of_it in found.items()), key=lambda it: -len(it[1]))
 
 
 def leaked_lines(findings, with_stack):
@@ -69,7 +73,9 @@ def suppressed_lines(findings):
 
 def grown_lines(before, now):
     """Of which kinds there are more objects than at the snapshot before."""
-    counts = [collections.Counter(map(it.kind, range(1, len(it.blocks) + 1))) for it in (before, now)]
+    counts = [
+        collections.Counter(verdicts.kind_of(block.making) for block in it.blocks) for it in (before, now)
+    ]
     for kind, count in (counts[1] - counts[0]).most_common():
         yield f"grown {count} {kind_text(kind)}"
 
@@ -101,7 +107,7 @@ def change_text(findings, knot, label):
 
 
 def weaken_lines(findings, knot):
-    if findings.is_owned_from_outside(knot):
+    if knot.is_owned:
         return ["weaken the knot that owns this one"]
     ordered = verdicts.ordered_weakens(knot)
     lines = [
@@ -113,13 +119,24 @@ def weaken_lines(findings, knot):
     return lines or ["weaken more than two members: no single one suffices, and no two"]
 
 
+def knots_of_a_kind(findings) -> list[list[Knot]]:
+    """The knots that are told, those together that are tied alike, of the same types, by the same members."""
+    found, changes = collections.defaultdict(list), findings.graph.changes
+    for knot in findings.alarming_knots():
+        types = tuple(findings.blocks[it - 1].making for it in knot.objects)
+        changed = tuple(changes.get(tie) for tie in knot.ties) if changes else ()
+        found[types, knot.shape, knot.is_owned, changed].append(knot)
+    return list(found.values())
+
+
 def knot_texts(findings):
     """The lines of each knot, equal ones once, with how many there are."""
     texts = collections.Counter()
-    for knot in findings.alarming_knots():
+    for alike in knots_of_a_kind(findings):
+        knot = alike[0]
         types = collections.Counter(findings.kind(it)[0] for it in knot.objects)
         ties = ", ".join(f"{label} {count}" for label, count in owner_graph.tied_by(knot).most_common())
-        texts[(f"knot {counted(types)}, tied by {ties}", *weaken_lines(findings, knot))] += 1
+        texts[f"knot {counted(types)}, tied by {ties}", *weaken_lines(findings, knot)] += len(alike)
     for (first, *rest), count in texts.items():
         yield from [first if count == 1 else f"{first}, {count} times", *rest]
 
@@ -145,8 +162,8 @@ def missing_tools(findings):
 
 
 def advice_lines(findings):
-    knots = [it for it in findings.alarming_knots() if not findings.is_owned_from_outside(it)]
-    if any(len(verdicts.ordered_weakens(it)) > 1 for it in knots):
+    knots = [it for it, *_ in knots_of_a_kind(findings) if not it.is_owned]
+    if any(len(it.weakens) > 1 for it in knots):
         yield "record: each weaken line mends its knot by itself; take the first"
     yield from missing_tools(findings)
     if shutil.which("gdb") and any(" at byte " in label for it in knots for label in owner_graph.tied_by(it)):
@@ -224,10 +241,10 @@ def objects_as_json(findings):
     return [
         {
             "number": number,
-            "type": short(block.name),
-            "made": block.made,
-            "stack": block.stack,
-            "bytes": block.size,
+            "type": short(block.making.name),
+            "made": block.making.made,
+            "stack": block.making.stack,
+            "bytes": block.making.size,
             "verdict": verdict(number),
             "reached_from": findings.reached.get(number),
             "suppressed": findings.suppressed.get(number),
@@ -252,7 +269,7 @@ def knots_as_json(findings):
                 [change_text(findings, knot, it) for it in labels]
                 for labels in verdicts.ordered_weakens(knot)
             ],
-            "owned_by_another": findings.is_owned_from_outside(knot),
+            "owned_by_another": knot.is_owned,
             "reached": knot.objects[0] in findings.reached,
         }
         for knot in findings.answer.knots
@@ -266,7 +283,7 @@ def as_json(findings: Findings) -> dict:
         "how": findings.record.how,
         "left": len(findings.blocks),
         "leaked": len(findings.alarming),
-        "leaked_bytes": sum(findings.blocks[it - 1].size for it in findings.alarming),
+        "leaked_bytes": sum(findings.blocks[it - 1].making.size for it in findings.alarming),
         "undecided": len(findings.undecided),
         "counts": {"blocks": len(findings.record.blocks), "met": findings.met},
         "objects": objects_as_json(findings),

@@ -79,25 +79,21 @@ def hooked_type(function: str) -> str:
     return re.split(r"; \w+ = ", found[1])[0] if found else ""
 
 
-def name_blocks(record: Record):
-    """Gives each block its object's type: what it really is where it has virtual functions, else what its
+def name_makings(record: Record):
+    """Gives each making its object's type: what it really is where it has virtual functions, else what its
     maker said; and the record the plain names of types of other memory."""
-    blocks = record.blocks
-    names = {it for block in blocks for it in (block.control_type, block.dynamic_type) if it != "-"}
-    names |= {
-        it.place.maker[2:]
-        for it in record.handles + record.raw_pointers + record.links
-        if it.place.maker.startswith("v:")
+    names = {
+        it for making in record.makings for it in (making.control_type, making.dynamic_type) if it != "-"
     }
+    names |= {it.told for it in record.spots if it.maker == "v"}
     plain = record.plain = demangled(names)
-    declared = functools.lru_cache(maxsize=None)(declared_type)
-    for block in blocks:
-        if block.dynamic_type != "-":
-            block.name = plain[block.dynamic_type]
-        elif block.control_type != "-":
-            block.name = declared(block.kind, plain[block.control_type])
+    for it in record.makings:
+        if it.dynamic_type != "-":
+            it.name = plain[it.dynamic_type]
+        elif it.control_type != "-":
+            it.name = declared_type(it.kind, plain[it.control_type])
         else:
-            block.name = hooked_type(block.told_type) or "an object without a type"
+            it.name = hooked_type(it.told_type) or "an object without a type"
 
 
 def declared_type(kind, control):

@@ -1,14 +1,18 @@
 """What a record says of each object that is left: kept, leaked but reached by a raw pointer, or leaked."""
 import collections
 import functools
-import operator
 from collections.abc import Iterable
 from dataclasses import dataclass, field
 
 from recorder import debug_information, kinds, labels, owner_graph, type_names
 from recorder.owner_graph import Answer, Graph, Knot
-from recorder.record_text import Record
+from recorder.record_text import Making, Record
 from recorder.suppressions import Suppression
+
+
+def kind_of(making: Making) -> tuple[str, str]:
+    """The type of such objects and the place of their making."""
+    return type_names.short(making.name), making.made
 
 
 @dataclass
@@ -41,43 +45,29 @@ class Findings:
 
     def kind(self, number: int) -> tuple[str, str]:
         """An object's type and the place of its making."""
-        block = self.blocks[number - 1]
-        return type_names.short(block.name), block.made
+        return kind_of(self.blocks[number - 1].making)
 
     def alarming_knots(self) -> list[Knot]:
         return [it for it in self.answer.knots if it.objects[0] in self.alarming]
 
-    @functools.cached_property
-    def owned_knots(self):
-        """Of the knots, by their least object, those that another leaked object owns."""
-        knot_of = {it: knot.objects[0] for knot in self.answer.knots for it in knot.objects}
-        owners = (
-            (knot_of.get(a), knot_of.get(b)) for a, b, _ in self.graph.owners if a in self.answer.leaked
-        )
-        return {b for a, b in owners if b and a != b}
-
-    def is_owned_from_outside(self, knot: Knot) -> bool:
-        return knot.objects[0] in self.owned_knots
-
 
 def findings_of(record: Record, suppressed: Iterable[Suppression] = ()) -> Findings:
     """All that can be told of a record that isn't refused, without what is suppressed."""
-    type_names.name_blocks(record)
+    type_names.name_makings(record)
     debug_information.name_places(record)
     answers = debug_information.ask_about(record)
     labels.drop_beyond(record, answers)
     labels.label_places(record, answers)
-    record.handles.sort(key=operator.attrgetter("place"))
     counts = kinds.decide_kinds(record)
-    graph, numbers, memories = owner_graph.graph_of(record, counts)
+    graph, memories = owner_graph.graph_of(record, counts)
     answer = owner_graph.ask(graph)
-    leaked = {at for at, number in numbers.items() if number in answer.leaked}
+    leaked = {at for at, number in enumerate(memories.numbers) if number in answer.leaked}
     if kinds.drop_from_storage(record, counts, leaked):
-        graph, numbers, memories = owner_graph.graph_of(record, counts)
+        graph, memories = owner_graph.graph_of(record, counts)
         answer = owner_graph.ask(graph)
-    blocks = [record.blocks[at] for at in numbers]
+    blocks = [it for it in record.blocks if it.is_live]
     found = Findings(record, graph, answer, blocks, sum(it.are_met for it in counts))
-    found.reached = reached_by_raw_pointers(record, numbers, graph, answer, memories)
+    found.reached = reached_by_raw_pointers(record, graph, answer, memories)
     found.suppressed = reasons(found, suppressed)
     return found
 
@@ -94,24 +84,24 @@ def reasons(found, suppressed):
     return left_out
 
 
-def reached_by_raw_pointers(record, numbers, graph, answer, memories):
+def reached_by_raw_pointers(record, graph, answer, memories):
     """Of the leaked, those that raw pointers lead to from a static, a thread or a kept object, and whatever
     these own or point to: each with where the first pointer lies."""
     raw, first = collections.defaultdict(list), []
     unreached = answer.leaked | answer.lost
     for it in record.raw_pointers:
-        to, holder = numbers.get(it.to), memories.holder(it.place)
+        to, holder = memories.numbers[it.to], memories.holder(it)
         if not to:
             continue
-        if it.place.memory >= 0:
-            if it.place.memory in memories.kept_memories:
-                first.append((to, memories.root_label(it.place, it.label)))
+        if it.memory >= 0:
+            if it.memory in memories.kept_memories:
+                first.append((to, memories.root_label(it)))
             elif holder:
                 raw[holder].append(to)
         elif holder in unreached:
             raw[holder].append(to)
-        elif holder or it.place.kind in ("static", "thread-local", "stack", "mapped", "kernel"):
-            first.append((to, it.label))
+        elif holder or it.spot.kind in ("static", "thread-local", "stack", "mapped", "kernel"):
+            first.append((to, it.spot.label))
     for a, b, _ in graph.owners:
         raw[a].append(b)
     reached = {}

@@ -1,6 +1,5 @@
 // Who holds each chunk: whoever's memory leads to it by pointers.
 #include <algorithm>
-#include <cstdio>
 #include <cstring>
 #include <set>
 #include <tuple>
@@ -130,7 +129,9 @@ void Spreading::spread(Round round, From from) {
     each_plain_word(region, [&](Word where, Word word) {
       int chunk = all.chunk_of(round == ANY ? without_tag(word) : word);
       if (chunk < 0 || all.chunks[chunk].holder.kind != Holder::NOBODY) return;
-      if (leads(round, region, where, word, all.chunks[chunk])) claim(round, region, where, chunk);
+      bool is_contained = leads(CONTAINERS, region, where, word, all.chunks[chunk]);
+      if (is_contained || leads(round, region, where, word, all.chunks[chunk]))
+        claim(is_contained ? CONTAINERS : round, region, where, chunk);
     });
   }
 }
@@ -211,7 +212,7 @@ bool Spreading::leads(Round round, const Region& region, Word at, Word word, Liv
   auto words = reinterpret_cast<const Word*>(at);
   if (at + 4 * WORD <= region.to && is_deque(words, all)) return true;
   if (at + 3 * WORD <= region.to)
-    if (Word filled = filled_by_vector(words, chunk)) return chunk.filled = filled, true;
+    if (Word filled = filled_by_vector(words, chunk)) return chunk.filled = filled, chunk.is_vector = true;
   if (all.points_back(chunk, at)) return true;
   chunk.hashed = hashed(region, at, chunk);
   return chunk.hashed != LiveChunk::NEITHER;
@@ -235,33 +236,25 @@ int Spreading::memory_of(int chunk, bool is_apart) const {
   return !it.is_contained && (is_apart || before < 0) ? chunk : before;
 }
 
-// What says of which type a chunk is: its own table of virtual functions (`v`), else a function that knows: the first of a
-// coroutine's frame (`c`), the invoker of a std::function (`f`) or the manager of an any (`a`) that leads here. `d` where
-// it is what its holder's own pointer points to, `-` where nothing says it.
-std::string Snapshot::maker_of(int chunk) const {
+Maker Snapshot::maker_of(int chunk) const {
   auto& it = chunks[chunk];
   auto words = reinterpret_cast<const Word*>(it.from);
   auto is_code = [&](Word word) {
     const Segment* segment = modules.segment_of(word);
     return segment && segment->is_code;
   };
-  char text[32];
-  auto told = [&](char kind, Word word) {
-    std::snprintf(text, sizeof text, "%c:%zx", kind, word);
-    return std::string(text);
-  };
   if (it.to - it.from >= 2 * WORD) {
     auto& table = tables.of(words[0]);
-    if (table.type && !table.is_control_block && !table.to_top) return std::string("v:") + table.type;
-    if (is_code(words[0]) && is_code(words[1])) return told('c', words[0]);
+    if (table.type && !table.is_control_block && !table.to_top) return {'v', reinterpret_cast<Word>(table.type)};
+    if (is_code(words[0]) && is_code(words[1])) return {'c', words[0]};
   }
   bool is_copied = area_of(it.pointer) >= 0 && !areas[area_of(it.pointer)].copy.empty();
-  if (!it.pointer || is_copied) return "-";
+  if (!it.pointer || is_copied) return {};
   auto pointer = reinterpret_cast<const Word*>(it.pointer);
-  if (pointer[0] != it.from) return "-";
-  if (is_code(pointer[2]) && is_code(pointer[3])) return told('f', pointer[3]);
-  if (is_code(pointer[-1])) return told('a', pointer[-1]);
-  return it.before < 0 ? "d" : "-";
+  if (pointer[0] != it.from) return {};
+  if (is_code(pointer[2]) && is_code(pointer[3])) return {'f', pointer[3]};
+  if (is_code(pointer[-1])) return {'a', pointer[-1]};
+  return {it.before < 0 ? 'd' : '-'};
 }
 
 void Snapshot::find_holders() {

@@ -10,10 +10,10 @@
 #include <cstdarg>
 #include <cstdio>
 #include <cstring>
-#include <initializer_list>
 
 #include "closed.h"
 #include "kept_file.h"
+#include "spots.h"
 
 namespace recorder {
 namespace {
@@ -68,12 +68,12 @@ public:
     else
       used += size;
   }
-  // Each number after a space; of such lines there are many.
+  // Each number after a space; there are many of them.
   void say_number(std::ptrdiff_t number) {
-    if (number >= 0) return say_digits(static_cast<Word>(number), 10, "");
-    say_digits(-static_cast<Word>(number), 10, "-");
+    if (number >= 0) return say_digits<10>(static_cast<Word>(number), false);
+    say_digits<10>(-static_cast<Word>(number), true);
   }
-  void say_address(Word address) { say_digits(address, 16, ""); }
+  void say_address(Word address) { say_digits<16>(address, false); }
   void say_text(const char* words) {
     for (std::size_t left = std::strlen(words); left;) {
       if (used == sizeof buffer) flush();
@@ -86,16 +86,19 @@ public:
 private:
   static constexpr std::size_t MOST_OF_A_LINE = 256;
 
-  void say_digits(Word number, Word base, const char* sign) {
+  template <Word BASE>
+  void say_digits(Word number, bool is_negative) {
     char digits[24];
-    char* at = digits + sizeof digits - 1;
-    *at = 0;
+    char* const end = digits + sizeof digits;
+    char* at = end;
     do
-      *--at = "0123456789abcdef"[number % base];
-    while (number /= base);
-    say_text(" ");
-    say_text(sign);
-    say_text(at);
+      *--at = "0123456789abcdef"[number % BASE];
+    while (number /= BASE);
+    if (is_negative) *--at = '-';
+    *--at = ' ';
+    if (sizeof buffer - used < sizeof digits) flush();
+    std::memcpy(buffer + used, at, end - at);
+    used += end - at;
   }
 
   void name_files(int number) {
@@ -120,59 +123,71 @@ private:
   bool is_socket, is_whole = true;
 };
 
-void write_block(Output& out, const Snapshot& all, int number) {
+void write_making(Output& out, const Snapshot& all, const ControlBlock& first) {
   static const char* const KINDS[] = {"in-place", "plain", "deleter", "array"};
-  auto& it = all.blocks[number];
-  out.say_text("block");
-  out.say_number(number);
-  out.say_address(it.at);
-  out.say_address(it.object);
-  for (Word word : {it.object_end - it.object, Word(it.uses), Word(it.weaks)}) out.say_number(std::ptrdiff_t(word));
+  out.say("making %s %d %zu ", KINDS[first.kind], all.chunks[first.chunk].is_pool, first.object_end - first.object);
+  out.say_text(first.type ? first.type : "-");
   out.say_text(" ");
-  out.say_text(KINDS[it.kind]);
-  out.say_text(all.chunks[it.chunk].is_pool ? " 1 " : " 0 ");
-  out.say_text(it.type ? it.type : "-");
-  out.say_text(" ");
-  out.say_text(it.dynamic ? it.dynamic : "-");
-  for (int at = 0; it.trace && at < it.trace->count; at++)
-    out.say_address(it.trace->frames[at]);
-  out.say_text("\n");
-  if (!it.told) return;
-  out.say("told %d ", number);
-  out.say_text(it.told);
+  out.say_text(first.dynamic ? first.dynamic : "-");
+  for (int at = 0; first.trace && at < first.trace->count; at++)
+    out.say_address(first.trace->frames[at]);
+  if (first.told) out.say_text("\ntold "), out.say_text(first.told);
   out.say_text("\n");
 }
 
-// Where in its holder an address lies, or the pointers to its chunk begin: the kind, the number, the byte; the byte in the
-// chunk, the memory that this is a part of where it isn't certain whose that is, and what says of which type it is.
-void write_place(Output& out, const Snapshot& all, Word at) {
-  int chunk = all.object_of(at) < 0 ? all.chunk_of(at) : -1;
-  Word inner = chunk < 0 ? 0 : at - all.chunks[chunk].from;
-  Word origin = chunk >= 0 && all.chunks[chunk].origin ? all.chunks[chunk].origin : at;
-  bool is_inner = origin != at;
-  Holder holder = all.holder_of(at);
-  if (holder.kind == Holder::OBJECT) {
-    auto& block = all.blocks[holder.number];
-    bool is_in_object = origin >= block.object && origin < block.object_end;
-    out.say_text(is_in_object ? " object" : " deleter");
-    out.say_number(holder.number);
-    out.say_number(std::ptrdiff_t(origin - (is_in_object ? block.object : block.at)));
-  } else if (holder.kind == Holder::AREA) {
-    static const char* const KINDS[] = {" static", " thread-local", " stack", " mapped", " kernel"};
-    auto& area = all.areas[holder.number];
-    bool is_static = area.kind == Area::STATIC;
-    out.say_text(KINDS[area.kind]);
-    out.say_number(area.number);
-    out.say_number(std::ptrdiff_t(origin - (is_static ? all.modules.modules[area.number].base : area.from)));
-  } else {
-    out.say_text(" heap 0 0");
-  }
-  bool is_apart = is_inner || (chunk >= 0 && all.chunks[chunk].memory >= 0);
-  out.say_number(is_apart ? std::ptrdiff_t(inner) : -1);
-  out.say_number(chunk < 0 ? -1 : all.chunks[chunk].memory);
-  out.say_text(" ");
-  out.say_text(chunk < 0 ? "-" : all.maker_of(chunk).c_str());
+void write_spot(Output& out, const Spot& it) {
+  static const char* const KINDS[] = {"deleter", "heap", "kernel", "mapped", "object", "stack", "static", "thread-local"};
+  out.say("spot %s %d %td %td ", KINDS[it.kind], it.number, it.offset, it.inner);
+  out.say("%d %d %c", it.is_uncertain, it.is_of_handle, it.maker.kind);
+  if (it.maker.kind == 'v')
+    out.say_text(" "), out.say_text(reinterpret_cast<const char*>(it.maker.word));
+  else
+    out.say_address(it.maker.word);
   out.say_text("\n");
+}
+
+// A number of each row, in one line.
+template <typename Rows, typename Value>
+void write_column(Output& out, const char* name, const Rows& rows, Value value) {
+  out.say_text(name);
+  for (auto& it : rows) out.say_number(static_cast<std::ptrdiff_t>(value(it)));
+  out.say_text("\n");
+}
+
+using Rows = std::vector<std::pair<int, Row>>;  // each with the number of what lies there
+
+void write_rows(Output& out, const std::string& table, const Rows& rows) {
+  write_column(out, (table + ".object").c_str(), rows, [](auto& it) { return it.second.object; });
+  write_column(out, (table + ".spot").c_str(), rows, [](auto& it) { return it.second.spot; });
+  write_column(out, (table + ".memory").c_str(), rows, [](auto& it) { return it.second.memory; });
+}
+
+void write_blocks(Output& out, const Snapshot& all, const Spots& spots) {
+  for (int first : spots.makings) write_making(out, all, all.blocks[first]);
+  std::size_t number = 0;
+  write_column(out, "blocks.making", all.blocks, [&](auto&) { return spots.making_of(static_cast<int>(number++)); });
+  write_column(out, "blocks.at", all.blocks, [](auto& it) { return it.at; });
+  write_column(out, "blocks.uses", all.blocks, [](auto& it) { return it.uses; });
+  write_column(out, "blocks.weaks", all.blocks, [](auto& it) { return it.weaks; });
+}
+
+// All that lies somewhere: handles in the order of their places, the others as they were found.
+void write_pointers(Output& out, const Snapshot& all, Spots& spots) {
+  Rows handles = spots.rows_of(all.handles, true);
+  Rows raw = spots.rows_of(all.raw_pointers, false), links = spots.rows_of(all.links, false);
+  spots.sort(handles);
+  for (auto& it : spots.spots) write_spot(out, it);
+  auto handle = [&](auto& it) -> auto& { return all.handles[it.first]; };
+  write_column(out, "handles.kind", handles, [&](auto& it) { return handle(it).kind; });
+  write_column(out, "handles.byte", handles, [](auto& it) { return it.second.byte; });
+  write_column(out, "handles.block", handles, [&](auto& it) { return handle(it).block; });
+  write_rows(out, "handles", handles);
+  write_column(out, "raw.to", raw, [&](auto& it) { return all.raw_pointers[it.first].to; });
+  auto to_byte = [](const Snapshot& all, const RawPointer& it) { return it.word - all.blocks[it.to].object; };
+  write_column(out, "raw.to_byte", raw, [&](auto& it) { return to_byte(all, all.raw_pointers[it.first]); });
+  write_rows(out, "raw", raw);
+  write_column(out, "links.to", links, [&](auto& it) { return all.links[it.first].to; });
+  write_rows(out, "links", links);
 }
 
 }  // namespace
@@ -189,7 +204,6 @@ void open_way_out() { way_out.keep(connected()); }
 void close_way_out() { way_out.close(); }
 
 void write_record(int number, const Snapshot& all, const char* when) {
-  static const char* const KINDS[] = {"owner", "weak", "either"};
   Output out(number);
   out.say("recorded %s %s\n", hooked ? "hooks" : "scan", when);
   for (auto& it : all.modules.modules) {
@@ -197,25 +211,9 @@ void write_record(int number, const Snapshot& all, const char* when) {
     out.say_text(it.path.c_str());
     out.say_text("\n");
   }
-  for (std::size_t block = 0; block < all.blocks.size(); block++)
-    write_block(out, all, static_cast<int>(block));
-  for (auto& it : all.handles) {
-    out.say_text("handle ");
-    out.say_text(KINDS[it.kind]);
-    out.say_number(it.block);
-    write_place(out, all, it.at);
-  }
-  for (auto& it : all.raw_pointers) {
-    out.say_text("raw");
-    out.say_number(it.to);
-    out.say_number(std::ptrdiff_t(it.word - all.blocks[it.to].object));
-    write_place(out, all, it.at);
-  }
-  for (auto& it : all.links) {
-    out.say_text("link");
-    out.say_number(it.to);
-    write_place(out, all, it.at);
-  }
+  Spots spots(all);
+  write_blocks(out, all, spots);
+  write_pointers(out, all, spots);
   for (std::size_t place = 0; place < all.closed_blocks.size(); place++)
     if (all.closed_blocks[place]) out.say("closed %zu %s\n", all.closed_blocks[place], closed_library(place).path);
   out.say("untyped %zu\nlost %zu\n", all.untyped_blocks, all.lost_handles);

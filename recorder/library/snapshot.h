@@ -47,6 +47,7 @@ struct LiveChunk {
   int before = -1;  // the chunk that this lies in; -1 where it lies in the holder itself
   int memory = -1;  // the first chunk of what goes with it, where it isn't certain whose that is
   bool is_contained = false;  // a container has it, which is certain
+  bool is_vector = false;     // that is a vector, or what has three pointers like one
   enum Hashed { NEITHER, BUCKETS, NODE } hashed = NEITHER;  // of a hashed container
   bool has_blocks = false;
   bool is_pool = false;  // control blocks lie in the midst of it
@@ -66,6 +67,16 @@ struct ControlBlock {
   bool is_hooked = false;
 
   bool is_live() const { return uses > 0; }
+};
+
+// What says of which type a chunk is. `v`: its own table of virtual functions; `c`, `f`, `a`: a function that knows, the
+// first of a coroutine's frame, the invoker of a std::function, the manager of an any; `d` where it is what its holder's
+// own pointer points to, `-` where nothing says it.
+struct Maker {
+  char kind = '-';
+  Word word = 0;  // the function, or the type's name
+
+  bool tells_of_bytes() const { return kind == 'v' || kind == 'c' || kind == 'f'; }
 };
 
 struct Handle {
@@ -98,7 +109,7 @@ public:
   int area_of(Word address) const;
   bool is_pointer(Word word) const { return chunk_of(word) >= 0 || modules.has(word); }
   Holder holder_of(Word address) const;
-  std::string maker_of(int chunk) const;
+  Maker maker_of(int chunk) const;
 
   std::vector<Area> areas;
   std::vector<LiveChunk> chunks;     // in the order of their addresses
