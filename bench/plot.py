@@ -1,5 +1,6 @@
 #!/usr/bin/env python3
-"""Draws the table of a run: for each test the time of a call, as its ratio to libstdc++, by 1 thread and by 4.
+"""Draws the table of a run: for each test the time of a call, as its ratio to libstdc++, by 1 thread and by
+4.
 
 usage: bench/plot.py TEXT > bench/ratios.svg
 
@@ -10,28 +11,28 @@ import sys
 from html import escape
 from pathlib import Path
 
-HEAD = '| test | peer |'
-ROW = re.compile(r'^\| ([^|]+) \| ([^|]+) \| ([^|]+) \| ([^|]+) \| ([^|]+) \|$', re.MULTILINE)
-RATIO = re.compile(r'\(([\d.]+)\)')
-DAY = re.compile(r'\d{4}-\d\d-\d\d')
+HEAD = "| test | peer |"
+ROW = re.compile(r"^\| ([^|]+) \| ([^|]+) \| ([^|]+) \| ([^|]+) \| ([^|]+) \|$", re.MULTILINE)
+RATIO = re.compile(r"\(([\d.]+)\)")
+DAY = re.compile(r"\d{4}-\d\d-\d\d")
 # By the peer's name: its class in the style, and its mark.
 MARKS = {
-    'this runtime': ('own', 'disc'),
-    'this runtime, handles in memory': ('own', 'ring'),
-    'this runtime, handle table': ('own', 'plus'),
-    'this runtime, scene_structures': ('own', 'cross'),
-    'Boost shared_ptr': ('boost', 'square'),
-    'Rust Arc': ('arc', 'triangle'),
-    'Rust arc-swap': ('swap', 'diamond'),
+    "this runtime": ("own", "disc"),
+    "this runtime, handles in memory": ("own", "ring"),
+    "this runtime, handle table": ("own", "plus"),
+    "this runtime, scene_structures": ("own", "cross"),
+    "Boost shared_ptr": ("boost", "square"),
+    "Rust Arc": ("arc", "triangle"),
+    "Rust arc-swap": ("swap", "diamond"),
 }
 SHAPES = {
-    'disc': '<circle r="4.5"/>',
-    'ring': '<circle r="4" class="line"/>',
-    'plus': '<path d="M-5 0H5M0 -5V5" class="line"/>',
-    'cross': '<path d="M-4 -4L4 4M-4 4L4 -4" class="line"/>',
-    'square': '<path d="M-3.5 -3.5H3.5V3.5H-3.5Z"/>',
-    'triangle': '<path d="M0 -4.5L4.5 3.5H-4.5Z"/>',
-    'diamond': '<path d="M0 -5L5 0L0 5L-5 0Z"/>',
+    "disc": '<circle r="4.5"/>',
+    "ring": '<circle r="4" class="line"/>',
+    "plus": '<path d="M-5 0H5M0 -5V5" class="line"/>',
+    "cross": '<path d="M-4 -4L4 4M-4 4L4 -4" class="line"/>',
+    "square": '<path d="M-3.5 -3.5H3.5V3.5H-3.5Z"/>',
+    "triangle": '<path d="M0 -4.5L4.5 3.5H-4.5Z"/>',
+    "diamond": '<path d="M0 -5L5 0L0 5L-5 0Z"/>',
 }
 STYLE = """
 text { font: 12px sans-serif; fill: #1f2328; }
@@ -86,24 +87,24 @@ def mark(peer, x, y):
     return f'<g class="{color}" transform="translate({x:.1f} {y})">{SHAPES[shape]}</g>'
 
 
-def words(x, y, text, names='', anchor='start'):
+def words(x, y, text, names="", anchor="start"):
     return f'<text x="{x:.1f}" y="{y}" class="{names}" text-anchor="{anchor}">{escape(text)}</text>'
 
 
 def scale(panel, title, bottom):
     """A panel's title and its lines, that of libstdc++ the strongest."""
-    yield words(LEFT + panel * (PANEL + GAP) + PANEL / 2, TOP - 34, title, 'title', 'middle')
+    yield words(LEFT + panel * (PANEL + GAP) + PANEL / 2, TOP - 34, title, "title", "middle")
     for tick in TICKS:
-        x, kind = across(panel, tick), 'base' if tick == 1 else 'grid'
+        x, kind = across(panel, tick), "base" if tick == 1 else "grid"
         yield f'<path class="{kind}" d="M{x:.1f} {TOP - 12}V{bottom}"/>'
-        yield words(x, TOP - 17, f'{tick:g}', 'small', 'middle')
+        yield words(x, TOP - 17, f"{tick:g}", "small", "middle")
 
 
 def legend(peers):
     places = [(LEFT + 156 * (at % 4), 34 + 18 * (at // 4)) for at in range(len(peers))]
     for peer, (x, y) in zip(peers, places):
         yield mark(peer, x, y - 4)
-        yield words(x + 10, y, peer.replace('this runtime, ', 'its '))
+        yield words(x + 10, y, peer.replace("this runtime, ", "its "))
 
 
 def row_of(at):
@@ -116,7 +117,7 @@ def names(found):
         if at % 2 == 0:
             y = row_of(at) - STEP / 2
             yield f'<rect class="band" x="8" y="{y}" width="{width() - 16}" height="{STEP}"/>'
-        yield words(LEFT - 14, row_of(at) + 4, test, anchor='end')
+        yield words(LEFT - 14, row_of(at) + 4, test, anchor="end")
 
 
 def marks(found):
@@ -136,8 +137,8 @@ def note(found):
     """What is said of the ratios that the scale hasn't."""
     every = [it for peers in found.values() for both in peers.values() for it in both if it]
     beyond = [it for it in every if it > TICKS[-1]]
-    listed = ', '.join(f'{it:.0f}' for it in sorted(beyond))
-    return f'At the right end stand ratios beyond the scale: {listed}.' if beyond else ''
+    listed = ", ".join(f"{it:.0f}" for it in sorted(beyond))
+    return f"At the right end stand ratios beyond the scale: {listed}." if beyond else ""
 
 
 def picture(text):
@@ -146,23 +147,23 @@ def picture(text):
     bottom = TOP + STEP * len(found)
     size = f'width="{width()}" height="{bottom + 34}"'
     yield f'<svg xmlns="http://www.w3.org/2000/svg" viewBox="0 0 {width()} {bottom + 34}" {size}>'
-    yield f'<style>{STYLE}</style>'
+    yield f"<style>{STYLE}</style>"
     yield f'<rect class="page" x="0.5" y="0.5" width="{width() - 1}" height="{bottom + 33}" rx="6"/>'
-    yield words(14, 34, 'Time of a call, libstdc++ = 1', 'title')
-    yield words(14, 52, f'measured on {day}; further left is faster', 'small')
+    yield words(14, 34, "Time of a call, libstdc++ = 1", "title")
+    yield words(14, 52, f"measured on {day}; further left is faster", "small")
     yield from legend([it for it in MARKS if any(it in peers for peers in found.values())])
     yield from names(found)
-    yield from scale(0, '1 thread', bottom)
-    yield from scale(1, '4 threads', bottom)
+    yield from scale(0, "1 thread", bottom)
+    yield from scale(1, "4 threads", bottom)
     yield from marks(found)
-    yield words(14, bottom + 22, note(found), 'small')
-    yield '</svg>'
+    yield words(14, bottom + 22, note(found), "small")
+    yield "</svg>"
 
 
-if __name__ == '__main__':
+if __name__ == "__main__":
     if len(sys.argv) != 2:
         sys.exit(__doc__)
     page = Path(sys.argv[1]).read_text()
     if HEAD not in page:
-        sys.exit(f'plot.py: {sys.argv[1]} has no table of a run')
-    print('\n'.join(picture(page)))
+        sys.exit(f"plot.py: {sys.argv[1]} has no table of a run")
+    print("\n".join(picture(page)))

@@ -1,7 +1,8 @@
-"""Reads lines "test|peer|threads|nanoseconds|share" and prints, for each test, a row a peer that has it: nanoseconds by
-thread count, and the ratio to libstdc++. A sample is clean where each thread had a processor for 95 % of its time, all
-started together and no call was refused (else its share is 0); a number is the lowest tenth of the clean samples, since
-other work on the machine adds to a sample, and - where there is none."""
+"""Reads lines "test|peer|threads|nanoseconds|share" and prints, for each test, a row a peer that has it:
+nanoseconds by thread count, and the ratio to libstdc++. A sample is clean where each thread had a processor
+for 95 % of its time, all started together and no call was refused (else its share is 0); a number is the
+lowest tenth of the clean samples, since other work on the machine adds to a sample, and - where there is
+none."""
 import collections
 import sys
 
@@ -30,7 +31,9 @@ def cell(test, peer, threads):
 
 tests = list(dict.fromkeys(test for test, _, _ in samples))
 peers = list(dict.fromkeys(peer for _, peer, _ in samples))
-print("| test | peer | " + " | ".join(f"{n} thread{'s' if n > 1 else ''}, ns (ratio)" for n in THREADS) + " |")
+print(
+    "| test | peer | " + " | ".join(f"{n} thread{'s' if n > 1 else ''}, ns (ratio)" for n in THREADS) + " |"
+)
 print("|---|---|" + "---|" * len(THREADS))
 for test in tests:
     for peer in peers:
