@@ -102,24 +102,24 @@ def graph_of(record: Record, counts: list[Counts]) -> tuple[Graph, Memories]:
     memories = Memories(record, numbers, counts)
     labels = {it: plain(it.label) for it in record.spots}
     for it in record.handles:
-        to = numbers[it.block]
+        to, spot = numbers[it.block], it.spot
         if not to:
             continue
-        if it.memory >= 0:
+        if it.memory < 0:
+            holder, label = numbers[it.object] if spot.making else 0, labels[spot]
+        else:
             holder, label = memories.owner_of(it) or (0, "")
             label = plain(label)
-        else:
-            holder, label = memories.holder(it), labels[it.spot]
-        if (it.guess or it.kind) == "weak":
-            if holder:
-                graph.weaks.append((holder, to, label))
-        elif holder:
-            graph.owners.append((holder, to, label))
-            if it.spot.change:
-                graph.changes[graph.owners[-1]] = it.spot.change
-        elif memories.is_lost(it):
+        is_owner = (it.guess or it.kind) != "weak"
+        if holder:
+            (graph.owners if is_owner else graph.weaks).append((holder, to, label))
+            if is_owner and spot.change:
+                graph.changes[graph.owners[-1]] = spot.change
+        elif is_owner and it.memory < 0:
+            graph.roots.append((to, label))
+        elif is_owner and memories.is_lost(it):
             graph.lost.append((to, memories.root_label(it)))
-        else:
+        elif is_owner:
             graph.roots.append((to, plain(memories.root_label(it))))
     for number, it in zip(numbers, counts):
         if number and it.owners_nowhere:

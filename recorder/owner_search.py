@@ -8,9 +8,13 @@ MOST_LABELS = 20  # of a knot, for pairs of them to be tried
 
 def lists_of(count: int, owners: list[tuple]) -> list[list[int]]:
     """For each object those that it owns."""
-    owns = [[] for _ in range(count + 1)]
+    nothing = []
+    owns = [nothing] * (count + 1)
     for holder, to, _ in owners:
-        owns[holder].append(to)
+        if owns[holder] is nothing:
+            owns[holder] = [to]
+        else:
+            owns[holder].append(to)
     return owns
 
 

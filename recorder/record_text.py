@@ -1,5 +1,7 @@
 """Reads what the library wrote of a process's memory."""
+import itertools
 from array import array
+from collections.abc import Iterable
 from dataclasses import dataclass, field
 from pathlib import Path
 
@@ -117,7 +119,8 @@ class Record:
     lost: int = 0
     unread: int = 0  # threads whose registers were not read
     closed: list = field(default_factory=list)  # (how many control blocks, of which closed library)
-    mapped_blocks: int = 0  # in memory that the program mapped itself, which aren't told
+    # Of what lies in memory that the program mapped itself: (how many, the kind of control block, its type).
+    mapped: list = field(default_factory=list)
     mapped_bytes: int = 0  # of such memory that was not looked at
 
 
@@ -138,35 +141,34 @@ def spot_of(words: list[str], makings: list[Making]) -> Spot:
 
 
 class Columns:
-    """The numbers of many rows: of each of their words one line."""
+    """The numbers of many rows, by the table and the name of the column: of each column one line."""
 
     def __init__(self):
         self.columns = {}
 
     def add(self, name: str, numbers: str):
-        self.columns[name] = array("q", map(int, numbers.split()))
+        """The first is how many rows there are. Where one follows, it is that of all rows."""
+        count, _, rest = numbers.partition(" ")
+        column = array("q", map(int, rest.split()))
+        self.columns[name] = itertools.repeat(column[0], int(count)) if len(column) == 1 else column
 
-    def rows(self, table: str, *names: str) -> zip:
-        """Tuples of what these columns of a table have."""
-        return zip(*(self.columns.pop(f"{table}.{name}", ()) for name in names), strict=True)
+    def of(self, table: str, names: str) -> list[Iterable[int]]:
+        return [self.columns.pop(f"{table}.{name}", ()) for name in names.split()]
 
 
 def fill(record: Record, columns: Columns):
     """Makes blocks, handles and pointers of the columns."""
-    makings, spots = record.makings, record.spots
-    rows = columns.rows("blocks", "making", "at", "uses", "weaks")
-    record.blocks = [Block(makings[making], at, uses, weaks) for making, at, uses, weaks in rows]
-    rows = columns.rows("handles", "kind", "block", "object", "spot", "byte", "memory")
-    record.handles = [
-        Handle(HANDLES[kind], block, object_, spots[spot], byte, memory)
-        for kind, block, object_, spot, byte, memory in rows
-    ]
-    rows = columns.rows("raw", "to", "to_byte", "object", "spot", "memory")
-    record.raw_pointers = [
-        RawPointer(to, to_byte, object_, spots[spot], memory) for to, to_byte, object_, spot, memory in rows
-    ]
-    rows = columns.rows("links", "to", "object", "spot", "memory")
-    record.links = [Link(to, object_, spots[spot], memory) for to, object_, spot, memory in rows]
+    making, *rest = columns.of("blocks", "making at uses weaks")
+    record.blocks = list(map(Block, map(record.makings.__getitem__, making), *rest))
+
+    spot_of_number = record.spots.__getitem__
+    kind, block, object_, spot, *rest = columns.of("handles", "kind block object spot byte memory")
+    kinds = map(HANDLES.__getitem__, kind)
+    record.handles = list(map(Handle, kinds, block, object_, map(spot_of_number, spot), *rest))
+    to, to_byte, object_, spot, memory = columns.of("raw", "to to_byte object spot memory")
+    record.raw_pointers = list(map(RawPointer, to, to_byte, object_, map(spot_of_number, spot), memory))
+    to, object_, spot, memory = columns.of("links", "to object spot memory")
+    record.links = list(map(Link, to, object_, map(spot_of_number, spot), memory))
 
 
 def read(path: Path) -> Record:
@@ -189,11 +191,14 @@ def read(path: Path) -> Record:
             elif kind == "module":
                 base, file = rest.split(" ", 1)
                 record.modules.append((int(base, 16), file))
+            elif kind == "mapped":
+                count, *block = rest.split()
+                record.mapped.append((int(count), *block))
             elif kind == "recorded":
                 record.how, record.when = rest.split()
             elif kind == "refused":
                 record.refused = rest.strip()
-            elif kind in ("untyped", "lost", "unread", "mapped_blocks", "mapped_bytes"):
+            elif kind in ("untyped", "lost", "unread", "mapped_bytes"):
                 setattr(record, kind, int(rest))
     if line.strip() != "end":
         raise ValueError("it is not whole")

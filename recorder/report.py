@@ -8,7 +8,7 @@ from collections.abc import Iterator
 from recorder import owner_graph, verdicts
 from recorder.options import VERSION
 from recorder.owner_graph import Knot
-from recorder.type_names import short
+from recorder.type_names import declared_type, short
 from recorder.verdicts import Findings
 
 MOST_PAIRS = 6
@@ -143,11 +143,9 @@ def knot_texts(findings):
 
 def kept_by_unknown(findings):
     """How many objects are kept by what nobody points to or was not found, alone."""
-    by = collections.defaultdict(set)
-    for to, label in findings.graph.roots:
-        by[to].add(label)
     unknown = {"an owner that was not found", "heap memory that nothing points to"}
-    return sum(labels <= unknown for labels in by.values())
+    by_unknown = {to for to, label in findings.graph.roots if label in unknown}
+    return len(by_unknown - {to for to, label in findings.graph.roots if label not in unknown})
 
 
 def missing_tools(findings):
@@ -217,9 +215,9 @@ def doubt_lines(findings):
         yield f"record: {record.untyped} control blocks tell no type and are left out, {why}"
     for count, path in record.closed:
         yield f"record: not looked at: {blocks(count)} of {path}, which was closed"
-    if record.mapped_blocks:
-        count = blocks(record.mapped_blocks)
-        yield f"record: not looked at: {count} in memory that the program mapped itself"
+    for count, kind, control in record.mapped:
+        name = short(declared_type(kind, record.plain[control]))
+        yield f"record: not looked at: {count} {name} in memory that the program mapped itself"
     if record.mapped_bytes:
         size = record.mapped_bytes >> 20
         yield f"record: not looked at: {size} MB of memory that the program mapped itself"

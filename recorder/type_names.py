@@ -85,7 +85,7 @@ def name_makings(record: Record):
     names = {
         it for making in record.makings for it in (making.control_type, making.dynamic_type) if it != "-"
     }
-    names |= {it.told for it in record.spots if it.maker == "v"}
+    names |= {it.told for it in record.spots if it.maker == "v"} | {name for _, _, name in record.mapped}
     plain = record.plain = demangled(names)
     for it in record.makings:
         if it.dynamic_type != "-":
@@ -96,7 +96,8 @@ def name_makings(record: Record):
             it.name = hooked_type(it.told_type) or "an object without a type"
 
 
-def declared_type(kind, control):
+def declared_type(kind: str, control: str) -> str:
+    """The type of an object by its control block's."""
     given = arguments(control)
     name = given[0] if given else control
     if kind == "array":

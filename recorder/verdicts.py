@@ -102,7 +102,7 @@ def reached_by_raw_pointers(record, graph, answer, memories):
             raw[holder].append(to)
         elif holder or it.spot.kind in ("static", "thread-local", "stack", "mapped", "kernel"):
             first.append((to, it.spot.label))
-    for a, b, _ in graph.owners:
+    for a, b, _ in graph.owners if first else ():
         raw[a].append(b)
     reached = {}
     todo = collections.deque(first)

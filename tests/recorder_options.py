@@ -1,4 +1,5 @@
 """The options of ./record, each by what it writes."""
+import contextlib
 import json
 import os
 import re
@@ -7,6 +8,7 @@ import signal
 import subprocess
 import tempfile
 import time
+from collections.abc import Iterator
 from pathlib import Path
 
 ROOT = Path(__file__).resolve().parent.parent
@@ -166,17 +168,24 @@ int main() {
 """
 
 
-def a_snapshot_by_signal():
-    """Of a running program: its own frames keep an object, and the leak is told before the end."""
+@contextlib.contextmanager
+def started(name: str, text: str, asks_by: str) -> Iterator[tuple[subprocess.Popen, int]]:
+    """`./record --now` and the number of a program's process that has printed its first line."""
+    pipes = {"stdin": subprocess.PIPE, "stdout": subprocess.PIPE, "stderr": subprocess.PIPE, "text": True}
     with tempfile.TemporaryDirectory() as folder:
-        command = [ROOT / "record", "--now", "USR2", built(folder, "waiting", WAITING)]
-        pipes = {"stdin": subprocess.PIPE, "stdout": subprocess.PIPE, "stderr": subprocess.PIPE, "text": True}
+        command = [ROOT / "record", "--now", asks_by, built(folder, name, text)]
         with subprocess.Popen(command, cwd=folder, **pipes) as ran:
             ran.stdout.readline()
             (child,) = Path(f"/proc/{ran.pid}/task/{ran.pid}/children").read_text().split()
-            os.kill(int(child), signal.SIGUSR2)
-            time.sleep(5)
-            _, said = ran.communicate("x")
+            yield ran, int(child)
+
+
+def a_snapshot_by_signal():
+    """Of a running program: its own frames keep an object, and the leak is told before the end."""
+    with started("waiting", WAITING, "USR2") as (ran, child):
+        os.kill(child, signal.SIGUSR2)
+        time.sleep(5)
+        _, said = ran.communicate("x")
     wanted = [
         "record: while the program runs",
         "record: 2 objects that shared pointers own are left, 1 leaked",
@@ -213,22 +222,17 @@ int main() {
 
 def growth_between_snapshots():
     """What is still reachable grows all the same."""
-    with tempfile.TemporaryDirectory() as folder:
-        command = [ROOT / "record", "--now", "USR1", built(folder, "growing", GROWING)]
-        pipes = {"stdin": subprocess.PIPE, "stdout": subprocess.PIPE, "stderr": subprocess.PIPE, "text": True}
-        with subprocess.Popen(command, cwd=folder, **pipes) as ran:
-            ran.stdout.readline()
-            (child,) = Path(f"/proc/{ran.pid}/task/{ran.pid}/children").read_text().split()
-            lines = [ran.stderr.readline()]
-            for _ in range(2):
-                ran.stdin.write("a")
-                ran.stdin.flush()
-                time.sleep(1)
-                os.kill(int(child), signal.SIGUSR1)
-                while not lines[-1].startswith("record: the pointers found"):
-                    lines.append(ran.stderr.readline())
-                lines.append("")
-            ran.communicate("x")
+    with started("growing", GROWING, "USR1") as (ran, child):
+        lines = [ran.stderr.readline()]
+        for _ in range(2):
+            ran.stdin.write("a")
+            ran.stdin.flush()
+            time.sleep(1)
+            os.kill(child, signal.SIGUSR1)
+            while not lines[-1].startswith("record: the pointers found"):
+                lines.append(ran.stderr.readline())
+            lines.append("")
+        ran.communicate("x")
     grown = [it for it in lines if it.startswith("grown")]
     return differences(
         grown=([it.strip() for it in grown], ["grown 40 Session, made at growing.cc:13 in main"])

@@ -18,13 +18,6 @@ bool has_counts(Word at, int& uses, int& weaks) {
   return uses >= 0 && weaks >= 1 && uses < 1 << 28 && weaks < 1 << 28;
 }
 
-ControlBlock::Kind kind_of(const char* type) {
-  if (contains(type, "_Sp_counted_ptr_inplaceI")) return ControlBlock::IN_PLACE;
-  if (contains(type, "_Sp_counted_deleterI")) return ControlBlock::DELETER;
-  if (contains(type, "_Sp_counted_arrayI")) return ControlBlock::ARRAY;
-  return ControlBlock::PLAIN;
-}
-
 // Whether the allocator in the name of a control block is std::allocator, which takes no room: `SaIvE` or
 // `SaIS1_E` or alike before the last argument.
 bool has_plain_allocator(const char* type) {
@@ -35,6 +28,13 @@ bool has_plain_allocator(const char* type) {
 }
 
 }  // namespace
+
+ControlBlock::Kind kind_of(const char* type) {
+  if (contains(type, "_Sp_counted_ptr_inplaceI")) return ControlBlock::IN_PLACE;
+  if (contains(type, "_Sp_counted_deleterI")) return ControlBlock::DELETER;
+  if (contains(type, "_Sp_counted_arrayI")) return ControlBlock::ARRAY;
+  return ControlBlock::PLAIN;
+}
 
 void Snapshot::add_block(Word at, int chunk, const VirtualTable& table) {
   ControlBlock block;

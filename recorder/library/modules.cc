@@ -80,11 +80,14 @@ Modules::Modules() : thread_from(recorder::thread_from), thread_to(recorder::thr
 }
 
 const Segment* Modules::segment_of(Word address) const {
+  if (address - gap_from < gap_to - gap_from) return nullptr;
   auto after = std::upper_bound(segments.begin(), segments.end(), address,
                                 [](Word word, const Segment& it) { return word < it.from; });
-  if (after == segments.begin()) return nullptr;
-  const Segment& it = after[-1];
-  return address < it.to ? &it : nullptr;
+  Word from = after == segments.begin() ? 0 : after[-1].to;
+  if (address < from) return &after[-1];
+  gap_from = from;
+  gap_to = after == segments.end() ? ~Word(0) : after->from;
+  return nullptr;
 }
 
 const VirtualTable& VirtualTables::of(Word word) {

@@ -36,6 +36,9 @@ public:
 
   // The thread-local variables of the main thread.
   Word thread_from = 0, thread_to = 0;
+
+private:
+  mutable Word gap_from = 0, gap_to = 0;  // where no segment lies: each word of memory is asked about, and most are alike
 };
 
 // What a word says that may be a pointer to a table of virtual functions.

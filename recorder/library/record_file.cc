@@ -123,9 +123,13 @@ private:
   bool is_socket, is_whole = true;
 };
 
-void write_making(Output& out, const Snapshot& all, const ControlBlock& first) {
+const char* name_of(ControlBlock::Kind kind) {
   static const char* const KINDS[] = {"in-place", "plain", "deleter", "array"};
-  out.say("making %s %d %zu ", KINDS[first.kind], all.chunks[first.chunk].is_pool, first.object_end - first.object);
+  return KINDS[kind];
+}
+
+void write_making(Output& out, const Snapshot& all, const ControlBlock& first) {
+  out.say("making %s %d %zu ", name_of(first.kind), all.chunks[first.chunk].is_pool, first.object_end - first.object);
   out.say_text(first.type ? first.type : "-");
   out.say_text(" ");
   out.say_text(first.dynamic ? first.dynamic : "-");
@@ -146,29 +150,36 @@ void write_spot(Output& out, const Spot& it) {
   out.say_text("\n");
 }
 
-// A number of each row, in one line.
-template <typename Rows, typename Value>
-void write_column(Output& out, const char* name, const Rows& rows, Value value) {
-  out.say_text(name);
-  for (auto& it : rows) out.say_number(static_cast<std::ptrdiff_t>(value(it)));
+// A number of each of so many rows, in one line; a number once where it is that of all.
+template <typename Value>
+void write_column(Output& out, const char* table, const char* column, std::size_t count, Value value) {
+  out.say("%s.%s %zu", table, column, count);
+  std::size_t alike = count ? 1 : 0;
+  while (alike < count && value(alike) == value(0)) alike++;
+  for (std::size_t row = 0; row < (alike == count ? std::min<std::size_t>(count, 1) : count); row++)
+    out.say_number(static_cast<std::ptrdiff_t>(value(row)));
   out.say_text("\n");
 }
 
 using Rows = std::vector<std::pair<int, Row>>;  // each with the number of what lies there
 
-void write_rows(Output& out, const std::string& table, const Rows& rows) {
-  write_column(out, (table + ".object").c_str(), rows, [](auto& it) { return it.second.object; });
-  write_column(out, (table + ".spot").c_str(), rows, [](auto& it) { return it.second.spot; });
-  write_column(out, (table + ".memory").c_str(), rows, [](auto& it) { return it.second.memory; });
+void write_rows(Output& out, const char* table, const Rows& rows) {
+  auto column = [&](const char* name, auto value) {
+    write_column(out, table, name, rows.size(), [&](std::size_t row) { return value(rows[row].second); });
+  };
+  column("object", [](const Row& it) { return it.object; });
+  column("spot", [](const Row& it) { return it.spot; });
+  column("byte", [](const Row& it) { return it.byte; });
+  column("memory", [](const Row& it) { return it.memory; });
 }
 
 void write_blocks(Output& out, const Snapshot& all, const Spots& spots) {
   for (int first : spots.makings) write_making(out, all, all.blocks[first]);
-  std::size_t number = 0;
-  write_column(out, "blocks.making", all.blocks, [&](auto&) { return spots.making_of(static_cast<int>(number++)); });
-  write_column(out, "blocks.at", all.blocks, [](auto& it) { return it.at; });
-  write_column(out, "blocks.uses", all.blocks, [](auto& it) { return it.uses; });
-  write_column(out, "blocks.weaks", all.blocks, [](auto& it) { return it.weaks; });
+  auto column = [&](const char* name, auto value) { write_column(out, "blocks", name, all.blocks.size(), value); };
+  column("making", [&](std::size_t row) { return spots.making_of(static_cast<int>(row)); });
+  column("at", [&](std::size_t row) { return all.blocks[row].at; });
+  column("uses", [&](std::size_t row) { return all.blocks[row].uses; });
+  column("weaks", [&](std::size_t row) { return all.blocks[row].weaks; });
 }
 
 // All that lies somewhere: handles in the order of their places, the others as they were found.
@@ -177,16 +188,16 @@ void write_pointers(Output& out, const Snapshot& all, Spots& spots) {
   Rows raw = spots.rows_of(all.raw_pointers, false), links = spots.rows_of(all.links, false);
   spots.sort(handles);
   for (auto& it : spots.spots) write_spot(out, it);
-  auto handle = [&](auto& it) -> auto& { return all.handles[it.first]; };
-  write_column(out, "handles.kind", handles, [&](auto& it) { return handle(it).kind; });
-  write_column(out, "handles.byte", handles, [](auto& it) { return it.second.byte; });
-  write_column(out, "handles.block", handles, [&](auto& it) { return handle(it).block; });
+  auto handle = [&](std::size_t row) -> auto& { return all.handles[handles[row].first]; };
+  write_column(out, "handles", "kind", handles.size(), [&](std::size_t row) { return handle(row).kind; });
+  write_column(out, "handles", "block", handles.size(), [&](std::size_t row) { return handle(row).block; });
   write_rows(out, "handles", handles);
-  write_column(out, "raw.to", raw, [&](auto& it) { return all.raw_pointers[it.first].to; });
-  auto to_byte = [](const Snapshot& all, const RawPointer& it) { return it.word - all.blocks[it.to].object; };
-  write_column(out, "raw.to_byte", raw, [&](auto& it) { return to_byte(all, all.raw_pointers[it.first]); });
+  auto pointer = [&](std::size_t row) -> auto& { return all.raw_pointers[row]; };
+  auto to_byte = [&](std::size_t row) { return pointer(row).word - all.blocks[pointer(row).to].object; };
+  write_column(out, "raw", "to", raw.size(), [&](std::size_t row) { return pointer(row).to; });
+  write_column(out, "raw", "to_byte", raw.size(), to_byte);
   write_rows(out, "raw", raw);
-  write_column(out, "links.to", links, [&](auto& it) { return all.links[it.first].to; });
+  write_column(out, "links", "to", links.size(), [&](std::size_t row) { return all.links[row].to; });
   write_rows(out, "links", links);
 }
 
@@ -218,7 +229,12 @@ void write_record(int number, const Snapshot& all, const char* when) {
     if (all.closed_blocks[place]) out.say("closed %zu %s\n", all.closed_blocks[place], closed_library(place).path);
   out.say("untyped %zu\nlost %zu\n", all.untyped_blocks, all.lost_handles);
   out.say("unread %zu\n", all.unread_threads);
-  out.say("mapped_blocks %zu\nmapped_bytes %zu\nend\n", all.mapped_blocks, all.mapped_bytes);
+  for (auto& it : all.mapped_blocks) {
+    out.say("mapped %zu %s ", it.second, name_of(kind_of(it.first)));
+    out.say_text(it.first);
+    out.say_text("\n");
+  }
+  out.say("mapped_bytes %zu\nend\n", all.mapped_bytes);
 }
 
 void write_refusal(int number, const char* why) {

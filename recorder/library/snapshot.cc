@@ -75,7 +75,8 @@ void Snapshot::add_outside(const Outside& outside) {
     left -= it.to - it.from;
     areas.push_back({Area::MAPPED, 0, it.from, it.to, {}, false});
     each_word(it.from, it.to - WORD, [&](Word at, Word word) {
-      mapped_blocks += tables.of(word).is_control_block && reinterpret_cast<const int*>(at)[2] > 0;
+      auto& table = tables.of(word);
+      if (table.is_control_block && reinterpret_cast<const int*>(at)[2] > 0) mapped_blocks[table.type]++;
     });
   }
 }

@@ -100,6 +100,9 @@ struct Link {
   int to;
 };
 
+// By the name of a control block's type.
+ControlBlock::Kind kind_of(const char* type);
+
 class Snapshot {
 public:
   Snapshot(const Modules& modules, const Outside& outside, const std::vector<LivingStack>& stacks);
@@ -119,7 +122,7 @@ public:
   std::vector<Link> links;
   std::size_t untyped_blocks = 0;
   std::vector<std::size_t> closed_blocks;  // of each library that was closed
-  std::size_t mapped_blocks = 0;  // that lie in memory which the program mapped itself
+  std::map<const char*, std::size_t> mapped_blocks;  // by type, that lie in memory which the program mapped itself
   std::size_t mapped_bytes = 0;   // of such memory, where it wasn't looked at
   std::size_t unread_threads = 0;  // whose registers may hold what nothing else does
   std::size_t lost_handles = 0;  // that hooks told of, and that aren't there any more

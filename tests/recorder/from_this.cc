@@ -1,4 +1,4 @@
-// Objects that give themselves, and a timer that keeps one.
+// Objects that give themselves, and a timer that keeps one. Stripped, the ring leaks whichever of its words watches.
 #include <functional>
 #include <memory>
 #include <vector>
