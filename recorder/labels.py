@@ -1,4 +1,5 @@
 """What a programmer calls the memory that a word lies in, and whether its declared type can own."""
+import functools
 import os
 import re
 
@@ -88,6 +89,7 @@ class Labels:
         return type_, f"{where}, which {'keeps' if kind == 'c' else 'captures'} {name}" if name else where
 
 
+@functools.lru_cache(maxsize=None)
 def is_raw(declared: str) -> bool:
     """Whether a type is a raw pointer or a reference, an iterator, or a container of such: what owns
     nothing."""

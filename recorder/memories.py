@@ -43,6 +43,14 @@ class Memories:
         """The object that something lies in, or 0."""
         return self.numbers[it.object] if it.spot.making else 0
 
+    @functools.cached_property
+    def pointed_to(self) -> dict[int, list[int]]:
+        """By node: the nodes of memory to which pointers lead from there."""
+        first, found = self.node_of_memory(0), collections.defaultdict(list)
+        for it in self.record.links:
+            found[first + it.memory if it.memory >= 0 else self.holder(it)].append(first + it.to)
+        return found
+
     def found_owners(self) -> dict[int, tuple[int, str]]:
         """By memory: the object that owns it and by what, over pointers that can own, the nearest first."""
         behind, found, todo = collections.defaultdict(list), {}, collections.deque()
@@ -79,18 +87,16 @@ class Memories:
         if by_owners:
             for memory, (number, _) in self.owners.items():
                 leads[number].append(self.node_of_memory(memory))
-        else:
-            for link in self.record.links:
-                leads[self.node_of(link)].append(self.node_of_memory(link.to))
+        pointed_to = {} if by_owners else self.pointed_to
         todo = [0, *(number for number, it in zip(self.numbers, self.counts) if number and it.owners_nowhere)]
         found = set(todo)
         while todo:
             node = todo.pop()
-            to = leads.get(node, [])
+            to = [*leads.get(node, ()), *pointed_to.get(node, ())]
             for number in perhaps.get(node, ()):
                 enough[number] -= 1
                 if enough[number] < 0:
-                    to = [*to, number]
+                    to.append(number)
             for it in to:
                 if it not in found:
                     found.add(it)
@@ -103,8 +109,8 @@ class Memories:
         own."""
         return len(self.numbers) + 1 + memory
 
-    def node_of(self, it: Handle | Link) -> int:
-        """What something is a part of."""
+    def node_of(self, it: Handle) -> int:
+        """What a handle is a part of."""
         return self.node_of_memory(it.memory) if it.memory >= 0 else self.holder(it)
 
     def owner_of(self, it: Handle) -> tuple[int, str] | None:

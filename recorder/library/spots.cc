@@ -4,7 +4,7 @@
 
 namespace recorder {
 
-Spots::Spots(const Snapshot& all) : all(all) {
+Spots::Spots(const Snapshot& all) : all(all), makers(all.chunks.size()), is_asked(all.chunks.size()) {
   std::map<std::tuple<int, bool, Word, const char*, const char*, const char*, const Trace*>, int> known;
   for (std::size_t block = 0; block < all.blocks.size(); block++) {
     auto& it = all.blocks[block];
@@ -24,6 +24,12 @@ Spot::Kind kind_of(const Area& area) {
 }
 
 }  // namespace
+
+const Maker& Spots::maker_of(int chunk) {
+  if (!is_asked[chunk]) makers[chunk] = all.maker_of(chunk);
+  is_asked[chunk] = true;
+  return makers[chunk];
+}
 
 Row Spots::row_of(Word at, bool is_of_handle) {
   int chunk = all.object_of(at) < 0 ? all.chunk_of(at) : -1;
@@ -51,7 +57,7 @@ Row Spots::row_of(Word at, bool is_of_handle) {
     auto& it = all.chunks[chunk];
     row.memory = it.memory;
     spot.is_uncertain = it.memory >= 0;
-    spot.maker = all.maker_of(chunk);
+    spot.maker = maker_of(chunk);
     if (origin != at || spot.is_uncertain) spot.inner = static_cast<std::ptrdiff_t>(inner);
     if (it.is_vector && !spot.maker.tells_of_bytes()) row.byte = spot.inner, spot.inner = 0;
   }

@@ -55,9 +55,13 @@ public:
   std::vector<Spot> spots;
 
 private:
+  const Maker& maker_of(int chunk);
+
   const Snapshot& all;
   std::vector<int> making_by_block;
   std::map<Spot, int> number_of;
+  std::vector<Maker> makers;  // by chunk, as far as was asked
+  std::vector<bool> is_asked;
 };
 
 }  // namespace recorder
