@@ -8,7 +8,18 @@ import tempfile
 from argparse import Namespace
 from pathlib import Path
 
-from recorder import drawing, hook_headers, library, options, program, proved, report, suppressions, verdicts
+from recorder import (
+    drawing,
+    hook_headers,
+    library,
+    options,
+    program,
+    proved,
+    report,
+    report_data,
+    suppressions,
+    verdicts,
+)
 from recorder.receiving import Receiver
 from recorder.record_text import read
 
@@ -86,7 +97,7 @@ class Reports:
 
     def keep(self, findings: verdicts.Findings, path: Path):
         if self.asked.json:
-            self.as_json.append(report.as_json(findings))
+            self.as_json.append(report_data.as_json(findings))
         if self.asked.dot:
             Path(self.asked.dot).write_text(drawing.dot(findings))
         if self.asked.keep:
@@ -168,7 +179,7 @@ def run_and_tell(asked: Namespace, path: str, suppressed: list) -> int:
         if not it.is_used and not asked.quiet:
             reports.say(f"record: nothing was left that {it.pattern} suppresses")
     if asked.json:
-        report.write_json(asked.json, reports.as_json, reports.refused)
+        report_data.write_json(asked.json, reports.as_json, reports.refused)
     return reports.status(status)
 
 

@@ -1,12 +1,10 @@
 """The report in words, and the same for other programs."""
 import collections
-import json
 import re
 import shutil
 from collections.abc import Iterator
 
 from recorder import owner_graph, verdicts
-from recorder.options import VERSION
 from recorder.owner_graph import Knot
 from recorder.type_names import declared_type, short
 from recorder.verdicts import Findings
@@ -225,73 +223,6 @@ def doubt_lines(findings):
         yield "record: it loads no libstdc++; what it starts is told with --children"
 
 
-def objects_as_json(findings):
-    def verdict(number):
-        for name, of in (
-            ("reached", findings.reached),
-            ("undecided", findings.undecided),
-            ("lost", findings.answer.lost),
-        ):
-            if number in of:
-                return name
-        return findings.answer.verdicts[number]
-
-    return [
-        {
-            "number": number,
-            "type": short(block.making.name),
-            "made": block.making.made,
-            "stack": block.making.stack,
-            "bytes": block.making.size,
-            "verdict": verdict(number),
-            "reached_from": findings.reached.get(number),
-            "suppressed": findings.suppressed.get(number),
-            "owners": block.uses,
-            "weaks": block.weaks - 1,
-        }
-        for number, block in enumerate(findings.blocks, 1)
-    ]
-
-
-def handles_as_json(handles):
-    return [{"from": a, "to": b, "member": label} for a, b, label in handles]
-
-
-def knots_as_json(findings):
-    return [
-        {
-            "objects": knot.objects,
-            "ties": handles_as_json(knot.ties),
-            "weaken": [list(it) for it in verdicts.ordered_weakens(knot)],
-            "change": [
-                [change_text(findings, knot, it) for it in labels]
-                for labels in verdicts.ordered_weakens(knot)
-            ],
-            "owned_by_another": knot.is_owned,
-            "reached": knot.objects[0] in findings.reached,
-        }
-        for knot in findings.answer.knots
-    ]
-
-
-def as_json(findings: Findings) -> dict:
-    """All of a report as plain data."""
-    return {
-        "when": findings.record.when,
-        "how": findings.record.how,
-        "left": len(findings.blocks),
-        "leaked": len(findings.alarming),
-        "leaked_bytes": sum(findings.blocks[it - 1].making.size for it in findings.alarming),
-        "undecided": len(findings.undecided),
-        "counts": {"blocks": len(findings.record.blocks), "met": findings.met},
-        "objects": objects_as_json(findings),
-        "owners": handles_as_json(findings.graph.owners),
-        "weak": handles_as_json(findings.graph.weaks),
-        "roots": [{"to": to, "from": label} for to, label in findings.graph.roots],
-        "knots": knots_as_json(findings),
-    }
-
-
 def map_text(findings: Findings) -> str:
     """What each number of the graph is in the program: its type, the place of its making, its control
     block."""
@@ -300,9 +231,3 @@ def map_text(findings: Findings) -> str:
         for number, it in enumerate(findings.blocks, 1)
     )
     return "".join(f"{line}\n" for line in lines)
-
-
-def write_json(path: str, reports: list[dict], refused: list[str]):
-    with open(path, "w") as file:
-        json.dump({"version": VERSION, "reports": reports, "refused": refused}, file, indent=1)
-        file.write("\n")
