@@ -107,16 +107,16 @@ def main(program, *words):
     asked = asked_by(options, files, given)
     if command == "owners":
         asked.finders = graphs.FINDERS
-    told = explanation(refusal, asked) if ran.returncode == 1 else []
-    told += meanings(ran.stdout) if watched else []
+    lines = explanation(refusal, asked) if ran.returncode == 1 else []
+    lines += meanings(ran.stdout) if watched else []
     if explains and command == "left" and ran.returncode != 1:
-        told += made.of_blocks(program, [f"{name}={value}" for name, value in options.items()], asked.script)
-        told += uncut(ran.stdout)
+        lines += made.of_blocks(program, [f"{name}={value}" for name, value in options.items()], asked.script)
+        lines += uncut(ran.stdout)
     if command in WITHOUT_TURNS and set(TURNS) & set(options):
-        told.append(f"{command} takes no turns; step, fine, left and draw do")
+        lines.append(f"{command} takes no turns; step, fine, left and draw do")
     if command not in COMMANDS and pathlib.Path(command).is_file():
-        told.append(f"{command} is a file, and a command stands before it: step {command}")
-    for line in told:
+        lines.append(f"{command} is a file, and a command stands before it: step {command}")
+    for line in lines:
         print(line, file=sys.stderr)
     return ran.returncode if ran.returncode >= 0 else 128 - ran.returncode
 

@@ -41,12 +41,12 @@ def differences(**pairs):
 def json_tells_all():
     with tempfile.TemporaryDirectory() as folder:
         ran = record("--json", f"{folder}/report", built(folder, "raw_pointer"))
-        (told,) = json.loads(Path(folder, "report").read_text())["reports"]
-    verdicts = [(it["type"], it["verdict"], it["reached_from"]) for it in told["objects"]]
+        (report,) = json.loads(Path(folder, "report").read_text())["reports"]
+    verdicts = [(it["type"], it["verdict"], it["reached_from"]) for it in report["objects"]]
     nodes = [("Node", "reached", "last_seen")] * 2 + [("Node", "reached", "never_freed")]
-    knots = [(it["objects"], it["weaken"], it["reached"]) for it in told["knots"]]
+    knots = [(it["objects"], it["weaken"], it["reached"]) for it in report["knots"]]
     wanted = [([1, 2], [["Node::next"]], True), ([3], [["Node::next"]], True)]
-    counts = (told["left"], told["leaked"], told["counts"])
+    counts = (report["left"], report["leaked"], report["counts"])
     return differences(
         status=(ran.returncode, 0),
         verdicts=(verdicts, nodes),
@@ -111,11 +111,11 @@ def a_signal_to_it_is_the_programs():
         with subprocess.Popen(words, stdout=subprocess.PIPE, stderr=subprocess.PIPE, text=True) as process:
             process.stdout.readline()
             process.terminate()
-            told = process.communicate(timeout=30)[1]
+            report = process.communicate(timeout=30)[1]
     wanted = ["record: the program was ended by SIGTERM: no destructor has run"]
     wanted += ["record: 0 objects that shared pointers own are left, 0 leaked"]
     return differences(
-        told=(told.splitlines()[:2], wanted), status=(process.returncode, 128 + signal.SIGTERM)
+        report=(report.splitlines()[:2], wanted), status=(process.returncode, 128 + signal.SIGTERM)
     )
 
 

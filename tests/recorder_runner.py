@@ -191,7 +191,7 @@ def missing_tools():
     return sorted({package for tool, package in needed.items() if not shutil.which(tool)})
 
 
-def told(test):
+def passes(test) -> bool:
     title, check = test
     try:
         wrong = check()
@@ -213,7 +213,7 @@ def main(words):
         hooks(compiler)  # (builds the library once)
     names = [it for it in words if it != "--all"]
     with ThreadPoolExecutor(len(os.sched_getaffinity(0))) as pool:
-        results = list(pool.map(told, tests(names, "--all" in words)))
+        results = list(pool.map(passes, tests(names, "--all" in words)))
     print(f"{sum(results)} passed, {len(results) - sum(results)} failed")
     return 0 if all(results) else 1
 
