@@ -18,6 +18,8 @@ pub mod Stepping
 pub mod Worlds
 pub mod Starting
 pub mod Census
+pub mod CallCounts
+pub mod UnderWay
 pub mod Between
 pub mod Fields
 pub mod Targets

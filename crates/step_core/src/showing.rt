@@ -1,22 +1,22 @@
 //! What a world shows between any two steps.
-ghost use Rattle.std.specs.Prelude.{◌≡◌, ◌≤◌, ◌<◌, ◌-◌, false, is_some, length, slice_index};
+ghost use Rattle.std.specs.Prelude.{◌≡◌, ◌≤◌, ◌<◌, ◌+◌, ◌-◌, is_some, length, slice_index};
 ghost use Rattle.std.specs.List.{list_any};
 ghost use Rattle.control_word.specs.Layout.{spot};
 ghost use Rattle.control_word.specs.Packing.{number_of};
 ghost use Rattle.step_table.specs.Registers.{slot_pointer};
 ghost use Rattle.step_table.specs.GhostStates.{model_state};
-ghost use Rattle.step_threads.specs.declared.pending_call.PendingCall.TheVariants.{Rest};
 ghost use Rattle.step_threads.specs.Frames.{hand, todo};
 ghost use Rattle.step_threads.specs.Endings.{first_of};
 ghost use Rattle.step_threads.specs.AbstractStates.{frame_of};
 ghost use Rattle.step_core.specs.WorldStates.{pending_call_of, abstraction};
-ghost use Rattle.step_core.specs.Showing.{HasNoneBegun, counts_by, ends_in, first_act, is_ending_in};
+ghost use Rattle.step_core.specs.Showing.{counts_by, ends_in, first_act, is_ending_in, is_load_on, is_make_in, is_on_block};
+ghost use Rattle.step_core.specs.Showing.{loads_on, makes_in};
 ghost use Rattle.step_core.specs.Totals.{census_of};
 
 use crate::world::World;
 use control_word::packed::counts::unpack_count;
 use control_word::packed::layout::{OWNERS, WEAKS};
-use control_word::{Block, Counts, Handle};
+use control_word::{Block, CellWord, Counts, Handle};
 use step_table::cell_steps::refill::Stage;
 use step_threads::frame::Frame;
 use step_threads::pending_call::PendingCall;
@@ -26,21 +26,18 @@ use step_threads::thread::Thread;
 
 impl World {
     /// How many owners and weak handles the object in a block has ([util.smartptr.shared.obs], and own), wherever they
-    /// are; none where the block is vacant. The weak handle that its owners have in common is not counted. What loads
-    /// under way took is counted. Condition: the block is one of the shape's, from 1.
+    /// are; none where the block is vacant. The weak handle that its owners have in common is not counted. Between any
+    /// two steps these are the handles that the history gives: what loads under way took is counted, and what a make
+    /// has put into a vacant block is not. Condition: the block is one of the shape's, from 1.
     pub fn counts(&self, block: Block) -> Option<Counts>
         requires some { 0 < block.0 }
         requires within { block.0 ≤ self.now.ghost_state.extent.shape.blocks }
-        ensures { HasNoneBegun self.now → result ≡ census_of (model_state self.now.ghost_state) block.0 }
+        ensures { result ≡ census_of (model_state self.now.ghost_state) block.0 }
     {
         self.table.known();
-        let number = self.number(block, WEAKS);
-        if number == 0 {
-            return None;
-        }
         let owners = more(self.number(block, OWNERS), self.loads(block, Kind::Owner));
-        let weaks = more(number, self.loads(block, Kind::Weak));
-        counted(owners, settled(weaks, self.makes(block)), self.ends(block))
+        let weaks = more(self.number(block, WEAKS), self.loads(block, Kind::Weak));
+        counted(owners, less(weaks, self.makes(block)), self.ends(block))
     }
 
     /// The number in a count's word.
@@ -55,20 +52,19 @@ impl World {
 
     /// How many loads of handles of this kind on a block are under way, which aren't in its number yet.
     fn loads(&self, block: Block, kind: Kind) -> u32
-        ensures { HasNoneBegun self.now → result ≡ 0 }
+        requires { length self.now.pending_calls ≤ 64 }
+        ensures { result ≡ loads_on (model_state self.now.ghost_state) block.0 kind self.now.pending_calls }
     {
-        let mut loads = 0u32;
+        let mut loads = 0;
         for thread in &self.threads {
-            if self.is_load(thread.pending_call, block, kind) {
-                loads = loads.saturating_add(1);
-            }
+            loads += u32::from(self.is_load(thread.pending_call, block, kind));
         }
         loads
     }
 
     /// Whether what a thread has begun is a load of a handle of this kind on a block.
     fn is_load(&self, pending_call: PendingCall, block: Block, kind: Kind) -> bool
-        ensures { pending_call ≡ Rest → result ≡ false }
+        ensures { result ≡ is_load_on (model_state self.now.ghost_state) block.0 kind pending_call }
     {
         match pending_call {
             PendingCall::Refill {
@@ -76,21 +72,21 @@ impl World {
                 cell,
                 found,
                 ..
-            } => found.owned == Some(block) && self.table.kind_in(cell) == kind,
+            } => is_on(found, block) && self.table.kind_in(cell) == kind,
             _ => false,
         }
     }
 
-    /// Whether an object is being made in a block, whose weak number is 1 by then.
-    fn makes(&self, block: Block) -> bool
-        ensures { HasNoneBegun self.now → result ≡ false }
+    /// How many objects are being made in a block, each of which has put 1 into its weak number.
+    fn makes(&self, block: Block) -> u32
+        requires { length self.now.pending_calls ≤ 64 }
+        ensures { result ≡ makes_in block.0 self.now.pending_calls }
     {
+        let mut makes = 0;
         for thread in &self.threads {
-            if is_make(thread.pending_call, block) {
-                return true;
-            }
+            makes += u32::from(is_make(thread.pending_call, block));
         }
-        false
+        makes
     }
 
     /// Whether an object in a block ends in some thread's hands.
@@ -159,9 +155,19 @@ fn end_in(threads: &[Thread], block: Block) -> bool
     threads.iter().any(|thread| thread.frame.endings.has(block))
 }
 
+/// Whether what a cell holds is a handle on a block.
+fn is_on(found: CellWord, block: Block) -> bool
+    ensures { result ≡ is_on_block block.0 found }
+{
+    match found.owned {
+        Some(owned) => owned == block,
+        None => false,
+    }
+}
+
 /// Whether what a thread has begun is a make in a block.
 fn is_make(pending_call: PendingCall, block: Block) -> bool
-    ensures { pending_call ≡ Rest → result ≡ false }
+    ensures { result ≡ is_make_in block.0 pending_call }
 {
     match pending_call {
         PendingCall::Making { block: made, .. } => made == block,
@@ -194,20 +200,17 @@ fn held_at(frame: &Frame, name: Name) -> Option<Handle>
 
 /// A number with the loads that aren't in it yet.
 fn more(number: u32, loads: u32) -> u32
-    ensures { loads ≡ 0 → result ≡ number }
+    requires { number + loads < 4294967296 }
+    ensures { result ≡ number + loads }
 {
-    number.saturating_add(loads)
+    number + loads
 }
 
-/// A number without what a make has put into it.
-fn settled(number: u32, makes: bool) -> u32
-    ensures { makes ≡ false → result ≡ number }
+/// A number without what makes have put into it.
+fn less(number: u32, makes: u32) -> u32
+    ensures { result ≡ number - makes }
 {
-    if makes {
-        number.saturating_sub(1)
-    } else {
-        number
-    }
+    number.saturating_sub(makes)
 }
 
 /// The counts of a block by its two numbers.

@@ -1,118 +1,107 @@
--- Where no thread is within an act, the counts of a block are exactly the handles on what is in it, also while an
--- object ends.
-use Rattle.std.proofs.Common.{◌≡◌, ◌≢◌, ℕ, zero, suc, ◌+◌, ◌-◌, ◌*◌, ◌<◌, ◌≤◌, ◌==◌, ◌||◌, Bool, true, false, cond, List, [], ◌∷◌, length, map}
-use Rattle.std.proofs.Common.{get_or, refl, sym, ap, subst, ◌∙◌, inl, inr}
-use Rattle.std.proofs.Common.{◌⊎◌, ⊎_elim, arith, eq-eqb, ne_eqb}
+-- The counts of a block, with the loads under way and without what a make has added, are exactly the handles on what is
+-- in it, also while an object ends.
+use Rattle.std.proofs.Common.{◌≡◌, ◌≢◌, ℕ, zero, suc, ◌+◌, ◌-◌, ◌/◌, ◌<◌, ◌≤◌, ◌==◌, ◌||◌, Bool, true, false, cond, List, [], ◌∷◌, length, map}
+use Rattle.std.proofs.Common.{get_or, refl, sym, ap, subst, ◌∙◌}
+use Rattle.std.proofs.Common.{◌⊎◌, ⊎_elim, inl, inr, arith, eq-eqb, ne_eqb}
 use Rattle.std.specs.Prelude.{All, Option, Some, None, nat_lt, slice_get, slice_index}
 use Rattle.std.specs.List.{list_any}
-use Rattle.std.proofs.lemmas.Bool.{cases_eq, cond-true, cond-false, eqb-true, lt-ltb, true≢false}
+use Rattle.std.proofs.lemmas.Bool.{cases_eq, cases_lt, cond-true, cond-false, eqb-true, lt-ltb}
 use Rattle.std.proofs.lemmas.List.{length-map}
 use Rattle.std.proofs.lemmas.List.Elements.{All-head, All-tail}
-use mathlib.Core.Option.{some}
-use lib.ListN.{get_elem?}
-use Rattle.control_word.proofs.history.Allowances.{opened}
 use Rattle.control_word.proofs.history.Legal.{sound}
-use Rattle.control_word.proofs.history.Soundness.{OwnersFit, Sound}
-use Rattle.control_word.proofs.words.Frames.{total_none}
-use Rattle.control_word.proofs.words.Rooms.{number_room}
-use Rattle.control_word.specs.Histories.{leads}
+use Rattle.control_word.proofs.history.Soundness.{IsBusy, OwnersFit, Sound}
+use Rattle.control_word.proofs.words.Counting.{more_counts, number, number_tally}
+use Rattle.control_word.proofs.words.Rooms.{halves, number_room, owed_few}
 use Rattle.control_word.specs.Layout.{spot}
 use Rattle.control_word.specs.Packing.{number_of}
 use Rattle.control_word.specs.State.{InShape, Opening, Phase, State, common, count, ending, gone, live, unmade, weak, weak_number}
-use Rattle.control_word.specs.Views.{Stands, added, adds, owed, owes, paid, pays}
-use Rattle.control_word.specs.Words.{bank, block_words}
-use Rattle.control_word.specs.declared.model.event.Entry.{Entry}
+use Rattle.control_word.specs.Views.{added, owed}
+use Rattle.control_word.specs.Words.{blocks_of, counts_at, slot}
+use Rattle.control_word.specs.declared.model.handle.Kind.{Kind}
 use Rattle.control_word.specs.declared.model.handle.Kind.TheVariants.{Owner, Weak}
-use Rattle.control_word.specs.declared.model.view.Pending.{Pending}
-use Rattle.control_word.specs.declared.model.view.Pending.TheVariants.{Idle}
-use Rattle.control_word.specs.declared.model.view.View.{View}
 use Rattle.control_word.specs.declared.packed.counts.Counts.{Counts}
 use Rattle.step_table.specs.Openings.{opening}
-use Rattle.step_table.specs.GhostStates.{TableInvariant, Nothing, GhostState, pending, model_state}
+use Rattle.step_table.specs.GhostStates.{TableInvariant, GhostState, model_state}
+use Rattle.step_table.proofs.tables.Places.{there}
 use Rattle.step_threads.specs.declared.ending.Ending.{Ending}
-use Rattle.step_threads.specs.declared.pending_call.PendingCall.{PendingCall}
-use Rattle.step_threads.specs.declared.pending_call.PendingCall.TheVariants.{Rest}
 use Rattle.step_threads.specs.declared.thread.Thread.{Thread}
-use Rattle.step_threads.specs.Actors.{PendingCallFits}
-use Rattle.step_threads.specs.Frames.{FrameView, task_at}
+use Rattle.step_threads.specs.Frames.{FrameView}
 use Rattle.step_threads.specs.Endings.{IsEndingAtStage, endings_in_block}
 use Rattle.step_threads.specs.AbstractStates.{nowhere}
 use Rattle.step_threads.proofs.holding.Ends.{one_more}
-use Rattle.step_core.specs.Showing.{HasNoneBegun, counts_by, ends_in, is_ending_in}
+use Rattle.step_core.specs.Showing.{counts_by, ends_in, is_ending_in, loads_on, makes_in}
 use Rattle.step_core.specs.Told.{TotalsAreTold, world_state}
 use Rattle.step_core.specs.Totals.{census_of}
-use Rattle.step_core.specs.Worlds.{AllFit, WorldState, pending_call_of, thread_frame}
-use Rattle.step_core.proofs.Worlds.{thread_at}
-use Rattle.step_core.proofs.telling.Census.{at_thread, at_view, pending_call_at}
+use Rattle.step_core.specs.Worlds.{AllFit, WorldState, thread_frame, thread_pending}
+use Rattle.step_core.proofs.telling.UnderWay.{added_few, added_makes, added_none, owed_loads, owed_none}
 
--- ---- words where no call is half done
+-- ---- a block's two numbers, with what calls under way owe them
 
-module _ (z : Opening) (words : List ℕ) (views : List (View Nothing)) (h : List (Entry Nothing)) (stands : Stands z words views h)
-    (idle : (i : ℕ) (w : View Nothing) → get_elem? views i ≡ some w → w.pending ≡ Idle) (b : ℕ) (inside : InShape z b) where
-  idle_word : (k : ℕ) → k < 2 → get_or words (spot b k) 0 ≡ get_or (block_words (leads z h) b) k 0 + 4294967296 * bank z (leads z h) stands.taken
-      (spot b k)
-  idle_word k low =
-      let t0 : owed views (spot b k) ≡ 0 =
-      total_none (λ (v : View Nothing). owes v.pending (spot b k)) views (λ i v e. ap (λ (q : Pending Nothing). owes q (spot b k)) (idle i v e)) in
-      let t1 : added views (spot b k) ≡ 0 =
-      total_none (λ (v : View Nothing). adds v.pending (spot b k)) views (λ i v e. ap (λ (q : Pending Nothing). adds q (spot b k)) (idle i v e)) in
-      let t2 : paid views (spot b k) ≡ 0 =
-      total_none (λ (v : View Nothing). pays v.pending (spot b k)) views (λ i v e. ap (λ (q : Pending Nothing). pays q (spot b k)) (idle i v e)) in
-      let u = stands.blank b k inside (omega arith) in
-      ⊎_elim (λ l. absurd (let l0 = l.0 in omega arith)) (λ e. omega arith) (stands.shows.blocks b k inside (omega arith))
-
-  number_read : (n f : ℕ) → n < 4294967296 → number_of (n + 4294967296 * f) ≡ n
-  number_read n f lt = omega arith
-
-  pub idle_exact : (number_of (slice_index words (spot b 0)) ≡ count (leads z h) ((leads z h).latest b))
-      × (number_of (slice_index words (spot b 1)) ≡ weak_number (leads z h) ((leads z h).latest b))
-  idle_exact =
-      let s = leads z h in
+module _ (v : GhostState) (threads : List Thread) (b : ℕ) (fit : AllFit v threads) (kept : TableInvariant v)
+    (size : length threads ≡ v.extent.actors) (inside : InShape (opening v.extent) b) where
+  -- where the block has an object with handles
+  word_busy : (k : Kind) → let s = model_state v in IsBusy s (s.latest b)
+      → number_of (slice_index v.words (spot b (slot k))) + owed v.views (spot b (slot k)) ≡ number s k (s.latest b) + added v.views (spot b (slot k))
+  word_busy k busy =
+      let s = model_state v in
       let o = s.latest b in
-      let limits = (opened z h stands.legal).limits in
-      let l0 = limits.0 in let l1 = limits.1 in let l2 = limits.2 in
-      let few = number_room z h stands.legal Owner o in
-      let weak-few = number_room z h stands.legal Weak o in (
-        ap number_of (idle_word 0 (omega arith)) ∙ number_read (count s o) (bank z s stands.taken (spot b 0)) (omega arith),
-        ap number_of (idle_word 1 (omega arith)) ∙ number_read (weak_number s o) (bank z s stands.taken (spot b 1)) (omega arith),
-      )
+      let i = counts_at (blocks_of s) k o in
+      let w = get_or v.words i 0 in
+      let x = halves (opening v.extent) v.words v.views v.history kept.stands k o busy (number_of w) (w / 4294967296) (omega arith) (omega arith) in
+      let low = x.0 in
+      let few = owed_few (opening v.extent) v.words v.views v.history kept.stands k o busy in
+      let t = number_tally s k o in
+      let m = more_counts (opening v.extent) v.words v.views v.history kept.stands k o busy in
+      subst (λ (c : ℕ). number_of (get_or v.words (spot c (slot k)) 0) + owed v.views (spot c (slot k)) ≡ number s k o + added v.views (spot c (slot k)))
+      (there v (record { 0 = b }) kept busy).0 (omega (arith, low, few, t, m))
 
--- ---- threads that have begun nothing
+  -- where it is vacant: an object may be on its way into it
+  word_rest : (k : Kind) → let s = model_state v in (IsBusy s (s.latest b) → ⊥)
+      → number_of (slice_index v.words (spot b (slot k))) + owed v.views (spot b (slot k)) ≡ number s k (s.latest b) + added v.views (spot b (slot k))
+  word_rest Owner rest =
+      let none = added_none v threads b fit kept size inside.0 in
+      let owes = owed_none v threads b fit kept size inside.0 Owner rest in
+      let room = number_room (opening v.extent) v.history kept.stands.legal Owner ((model_state v).latest b) in
+      let u = kept.stands.blank b 0 inside (omega arith) in
+      ⊎_elim (λ l. absurd (let l0 = l.0 in omega arith)) (λ e. omega (arith, e, none, owes, room, u)) (kept.stands.shows.blocks b 0 inside (omega arith))
+  word_rest Weak rest =
+      let few = added_few v threads b fit kept size inside.0 in
+      let owes = owed_none v threads b fit kept size inside.0 Weak rest in
+      let room = number_room (opening v.extent) v.history kept.stands.legal Weak ((model_state v).latest b) in
+      let u = kept.stands.blank b 1 inside (omega arith) in
+      ⊎_elim (λ l. absurd (let l0 = l.0 in omega arith)) (λ e. omega (arith, e, few, owes, room, u)) (kept.stands.shows.blocks b 1 inside (omega arith))
 
--- such a thread's desk has no call half done
-pub rest_at : (u : WorldState) (v : GhostState) (threads : List Thread) (i : ℕ) (t : Thread) → world_state v threads ≡ u → slice_get threads i ≡ Some t →
-    HasNoneBegun u
-    → t.pending_call ≡ Rest
-rest_at u v threads i t is at none =
-    sym (pending_call_at threads i t at) ∙ ap (λ (x : WorldState). pending_call_of x i) is ∙ none i
+  word_is : (k : Kind) → let s = model_state v in
+      number_of (slice_index v.words (spot b (slot k))) + owed v.views (spot b (slot k)) ≡ number s k (s.latest b) + added v.views (spot b (slot k))
+  word_is k =
+      let s = model_state v in
+      ⊎_elim (λ (e : 0 < weak_number s (s.latest b)). word_busy k e) (λ (n : weak_number s (s.latest b) ≤ 0). word_rest k (λ busy. omega (arith, busy, n)))
+      (cases_lt 0 (weak_number s (s.latest b)))
 
--- the same of a thread that was read in order
-pub rest_read : (u : WorldState) (v : GhostState) (threads items : List Thread) (i : ℕ) (t : Thread) → world_state v threads ≡ u → items ≡ threads → i < length
-    items
-    → t ≡ get_or items i t → HasNoneBegun u → t.pending_call ≡ Rest
-rest_read u v threads items i t is all lt read none =
-    rest_at u v threads i t is
-    (subst (λ (l : List Thread). slice_get l i ≡ Some t) all (thread_at items i t lt read)) none
+  -- the owners and the weak handles are those in the numbers and those of loads under way
+  pub owners_are : number_of (slice_index v.words (spot b 0)) + loads_on (model_state v) b Owner (map thread_pending threads)
+      ≡ count (model_state v) ((model_state v).latest b)
+  owners_are =
+      let e = word_is Owner in
+      let owes = owed_loads v threads b fit kept size inside.0 Owner in
+      let none = added_none v threads b fit kept size inside.0 in omega (arith, e, owes, none)
 
--- a load or a make is none of it
-pub none_of : (h : PendingCall) (found : Bool) → (h ≡ Rest → found ≡ false) → h ≡ Rest → found ≡ true → ⊥
-none_of h found none is e = true≢false (sym e ∙ none is)
+  pub weaks_are : number_of (slice_index v.words (spot b 1)) + loads_on (model_state v) b Weak (map thread_pending threads)
+      ≡ weak_number (model_state v) ((model_state v).latest b) + makes_in b (map thread_pending threads)
+  weaks_are =
+      let e = word_is Weak in
+      let owes = owed_loads v threads b fit kept size inside.0 Weak in
+      let makes = added_makes v threads b fit kept size inside.0 in omega (arith, e, owes, makes)
 
-idle_at : (u : WorldState) (v : GhostState) (threads : List Thread) (d : ℕ) → world_state v threads ≡ u → AllFit v threads → HasNoneBegun u → d < length threads
-    → pending v d ≡ Idle
-idle_at u v threads d is fit none lt =
-    let t = at_thread threads d lt in
-    subst (λ (x : PendingCall). PendingCallFits d x t.0.frame.registers.slots.items (task_at t.0.frame).act v) (rest_at u v threads d t.0 is t.1 none)
-    (fit.each d t.0 t.1).pending_call
+  -- they stay within a count's range
+  pub owners_few : count (model_state v) ((model_state v).latest b) ≤ 4325630
+  owners_few = number_room (opening v.extent) v.history kept.stands.legal Owner ((model_state v).latest b)
 
-all_idle : (u : WorldState) (v : GhostState) (threads : List Thread) (m e : ℕ) → world_state v threads ≡ u → AllFit v threads → TotalsAreTold
-    (world_state v threads) m e
-    → TableInvariant v → HasNoneBegun u → (i : ℕ) (w : View Nothing) → get_elem? v.views i ≡ some w → w.pending ≡ Idle
-all_idle u v threads m e is fit told kept none i w at =
-    let r = at_view v.views i w at in
-    let lt : i < length threads =
-    (let l = r.0 in let size = kept.seats.size in let n = told.threads in let k = length-map threads thread_frame in omega (arith, l, size, n, k)) in
-    ap (λ (z : View Nothing). z.pending) (sym r.1) ∙ idle_at u v threads i is fit none lt
+  pub weaks_few : weak_number (model_state v) ((model_state v).latest b) + makes_in b (map thread_pending threads) ≤ 4325694
+  weaks_few =
+      let room = number_room (opening v.extent) v.history kept.stands.legal Weak ((model_state v).latest b) in
+      let few = added_few v threads b fit kept size inside.0 in
+      let makes = added_makes v threads b fit kept size inside.0 in omega (arith, room, few, makes)
 
 -- ---- objects that end
 
@@ -202,15 +191,12 @@ abbrev told_as : ℕ → ℕ → Option Counts
 told_as owners weaks = Some (record { owners = owners; weaks = weaks })
 
 module _ (v : GhostState) (threads : List Thread) (m e b : ℕ) (fit : AllFit v threads) (told : TotalsAreTold (world_state v threads) m e)
-    (kept : TableInvariant v) (none : HasNoneBegun (world_state v threads)) (inside : InShape (opening v.extent) b) where
+    (kept : TableInvariant v) (inside : InShape (opening v.extent) b) where
   fine : Sound (opening v.extent) (model_state v)
   fine = sound (opening v.extent) v.history kept.stands.legal
 
-  exact : (number_of (slice_index v.words (spot b 0)) ≡ count (model_state v) ((model_state v).latest b))
-      × (number_of (slice_index v.words (spot b 1)) ≡ weak_number (model_state v) ((model_state v).latest b))
-  exact =
-      idle_exact (opening v.extent) v.words v.views v.history kept.stands
-      (all_idle (world_state v threads) v threads m e refl fit told kept none) b inside
+  pub all_seated : length threads ≡ v.extent.actors
+  all_seated = sym (length-map threads thread_frame) ∙ told.threads
 
   ends_told : (d : ℕ) → ((model_state v).object ((model_state v).latest b)).phase ≡ ending d → ends_in b (map thread_frame threads) ≡ true
   ends_told d p =
@@ -230,26 +216,24 @@ module _ (v : GhostState) (threads : List Thread) (m e b : ℕ) (fit : AllFit v 
       let o = s.latest b in
       shared (s.object o).phase (count s o) (ends_in b (map thread_frame threads)) (fine.owners o) ends_told told_ends
 
-  counts_are : (owners number : ℕ) (ends : Bool) → owners ≡ number_of (slice_index v.words (spot b 0))
-      → number ≡ number_of (slice_index v.words (spot b 1)) → ends ≡ ends_in b (map thread_frame threads)
+  counts_are : (owners number : ℕ) (ends : Bool)
+      → owners ≡ number_of (slice_index v.words (spot b 0)) + loads_on (model_state v) b Owner (map thread_pending threads)
+      → number ≡ number_of (slice_index v.words (spot b 1)) + loads_on (model_state v) b Weak (map thread_pending threads)
+      - makes_in b (map thread_pending threads)
+      → ends ≡ ends_in b (map thread_frame threads)
       → counts_by owners number ends ≡ census_of (model_state v) b
   counts_are owners number ends read read' is =
       let s = model_state v in
       let o = s.latest b in
-      let p : owners ≡ count s o = read ∙ exact.0 in
-      let q : number ≡ weak s o + common (s.object o).phase = read' ∙ exact.1 in
+      let weaks = weaks_are v threads b fit kept all_seated inside in
+      let p : owners ≡ count s o = read ∙ owners_are v threads b fit kept all_seated inside in
+      let q : number ≡ weak s o + common (s.object o).phase = omega (arith, read', weaks) in
       let t : ◌≡◌ {A = ℕ} (cond (nat_lt 0 owners || ends) 1 0) (common (s.object o).phase) =
       ap (λ (n : ℕ). cond (nat_lt 0 n || ends) 1 0) p
       ∙ ap (λ (x : Bool). cond (nat_lt 0 (count s o) || x) 1 0) is ∙ common_is in
       let w : number - cond (nat_lt 0 owners || ends) 1 0 ≡ weak s o = omega (arith, q, t) in
       ap (λ (n : ℕ). cond (n == 0) None (told_as owners (number - cond (nat_lt 0 owners || ends) 1 0))) q
       ∙ ap (λ (n : ℕ). cond (weak_number s o == 0) None (told_as owners n)) w ∙ ap (λ (n : ℕ). cond (weak_number s o == 0) None (told_as n (weak s o))) p
-
-  none_there : number_of (slice_index v.words (spot b 1)) ≡ 0 → ◌≡◌ {A = Option Counts} None (census_of (model_state v) b)
-  none_there z =
-      sym (cond-true (weak_number (model_state v) ((model_state v).latest b) == 0) None
-      (told_as (count (model_state v) ((model_state v).latest b)) (weak (model_state v) ((model_state v).latest b)))
-      (eq-eqb (weak_number (model_state v) ((model_state v).latest b)) 0 (sym exact.1 ∙ z)))
 
 -- the same of what is seen of a world
 pub record Shown (u : WorldState) (v : GhostState) (threads : List Thread) (m e b : ℕ) : Type 0 where
@@ -260,24 +244,38 @@ pub record Shown (u : WorldState) (v : GhostState) (threads : List Thread) (m e 
   pub some : 0 < b
   pub within : b ≤ u.ghost_state.extent.shape.blocks
 
-pub counts_now : (u : WorldState) (v : GhostState) (threads : List Thread) (m e b owners number : ℕ) (ends : Bool) (r : Option Counts)
-    → Shown u v threads m e b → HasNoneBegun u → owners ≡ number_of (slice_index u.ghost_state.words (spot b 0))
-    → number ≡ number_of (slice_index u.ghost_state.words (spot b 1)) → ends ≡ ends_in b u.frame_views → r ≡ counts_by owners number ends
-    → r ≡ census_of (model_state u.ghost_state) b
-counts_now u v threads m e b owners number ends r shown none read read' is answer =
-    let back : u ≡ world_state v threads = sym shown.is in
-    answer
-    ∙ counts_are v threads m e b shown.fit shown.told shown.kept (subst HasNoneBegun back none)
-    (shown.some, subst (λ (x : WorldState). b ≤ x.ghost_state.extent.shape.blocks) back shown.within) owners number ends
-    (read ∙ ap (λ (x : WorldState). number_of (slice_index x.ghost_state.words (spot b 0))) back)
-    (read' ∙ ap (λ (x : WorldState). number_of (slice_index x.ghost_state.words (spot b 1))) back) (is ∙ ap (λ (x : WorldState). ends_in b x.frame_views) back)
-    ∙ ap (λ (x : WorldState). census_of (model_state x.ghost_state) b) shown.is
+-- what is said of a block in the table is said of the world's block
+seen_block : (P : WorldState → Type 0) (u : WorldState) (v : GhostState) (threads : List Thread) (m e b : ℕ) → Shown u v threads m e b
+    → (InShape (opening v.extent) b → P (world_state v threads)) → P u
+seen_block P u v threads m e b shown here =
+    subst P shown.is (here (shown.some, subst (λ (x : WorldState). b ≤ x.ghost_state.extent.shape.blocks) (sym shown.is) shown.within))
 
-pub none_now : (u : WorldState) (v : GhostState) (threads : List Thread) (m e b number : ℕ) → Shown u v threads m e b → HasNoneBegun u
-    → number ≡ number_of (slice_index u.ghost_state.words (spot b 1)) → number ≡ 0 → ◌≡◌ {A = Option Counts} None (census_of (model_state u.ghost_state) b)
-none_now u v threads m e b number shown none read z =
-    let back : u ≡ world_state v threads = sym shown.is in
-    none_there v threads m e b shown.fit shown.told shown.kept (subst HasNoneBegun back none)
-    (shown.some, subst (λ (x : WorldState). b ≤ x.ghost_state.extent.shape.blocks) back shown.within)
-    (sym (read ∙ ap (λ (x : WorldState). number_of (slice_index x.ghost_state.words (spot b 1))) back) ∙ z)
-    ∙ ap (λ (x : WorldState). census_of (model_state x.ghost_state) b) shown.is
+abbrev owners_at : WorldState → ℕ → ℕ
+owners_at u b = number_of (slice_index u.ghost_state.words (spot b 0)) + loads_on (model_state u.ghost_state) b Owner u.pending_calls
+
+abbrev weaks_at : WorldState → ℕ → ℕ
+weaks_at u b = number_of (slice_index u.ghost_state.words (spot b 1)) + loads_on (model_state u.ghost_state) b Weak u.pending_calls
+
+pub counts_now : (u : WorldState) (v : GhostState) (threads : List Thread) (m e b owners number : ℕ) (ends : Bool) (r : Option Counts)
+    → Shown u v threads m e b → owners ≡ owners_at u b → number ≡ weaks_at u b - makes_in b u.pending_calls → ends ≡ ends_in b u.frame_views
+    → r ≡ counts_by owners number ends → r ≡ census_of (model_state u.ghost_state) b
+counts_now u v threads m e b owners number ends r shown read read' is answer =
+    answer
+    ∙ seen_block (λ (x : WorldState). owners ≡ owners_at x b → number ≡ weaks_at x b - makes_in b x.pending_calls → ends ≡ ends_in b x.frame_views
+    → counts_by owners number ends ≡ census_of (model_state x.ghost_state) b) u v threads m e b shown
+    (λ inside. counts_are v threads m e b shown.fit shown.told shown.kept inside owners number ends) read read' is
+
+-- the sums are within range
+pub few_now : (u : WorldState) (v : GhostState) (threads : List Thread) (m e b : ℕ) → Shown u v threads m e b
+    → (length u.pending_calls ≤ 64) × (owners_at u b < 4294967296) × (weaks_at u b < 4294967296)
+few_now u v threads m e b shown =
+    seen_block (λ (x : WorldState). (length x.pending_calls ≤ 64) × (owners_at x b < 4294967296) × (weaks_at x b < 4294967296)) u v threads m e b shown
+    (λ inside.
+    let size = all_seated v threads m e b shown.fit shown.told shown.kept inside in
+    let many = length-map threads thread_pending in
+    let most = shown.kept.proper.few in
+    let owners = owners_are v threads b shown.fit shown.kept size inside in
+    let weaks = weaks_are v threads b shown.fit shown.kept size inside in
+    let few = owners_few v threads b shown.fit shown.kept size inside in
+    let few' = weaks_few v threads b shown.fit shown.kept size inside in
+    (omega (arith, many, most, size), omega (arith, owners, few), omega (arith, weaks, few')))

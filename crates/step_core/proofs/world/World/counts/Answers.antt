@@ -1,9 +1,15 @@
-use Rattle.std.proofs.Common.{◌∙◌}
-use Rattle.step_core.proofs.telling.Between.{Shown, counts_now, none_now}
+use Rattle.std.proofs.Common.{◌+◌, ◌-◌, ◌∙◌, ap, arith, ℕ}
+use Rattle.std.specs.Prelude.{slice_index}
+use Rattle.control_word.specs.Layout.{spot}
+use Rattle.control_word.specs.Packing.{number_of}
+use Rattle.control_word.specs.declared.model.handle.Kind.TheVariants.{Weak}
+use Rattle.step_table.specs.GhostStates.{model_state}
+use Rattle.step_core.specs.Showing.{loads_on}
+use Rattle.step_core.proofs.telling.Between.{Shown, counts_now, few_now}
 use Rattle.step_core.proofs.world.World.counts.Goals as goal
 
-pub returns-then-number-eq0 : goal.returns-then-number-eq0
-returns-then-number-eq0 c none =
+pub loads-requires : goal.loads-requires
+loads-requires c =
     let shown : Shown c.args.self.now c.self.inside.table c.self.inside.threads.items c.self.inside.made c.self.inside.ended c.args.block.0 =
     record {
       is = c.self.view_is;
@@ -13,11 +19,40 @@ returns-then-number-eq0 c none =
       some = c.requires.some;
       within = c.requires.within;
     } in
-    none_now c.args.self.now c.self.inside.table c.self.inside.threads.items c.self.inside.made c.self.inside.ended c.args.block.0
-    c.number-number.result shown none c.number-number.ensures c.if-number-eq0.true
+    (few_now c.args.self.now c.self.inside.table c.self.inside.threads.items c.self.inside.made c.self.inside.ended c.args.block.0 shown).0
+
+pub more-owners-requires : goal.more-owners-requires
+more-owners-requires c =
+    let shown : Shown c.args.self.now c.self.inside.table c.self.inside.threads.items c.self.inside.made c.self.inside.ended c.args.block.0 =
+    record {
+      is = c.self.view_is;
+      fit = c.self.invariant.0;
+      told = c.self.invariant.1;
+      kept = c.known.ensures;
+      some = c.requires.some;
+      within = c.requires.within;
+    } in
+    let few = (few_now c.args.self.now c.self.inside.table c.self.inside.threads.items c.self.inside.made c.self.inside.ended c.args.block.0 shown).1 in
+    let n = c.number.ensures in
+    let l = c.loads.ensures in omega (arith, few, n, l)
+
+pub more-weaks-requires : goal.more-weaks-requires
+more-weaks-requires c =
+    let shown : Shown c.args.self.now c.self.inside.table c.self.inside.threads.items c.self.inside.made c.self.inside.ended c.args.block.0 =
+    record {
+      is = c.self.view_is;
+      fit = c.self.invariant.0;
+      told = c.self.invariant.1;
+      kept = c.known.ensures;
+      some = c.requires.some;
+      within = c.requires.within;
+    } in
+    let few = (few_now c.args.self.now c.self.inside.table c.self.inside.threads.items c.self.inside.made c.self.inside.ended c.args.block.0 shown).2 in
+    let n = c.number-2.ensures in
+    let l = c.loads-2.ensures in omega (arith, few, n, l)
 
 pub returns : goal.returns
-returns c none =
+returns c =
     let shown : Shown c.args.self.now c.self.inside.table c.self.inside.threads.items c.self.inside.made c.self.inside.ended c.args.block.0 =
     record {
       is = c.self.view_is;
@@ -28,7 +63,14 @@ returns c none =
       within = c.requires.within;
     } in
     counts_now c.args.self.now c.self.inside.table c.self.inside.threads.items c.self.inside.made c.self.inside.ended c.args.block.0
-    c.more-owners.result c.settled.result c.ends.result c.counted.result shown none
-    (c.more-owners.ensures (c.loads.ensures none) ∙ c.number.ensures)
-    (c.settled.ensures (c.makes.ensures none) ∙ c.more-weaks.ensures (c.loads-2.ensures none) ∙ c.number-number.ensures) c.ends.ensures
+    c.more-owners.result c.less.result c.ends.result c.counted.result shown
+    (c.more-owners.ensures ∙ ap (λ (n : ℕ). n + c.loads.result) c.number.ensures
+    ∙ ap (λ (n : ℕ). number_of (slice_index c.args.self.now.ghost_state.words (spot c.args.block.0 0)) + n) c.loads.ensures)
+    (c.less.ensures
+    ∙ ap (λ (n : ℕ). n - c.makes.result)
+    (c.more-weaks.ensures ∙ ap (λ (n : ℕ). n + c.loads-2.result) c.number-2.ensures
+    ∙ ap (λ (n : ℕ). number_of (slice_index c.args.self.now.ghost_state.words (spot c.args.block.0 1)) + n) c.loads-2.ensures)
+    ∙ ap (λ (n : ℕ).
+    (number_of (slice_index c.args.self.now.ghost_state.words (spot c.args.block.0 1))
+    + loads_on (model_state c.args.self.now.ghost_state) c.args.block.0 Weak c.args.self.now.pending_calls) - n) c.makes.ensures) c.ends.ensures
     c.counted.ensures

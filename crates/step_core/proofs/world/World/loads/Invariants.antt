@@ -1,6 +1,7 @@
-use Rattle.std.proofs.Common.{◌≡◌}
-use Rattle.step_core.specs.Showing.{HasNoneBegun}
+use Rattle.std.proofs.Common.{◌≡◌, take}
+use Rattle.step_table.specs.GhostStates.{model_state}
+use Rattle.step_core.specs.Showing.{loads_on}
 use Rattle.step_core.proofs.world.World.loads.Given as goal
 
 abbrev pub invariant-loop-thread : goal.invariant-loop-thread
-invariant-loop-thread l = HasNoneBegun l.self → l.loads ≡ 0
+invariant-loop-thread l = l.loads ≡ loads_on (model_state l.self.ghost_state) l.block.0 l.kind (take l.thread-index l.self.pending_calls)
