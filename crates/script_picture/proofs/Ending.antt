@@ -9,15 +9,14 @@ use Rattle.step_threads.specs.AbstractStates.{AbstractState, next, frame_of}
 use Rattle.step_core.specs.Worlds.{WorldState, abstraction}
 use Rattle.script_text.specs.Beginnings.{script_world_state}
 use Rattle.script_text.specs.Drafts.{ScriptView}
-use Rattle.script_text.specs.Traces.{IsTrace, in_order}
+use Rattle.script_text.specs.Traces.{in_order}
 use Rattle.script_stepper.specs.Running.{AllOver}
 use Rattle.script_stepper.proofs.EndLemmas.{all_over, in_order-more}
 use Rattle.script_stepper.proofs.RunLemmas.{run_plays}
-use Rattle.script_stepper.proofs.StepLemmas.{traced}
 use Rattle.script_stepper.proofs.TraceLemmas.{plays_over}
 use Rattle.script_picture.specs.declared.part.Part.{Part}
 use Rattle.script_picture.specs.declared.recording.Rows.{Rows}
-use Rattle.script_picture.specs.Pictures.{IsRunRecorded}
+use Rattle.script_picture.specs.Pictures.{IsRunRecorded, IsTurnRun}
 use Rattle.script_picture.specs.Recording.{HasTaken, IsRecorded, RowsAre, TakesAlone, TakesOut}
 use Rattle.script_picture.proofs.Taking.{taken_same, taken_then}
 
@@ -61,24 +60,24 @@ pub all_ended : (turns : List ℕ) (i : ℕ) (u v : WorldState) (r m : Rows) →
 all_ended turns i u v r m le h =
     all_over (turns ++ in_order 1 h.more) i u v [] h.taken.text le h.taken.run h.over
 
--- a run to the end is a trace, and its acts were recorded
-pub traced_run : (turns : List ℕ) (u v : WorldState) (r m : Rows) (h : TakesOut turns u v r m) → AllOver v
-    → IsTrace turns (abstraction u) h.taken.run.items (abstraction v)
-traced_run turns u v r m h over = traced turns u v [] h.taken.text (record { more = h.more; each = h.each; run = h.taken.run }) over
+-- a run to the end, whose acts were recorded
+pub turn_run_of : (turns : List ℕ) (u v : WorldState) (r m : Rows) (h : TakesOut turns u v r m) → AllOver v
+    → IsTurnRun turns (abstraction u) h.taken.seen (abstraction v)
+turn_run_of turns u v r m h over = record { more = h.more; each = h.each; sees = h.taken.sees; over = over }
 
 -- the rows of a script's run by turns
 pub turns_recorded : (script : ScriptView) (turns : List ℕ) (part : Part) (u v : WorldState) (r m : Rows) → u ≡ script_world_state script
     → TakesOut turns u v r m → AllOver v → RowsAre r [] → r.part ≡ part → IsRunRecorded false script turns part m.acts m.list.items
 turns_recorded script turns part u v r m is h over none part_is =
-    let items = h.taken.run.items in
+    let seen = h.taken.seen in
     record {
-      items = items;
+      seen = seen;
       says = (
         abstraction v,
-        subst (λ (w : WorldState). IsTrace turns (abstraction w) items (abstraction v)) is (traced_run turns u v r m h over),
+        subst (λ (w : WorldState). IsTurnRun turns (abstraction w) seen (abstraction v)) is (turn_run_of turns u v r m h over),
       );
       recorded =
-          subst (λ (p : Part). IsRecorded p m.acts m.list.items items)
+          subst (λ (p : Part). IsRecorded p m.acts m.list.items seen)
           (h.taken.adds.part ∙ part_is)
           (h.taken.adds.adds [] none);
     }

@@ -10,13 +10,12 @@ use Rattle.script_text.specs.declared.fault.Fault.{Fault}
 use Rattle.script_text.specs.declared.fault.Fault.TheVariants.{Memory}
 use Rattle.script_text.specs.Drafts.{ScriptView}
 use Rattle.script_text.specs.Grammar.{ReadsAs}
-use Rattle.script_text.specs.Traces.{Item}
 use Rattle.script_stepper.specs.Ends.{IsRefused}
 use Rattle.script_stepper.specs.Runs.{IsScriptRun}
 use Rattle.script_stepper.specs.TurnLists.{list_at}
 use Rattle.script_picture.specs.declared.part.Part.{Part}
 use Rattle.script_picture.specs.Parts.{shown_part}
-use Rattle.script_picture.specs.Acts.{AreRows, acts_in}
+use Rattle.script_picture.specs.Acts.{AreRows, Seen, acts_in}
 use Rattle.script_picture.specs.Pictures.{Draws, IsBehind, IsPictureText, IsRunRecorded}
 use Rattle.script_picture.specs.Recording.{IsRecorded}
 
@@ -25,7 +24,7 @@ both true b e = (refl, e)
 both false b e = absurd cc
 
 -- too many acts came
-pub draws_more : (asked shown : Part) (acts : ℕ) (list : List Row) (items : List Item)
+pub draws_more : (asked shown : Part) (acts : ℕ) (list : List Row) (items : List Seen)
     (text : List ℕ) → shown ≡ shown_part asked
     → (nat_lt shown.last asked.last && nat_lt shown.last acts) ≡ true → text ≡ []
     → IsRecorded (shown_part asked) acts list items → Draws true asked items text
@@ -46,7 +45,7 @@ behind_parts asked acts e =
     let inner = both (nat_lt 1 asked.first) (nat_lt acts asked.first) outer.0 in
     (ltb-true 1 asked.first inner.0, ltb-true acts asked.first inner.1, leb-true acts asked.last outer.1)
 
-pub draws_behind : (asked shown : Part) (acts : ℕ) (list : List Row) (items : List Item)
+pub draws_behind : (asked shown : Part) (acts : ℕ) (list : List Row) (items : List Seen)
     (text : List ℕ) → shown ≡ shown_part asked
     → (nat_lt 1 asked.first && nat_lt acts asked.first && nat_le acts asked.last) ≡ true → text ≡ []
     → IsRecorded (shown_part asked) acts list items → Draws true asked items text
@@ -58,7 +57,7 @@ draws_behind asked shown acts list items text is behind none h =
     let came : acts ≡ length items = h.all (omega (arith, before, within)) in
     (inr (first, omega (arith, came, before), omega (arith, came, within)), none)
 
-not_behind : (asked : Part) (acts : ℕ) (items : List Item)
+not_behind : (asked : Part) (acts : ℕ) (items : List Seen)
     → (nat_lt 1 asked.first && nat_lt acts asked.first && nat_le acts asked.last) ≡ false
     → acts ≤ length items → IsBehind asked items → ⊥
 not_behind asked acts items e most b =
@@ -81,7 +80,7 @@ not_both true false e p q = cc
 not_both false b e p q = cc
 
 -- no more than a picture shows
-pub draws_all : (asked shown : Part) (acts : ℕ) (list : List Row) (items : List Item)
+pub draws_all : (asked shown : Part) (acts : ℕ) (list : List Row) (items : List Seen)
     (text : List ℕ) → shown ≡ shown_part asked
     → (nat_lt shown.last asked.last && nat_lt shown.last acts) ≡ false
     → (nat_lt 1 asked.first && nat_lt acts asked.first && nat_le acts asked.last) ≡ false
@@ -113,15 +112,15 @@ draws_all asked shown acts list items text is few begun shows h =
 pub picture_told : (fine none : Bool) (asked : Part) (script : ScriptView) (turns : List ℕ)
     (acts : ℕ) (list : List Row) (text : List ℕ)
     → IsRunRecorded fine script turns (shown_part asked) acts list
-    → ((items : List Item) → IsRecorded (shown_part asked) acts list items
+    → ((items : List Seen) → IsRecorded (shown_part asked) acts list items
     → Draws none asked items text)
     → IsPictureText fine asked (Ok none) script turns text
 picture_told fine none asked script turns acts list text h draws =
     record {
-      items = h.items;
+      seen = h.seen;
       says = h.says;
       none = none;
-      draws = draws h.items h.recorded;
+      draws = draws h.seen h.recorded;
       answers = refl;
     }
 
@@ -158,7 +157,7 @@ forgotten fine none part fault bytes list text h = record {
   reads = h.reads;
   listed = h.listed;
   says = record {
-    items = h.says.items;
+    seen = h.says.seen;
     says = h.says.says;
     none = h.says.none;
     draws = h.says.draws;

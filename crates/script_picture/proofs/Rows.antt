@@ -12,18 +12,17 @@ use Rattle.step_threads.specs.declared.said.Answer.{Answer}
 use Rattle.step_threads.specs.declared.said.Said.{Said}
 use Rattle.step_table.specs.declared.memory.ended.Ended.{Ended}
 use Rattle.script_text.specs.Grammar.{ended}
-use Rattle.script_text.specs.Traces.{Item}
 use Rattle.script_stepper.specs.Lines.{said_lines}
 use Rattle.script_picture.specs.declared.part.Part.{Part}
-use Rattle.script_picture.specs.Acts.{AreRows, IsRow, Numbered, acts_in}
+use Rattle.script_picture.specs.Acts.{AreRows, IsRow, Numbered, Seen, acts_in}
 use Rattle.script_picture.specs.Parts.{is_in}
 use Rattle.script_picture.specs.Recording.{IsRecorded}
 
-abbrev one_if : Part → ℕ → Item → List Numbered
+abbrev one_if : Part → ℕ → Seen → List Numbered
 one_if part n x = cond (is_in part n) ((n, x) ∷ []) []
 
 -- one act more
-acts_more : (part : Part) (n : ℕ) (items : List Item) (x : Item)
+acts_more : (part : Part) (n : ℕ) (items : List Seen) (x : Seen)
     → acts_in part n (items ++ x ∷ []) ≡ acts_in part n items ++ one_if part (n + length items) x
 acts_more part n [] x = let e : n ≡ n + 0 = omega arith in
     append-nil (one_if part n x) ∙ ap (λ (k : ℕ). one_if part k x) e
@@ -42,7 +41,7 @@ rows_more (b ∷ acts) [] a r all one = absurd all
 rows_more (b ∷ acts) (s ∷ rs) a r all one = (all.0, rows_more acts rs a r all.1 one)
 
 -- an act that isn't one of the part
-left_out : (part : Part) (items : List Item) (x : Item) (list : List Row)
+left_out : (part : Part) (items : List Seen) (x : Seen) (list : List Row)
     → is_in part (1 + length items) ≡ false → AreRows (acts_in part 1 items) list
     → AreRows (acts_in part 1 (items ++ x ∷ [])) list
 left_out part items x list out rows =
@@ -63,7 +62,7 @@ past part n lt = and_right (nat_le part.first n) (nat_le n part.last) (no (nat_l
     no true e = absurd (let le = leb-true n part.last e in omega (arith, le, lt))
 
 -- where the part is past, acts aren't counted
-pub behind : (part : Part) (acts : ℕ) (list : List Row) (items : List Item) (x : Item)
+pub behind : (part : Part) (acts : ℕ) (list : List Row) (items : List Seen) (x : Seen)
     → part.last < acts → IsRecorded part acts list items
     → IsRecorded part acts list (items ++ x ∷ [])
 behind part acts list items x lt h =
@@ -79,7 +78,7 @@ behind part acts list items x lt h =
           h.rows;
     }
 
-pub outside : (part : Part) (acts : ℕ) (list : List Row) (items : List Item) (x : Item)
+pub outside : (part : Part) (acts : ℕ) (list : List Row) (items : List Seen) (x : Seen)
     → acts ≤ part.last → is_in part (acts + 1) ≡ false
     → IsRecorded part acts list items → IsRecorded part (acts + 1) list (items ++ x ∷ [])
 outside part acts list items x le out h =
@@ -93,7 +92,7 @@ outside part acts list items x le out h =
       rows = left_out part items x list (ap (is_in part) (sym here) ∙ out) h.rows;
     }
 
-pub inside : (part : Part) (acts : ℕ) (list : List Row) (items : List Item) (x : Item) (row : Row)
+pub inside : (part : Part) (acts : ℕ) (list : List Row) (items : List Seen) (x : Seen) (row : Row)
     → acts ≤ part.last
     → is_in part (acts + 1) ≡ true → IsRow (acts + 1, x) row → IsRecorded part acts list items
     → IsRecorded part (acts + 1) (list ++ row ∷ []) (items ++ x ∷ [])

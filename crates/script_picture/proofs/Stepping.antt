@@ -1,37 +1,109 @@
 -- Steps of a run, which are recorded one after the other.
 use Rattle.std.proofs.Common.{◌≡◌, ℕ, zero, suc, ◌+◌, ◌<◌, ◌≤◌, Bool, true, false, List, [], ◌∷◌}
-use Rattle.std.proofs.Common.{◌++◌, length, get_or, refl, sym, ◌∙◌, ap, subst, arith, take}
-use Rattle.std.specs.Prelude.{All, map}
-use Rattle.std.specs.List.{flat_map}
-use Rattle.std.proofs.lemmas.Grind.{flat_map-append}
-use Rattle.std.proofs.lemmas.List.{take_more}
+use Rattle.std.proofs.Common.{◌-◌, ◌++◌, append_assoc, length, get_or, refl, sym, ◌∙◌, ap, subst, arith, take, drop}
+use Rattle.std.specs.Prelude.{All, Option, Some, None, map}
+use Rattle.std.proofs.lemmas.List.{append-nil, drop_more, take_all, take_more}
+use Rattle.std.proofs.Math.ListN.{drop_of_length-le}
 use Rattle.std.proofs.lemmas.List.Elements.{All-append, All-cons, All-head, All-nil, All-tail}
 use Rattle.step_core.specs.declared.trace.TraceStep.{TraceStep}
-use Rattle.step_core.specs.Runs.{CallsOn, InOrder, IsScheduled, IsStepOf, NamesActor, RunsToEnd}
+use Rattle.step_core.specs.Following.{said_by}
+use Rattle.step_core.specs.Runs.{CallsOn, InOrder, IsRun, IsScheduled, IsStepOf, NamesActor, RunsToEnd}
 use Rattle.step_core.specs.Runs.{Settles, call_under_way, is_owing}
-use Rattle.step_core.specs.Worlds.{WorldState}
-use Rattle.script_text.specs.Traces.{Item}
-use Rattle.script_stepper.proofs.LineLemmas.{flat_map-one}
+use Rattle.step_core.specs.Worlds.{Advances, Steps, WorldState}
+use Rattle.step_table.specs.GhostStates.{model_state}
+use Rattle.step_threads.specs.declared.said.Said.{Said}
+use Rattle.step_threads.specs.declared.said.Stepped.{Stepped}
+use Rattle.script_stepper.specs.Running.{heard}
 use Rattle.script_text.specs.Beginnings.{script_world_state}
 use Rattle.script_text.specs.Drafts.{ScriptView}
 use Rattle.script_stepper.specs.StepRuns.{IsStepRun}
 use Rattle.script_picture.specs.declared.part.Part.{Part}
 use Rattle.script_picture.specs.declared.recording.Rows.{Rows}
 use Rattle.script_picture.specs.Pictures.{IsRunRecorded}
-use Rattle.script_picture.specs.Recording.{Adds, IsRecorded, RowsAre, step_items}
-use Rattle.script_picture.proofs.Recordings.{adds_same, adds_then}
+use Rattle.script_picture.specs.Acts.{Seen, seen_in}
+use Rattle.script_picture.specs.Recording.{Adds, IsRecorded, RowsAre, SeesSteps, step_seen}
+use Rattle.script_picture.proofs.Recordings.{adds_none, adds_then}
+
+-- some steps of a run were made, and what they said came: the rest of the run is left
+pub record HasSeen (u : WorldState) (steps : List TraceStep) (i : ℕ) (last m : WorldState) (r s : Rows)
+    : Type 0 where
+  pub seen : List Seen
+  pub sees : SeesSteps u (take i steps) seen m
+  pub rest : IsRun m (drop i steps) last
+  pub adds : Adds seen r s
+
+pub seen_none : (u : WorldState) (steps : List TraceStep) (last : WorldState) (r : Rows) → IsRun u steps last
+    → HasSeen u steps 0 last u r r
+seen_none u steps last r run =
+    record { seen = []; sees = (refl, refl); rest = run; adds = adds_none r }
+
+-- one step behind others
+sees_step : (u v w : WorldState) (xs : List TraceStep) (x : TraceStep) (seen : List Seen)
+    → SeesSteps u xs seen v → Advances (x.actor - 1) v x.stepped w
+    → SeesSteps u (xs ++ x ∷ []) (seen ++ step_seen x w) w
+sees_step u v w [] x seen p a =
+    let at : Advances (x.actor - 1) u x.stepped w =
+    subst (λ (b : WorldState). Advances (x.actor - 1) b x.stepped w) p.1 a in
+    ([], w, at, (refl, refl), ap (λ (l : List Seen). l ++ step_seen x w) p.0 ∙ sym (append-nil (step_seen x w)))
+sees_step u v w (y ∷ xs) x seen p a = (
+  p.0 ++ step_seen x w,
+  p.1,
+  p.2,
+  sees_step p.1 v w xs x p.0 p.3 a,
+  ap (λ (l : List Seen). l ++ step_seen x w) p.4 ∙ append_assoc (step_seen y p.1) p.0 (step_seen x w),
+)
 
 -- one step more
-pub adds_step : (xs : List TraceStep) (i : ℕ) (x : TraceStep) (r m s : Rows) → i < length xs
-    → Adds (flat_map step_items (take i xs)) r m
-    → Adds (step_items (get_or xs i x)) m s → Adds (flat_map step_items (take (i + 1) xs)) r s
-adds_step xs i x r m s lt p q =
-    adds_same _ _ r s
-    (ap (λ (t : List Item). flat_map step_items (take i xs) ++ t)
-    (sym (flat_map-one step_items (get_or xs i x)))
-    ∙ sym (flat_map-append step_items (take i xs) (get_or xs i x ∷ []))
-    ∙ ap (flat_map step_items) (sym (take_more xs i x lt)))
-    (adds_then (flat_map step_items (take i xs)) (step_items (get_or xs i x)) r m s p q)
+pub seen_more : (u : WorldState) (steps : List TraceStep) (i : ℕ) (x : TraceStep) (last v w : WorldState)
+    (r m s : Rows) → i < length steps → HasSeen u steps i last v r m
+    → ((b : WorldState) → Advances ((get_or steps i x).actor - 1) v (get_or steps i x).stepped b
+    → (w ≡ b) × Adds (step_seen (get_or steps i x) b) m s)
+    → HasSeen u steps (i + 1) last w r s
+seen_more u steps i x last v w r m s lt p step =
+    let y = get_or steps i x in
+    let run = subst (λ (l : List TraceStep). IsRun v l last) (drop_more steps i x lt) p.rest in
+    let n = step run.0 run.1 in
+    let back : run.0 ≡ w = sym n.0 in
+    let adv : Advances (y.actor - 1) v y.stepped w =
+    subst (λ (b : WorldState). Advances (y.actor - 1) v y.stepped b) back run.1 in
+    record {
+      seen = p.seen ++ step_seen y w;
+      sees =
+          subst (λ (l : List TraceStep). SeesSteps u l (p.seen ++ step_seen y w) w)
+          (sym (take_more steps i x lt)) (sees_step u v w (take i steps) y p.seen p.sees adv);
+      rest = subst (λ (b : WorldState). IsRun b (drop (i + 1) steps) last) back run.2;
+      adds =
+          adds_then p.seen (step_seen y w) r m s p.adds
+          (subst (λ (b : WorldState). Adds (step_seen y b) m s) back n.1);
+    }
+
+-- all of them
+pub seen_all : (u : WorldState) (steps : List TraceStep) (i : ℕ) (last m : WorldState) (r s : Rows)
+    → length steps ≤ i → HasSeen u steps i last m r s
+    → (seen : List Seen) × SeesSteps u steps seen last × Adds seen r s
+seen_all u steps i last m r s le p =
+    let done : last ≡ m =
+    subst (λ (l : List TraceStep). IsRun m l last) (drop_of_length-le steps le) p.rest in (
+      p.seen,
+      subst (λ (b : WorldState). SeesSteps u steps p.seen b) (sym done)
+          (subst (λ (l : List TraceStep). SeesSteps u l p.seen m) (take_all i steps le) p.sees),
+      p.adds,
+    )
+
+-- a step that a run made is that which the world makes again
+pub same_step : (d : ℕ) (u v w : WorldState) (r r' : Stepped) → Steps d u r v → Advances d u r' w → v ≡ w
+same_step d u v w r r' p q = p.1 ∙ sym q.steps.1
+
+pub heard_again : (x : TraceStep) (said : Said) (u v : WorldState) (r s : Rows) → u ≡ v → said_by x.stepped ≡ Some said
+    → Adds (seen_in (model_state u.ghost_state) (x.actor, said) ∷ []) r s → Adds (step_seen x v) r s
+heard_again x said u v r s same is adds =
+    subst (λ (o : Option Said). Adds (map (seen_in (model_state v.ghost_state)) (heard x.actor o)) r s) (sym is)
+    (subst (λ (b : WorldState). Adds (seen_in (model_state b.ghost_state) (x.actor, said) ∷ []) r s) same adds)
+
+pub none_heard : (x : TraceStep) (v : WorldState) (r : Rows) → said_by x.stepped ≡ None → Adds (step_seen x v) r r
+none_heard x v r is =
+    subst (λ (o : Option Said). Adds (map (seen_in (model_state v.ghost_state)) (heard x.actor o)) r r) (sym is)
+    (adds_none r)
 
 -- ---- each step is one of a thread of the world
 
@@ -100,18 +172,16 @@ steps_named turns u xs u' s named =
 -- the rows of a script's run by single steps
 pub steps_recorded : (script : ScriptView) (turns : List ℕ) (part : Part) (u v : WorldState)
     (steps : List TraceStep) (m : Rows) → u ≡ script_world_state script
-    → IsStepRun turns u steps v → RowsAre m (flat_map step_items steps) → m.part ≡ part
-    → IsRunRecorded true script turns part m.acts m.list.items
+    → IsStepRun turns u steps v
+    → ((last : WorldState) → IsRun (script_world_state script) steps last
+    → (seen : List Seen) × SeesSteps (script_world_state script) steps seen last × RowsAre m seen)
+    → m.part ≡ part → IsRunRecorded true script turns part m.acts m.list.items
 steps_recorded script turns part u v steps m is run rows part_is =
+    let here : IsStepRun turns (script_world_state script) steps v =
+    subst (λ (w : WorldState). IsStepRun turns w steps v) is run in
+    let r = rows v here.run in
     record {
-      items = flat_map step_items steps;
-      says = record {
-        steps = steps;
-        last = v;
-        run = subst (λ (w : WorldState). IsStepRun turns w steps v) is run;
-        says = refl;
-      };
-      recorded =
-          subst (λ (p : Part). IsRecorded p m.acts m.list.items (flat_map step_items steps)) part_is
-          rows;
+      seen = r.0;
+      says = record { steps = steps; last = v; run = here; sees = r.1 };
+      recorded = subst (λ (p : Part). IsRecorded p m.acts m.list.items r.0) part_is r.2;
     }

@@ -1,9 +1,12 @@
 -- Turns of a world whose acts are recorded, one after the other.
-use Rattle.std.proofs.Common.{◌≡◌, ℕ, ◌+◌, ◌-◌, ◌<◌, ◌≤◌, List, [], ◌∷◌, ◌++◌, replicate, length, get_or, refl, sym, subst, arith, take}
+use Rattle.std.proofs.Common.{◌≡◌, ℕ, ◌+◌, ◌-◌, ◌<◌, ◌≤◌, List, [], ◌∷◌, ◌++◌, replicate, length, get_or, map, refl, sym, ap, subst, ◌∙◌, arith}
+use Rattle.std.proofs.Common.{append_assoc, take}
 use Rattle.std.specs.Prelude.{Option}
 use Rattle.std.specs.List.{flat_map}
 use Rattle.std.proofs.lemmas.List.{append-nil, replicate_more, take_more}
 use Rattle.step_threads.specs.declared.said.Said.{Said}
+use Rattle.step_threads.specs.AbstractStates.{AbstractState, state_in}
+use Rattle.step_table.specs.GhostStates.{model_state}
 use Rattle.step_core.specs.Worlds.{WorldState, abstraction}
 use Rattle.script_text.specs.Grammar.{ended}
 use Rattle.script_stepper.specs.Lines.{item_lines}
@@ -12,12 +15,27 @@ use Rattle.script_stepper.proofs.OneTurn.{Turn, turn_run}
 use Rattle.script_stepper.proofs.RunLemmas.{run_thread, takes_then}
 use Rattle.script_stepper.proofs.StepLemmas.{same_blocks}
 use Rattle.script_picture.specs.declared.recording.Rows.{Rows}
-use Rattle.script_picture.specs.Recording.{Adds, HasTaken, TakesAlone}
+use Rattle.script_picture.specs.Acts.{Seen, seen_in}
+use Rattle.script_picture.specs.Recording.{Adds, HasTaken, Sees, TakesAlone}
 use Rattle.script_picture.proofs.Recordings.{adds_none, adds_then}
+
+-- some turns, and then others
+sees_then : (xs ys : List ℕ) (c m c' : AbstractState) (seen later : List Seen) → Sees xs c seen m → Sees ys m later c' → Sees (xs ++ ys) c (seen ++ later) c'
+sees_then [] ys c m c' seen later p q =
+    subst (λ (l : List Seen). Sees ys c (l ++ later) c') (sym p.0) (subst (λ (b : AbstractState). Sees ys b later c') p.1 q)
+sees_then (x ∷ xs) ys c m c' seen later p q =
+    let first = map (seen_in (state_in p.2)) p.0 in (
+      p.0,
+      p.1 ++ later,
+      p.2,
+      p.3,
+      sees_then xs ys p.2 m c' p.1 later p.4 q,
+      ap (λ (l : List Seen). l ++ later) p.5 ∙ append_assoc first p.1 later,
+    )
 
 -- a turn, and what it said
 pub taken_turn : (thread : ℕ) (u u' : WorldState) (x : Option Said) (r r' : Rows) → Turn thread u u' x
-    → Adds (heard thread x) r r' → HasTaken (thread ∷ []) u u' r r'
+    → Adds (map (seen_in (model_state u'.ghost_state)) (heard thread x)) r r' → HasTaken (thread ∷ []) u u' r r'
 taken_turn thread u u' x r r' t adds =
     record {
       text = ended (flat_map item_lines (heard thread x));
@@ -28,6 +46,15 @@ taken_turn thread u u' x r r' t adds =
         text_is = refl;
         most = (turn_run thread u u' x [] _ t refl).most;
       };
+      seen = map (seen_in (model_state u'.ghost_state)) (heard thread x);
+      sees = (
+        heard thread x,
+        [],
+        abstraction u',
+        t.takes,
+        (refl, refl),
+        sym (append-nil (map (seen_in (model_state u'.ghost_state)) (heard thread x))),
+      );
       adds = adds;
     }
 
@@ -37,6 +64,8 @@ taken_none u r rests =
     record {
       text = [];
       run = record { rests = rests; items = []; takes = (refl, refl); text_is = refl; most = λ d. omega arith };
+      seen = [];
+      sees = (refl, refl);
       adds = adds_none r;
     }
 
@@ -53,7 +82,9 @@ taken_then xs ys u v w r m s p q =
         text_is = refl;
         most = λ d. let l = p.run.most d in let m = q.run.most d in omega (arith, l, m);
       };
-      adds = adds_then p.run.items q.run.items r m s p.adds q.adds;
+      seen = p.seen ++ q.seen;
+      sees = sees_then xs ys (abstraction u) (abstraction v) (abstraction w) p.seen q.seen p.sees q.sees;
+      adds = adds_then p.seen q.seen r m s p.adds q.adds;
     }
 
 pub taken_same : (xs ys : List ℕ) (u v : WorldState) (r m : Rows) → xs ≡ ys → HasTaken xs u v r m → HasTaken ys u v r m

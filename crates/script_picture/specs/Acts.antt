@@ -1,22 +1,38 @@
 -- Which acts of a run are drawn, and as which rows. All of it is own.
-use Rattle.std.specs.Prelude.{◌≡◌, ℕ, ◌+◌, ◌++◌, cond, List, [], ◌∷◌, codes, decimal, map, String}
-use Rattle.std.specs.Prelude.{string_bytes}
+use Rattle.std.specs.Prelude.{◌≡◌, ℕ, ◌+◌, ◌++◌, All, cond, List, [], ◌∷◌, codes, decimal, map}
+use Rattle.std.specs.Prelude.{String, string_bytes}
 use Rattle.std.specs.Global.{Global}
+use Rattle.control_word.specs.State.{State}
+use Rattle.run_picture.specs.declared.picture.Change.{Change}
 use Rattle.run_picture.specs.declared.picture.Row.{Row}
 use Rattle.script_picture.specs.declared.part.Part.{Part}
 use Rattle.script_picture.specs.Parts.{is_in}
 use Rattle.script_stepper.specs.Lines.{item_lines, statement_text}
 use Rattle.script_text.specs.Traces.{Item}
+use Rattle.step_core.specs.Totals.{census_of}
+
+-- an act: what its thread said, and the state after it
+pub record Seen : Type 0 where
+  pub item : Item
+  pub state : State
+
+abbrev pub seen_in : State → Item → Seen
+seen_in state item = record { item = item; state = state }
 
 -- an act, and its number in the run, from 1
 abbrev pub Numbered : Type 0
-Numbered = ℕ × Item
+Numbered = ℕ × Seen
 
--- the acts of a part, each once and in their order, where the first of these items has this number
-abbrev pub acts_in : Part → ℕ → List Item → List Numbered
+-- the acts of a part, each once and in their order, where the first of these has this number
+abbrev pub acts_in : Part → ℕ → List Seen → List Numbered
 acts_in part number [] = []
-acts_in part number (x ∷ items) =
-    cond (is_in part number) ((number, x) ∷ []) [] ++ acts_in part (number + 1) items
+acts_in part number (x ∷ seen) =
+    cond (is_in part number) ((number, x) ∷ []) [] ++ acts_in part (number + 1) seen
+
+-- the counts that are told of a block are those of the handles on it in this state
+-- ([util.smartptr.shared.obs], and own)
+abbrev pub TellsCounts : State → Change → Type 0
+TellsCounts state change = change.counts ≡ census_of state change.block
 
 -- a thread, and a statement of it or its end
 abbrev pub place_start : ℕ → ℕ → List ℕ
@@ -30,12 +46,15 @@ abbrev pub GoesOnWith : List ℕ → List ℕ → List ℕ → Type 0
 GoesOnWith begun old new = (more : List ℕ) × (new ≡ old ++ (begun ++ more))
 
 -- a row is that of an act: it has its number and its thread, its statement, and the lines that it
--- said
+-- said; and the counts that it tells are those after the act
 pub record IsRow (act : Numbered) (row : Row) : Type 0 where
   pub number : row.number ≡ act.0
-  pub thread : row.thread ≡ act.1.0
-  pub statement : GoesOnWith (place_start act.1.0 act.1.1.statement) [] (string_bytes row.statement)
-  pub lines : map bytes_of row.lines.items ≡ item_lines act.1
+  pub thread : row.thread ≡ act.1.item.0
+  pub statement :
+      let item = act.1.item in
+      GoesOnWith (place_start item.0 item.1.statement) [] (string_bytes row.statement)
+  pub lines : map bytes_of row.lines.items ≡ item_lines act.1.item
+  pub counts : All (TellsCounts act.1.state) row.changes.items
 
 -- a row for each of these acts, in order
 abbrev pub AreRows : List Numbered → List Row → Type 0

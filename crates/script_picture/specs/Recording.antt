@@ -1,37 +1,49 @@
 -- Rows that are recorded as acts come. All of it is own.
-use Rattle.std.specs.Prelude.{◌≡◌, ℕ, ◌+◌, ◌≤◌, ◌++◌, List, [], length, replicate}
+use Rattle.std.specs.Prelude.{◌≡◌, ℕ, ◌+◌, ◌-◌, ◌≤◌, ◌++◌, List, [], ◌∷◌, length, map, replicate}
 use Rattle.run_picture.specs.declared.picture.Row.{Row}
 use Rattle.step_core.specs.declared.trace.TraceStep.{TraceStep}
 use Rattle.step_core.specs.Following.{said_by}
-use Rattle.step_core.specs.Worlds.{WorldState}
-use Rattle.script_text.specs.Traces.{Item, in_order}
+use Rattle.step_core.specs.Worlds.{Advances, WorldState, abstraction}
+use Rattle.step_table.specs.GhostStates.{model_state}
+use Rattle.step_threads.specs.AbstractStates.{AbstractState, frame_of, next, state_in}
+use Rattle.script_text.specs.Traces.{Item, TakesTurn, in_order}
 use Rattle.script_stepper.specs.Running.{HasRun, heard}
 use Rattle.script_picture.specs.declared.part.Part.{Part}
 use Rattle.script_picture.specs.declared.recording.Rows.{Rows}
-use Rattle.script_picture.specs.Acts.{AreRows, acts_in}
+use Rattle.script_picture.specs.Acts.{AreRows, Seen, acts_in, seen_in}
 
 -- these acts came, from the first on: they were counted until one was behind the part, and the rows
 -- are the part's
-pub record IsRecorded (part : Part) (acts : ℕ) (list : List Row) (items : List Item) : Type 0 where
+pub record IsRecorded (part : Part) (acts : ℕ) (list : List Row) (seen : List Seen) : Type 0 where
   pub few : acts ≤ part.last + 1
-  pub most : acts ≤ length items
-  pub all : acts ≤ part.last → acts ≡ length items
-  pub rows : AreRows (acts_in part 1 items) list
+  pub most : acts ≤ length seen
+  pub all : acts ≤ part.last → acts ≡ length seen
+  pub rows : AreRows (acts_in part 1 seen) list
 
-abbrev pub RowsAre : Rows → List Item → Type 0
-RowsAre r items = IsRecorded r.part r.acts r.list.items items
+abbrev pub RowsAre : Rows → List Seen → Type 0
+RowsAre r seen = IsRecorded r.part r.acts r.list.items seen
 
 -- these acts came too
-pub record Adds (added : List Item) (r r' : Rows) : Type 0 where
+pub record Adds (added : List Seen) (r r' : Rows) : Type 0 where
   pub part : r'.part ≡ r.part
   pub blocks : r'.source.blocks ≡ r.source.blocks
-  pub adds : (items : List Item) → RowsAre r items → RowsAre r' (items ++ added)
+  pub adds : (seen : List Seen) → RowsAre r seen → RowsAre r' (seen ++ added)
 
--- the world took these turns, and what they said came
+-- one turn of each of these threads, in order: what each said, and the state after it
+abbrev pub Sees : List ℕ → AbstractState → List Seen → AbstractState → Type 0
+Sees [] c seen c' = (seen ≡ []) × (c' ≡ c)
+Sees (thread ∷ turns) c seen c' =
+    (items : List Item) × (later : List Seen) × (m : AbstractState)
+    × TakesTurn thread c (next (frame_of c (thread - 1))) items m × Sees turns m later c'
+    × (seen ≡ map (seen_in (state_in m)) items ++ later)
+
+-- the world took these turns, and what they said came, with the state after each
 pub record HasTaken (turns : List ℕ) (u u' : WorldState) (r r' : Rows) : Type 0 where
   pub text : List ℕ
   pub run : HasRun turns u u' [] text
-  pub adds : Adds run.items r r'
+  pub seen : List Seen
+  pub sees : Sees turns (abstraction u) seen (abstraction u')
+  pub adds : Adds seen r r'
 
 -- so it did by some turns of one thread
 abbrev pub TakesAlone : ℕ → WorldState → WorldState → Rows → Rows → Type 0
@@ -46,3 +58,14 @@ pub record TakesOut (turns : List ℕ) (u u' : WorldState) (r r' : Rows) : Type 
 -- what a step said, by its thread
 abbrev pub step_items : TraceStep → List Item
 step_items x = heard x.actor (said_by x.stepped)
+
+-- the same with the state after it
+abbrev pub step_seen : TraceStep → WorldState → List Seen
+step_seen x u = map (seen_in (model_state u.ghost_state)) (step_items x)
+
+-- these steps, one after another: what each said, and the state after it
+abbrev pub SeesSteps : WorldState → List TraceStep → List Seen → WorldState → Type 0
+SeesSteps u [] seen u' = (seen ≡ []) × (u' ≡ u)
+SeesSteps u (x ∷ steps) seen u' =
+    (later : List Seen) × (m : WorldState) × Advances (x.actor - 1) u x.stepped m
+    × SeesSteps m steps later u' × (seen ≡ step_seen x m ++ later)

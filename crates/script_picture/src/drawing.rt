@@ -4,9 +4,9 @@ ghost use Rattle.std.specs.Prelude.{nat_le, nat_lt, string_bytes, true};
 ghost use Rattle.run_picture.specs.declared.picture.Picture.{Picture};
 ghost use Rattle.run_picture.specs.Shown.{ShowsPicture};
 ghost use Rattle.script_text.specs.declared.fault.Fault.TheVariants.{Memory};
-ghost use Rattle.script_text.specs.Traces.{Item};
 ghost use Rattle.script_stepper.specs.Ends.{IsRefused};
 ghost use Rattle.script_stepper.specs.Runs.{Delivers, TellsRun, is_output};
+ghost use Rattle.script_picture.specs.Acts.{Seen};
 ghost use Rattle.script_picture.specs.Parts.{shown_part};
 ghost use Rattle.script_picture.specs.Pictures.{Draws, IsPictureText};
 ghost use Rattle.script_picture.specs.Recording.{IsRecorded};
@@ -96,9 +96,9 @@ fn not_drawn(alloc: Global) -> Drawn
 /// The text of a picture, or that there is none.
 fn draw_recorded(alloc: Global, asked: Part, recorded: Recorded) -> Result<Drawn, AllocError>
     requires { recorded.rows.part ≡ shown_part asked }
-    ensures { IfOk result (λ drawn. (items : List Item)
-        → IsRecorded (shown_part asked) recorded.rows.acts recorded.rows.list.items items
-        → Draws drawn.is_none asked items (string_bytes drawn.text)) }
+    ensures { IfOk result (λ drawn. (seen : List Seen)
+        → IsRecorded (shown_part asked) recorded.rows.acts recorded.rows.list.items seen
+        → Draws drawn.is_none asked seen (string_bytes drawn.text)) }
 {
     if has_more(asked, recorded.rows.part, recorded.rows.acts) {
         return Ok(not_drawn(alloc));
@@ -144,9 +144,9 @@ fn drawn_of(alloc: Global, order: Order<'_>) -> Result<Drawn, Fault>
 /// as [`script_stepper::fine_text`] does, and writes a part of its run as the text of one SVG
 /// (own). On it are the acts of the run whose numbers, from 1, are in the part, each once and in
 /// their order: with its number, its thread, its statement and the lines that it said; and nothing
-/// else but what stands above and below the rows. Answers whether the part and the run have more
-/// acts than one picture shows, or the part begins behind the run's last act; then nothing is
-/// written.
+/// else but what stands above and below the rows. The counts that are told beside an act are those
+/// of their blocks after it. Answers whether the part and the run have more acts than one picture
+/// shows, or the part begins behind the run's last act; then nothing is written.
 ///
 /// Refused, in this order: by 1 where a growth was refused, by 10 just where a line of the script
 /// is faulty, by 11 just where a number of the list is, with nothing written; by 12 just where the

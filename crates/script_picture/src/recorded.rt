@@ -1,14 +1,15 @@
 //! Runs of scripts, recorded act by act or step by step.
-ghost use Rattle.std.specs.Prelude.{◌≡◌, ◌≤◌, true, false, [], All, IfErr, IfOk, length};
+ghost use Rattle.std.specs.Prelude.{◌≡◌, ◌≤◌, true, false, [], List, All, IfErr, IfOk, length};
 ghost use Rattle.script_text.specs.declared.fault.Fault.TheVariants.{Memory};
-ghost use Rattle.std.specs.List.{flat_map};
-ghost use Rattle.step_core.specs.Runs.{NamesActor};
-ghost use Rattle.step_core.specs.Worlds.{IsAsLarge};
+ghost use Rattle.script_text.specs.Beginnings.{script_world_state};
+ghost use Rattle.step_core.specs.Runs.{IsRun, NamesActor};
+ghost use Rattle.step_core.specs.Worlds.{IsAsLarge, WorldState};
 ghost use Rattle.script_stepper.specs.Running.{IsThread};
 ghost use Rattle.script_stepper.specs.StepRuns.{IsStepRun};
+ghost use Rattle.script_picture.specs.Acts.{Seen};
 ghost use Rattle.script_picture.specs.Parts.{shown_part};
 ghost use Rattle.script_picture.specs.Pictures.{IsRunRecorded};
-ghost use Rattle.script_picture.specs.Recording.{RowsAre, step_items};
+ghost use Rattle.script_picture.specs.Recording.{RowsAre, SeesSteps};
 
 use crate::drawing::Order;
 use crate::recording::{Rows, Source, no_rows};
@@ -138,7 +139,10 @@ fn stepped_rows(
 ) -> Result<Rows, AllocError>
     requires { All (λ step. NamesActor (length script.now.threads) step.actor)
         trace.now.steps.items }
-    ensures rows { IfOk result (λ rows. RowsAre rows (flat_map step_items trace.now.steps.items)) }
+    ensures rows { IfOk result (λ rows. (last : WorldState)
+        → IsRun (script_world_state script.now) trace.now.steps.items last
+        → (seen : List Seen) × SeesSteps (script_world_state script.now) trace.now.steps.items seen last
+        × RowsAre rows seen) }
     ensures part { IfOk result (λ rows. rows.part ≡ shown_part order.entry.part) }
 {
     let Ok(

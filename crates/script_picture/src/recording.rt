@@ -1,7 +1,9 @@
 //! Acts as they come, with the counts that change by each.
-ghost use Rattle.std.specs.Prelude.{◌≡◌, ◌∷◌, ◌++◌, ◌≤◌, [], IfOk, IfSome, OnOk, length, map};
+ghost use Rattle.std.specs.Prelude.{◌≡◌, ◌∷◌, ◌++◌, ◌≤◌, [], All, IfOk, IfSome, OnOk, length, map};
+ghost use Rattle.control_word.specs.State.{State};
+ghost use Rattle.step_table.specs.GhostStates.{model_state};
 ghost use Rattle.script_stepper.specs.Lines.{said_lines};
-ghost use Rattle.script_picture.specs.Acts.{IsRow, bytes_of};
+ghost use Rattle.script_picture.specs.Acts.{IsRow, TellsCounts, bytes_of, seen_in};
 ghost use Rattle.script_picture.specs.Recording.{Adds, RowsAre};
 
 use crate::part::Part;
@@ -64,7 +66,7 @@ pub(crate) fn no_rows(source: Source, part: Part) -> Result<Rows, AllocError>
     })
 }
 
-/// Adds the counts of a block, where they are others than they were.
+/// Adds the counts of a block, where they are others than were told last.
 fn add_change(
     world: &World,
     block: u16,
@@ -73,6 +75,8 @@ fn add_change(
 ) -> Result<(), AllocError>
     requires some { 1 ≤ block }
     requires within { block ≤ world.now.ghost_state.extent.shape.blocks }
+    requires told { All (TellsCounts (model_state world.now.ghost_state)) changes.old.items }
+    ensures { OnOk result (All (TellsCounts (model_state world.now.ghost_state)) changes.new.items) }
 {
     let index = usize::from(block);
     if index < shown.len() {
@@ -98,8 +102,8 @@ fn block_at(blocks: u16, each: usize, thread: usize, number: usize) -> Option<u1
     }
 }
 
-/// Adds the counts of a thread's blocks that have been in use, where they are others than they
-/// were.
+/// Adds the counts of a thread's blocks that have been in use, where they are others than were told
+/// last.
 fn add_changes(
     world: &World,
     source: &Source,
@@ -107,7 +111,9 @@ fn add_changes(
     shown: &mut Vec<Option<Counts>>,
     changes: &mut Vec<Change>,
 ) -> Result<(), AllocError>
-    requires { source.now.blocks ≤ world.now.ghost_state.extent.shape.blocks }
+    requires blocks { source.now.blocks ≤ world.now.ghost_state.extent.shape.blocks }
+    requires told { All (TellsCounts (model_state world.now.ghost_state)) changes.old.items }
+    ensures { OnOk result (All (TellsCounts (model_state world.now.ghost_state)) changes.new.items) }
 {
     let each = usize::from(source.blocks) / usize::from(source.threads.max(1));
     for number in 0..each.min(world.made() as usize) {
@@ -118,7 +124,7 @@ fn add_changes(
     Ok(())
 }
 
-/// The counts of all blocks that are others than they were. Each thread takes its least vacant
+/// The counts of all blocks that are others than were told last. Each thread takes its least vacant
 /// block, so that no more of its blocks than objects were made have been in use.
 fn changes_of(
     world: &World,
@@ -126,6 +132,7 @@ fn changes_of(
     shown: &mut Vec<Option<Counts>>,
 ) -> Result<Vec<Change>, AllocError>
     requires { source.now.blocks ≤ world.now.ghost_state.extent.shape.blocks }
+    ensures { IfOk result (λ v. All (TellsCounts (model_state world.now.ghost_state)) v.items) }
 {
     let mut changes = Vec::new(source.alloc);
     for thread in 0..source.threads {
@@ -220,7 +227,8 @@ fn written_of<'a>(source: &'a Source, made: &Made) -> Option<&'a [u8]> {
 
 /// The row of an act.
 fn row_of(source: &Source, number: u32, made: Made, changes: Vec<Change>) -> Result<Row, AllocError>
-    ensures { IfOk result (λ row. IsRow (number, (made.thread, made.said)) row) }
+    ensures { IfOk result (λ row. (state : State) → All (TellsCounts state) changes.items
+        → IsRow (number, seen_in state (made.thread, made.said)) row) }
 {
     let alloc = source.alloc;
     let written = written_of(source, &made);
@@ -247,7 +255,8 @@ fn row_of(source: &Source, number: u32, made: Made, changes: Vec<Change>) -> Res
 /// Adds an act or a step that was made, if it is one of the part.
 pub(crate) fn add_row(world: &World, made: Made, rows: &mut Rows) -> Result<(), AllocError>
     requires { rows.old.source.blocks ≤ world.now.ghost_state.extent.shape.blocks }
-    ensures { OnOk result (Adds ((made.thread, made.said) ∷ []) rows.old rows.new) }
+    ensures { OnOk result (Adds (seen_in (model_state world.now.ghost_state) (made.thread, made.said) ∷ [])
+        rows.old rows.new) }
 {
     if rows.acts > u64::from(rows.part.last) {
         return Ok(());

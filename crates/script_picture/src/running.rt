@@ -1,13 +1,13 @@
 //! Runs by turns and by steps, whose acts are recorded.
-ghost use Rattle.std.specs.Prelude.{◌≡◌, ◌-◌, ◌<◌, ◌≤◌, ◌∷◌, [], true, None, All, IfOk, OnOk};
+ghost use Rattle.std.specs.Prelude.{◌≡◌, ◌-◌, ◌<◌, ◌≤◌, ◌∷◌, [], true, None, List, All, IfOk, OnOk};
 ghost use Rattle.std.specs.Prelude.{is_some, length};
-ghost use Rattle.std.specs.List.{flat_map};
 ghost use Rattle.step_threads.specs.AbstractStates.{next, frame_of};
-ghost use Rattle.step_core.specs.Runs.{NamesActor};
+ghost use Rattle.step_core.specs.Runs.{IsRun, NamesActor};
 ghost use Rattle.step_core.specs.Following.{said_by};
-ghost use Rattle.step_core.specs.Worlds.{IsAsLarge, abstraction};
+ghost use Rattle.step_core.specs.Worlds.{Advances, IsAsLarge, WorldState, abstraction};
 ghost use Rattle.script_stepper.specs.Running.{AllOver, AllRest, IsThread, turns_left};
-ghost use Rattle.script_picture.specs.Recording.{Adds, HasTaken, TakesAlone, TakesOut, step_items};
+ghost use Rattle.script_picture.specs.Acts.{Seen};
+ghost use Rattle.script_picture.specs.Recording.{Adds, HasTaken, SeesSteps, TakesAlone, TakesOut, step_seen};
 
 use crate::recording::{Made, Rows, add_row};
 use crate::trace_label::{Aimed, TraceLabel, aimed_at, step_word, trace_label_of};
@@ -110,7 +110,10 @@ fn aimed_by(trace_label: &TraceLabel, stepped: Stepped) -> Option<Aimed> {
 fn take_step(world: &mut World, step: &TraceStep, rows: &mut Rows) -> Result<(), AllocError>
     requires actor { NamesActor (length world.old.frame_views) step.now.actor }
     requires blocks { rows.old.source.blocks ≤ world.old.ghost_state.extent.shape.blocks }
-    ensures adds { OnOk result (Adds (step_items step.now) rows.old rows.new) }
+    ensures adds { OnOk result ((m : WorldState) → Advances (step.now.actor - 1) world.old step.now.stepped m
+        → (world.new ≡ m) × Adds (step_seen step.now m) rows.old rows.new) }
+    ensures same { OnOk result (rows.new.source.blocks ≡ rows.old.source.blocks) }
+    ensures part { OnOk result (rows.new.part ≡ rows.old.part) }
     ensures actors { length world.new.frame_views ≡ length world.old.frame_views }
     ensures extent { IsAsLarge world.old world.new }
 {
@@ -138,7 +141,9 @@ pub(crate) fn record_steps(
 ) -> Result<(), AllocError>
     requires actors { All (λ step. NamesActor (length world.old.frame_views) step.actor) steps.now }
     requires blocks { rows.old.source.blocks ≤ world.old.ghost_state.extent.shape.blocks }
-    ensures { OnOk result (Adds (flat_map step_items steps.now) rows.old rows.new) }
+    ensures sees { OnOk result ((last : WorldState) → IsRun world.old steps.now last
+        → (seen : List Seen) × SeesSteps world.old steps.now seen last × Adds seen rows.old rows.new) }
+    ensures part { OnOk result (rows.new.part ≡ rows.old.part) }
 {
     for step in steps {
         take_step(world, step, rows)?;

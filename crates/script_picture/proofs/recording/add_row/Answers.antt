@@ -1,18 +1,25 @@
 use Rattle.std.proofs.Common.{◌∙◌, arith, refl, sym}
+use Rattle.step_table.specs.GhostStates.{model_state}
+use Rattle.script_picture.specs.Acts.{seen_in}
 use Rattle.script_picture.proofs.Recordings.{adds_behind, adds_inside, adds_outside}
 use Rattle.script_picture.proofs.recording.add_row.Goals as goal
 
 pub returns-then-rows-from : goal.returns-then-rows-from
 returns-then-rows-from c =
-    adds_behind c.args.rows.now (c.args.made.thread, c.args.made.said) (omega arith)
+    adds_behind c.args.rows.now
+    (seen_in (model_state c.args.world.now.ghost_state) (c.args.made.thread, c.args.made.said))
+    (omega arith)
 
 pub returns-then-not-has : goal.returns-then-not-has
 returns-then-not-has c =
-    adds_outside c.args.rows.now _ (c.args.made.thread, c.args.made.said) (omega arith)
+    adds_outside c.args.rows.now _
+    (seen_in (model_state c.args.world.now.ghost_state) (c.args.made.thread, c.args.made.said))
+    (omega arith)
     (sym c.has.ensures ∙ c.if-not-has.true) refl refl refl refl
 
 pub returns : goal.returns
 returns c =
-    adds_inside c.args.rows.now _ (c.args.made.thread, c.args.made.said) c.in_ok-row.row
-    (omega arith) (sym c.has.ensures ∙ c.if-not-has.false)
-    c.in_ok-row.ensures refl refl refl c.in_ok-push.ensures.items
+    let state = model_state c.args.world.now.ghost_state in
+    adds_inside c.args.rows.now _ (seen_in state (c.args.made.thread, c.args.made.said))
+    c.in_ok-row.row (omega arith) (sym c.has.ensures ∙ c.if-not-has.false)
+    (c.in_ok-row.ensures state c.in_ok-changes.ensures) refl refl refl c.in_ok-push.ensures.items

@@ -4,8 +4,7 @@ use Rattle.step_table.specs.declared.memory.extent.Extent.{Extent}
 use Rattle.step_threads.specs.declared.said.Stepped.TheVariants.{Event}
 use Rattle.step_core.specs.declared.trace.TraceStep.{TraceStep}
 use Rattle.step_core.specs.Runs.{NamesActor}
-use Rattle.script_picture.proofs.Recordings.{adds_none}
-use Rattle.script_picture.proofs.Stepping.{adds_step}
+use Rattle.script_picture.proofs.Stepping.{seen_all, seen_more, seen_none}
 use Rattle.script_picture.proofs.running.record_steps.Goals as goal
 
 nothing : TraceStep
@@ -16,7 +15,8 @@ nothing = record {
 
 pub loop-step-init : goal.loop-step-init
 loop-step-init c = record {
-  adds = adds_none c.args.rows.now;
+  sees = λ last run. seen_none c.args.world.now c.args.steps.now last c.args.rows.now run;
+  part = refl;
   actors = refl;
   blocks = c.requires.blocks;
 }
@@ -37,13 +37,20 @@ loop-step-preserved c =
     let here : c.loop-step.step-index < length c.args.steps.now = omega arith in
     let i = c.loop-step.invariant in
     let e = c.in_ok-take_step.ensures in
-    let blocks = e.adds.blocks in
+    let blocks = e.same in
     let extent = ap (λ (x : Extent). x.shape.blocks) e.extent in
     let before = i.blocks in
     record {
-      adds =
-          adds_step c.args.steps.now c.loop-step.step-index nothing c.args.rows.now c.loop-step.rows
-          c.take_step.new.rows here i.adds e.adds;
+      sees = λ last run.
+          seen_more c.args.world.now c.args.steps.now c.loop-step.step-index nothing last
+          c.loop-step.world c.take_step.new.world c.args.rows.now c.loop-step.rows
+          c.take_step.new.rows here (i.sees last run) e.adds;
+      part = e.part ∙ i.part;
       actors = e.actors ∙ i.actors;
       blocks = omega (arith, blocks, extent, before);
     }
+
+pub returns-clause-sees : goal.returns-clause-sees
+returns-clause-sees c last run =
+    seen_all c.args.world.now c.args.steps.now c.loop-step.step-index last c.loop-step.world
+    c.args.rows.now c.loop-step.rows (omega arith) (c.loop-step.invariant.sees last run)
