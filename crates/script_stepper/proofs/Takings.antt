@@ -118,13 +118,13 @@ module _ (d : ℕ) (c : AbstractState) (t : Task) where
       let q = replied exact opened d c.history frame_view t.act in
       let f = fine opened d c.history frame_view t.act in
       let r =
-      one_reply (state_in c) d frame_view.slots frame_view.taken t.act p.reply (reply_in exact (state_in c) d frame_view.slots t.act) p.event q.event p.makes
-      q.makes
+      one_reply (state_in c) d frame_view.slots frame_view.taken t.act p.acts.reply (reply_in exact (state_in c) d frame_view.slots t.act) p.event q.event
+      p.acts.makes q.makes
       (comes opened d c.history p.event p.legal) f.0 p.chosen f.1 in (
-        p.says ∙ ap (said_by_row t.statement) r.0,
-        p.goes
+        p.acts.says ∙ ap (said_by_row t.statement) r.0,
+        p.goes ∙ ap (abstraction_after d c (put_on d p.event c.history)) p.acts.goes
             ∙ ap (λ (e : Events). abstraction_after d c (put_on d e c.history)
-            (frame_after_act frame_view t.statement rest (row t.act frame_view.slots frame_view.taken p.reply))) r.1
+            (frame_after_act frame_view t.statement rest (row t.act frame_view.slots frame_view.taken p.acts.reply))) r.1
             ∙ ap (λ (y : Row). abstraction_after d c (put_on d q.event c.history) (frame_after_act frame_view t.statement rest y)) r.0 ∙ sym played,
       )
 

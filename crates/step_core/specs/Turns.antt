@@ -1,6 +1,5 @@
 -- What a thread's next act is, whole: an event or none, by a reply that is right and chosen, what it says, and where
--- all
--- threads are then. All of it is own but the events, which name their sections in the model.
+-- all threads are then. All of it is own but the events, which name their sections in the model.
 use Rattle.std.specs.Prelude.{◌≡◌, ℕ, Option, Some, None}
 use Rattle.control_word.specs.declared.model.event.Event.{Event}
 use Rattle.control_word.specs.declared.model.event.Event.TheVariants as event
@@ -15,9 +14,8 @@ use Rattle.step_threads.specs.declared.said.Said.{Said}
 use Rattle.step_threads.specs.declared.said.Turned.{Turned}
 use Rattle.step_threads.specs.declared.said.Turned.TheVariants.{Acted, Waited, Done}
 use Rattle.step_threads.specs.Frames.{FrameView}
-use Rattle.step_threads.specs.TraceLabels.{IsMakeEvent, put_on}
+use Rattle.step_threads.specs.TraceLabels.{MakesAct, put_on}
 use Rattle.step_threads.specs.Entries.{History, least}
-use Rattle.step_threads.specs.Rows.{Reply, frame_after_act, row, said_by_row}
 use Rattle.step_threads.specs.AbstractStates.{AbstractState, next, put_frame, rest_of, rested_frame, state_in, frame_of}
 use Rattle.step_core.specs.Following.{no_worth}
 
@@ -39,20 +37,20 @@ Always h = Unit {0}
 abbrev pub abstraction_after : ℕ → AbstractState → History → FrameView → AbstractState
 abstraction_after d c h w = put_frame c d w (rested_frame (opening c.extent) d h w)
 
--- thread d makes this act, by some reply that is right and chosen, and says this
+-- thread d makes this act, by some reply that is right and chosen, and says this; what the act is by its reply is told
+-- as that of a single step is (`MakesAct`)
 pub record ActsNow (Exact : NumberedHandle → Type 0) (d : ℕ) (c : AbstractState) (t : Task) (said : Said)
     (c' : AbstractState)
     : Type 0 where
-  pub reply : Reply
   pub event : Option (Event Nothing)
-  pub makes : IsMakeEvent no_worth (state_in c) d (frame_of c d).slots t.act reply event
+  pub frame_view : FrameView
+  pub acts :
+      let w = frame_of c d in
+      MakesAct no_worth (state_in c) w t (rest_of w.endings w.todo)
+      (record { desk = d; event = event; said = said }) frame_view
   pub legal : IsLegal (opening c.extent) (put_on d event c.history)
   pub chosen : IsChosen Exact (state_in c) d event
-  pub says : said ≡ said_by_row t.statement (row t.act (frame_of c d).slots (frame_of c d).taken reply)
-  pub goes :
-      let w = frame_of c d in
-      c' ≡ abstraction_after d c (put_on d event c.history)
-      (frame_after_act w t.statement (rest_of w.endings w.todo) (row t.act w.slots w.taken reply))
+  pub goes : c' ≡ abstraction_after d c (put_on d event c.history) frame_view
 
 -- a turn of thread d is its next act; at its end it does nothing
 abbrev pub TurnIs : (NumberedHandle → Type 0) → ℕ → AbstractState → Turned → AbstractState → Type 0

@@ -26,7 +26,7 @@ use Rattle.step_table.specs.Openings.{opening}
 use Rattle.step_threads.specs.Entries.{History, least}
 use Rattle.step_core.proofs.Entries.{acted, does, giving, make_step}
 use Rattle.step_threads.specs.AbstractStates.{AbstractState, next, next_of, rest_of, rested, reply_in, row_in, state_in, frame_of, went}
-use Rattle.step_threads.specs.Rows.{full_answer, holding, said_by_row}
+use Rattle.step_threads.specs.Rows.{frame_after_act, full_answer, holding, row, said_by_row}
 use Rattle.step_threads.specs.TraceLabels.{put_on}
 use Rattle.step_threads.specs.NextSteps.{atomic_step_is_event, stepped, ghost_after, ghost_by}
 use Rattle.step_threads.specs.Steps.{Step, step_of_act, asks, begins, looks, silent, trying}
@@ -189,13 +189,13 @@ acts_now d u t ts x after so tells lt legal =
     let tell = tell_of u.ghost_state t.act in
     let h = acted tell z d w.slots u.ghost_state.history t.act in
     let q = replied tell z d u.ghost_state.history w t.act in
+    let reply = reply_in tell s d w.slots t.act in
     record {
-      reply = reply_in tell s d w.slots t.act;
       event = q.event;
-      makes = q.makes;
+      frame_view = frame_after_act w t.statement (rest_of w.endings w.todo) (row t.act w.slots w.taken reply);
+      acts = record { reply = reply; makes = q.makes; says = so.0; goes = refl };
       legal = subst (IsLegal z) q.history (subst (λ (b : AbstractState). IsLegal (opening b.extent) b.history) so.1 legal);
       chosen = chosen (CountsAll d u s) tell z d u.ghost_state.history w tells t.act;
-      says = so.0;
       goes =
           ap (rested d) so.1 ∙ rested_moved c d (went s d w t.statement ts t.act) h lt
           ∙ ap (λ (k : History). abstraction_after d c k (went s d w t.statement ts t.act)) q.history

@@ -30,12 +30,11 @@ module _ (Exact Fewer : NumberedHandle → Type 0) (all : (h : NumberedHandle) �
   acts_less : (c c' : AbstractState) (t : Task) (x : Said) → ActsNow Exact d c t x c' → ActsNow Fewer d c t x c'
   acts_less c c' t x a =
       record {
-        reply = a.reply;
         event = a.event;
-        makes = a.makes;
+        frame_view = a.frame_view;
+        acts = a.acts;
         legal = a.legal;
         chosen = chosen_less (state_in c) a.event a.chosen;
-        says = a.says;
         goes = a.goes;
       }
 
