@@ -2,5 +2,6 @@
 pub(crate) mod limits;
 pub(crate) mod opening;
 pub(crate) mod shelving;
+pub(crate) mod showing;
 pub(crate) mod steps;
 pub(crate) mod worlds;
