@@ -31,6 +31,8 @@ pub(crate) enum Call {
     AddChild(Seat, u64, Seat),
     /// The node goes out of its parent's children.
     Detach(Seat),
+    /// The field of the node's parent.
+    Parent(Seat),
     Teardown(Seat),
 }
 

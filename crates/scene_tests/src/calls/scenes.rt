@@ -8,9 +8,9 @@ use crate::calls::listed::{Answer, Call, Seat};
 use crate::calls::seats::{keep, load, spend};
 use control_block::desk::Desk;
 use control_block::domain::Domain;
-use control_word::Refused;
+use control_word::{Refusal, Refused};
 use scene_structures::Scene;
-use shared_handle::Pile;
+use shared_handle::{Pile, read};
 use std::alloc::Global;
 use std::sync::Wait;
 
@@ -77,6 +77,47 @@ fn detach<R: Wait>(
     match told {
         Ok(()) => Answer::Done,
         Err(why) => Answer::Not(why),
+    }
+}
+
+/// The field of a handle, if it has an object.
+fn field_of(told: Result<u64, Refusal>) -> Answer {
+    match told {
+        Ok(field) => Answer::Field(field),
+        Err(_) => Answer::Nobody,
+    }
+}
+
+/// The field of the parent of the node in a seat.
+fn parent<R: Wait>(
+    rt: &R,
+    domain: &Domain<u64>,
+    desk: &mut Desk<u64>,
+    scene: &Scene<u64>,
+    of: Seat,
+    pile: &mut Pile<u64>,
+) -> Answer
+    requires domain { Belongs desk.old domain.now }
+    requires cells { domain.now.shape.shared_cells ≡ 5 }
+    requires serves { ServesDomain domain.now pile.old }
+    ensures serves { ServesDomain domain.now pile.new }
+    ensures desk { IsSameDesk desk.old desk.new }
+{
+    let node = match load(rt, domain, desk, of) {
+        Ok(node) => node,
+        Err(why) => return Answer::Not(why),
+    };
+    match scene.parent(rt, domain, desk, &node) {
+        Ok(parent) => {
+            let field = read(domain, desk, &parent);
+            spend(rt, domain, desk, parent, pile);
+            spend(rt, domain, desk, node, pile);
+            field_of(field)
+        }
+        Err(why) => {
+            spend(rt, domain, desk, node, pile);
+            Answer::Not(why)
+        }
     }
 }
 
@@ -162,6 +203,7 @@ pub(crate) fn on_scene<R: Wait>(
     Some(match call {
         Call::AddChild(of, value, to) => add_child(rt, domain, desk, scene, of, value, to, pile),
         Call::Detach(of) => detach(rt, domain, desk, scene, of, pile),
+        Call::Parent(of) => parent(rt, domain, desk, scene, of, pile),
         Call::Teardown(seat) => ended(tear_down(rt, alloc, domain, desk, scene, seat, pile)),
         _ => return None,
     })
