@@ -30,9 +30,6 @@ adds_then xs ys r m r' p q = record {
       (q.adds (seen ++ xs) (p.adds seen h));
 }
 
-pub adds_same : (xs ys : List Seen) (r r' : Rows) → xs ≡ ys → Adds xs r r' → Adds ys r r'
-adds_same xs ys r r' e h = subst (λ (zs : List Seen). Adds zs r r') e h
-
 recorded_as : (part part' : Part) (acts acts' : ℕ) (list list' : List Row) (seen : List Seen)
     → part' ≡ part → acts' ≡ acts → list' ≡ list
     → IsRecorded part acts list seen → IsRecorded part' acts' list' seen
