@@ -1,12 +1,13 @@
-// A cache that threads share: it knows each value by a weak pointer, and keeps the last four that were asked for.
+// A cache that threads share: it knows the values of 10,000 keys by weak pointers, as long as some thread has them.
 #include <array>
 #include <atomic>
+#include <cstdint>
 #include <cstdio>
 #include <memory>
 #include <mutex>
 #include <string>
 #include <thread>
-#include <vector>
+#include <unordered_map>
 
 struct Value {
   std::string text;
@@ -15,21 +16,18 @@ struct Value {
 
 class Cache {
   std::mutex alone;
-  std::array<std::weak_ptr<Value>, 11> known;
-  std::vector<std::shared_ptr<Value>> recent;
+  std::unordered_map<std::uint64_t, std::weak_ptr<Value>> known;
 
  public:
   // The value of a key, a new one where nobody has it any more.
-  std::shared_ptr<Value> get(std::size_t key) {
+  std::shared_ptr<Value> get(std::uint64_t key) {
     std::lock_guard lock(alone);
-    std::shared_ptr<Value> value = known[key].lock();
+    std::weak_ptr<Value>& entry = known[key];
+    std::shared_ptr<Value> value = entry.lock();
     if (!value) {
       value = std::make_shared<Value>("value of " + std::to_string(key));
-      known[key] = value;
+      entry = value;
     }
-    std::erase(recent, value);
-    recent.insert(recent.begin(), value);
-    if (recent.size() > 4) recent.pop_back();
     return value;
   }
 };
@@ -37,12 +35,14 @@ class Cache {
 Cache cache;
 std::atomic<unsigned> gets;
 
-// Asks for 300 values, and has the last one until it has the next.
-void ask(unsigned number) {
-  std::shared_ptr<Value> last;
-  for (unsigned turn = 0; turn < 300; ++turn) {
-    last = cache.get((turn * 7 + number * 5) % 11);
-    ++last->reads;
+// Asks for 100,000 values by keys of a row of random numbers, and has the last 1,000.
+void ask(std::uint64_t random) {
+  std::array<std::shared_ptr<Value>, 1'000> held;
+  for (unsigned turn = 0; turn < 100'000; ++turn) {
+    random = random * 6'364'136'223'846'793'005 + 1'442'695'040'888'963'407;
+    auto& value = held[turn % held.size()];
+    value = cache.get((random >> 33) % 10'000);
+    ++value->reads;
     ++gets;
   }
 }

@@ -1,18 +1,23 @@
-//! A cache that threads share: it knows each value by a weak pointer, and keeps the last four that were asked for.
+//! A cache that threads share: it knows the values of 10,000 keys by weak pointers, as long as some thread has them.
 #![tactic(auto)]
 
-use pointers::{Desk, Domain, Fault, Program, Shared, SharedCell, Team, WeakCell, run};
+use pointers::{Desk, Domain, Fault, Program, Shared, SharedCell, Team, run};
+use shared_map::SharedMap;
 use std::alloc::Global;
 use std::io;
+use std::sync::Wait;
 use std::sync::atomic::{AtomicU32, Ordering};
-use std::sync::{Mutex, Wait};
 use std::thread::Threads;
 
-/// So many values are kept.
-const KEPT: usize = 4;
+/// So many keys there are, in so many buckets.
+const KEYS: u64 = 10_000;
 
-/// So many keys there are. The value of a key is known by the weak cell of its number.
-const KEYS: usize = 11;
+const BUCKETS: u16 = 16_384;
+
+/// Each worker asks so often, and has so many values at a time, the last ones.
+const TURNS: usize = 100_000;
+
+const HELD: usize = 1_000;
 
 #[derive(Drop)]
 struct Value {
@@ -20,98 +25,89 @@ struct Value {
     reads: u32,
 }
 
-/// A value that is kept, by the free cell with its owner.
-#[derive(Clone, Copy, Drop)]
-struct Kept {
-    key: usize,
-    cell: SharedCell,
-}
+/// A value, or none in the map's own objects.
+type Object = Option<Value>;
 
 #[derive(Drop)]
 struct Cache {
     alloc: Global,
-    /// The newest first.
-    recent: Mutex<Vec<Kept>>,
     gets: AtomicU32,
-}
-
-/// The cell that keeps the value of the key from now on: its own, a vacant one, or that of the oldest.
-fn keep(recent: &mut Vec<Kept>, key: usize) -> Result<SharedCell, Fault> {
-    let cell = match recent.iter().position(|kept| kept.key == key) {
-        Some(at) => recent.remove(at).cell,
-        None if recent.len() < KEPT => SharedCell::at(recent.len()),
-        None => recent.pop().map_or(SharedCell(0), |oldest| oldest.cell),
-    };
-    recent.insert(0, Kept { key, cell })?;
-    Ok(cell)
 }
 
 impl Cache {
     /// The value of a key, a new one where nobody has it any more.
-    fn get<'t, D: Domain<Value = Value>, R: Wait>(
+    fn get<'t, D: Domain<Value = Object>, R: Wait>(
         &self,
         rt: &R,
-        desk: &'t Desk<D>,
-        key: usize,
+        desk: &'t Desk<'t, D>,
+        map: &mut SharedMap<'t, D>,
+        key: u64,
     ) -> Result<Shared<'t, D>, Fault> {
-        let mut recent = self.recent.lock(rt);
-        let known = WeakCell::at(key);
-        let value = match desk.lock(rt, known)? {
-            Some(value) => value,
-            None => {
-                let text = format!(in self.alloc; "value of {key}")?;
-                let value = desk.new(Value { text, reads: 0 })?;
-                value.downgrade()?.store(known)?;
-                value
-            }
-        };
-        let cell = keep(&mut recent, key)?;
-        value.share()?.store(cell)?;
-        Ok(value)
+        if let Some(value) = map.lock(rt, key)? {
+            return Ok(value);
+        }
+        let text = format!(in self.alloc; "value of {key}")?;
+        let value = desk.new(Some(Value { text, reads: 0 }))?;
+        match map.insert_weak_if_expired(rt, key, value.downgrade()?)? {
+            Some(others) => Ok(others),
+            None => Ok(value),
+        }
     }
 
-    /// Asks for 300 values, and has the last one until it has the next.
-    fn ask<D: Domain<Value = Value>, R: Wait>(
+    /// Asks for values by keys of a row of random numbers.
+    fn ask<'t, D: Domain<Value = Object>, R: Wait>(
         &self,
         rt: &R,
-        desk: &Desk<D>,
+        desk: &'t Desk<'t, D>,
+        map: &mut SharedMap<'t, D>,
         number: usize,
     ) -> Result<(), Fault> {
-        let mut last = None;
-        for turn in 0..300usize {
-            let key = turn.wrapping_mul(7).wrapping_add(number.wrapping_mul(5)) % KEYS;
-            let value = self.get(rt, desk, key)?;
-            value.visit(rt, |value| value.reads = value.reads.saturating_add(1))?;
-            last = Some(value);
+        let mut held = Vec::with_capacity(self.alloc, HELD)?;
+        let mut random = number as u64;
+        for turn in 0..TURNS {
+            random = random
+                .wrapping_mul(6_364_136_223_846_793_005)
+                .wrapping_add(1_442_695_040_888_963_407);
+            let value = self.get(rt, desk, map, (random >> 33) % KEYS)?;
+            value.visit(rt, |value| {
+                if let Some(value) = value {
+                    value.reads = value.reads.saturating_add(1);
+                }
+            })?;
             self.gets.fetch_add(1, Ordering::SeqCst);
+            match held.get_mut(turn % HELD) {
+                Some(oldest) => *oldest = value,
+                None => held.push(value)?,
+            }
         }
-        drop(last);
         Ok(())
     }
 }
 
-impl<R: Threads + Wait + Sync> Program<Value, R> for Cache {
-    fn work<D: Domain<Value = Value>>(
+impl<R: Threads + Wait + Sync> Program<Object, R> for Cache {
+    fn work<D: Domain<Value = Object>>(
         &self,
         rt: &R,
         number: usize,
         desk: &Desk<D>,
     ) -> Result<(), Fault> {
-        self.ask(rt, desk, number)
+        let mut map = SharedMap::open(rt, desk, self.alloc, SharedCell(0), BUCKETS)?;
+        self.ask(rt, desk, &mut map, number)?;
+        map.remove_expired(rt)?;
+        Ok(())
     }
 }
 
 fn main(rt: HostRuntime) -> io::Result<()> {
     let team = Team {
         workers: 3,
-        pointers: 6,
+        pointers: 17_400,
     };
     let cache = Cache {
         alloc: rt.alloc(),
-        recent: Mutex::new(Vec::new(rt.alloc())),
         gets: AtomicU32::new(0),
     };
-    match run(&rt, rt.alloc(), team.shape(32, 4, 11), team, &cache) {
+    match run(&rt, rt.alloc(), team.shape(65_535, 1, 0), team, &cache) {
         Ok(ran) => {
             println!(&rt; "{} values were got", cache.gets.load(Ordering::SeqCst))?;
             println!(&rt;
