@@ -8,7 +8,8 @@ use Rattle.pointers.specs.Compares.{Compared}
 use Rattle.pointers.specs.Objects.{IsField}
 use Rattle.pointers.specs.declared.fault.Fault.{Fault}
 use Rattle.pointers.specs.declared.known.Known.{Known}
-use Rattle.shared_map.specs.Maps.{Gets, GetsWeak, Inserts, InsertsIfAbsent, InsertsIn, InsertsWeak, InsertsWeakIfExpired, Locks, LocksIn, Removes, RemovesWeak, Replaces}
+use Rattle.shared_map.specs.Maps.{Gets, GetsWeak, Inserts, InsertsIfAbsent, InsertsIn, InsertsWeak, InsertsWeakIfExpired}
+use Rattle.shared_map.specs.Maps.{Locks, LocksIn, Removes, RemovesWeak, Replaces}
 
 module _ {V : Type 0} where
   pub gets : (o : DeskNow V) (key : ℕ) (e : Known V) (r : Result (Option (Known V)) Fault) → IsField o e key

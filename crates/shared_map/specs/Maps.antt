@@ -1,5 +1,5 @@
--- What the calls on a map say, by what is known of handles. An entry of a key is an object that was made with the key as
--- its first field, with an owner in its member `first` and a weak pointer in `up` (own).
+-- What the calls on a map say, by what is known of handles. An entry of a key is an object that was made with the key
+-- as its first field, with an owner in its member `first` and a weak pointer in `up` (own).
 use Rattle.std.specs.Prelude.{◌≡◌, ◌⊎◌, ℕ, Bool, false, true, Option, None, Some}
 use Rattle.control_word.specs.declared.model.handle.Kind.TheVariants.{Owner, Weak}
 use Rattle.atomic_cells.specs.declared.sites.SharedMember.TheVariants.{First}
