@@ -38,7 +38,8 @@ impl<R: Threads + Wait> Program<u64, R> for Filled {
         for key in 0..self.keys {
             row(4, map.get(rt, key)?.is_some())?;
         }
-        row(5, u64::from(one.use_count()?) == 1 + self.keys)?;
+        let owners = u64::from(one.use_count()?);
+        row(5, owners.checked_sub(1) == Some(self.keys))?;
         row(6, map.retain(rt, &mut NoOwner)? as u64 == self.keys)?;
         row(7, one.use_count()? == 1)
     }

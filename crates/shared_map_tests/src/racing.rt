@@ -105,10 +105,9 @@ impl<R: Threads + Wait> Program<u64, R> for Racing {
         self.owners
             .fetch_sub(i64::try_from(left).unwrap_or(0), Ordering::SeqCst);
         self.meet(rt, 4);
-        row(
-            4,
-            self.owners.load(Ordering::SeqCst) + i64::try_from(KEYS).unwrap_or(0) == 0,
-        )
+        let less = i64::try_from(KEYS).unwrap_or(0);
+        let owners = self.owners.load(Ordering::SeqCst);
+        row(4, owners.checked_add(less) == Some(0))
     }
 }
 
