@@ -7,17 +7,11 @@ mod cells;
 #[cfg(test)]
 mod compares;
 #[cfg(test)]
-mod crowd;
-#[cfg(test)]
 mod crowds;
 #[cfg(test)]
 mod drops;
 #[cfg(test)]
 mod keeping;
-#[cfg(test)]
-mod leaders;
-#[cfg(test)]
-mod lists;
 #[cfg(test)]
 mod members;
 #[cfg(test)]
@@ -30,19 +24,13 @@ mod players;
 #[cfg(test)]
 mod plays;
 #[cfg(test)]
-mod random;
-#[cfg(test)]
 mod refusals;
 #[cfg(test)]
 mod runs;
 #[cfg(test)]
 mod snapshots;
 #[cfg(test)]
-mod spares;
-#[cfg(test)]
 mod steps;
-#[cfg(test)]
-mod structures;
 #[cfg(test)]
 mod teams;
 #[cfg(test)]
