@@ -1,9 +1,8 @@
 -- Nothing that a map or an entry owns belongs to one thread.
-use Rattle.std.proofs.Common.{ℕ, zero, suc, List, [], ◌∷◌, Option, None, Some}
-use base.Stored.{Gv}
+use Rattle.std.proofs.Common.{ℕ, zero, suc, List, [], ◌∷◌, Some, None, Option}
+use Rattle.ghost_map.proofs.Prelude.{Cell, chain, Gv, path, state, tokens}
 use base.Shift.{Keyless}
-use Rattle.left_right.specs.Parted.{tokens}
-use Rattle.ghost_map.specs.Chain.{Cell, state, blank_owns, chain, path, map_owns, entry_path}
+use Rattle.ghost_map.specs.Chain.{blank_owns, entry_path, map_owns}
 
 pub blank_keyless : (name : ℕ) → Keyless (blank_owns name)
 unfolding blank_owns

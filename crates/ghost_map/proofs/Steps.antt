@@ -1,22 +1,23 @@
 -- The ghost steps of a map. Assumes `Logic`.
-use Rattle.std.proofs.Common.{◌≡◌, ℕ, zero, suc, ◌^◌, List, [], ◌∷◌, ◌++◌, length, slice_get, slice_set, Option, None, Some, refl, sym, ap, subst, ◌∙◌}
-use seplogic.Ra.Ura.{Ura}
+use Rattle.std.proofs.Common.{◌≡◌, ℕ, zero, suc, ◌^◌, List, [], ◌∷◌, ◌++◌, length, slice_get}
+use Rattle.std.proofs.Common.{slice_set, Some, None, Option, refl, sym, ap, ◌∙◌, subst}
+use Rattle.ghost_map.proofs.Prelude
+use Prelude.{await, before, by, Cell, chain, done, drop, emp, ent, entry_owns, fjoin, fjoin3, flft}
+use Prelude.{Fml, fsep, fsplit, fsplit3, ftrue, given, Gv, id⊢, keep, later, learn, Lft, Logic}
+use Prelude.{move, nothing, now, path, qed, raw, rewrite, said, sem, sep, snd∗, split, SProp}
+use Prelude.{state, tokens, updating, Ura, use1, use2, use3, via, !, ‵, ◌$◌, ◌∵◌, ◌⊛◌}
+use Rattle.left_right.proofs.PartSteps.{tokens_whole}
+use base.Fml.{fauth, fdead, fex, finv, fobs, fres, Share}
 use base.Fraction.{full_share}
 use base.FractionLaws.{Counts, Counts-all}
-use base.Logic.{SProp, ent, sep, emp, ex, guard, upd, upd_i, id⊢, via, snd∗, never, never_e}
-use base.Stored.{Gv, Coded, gnil, gnum, gcons, coded×, coded_ℕ}
-use base.Fml.{Lft, Share, Fml, ftrue, fsep, fex, fobs, fauth, fres, flft, fdead, finv}
-use base.Before.{before}
-use types.Logic.{Logic, sem}
-use types.Kit.{‵, raw, ◌⊛◌, given, later, ◌$◌, ◌∵◌, !, qed, by, move, keep, drop, split, fsplit, fsplit3, fjoin}
-use types.Kit.{fjoin3, fpick, fpack, learn, suffices, done, use1, use2, use3, settle, frame, check, rewrite, await, updating, now, assume, show}
-use types.Tokens.{res_dup, lft_new, lft_end, name_new, shr_bor-open, obor_close}
+use base.Logic.{ex, guard, never, never_e, upd, upd_i}
+use base.Stored.{Coded, coded_ℕ, coded×, gcons, gnil, gnum}
+use denote.Sharing.{ShrLaws}
+use types.Kit.{assume, check, fpack, fpick, frame, settle, show, suffices}
+use types.Tokens.{lft_end, lft_new, name_new, obor_close, res_dup, shr_bor-open}
 use types.Within.{tokens_halve}
-use denote.Sharing.{ShrLaws, said}
-use denote.Steps.{nothing}
-use Rattle.left_right.specs.Parted.{tokens}
-use Rattle.left_right.proofs.PartSteps.{tokens_whole}
-use Rattle.ghost_map.specs.Chain.{Cell, state, this, blank_owns, value, cell, chain, past, path, map_owns, entry_path, entry_owns, entry_shares}
+use Rattle.ghost_map.specs.Chain.{blank_owns, cell, entry_path, entry_shares, map_owns, past, this}
+use Rattle.ghost_map.specs.Chain.{value}
 
 abbrev IsPair : Gv → Type 0
 IsPair gnil = ⊥

@@ -1,22 +1,19 @@
 -- What the walks share: the one machine value of every type here, and how a walk ends. Assumes `Logic`.
-use Rattle.std.proofs.Common.{List, [], ◌∷◌, ◌++◌, ◌≡◌, refl, ap, ◌∙◌}
-use seplogic.Ra.Ura.{Ura}
-use mir.Val.{Val, vstruct, vcons, vnil, of_list}
-use base.Logic.{SProp, ent, sep, emp, id⊢, via, emp∗, mono∗}
-use contract.Monad.{fact, fact_i}
+use Rattle.std.proofs.Common.{◌≡◌, List, [], ◌∷◌, ◌++◌, refl, ap, ◌∙◌}
+use Rattle.ghost_map.proofs.Prelude.{alive, by, emp, ent, fact, fact_i, id⊢, Logic, move, qed}
+use Rattle.ghost_map.proofs.Prelude.{RattleType, raw, sem, sep, SProp, Stays, Struct, Ura, use0}
+use Rattle.ghost_map.proofs.Prelude.{Val, via, walk_of, !, ‵, ◌$◌, ◌∵◌}
+use Rattle.atomic_table.proofs.Walks.{leaves}
+use base.Logic.{emp∗, mono∗}
 use borrow.Fn.Claims.{AllOf}
-use types.Logic.{Logic, sem}
-use types.Kit.{‵, raw, ◌$◌, ◌∵◌, !, qed, by, move, use0}
-use denote.RattleType.{RattleType}
 use denote.Laws.{Is}
 use denote.Shadow.{makes_shadow}
 use denote.Signature.{type_at}
-use denote.Struct.Struct.{Struct}
-use denote.Triple.Clauses.{Ended, Clauses, Lasts, at_exit}
-use denote.Triple.Entry.{Res, alive}
-use denote.Triple.Walked.{Stays, Fit, has_of, walk_of}
+use denote.Triple.Clauses.{at_exit, Clauses, Ended, Lasts}
+use denote.Triple.Entry.{Res}
+use denote.Triple.Walked.{Fit, has_of}
+use mir.Val.{of_list, vcons, vnil, vstruct}
 use Rattle.std.specs.contracts.marker.PhantomData as marker
-use Rattle.atomic_table.proofs.Walks.{leaves}
 
 abbrev pub token : Val
 token = vstruct (vcons (vstruct vnil) vnil)

@@ -1,9 +1,7 @@
 -- What cells hold, one after another.
 use Rattle.std.proofs.Common.{◌≡◌, ℕ, zero, suc, ◌+◌, List, [], ◌∷◌, ◌++◌, sym, ap, ◌∙◌, arith}
-use Rattle.std.specs.List.{flat_map}
-use Rattle.std.proofs.lemmas.Grind.{flat_map-append}
-use Rattle.step_threads.specs.Stocks.{from}
-use Rattle.owner_graph.proofs.Joining.{join, nil_right}
+use Rattle.holders.proofs.Prelude.{flat_map, flat_map-append, from, nil_right}
+use Rattle.owner_graph.proofs.Joining.{join}
 
 -- the last of some numbers comes last
 pub from-suc : (b n : ℕ) → from b (suc n) ≡ from b n ++ (b + n) ∷ []

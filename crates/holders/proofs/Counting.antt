@@ -1,33 +1,29 @@
 -- Where no desk has a handle, the handles that cells hold on a block are just those that are counted.
-use Rattle.std.proofs.Common.{◌≡◌, ◌≢◌, ℕ, suc, ◌+◌, ◌-◌, ◌<◌, ◌==◌, ◌&&◌, Bool, true, false, cond, List, [], ◌∷◌}
-use Rattle.std.proofs.Common.{◌++◌, length, map, refl}
-use Rattle.std.proofs.Common.{sym, ap, subst, ◌∙◌, ⊎_elim, arith, eq-eqb, ne_eqb}
-use Rattle.std.specs.List.{flat_map}
-use Rattle.std.specs.Prelude.{Option, Some, None, nat_lt}
-use Rattle.std.proofs.lemmas.Bool.{cases_eq, cond-true, cond-false}
+use Rattle.std.proofs.Common.{◌≡◌, ℕ, suc, ◌+◌, ◌-◌, ◌<◌, Bool, true, false, cond, ◌&&◌, ◌≢◌, List}
+use Rattle.std.proofs.Common.{[], ◌∷◌, ◌++◌, map, length, nat_lt, ◌==◌, Some, None, Option, refl}
+use Rattle.std.proofs.Common.{sym, ap, ◌∙◌, subst, ⊎_elim, arith, eq-eqb, ne_eqb}
+use Rattle.holders.proofs.Prelude.{all_held, AllCounted, cases_eq, cond-false, cond-true, flat_map}
+use Rattle.holders.proofs.Prelude.{from, held_by_block, held_by_free, held_on, Kind, model_state}
+use Rattle.holders.proofs.Prelude.{NumberedHandle, opening, Owner, same_kind, tally, tally_append}
+use Rattle.holders.proofs.Prelude.{upto, Weak}
+use Rattle.control_word.specs.Handles.{same_number}
+use Rattle.control_word.specs.State.{common, count, handles, Held, in_cells, kind_of_member}
+use Rattle.control_word.specs.State.{members, Opening, State, weak, weak_number}
+use Rattle.control_word.specs.Words.{block_of, blocks_of}
+use Rattle.control_word.specs.declared.packed.counts.Counts.{Counts}
+use Rattle.control_word.specs.declared.site.Site.{Site}
+use Rattle.control_word.specs.declared.site.Site.TheVariants.{Free}
+use Rattle.step_table.specs.GhostStates.{GhostState, TableInvariant}
 use Rattle.control_word.proofs.history.Formation.{formed}
 use Rattle.control_word.proofs.history.Legal.{sound}
 use Rattle.control_word.proofs.history.Making.{empty_counts}
 use Rattle.control_word.proofs.history.Soundness.{Formed, IsBusy, Sound}
-use Rattle.control_word.proofs.lists.Tallies.{tally_append, tally_cons}
+use Rattle.control_word.proofs.lists.Tallies.{tally_cons}
 use Rattle.control_word.proofs.words.Funds.{cell_busy, counted_busy, member_busy}
-use Rattle.control_word.specs.declared.packed.counts.Counts.{Counts}
-use Rattle.control_word.specs.declared.model.handle.NumberedHandle.{NumberedHandle}
-use Rattle.control_word.specs.declared.model.handle.Kind.{Kind}
-use Rattle.control_word.specs.declared.model.handle.Kind.TheVariants.{Owner, Weak}
-use Rattle.control_word.specs.Handles.{same_kind, same_number}
-use Rattle.control_word.specs.State.{Held, Opening, State, common, count, handles, in_cells, kind_of_member, members, tally, upto, weak}
-use Rattle.control_word.specs.State.{weak_number}
-use Rattle.control_word.specs.Words.{block_of, blocks_of}
-use Rattle.control_word.specs.declared.site.Site.{Site}
-use Rattle.control_word.specs.declared.site.Site.TheVariants.{Free}
-use Rattle.step_table.specs.Openings.{opening}
-use Rattle.step_table.specs.GhostStates.{TableInvariant, GhostState, model_state}
-use Rattle.step_threads.specs.Stocks.{from}
-use Rattle.owner_graph.specs.Rows.{held_on}
-use Rattle.holders.specs.Registers.{AllCounted, AreCounted, all_held, held_by, held_by_block, held_by_free, held_by_members, holding, holdings_in, holds_owner}
-use Rattle.holders.specs.Registers.{member}
-use Rattle.holders.proofs.Listing.{all_kinds, hits, hits_append, hits_sum, is_of, kind_by, of_kind, one_by, tally_sum}
+use Rattle.holders.specs.Registers.{AreCounted, held_by, held_by_members, holding, holdings_in}
+use Rattle.holders.specs.Registers.{holds_owner, member}
+use Rattle.holders.proofs.Listing.{all_kinds, hits, hits_append, hits_sum, is_of, kind_by, of_kind}
+use Rattle.holders.proofs.Listing.{one_by, tally_sum}
 use Rattle.holders.proofs.Summing.{IsOnly, sum_by_way, sum_same}
 
 and_none : (b : Bool) → (b && false) ≡ false

@@ -1,21 +1,12 @@
 -- How many handles of a kind a list has on a block.
-use Rattle.std.proofs.Common.{◌≡◌, ℕ, zero, suc, ◌+◌, ◌==◌, ◌&&◌, Bool, true, false, cond, not, List, [], ◌∷◌, ◌++◌, length, refl}
-use Rattle.std.proofs.Common.{ap, ◌∙◌}
-use Rattle.std.proofs.Common.{length-append, arith}
-use Rattle.std.specs.List.{filter, flat_map}
-use Rattle.std.proofs.lemmas.Bool.{cond-true, cond-false}
-use Rattle.std.proofs.lemmas.Grind.{flat_map-append}
+use Rattle.std.proofs.Common.{◌≡◌, ℕ, zero, suc, ◌+◌, Bool, true, false, cond, not, ◌&&◌, List, []}
+use Rattle.std.proofs.Common.{◌∷◌, ◌++◌, length, ◌==◌, refl, ap, ◌∙◌, arith, length-append}
+use Rattle.holders.proofs.Prelude.{cond-false, cond-true, flat_map, flat_map-append, from, held_on}
+use Rattle.holders.proofs.Prelude.{Holding, Kind, nil_right, NumberedHandle, Owner, same_kind}
+use Rattle.holders.proofs.Prelude.{sum_below, tally, tally_append, upto, Weak}
+use Rattle.std.specs.List.{filter}
 use Rattle.std.proofs.lemmas.List.Elements.{filter-append}
-use Rattle.control_word.proofs.lists.Tallies.{num, tally_append}
-use Rattle.control_word.specs.declared.model.handle.NumberedHandle.{NumberedHandle}
-use Rattle.control_word.specs.declared.model.handle.Kind.{Kind}
-use Rattle.control_word.specs.declared.model.handle.Kind.TheVariants.{Owner, Weak}
-use Rattle.control_word.specs.Handles.{same_kind}
-use Rattle.control_word.specs.State.{sum_below, tally, upto}
-use Rattle.step_threads.specs.Stocks.{from}
-use Rattle.owner_graph.specs.declared.holding.Holding.{Holding}
-use Rattle.owner_graph.specs.Rows.{held_on}
-use Rattle.owner_graph.proofs.Joining.{nil_right}
+use Rattle.control_word.proofs.lists.Tallies.{num}
 use Rattle.holders.proofs.Adding.{from-suc}
 
 abbrev pub is_of : Kind → Bool → Bool

@@ -1,9 +1,9 @@
 -- A sum that goes by way of a function is the sum of what it comes to.
-use Rattle.std.proofs.Common.{◌≡◌, ◌≢◌, ℕ, zero, suc, ◌+◌, ◌<◌, ◌==◌, Bool, cond, refl, sym, ap, ◌∙◌, ⊎_elim, arith, eq-eqb}
-use Rattle.std.proofs.Common.{ne_eqb}
-use Rattle.std.proofs.lemmas.Bool.{cases_eq, cond_both, cond-true, cond-false}
+use Rattle.std.proofs.Common.{◌≡◌, ℕ, zero, suc, ◌+◌, ◌<◌, Bool, cond, ◌≢◌, ◌==◌, refl, sym, ap}
+use Rattle.std.proofs.Common.{◌∙◌, ⊎_elim, arith, eq-eqb, ne_eqb}
+use Rattle.holders.proofs.Prelude.{cases_eq, cond-false, cond-true, sum_below}
+use Rattle.std.proofs.lemmas.Bool.{cond_both}
 use Rattle.control_word.proofs.lists.Sums.{sum_plus, sum_zero}
-use Rattle.control_word.specs.State.{sum_below}
 
 pub sum_same : (n : ℕ) (f g : ℕ → ℕ) → ((i : ℕ) → i < n → f i ≡ g i) → sum_below n f ≡ sum_below n g
 sum_same zero f g e = refl

@@ -1,14 +1,11 @@
 -- Circles of leaked blocks, line after line.
-use Rattle.std.proofs.Common.{◌≡◌, ℕ, ◌+◌, ◌<◌, List, [], ◌∷◌, ◌++◌, length, take, get_or, sym, ap, ◌∙◌}
-use Rattle.std.specs.List.{flat_map}
+use Rattle.std.proofs.Common.{◌≡◌, ℕ, ◌+◌, ◌<◌, List, [], ◌∷◌, ◌++◌, length, get_or, take, sym, ap}
+use Rattle.std.proofs.Common.{◌∙◌}
+use Rattle.leak_report.proofs.Prelude.{circles, ended, flat_map, held_on, Holding, take_more}
 use Rattle.std.proofs.lemmas.Grind.{flat_map-append}
-use Rattle.std.proofs.lemmas.List.{take_more}
-use Rattle.script_stepper.proofs.LineLemmas.{flat_map-one}
 use Rattle.owner_graph.proofs.Joining.{join}
-use Rattle.owner_graph.specs.declared.holding.Holding.{Holding}
-use Rattle.script_text.specs.Grammar.{ended}
-use Rattle.owner_graph.specs.Rows.{held_on}
-use Rattle.leak_report.specs.Circles.{circle_lines, circles, knot_lines}
+use Rattle.script_stepper.proofs.LineLemmas.{flat_map-one}
+use Rattle.leak_report.specs.Circles.{circle_lines, knot_lines}
 use Rattle.leak_report.proofs.Telling.{numbers_then}
 
 -- words of one element more

@@ -1,19 +1,11 @@
 -- The colors of blocks, one block more each time.
-use Rattle.std.proofs.Common.{◌≡◌, ℕ, ◌+◌, ◌++◌, false, List, [], ◌∷◌, Option, Some, None, refl, sym, ap, ◌∙◌, arith}
-use Rattle.std.specs.Prelude.{Bool, map, slice_index_or}
-use Rattle.std.specs.List.{flat_map}
-use Rattle.std.proofs.lemmas.List.{append-nil, map-append}
-use Rattle.control_word.specs.declared.packed.counts.Counts.{Counts}
-use Rattle.control_word.specs.State.{State}
-use Rattle.step_threads.specs.Stocks.{from}
-use Rattle.step_core.specs.Totals.{census_of}
-use Rattle.owner_graph.specs.declared.holding.Holding.{Holding}
-use Rattle.owner_graph.specs.Labels.{at}
-use Rattle.owner_graph.specs.Rows.{held_on}
-use Rattle.holders.proofs.Adding.{one_more}
+use Rattle.std.proofs.Common.{◌≡◌, ℕ, ◌+◌, Bool, false, List, [], ◌∷◌, ◌++◌, map, slice_index_or}
+use Rattle.std.proofs.Common.{Some, None, Option, refl, sym, ap, ◌∙◌, append-nil, arith}
+use Rattle.leak_report.proofs.Prelude.{at, census_of, color_text, colored, Counts, flat_map, from}
+use Rattle.leak_report.proofs.Prelude.{held_on, Holding, in_color, is_tied, map-append, one_more}
+use Rattle.leak_report.proofs.Prelude.{State}
+use Rattle.leak_report.specs.Coloring.{colored_if}
 use Rattle.leak_report.specs.declared.coloring.Colored.{Colored}
-use Rattle.leak_report.specs.Coloring.{colored, colored_if, in_color}
-use Rattle.leak_report.specs.Graph.{color_text, is_tied}
 
 abbrev color_at : List Bool → List ℕ → List Holding → ℕ → List ℕ
 color_at kept knots ties number = color_text (slice_index_or kept number false) (is_tied (held_on ties (at knots number)))

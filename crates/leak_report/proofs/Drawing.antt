@@ -1,27 +1,18 @@
 -- What is drawn of a run's end, and how the cells that cut a knot are found.
-use Rattle.std.proofs.Common.{◌≡◌, ◌≢◌, ℕ, zero, suc, ◌+◌, ◌<◌, ◌≤◌, ◌==◌, ◌||◌, Bool, true, false, codes, not, List, []}
-use Rattle.std.proofs.Common.{◌∷◌, ◌++◌, length, map, take}
-use Rattle.std.proofs.Common.{get_or, refl, sym, ap, ◌∙◌, Option, Some, ⊎_elim, arith, eq-eqb, ne_eqb, eqb-true}
-use Rattle.std.specs.Global.{Vec}
-use Rattle.std.specs.List.{flat_map}
-use Rattle.std.specs.Prelude.{All, nat_lt, slice_index_or}
-use Rattle.std.proofs.lemmas.Bool.{and_parts, cases_eq, cond-true, cond-false}
-use Rattle.std.proofs.lemmas.List.{map-append, take_more}
+use Rattle.std.proofs.Common.{◌≡◌, ℕ, zero, suc, ◌+◌, ◌<◌, ◌≤◌, Bool, true, false, not, ◌||◌, ◌≢◌}
+use Rattle.std.proofs.Common.{List, [], ◌∷◌, ◌++◌, map, length, get_or, take, nat_lt, ◌==◌}
+use Rattle.std.proofs.Common.{slice_index_or, Some, codes, All, Option, refl, sym, ap, ◌∙◌, ⊎_elim}
+use Rattle.std.proofs.Common.{arith, eq-eqb, ne_eqb, eqb-true}
+use Rattle.leak_report.proofs.Prelude.{AbstractState, all_nodes, at, at_source, color_text}
+use Rattle.leak_report.proofs.Prelude.{edge_lines, ended, Findings, flat_map, head_lines, held_at}
+use Rattle.leak_report.proofs.Prelude.{held_on, Holding, is_listed, is_tie, is_tied, IsAmong}
+use Rattle.leak_report.proofs.Prelude.{lines_then, map-append, node_lines, row_at, State, state_in}
+use Rattle.leak_report.proofs.Prelude.{style_text, take_more, tie_text, ties_at, Vec}
+use Rattle.std.proofs.lemmas.Bool.{and_parts, cases_eq, cond-false, cond-true}
 use Rattle.std.proofs.lemmas.List.Elements.{All-cons, All-head, All-nil, All-tail}
-use Rattle.control_word.specs.State.{State}
-use Rattle.script_text.specs.Grammar.{ended}
-use Rattle.script_stepper.proofs.LineLemmas.{lines_then}
-use Rattle.step_core.specs.Totals.{fields_of}
-use Rattle.step_threads.specs.AbstractStates.{AbstractState, state_in}
-use Rattle.owner_graph.specs.declared.holding.Holding.{Holding}
 use Rattle.owner_graph.specs.Ends.{same_place}
-use Rattle.owner_graph.specs.Owners.{IsAmong}
-use Rattle.owner_graph.specs.Ties.{is_tie}
-use Rattle.owner_graph.specs.Labels.{at}
-use Rattle.owner_graph.specs.Rows.{held_on, row_at}
-use Rattle.leak_report.specs.Findings.{Findings, held_at, ties_at}
-use Rattle.leak_report.specs.Graph.{all_nodes, at_source, color_text, edge_by, edge_lines, graph_lines, head_lines, is_listed, is_tied, node_if, node_lines}
-use Rattle.leak_report.specs.Graph.{node_text, style_text, tie_text}
+use Rattle.step_core.specs.Totals.{fields_of}
+use Rattle.leak_report.specs.Graph.{edge_by, graph_lines, node_if, node_text}
 
 -- one place is in one block
 other_place : (one two : Holding) → one.from ≢ two.from → same_place one two ≡ false

@@ -1,3 +1,4 @@
+pub mod Prelude
 pub mod Circling
 pub mod Drawing
 pub mod Telling

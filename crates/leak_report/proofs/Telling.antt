@@ -1,31 +1,17 @@
 -- What is told of a run's end, line after line.
-use Rattle.std.proofs.Common.{◌≡◌, ℕ, zero, suc, ◌+◌, ◌<◌, length, get_or, Bool, false, List, [], ◌∷◌, ◌++◌, Ok, Err, Option}
-use Rattle.std.proofs.Common.{Some, refl, ap}
-use Rattle.std.proofs.Common.{subst, ◌∙◌, arith}
-use Rattle.std.specs.List.{flat_map}
-use Rattle.std.specs.Prelude.{slice_index_or}
-use Rattle.control_word.specs.declared.packed.counts.Counts.{Counts}
-use Rattle.control_word.specs.State.{State}
-use Rattle.script_text.specs.Grammar.{ended}
-use Rattle.script_text.specs.declared.fault.Fault.{Fault}
-use Rattle.script_stepper.specs.Runs.{IsScriptRun}
-use Rattle.script_stepper.specs.Lines.{totals_text}
-use Rattle.script_stepper.proofs.LineLemmas.{lines_then}
-use Rattle.step_threads.specs.AbstractStates.{AbstractState, state_in}
-use Rattle.step_threads.specs.Stocks.{from}
-use Rattle.step_core.specs.Totals.{census_of, ended_in, made_in}
-use Rattle.owner_graph.specs.declared.holding.Holding.{Holding}
-use Rattle.owner_graph.specs.Rows.{held_on}
-use Rattle.holders.proofs.Adding.{one_more}
-use Rattle.script_stepper.specs.Ends.{IsRunEnd}
-use Rattle.owner_graph.specs.Rows.{row_at}
-use Rattle.owner_graph.proofs.Stepping.{same_at}
-use Rattle.std.specs.Global.{Vec}
-use Rattle.leak_report.specs.Findings.{Findings, held_at, ties_at}
+use Rattle.std.proofs.Common.{◌≡◌, ℕ, zero, suc, ◌+◌, ◌<◌, Bool, false, List, [], ◌∷◌, ◌++◌}
+use Rattle.std.proofs.Common.{length, get_or, slice_index_or, Some, Ok, Err, Option, refl, ap, ◌∙◌}
+use Rattle.std.proofs.Common.{subst, arith}
+use Rattle.leak_report.proofs.Prelude.{AbstractState, census_of, circles, Counts, ended, ended_in}
+use Rattle.leak_report.proofs.Prelude.{Findings, flat_map, from, held_at, held_on, holder_lines}
+use Rattle.leak_report.proofs.Prelude.{Holding, left_lines, lines_then, listing, made_in, one_more}
+use Rattle.leak_report.proofs.Prelude.{row_at, same_at, State, state_in, ties_at, totals_text, Vec}
 use Rattle.holders.specs.Registers.{AllCounted}
+use Rattle.script_stepper.specs.Ends.{IsRunEnd}
+use Rattle.script_stepper.specs.Runs.{IsScriptRun}
+use Rattle.script_text.specs.declared.fault.Fault.{Fault}
 use Rattle.leak_report.specs.Left.{IsCountedAt, IsLeftText, TellsOf}
-use Rattle.leak_report.specs.Circles.{circles}
-use Rattle.leak_report.specs.Lines.{all_lines, held_lines_if, holder_lines, left_lines, left_text, listing}
+use Rattle.leak_report.specs.Lines.{all_lines, held_lines_if, left_text}
 
 -- lines of one number more
 pub numbers_then : (f : ℕ → List (List ℕ)) (n : ℕ) (a b c : List ℕ) → b ≡ a ++ ended (flat_map f (from 1 n)) → c ≡ b ++ ended (f (n + 1))

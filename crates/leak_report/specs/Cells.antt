@@ -1,7 +1,6 @@
 -- How the place of a handle is written. All of it is own.
-use Rattle.std.specs.Prelude.{ℕ, ◌-◌, ◌==◌, ◌++◌, cond, List, codes, decimal, nat_lt}
-use Rattle.owner_graph.specs.declared.holding.Holding.{Holding}
-use Rattle.script_text.specs.Cells.{member_text}
+use Rattle.std.specs.Prelude.{ℕ, ◌-◌, cond, List, ◌++◌, nat_lt, ◌==◌, codes, decimal}
+use Rattle.leak_report.specs.Prelude.{Holding, member_text}
 
 -- a free cell's word in a script; the first so many are shared
 abbrev pub free_cell_text : ℕ → ℕ → List ℕ

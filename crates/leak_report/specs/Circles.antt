@@ -1,9 +1,6 @@
 -- The lines of leaked blocks that own each other in a circle, each without its line feed. All of it is own.
-use Rattle.std.specs.Prelude.{ℕ, ◌++◌, List, [], ◌∷◌, codes}
-use Rattle.std.specs.List.{flat_map}
-use Rattle.step_threads.specs.Stocks.{from}
-use Rattle.owner_graph.specs.declared.holding.Holding.{Holding}
-use Rattle.owner_graph.specs.Rows.{held_on}
+use Rattle.std.specs.Prelude.{ℕ, List, [], ◌∷◌, ◌++◌, codes}
+use Rattle.leak_report.specs.Prelude.{flat_map, from, held_on, Holding}
 use Rattle.leak_report.specs.Cells.{block_cell_text}
 
 -- an owner's cell, after a space

@@ -1,18 +1,12 @@
 -- The colors of blocks that are left. All of it is own.
-use Rattle.std.specs.Prelude.{◌≡◌, ℕ, Bool, false, List, [], ◌∷◌, Option, Some, None, slice_index_or, map}
-use Rattle.std.specs.List.{flat_map}
-use Rattle.control_word.specs.declared.packed.counts.Counts.{Counts}
-use Rattle.control_word.specs.State.{State}
-use Rattle.step_threads.specs.AbstractStates.{AbstractState, state_in}
-use Rattle.step_threads.specs.Stocks.{from}
-use Rattle.step_core.specs.Totals.{census_of}
-use Rattle.owner_graph.specs.declared.holding.Holding.{Holding}
-use Rattle.owner_graph.specs.Labels.{at}
-use Rattle.owner_graph.specs.Rows.{held_on}
-use Rattle.leak_report.specs.declared.coloring.Colored.{Colored}
+use Rattle.std.specs.Prelude.{◌≡◌, ℕ, Bool, false, List, [], ◌∷◌, map, slice_index_or, Some, None}
+use Rattle.std.specs.Prelude.{Option}
+use Rattle.leak_report.specs.Prelude.{AbstractState, at, census_of, Counts, flat_map, from}
+use Rattle.leak_report.specs.Prelude.{held_on, Holding, State, state_in}
 use Rattle.leak_report.specs.Findings.{Findings, ties_at}
 use Rattle.leak_report.specs.Graph.{color_text, is_tied}
 use Rattle.leak_report.specs.Left.{AreFound}
+use Rattle.leak_report.specs.declared.coloring.Colored.{Colored}
 
 -- a block in the color of its node
 abbrev pub colored_if : ℕ → List ℕ → Option Counts → List (ℕ × List ℕ)

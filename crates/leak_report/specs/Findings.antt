@@ -1,9 +1,7 @@
 -- What is found at a scene of the handles that cells hold. All of it is own.
 use Rattle.std.specs.Prelude.{ℕ, Bool, List}
+use Rattle.leak_report.specs.Prelude.{AbstractState, Holding, state_in, ties}
 use Rattle.holders.specs.Registers.{all_held}
-use Rattle.owner_graph.specs.declared.holding.Holding.{Holding}
-use Rattle.owner_graph.specs.Ties.{ties}
-use Rattle.step_threads.specs.AbstractStates.{AbstractState, state_in}
 
 -- what all cells hold at a scene
 abbrev pub held_at : AbstractState → List Holding

@@ -1,19 +1,13 @@
 -- What is left as a graph for Graphviz, line by line, each without its line feed. All of it is own.
-use Rattle.std.specs.Prelude.{ℕ, ◌++◌, ◌==◌, Bool, false, cond, nat_lt, List, [], ◌∷◌, length, codes, decimal}
-use Rattle.std.specs.Prelude.{slice_index}
-use Rattle.std.specs.Prelude.{Option, Some, None, slice_index_or}
-use Rattle.std.specs.List.{flat_map, list_any}
-use Rattle.control_word.specs.State.{State}
-use Rattle.step_threads.specs.AbstractStates.{AbstractState, state_in}
-use Rattle.step_threads.specs.Stocks.{from}
-use Rattle.step_core.specs.Totals.{fields_of}
-use Rattle.owner_graph.specs.declared.holding.Holding.{Holding}
+use Rattle.std.specs.Prelude.{ℕ, Bool, false, cond, List, [], ◌∷◌, ◌++◌, length, nat_lt, ◌==◌}
+use Rattle.std.specs.Prelude.{slice_index, slice_index_or, Some, None, codes, decimal, Option}
+use Rattle.leak_report.specs.Prelude.{AbstractState, at, flat_map, from, held_on, Holding}
+use Rattle.leak_report.specs.Prelude.{member_text, State, state_in}
+use Rattle.std.specs.List.{list_any}
 use Rattle.owner_graph.specs.Ends.{same_place}
-use Rattle.owner_graph.specs.Labels.{at}
-use Rattle.owner_graph.specs.Rows.{held_on}
 use Rattle.owner_graph.specs.Ties.{is_tie}
+use Rattle.step_core.specs.Totals.{fields_of}
 use Rattle.leak_report.specs.Cells.{free_cell_text}
-use Rattle.script_text.specs.Cells.{member_text}
 use Rattle.leak_report.specs.Findings.{Findings, held_at, ties_at}
 
 -- the color of a block: whether it is kept, and else whether something ties its knot

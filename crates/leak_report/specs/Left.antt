@@ -1,18 +1,13 @@
 -- What is left at the end of a script's run. All of it is own.
-use Rattle.std.specs.Prelude.{◌≡◌, ◌≢◌, ◌↔◌, ℕ, ◌+◌, ◌≤◌, Bool, true, false, List, length}
-use Rattle.std.specs.Prelude.{None, slice_index_or}
-use Rattle.std.specs.Prelude.{Result, Ok, Err}
-use Rattle.script_text.specs.declared.fault.Fault.{Fault}
+use Rattle.std.specs.Prelude.{◌≡◌, ℕ, ◌+◌, ◌≤◌, Bool, true, false, ◌≢◌, ◌↔◌, List, length}
+use Rattle.std.specs.Prelude.{slice_index_or, None, Ok, Err, Result}
+use Rattle.leak_report.specs.Prelude.{AbstractState, AllCounted, AreCuts, census_of, IsKept}
+use Rattle.leak_report.specs.Prelude.{KnotsAre, state_in}
+use Rattle.script_stepper.specs.Ends.{IsRunOut}
 use Rattle.script_text.specs.Beginnings.{script_abstraction}
 use Rattle.script_text.specs.Drafts.{ScriptView}
 use Rattle.script_text.specs.Grammar.{ended}
-use Rattle.script_stepper.specs.Ends.{IsRunOut}
-use Rattle.step_threads.specs.AbstractStates.{AbstractState, state_in}
-use Rattle.step_core.specs.Totals.{census_of}
-use Rattle.holders.specs.Registers.{AllCounted}
-use Rattle.owner_graph.specs.Knots.{KnotsAre}
-use Rattle.owner_graph.specs.Owners.{IsKept}
-use Rattle.owner_graph.specs.Ties.{AreCuts}
+use Rattle.script_text.specs.declared.fault.Fault.{Fault}
 use Rattle.leak_report.specs.Findings.{Findings, held_at, ties_at}
 use Rattle.leak_report.specs.Graph.{graph_lines}
 use Rattle.leak_report.specs.Lines.{all_lines}

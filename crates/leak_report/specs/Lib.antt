@@ -1,3 +1,4 @@
+pub mod Prelude
 pub mod Cells
 pub mod Circles
 pub mod Coloring

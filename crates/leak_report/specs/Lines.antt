@@ -1,15 +1,9 @@
 -- The lines that tell what is left, each without its line feed. All of it is own.
-use Rattle.std.specs.Prelude.{ℕ, ◌++◌, Bool, cond, List, [], ◌∷◌, codes}
-use Rattle.std.specs.Prelude.{Option, Some, None, slice_index_or, false}
-use Rattle.std.specs.List.{flat_map}
-use Rattle.control_word.specs.declared.packed.counts.Counts.{Counts}
-use Rattle.control_word.specs.State.{State}
-use Rattle.step_threads.specs.AbstractStates.{AbstractState, state_in}
-use Rattle.step_threads.specs.Stocks.{from}
-use Rattle.step_core.specs.Totals.{census_of, ended_in, made_in}
-use Rattle.script_stepper.specs.Lines.{block_text, totals_text}
-use Rattle.owner_graph.specs.declared.holding.Holding.{Holding}
-use Rattle.owner_graph.specs.Rows.{held_on}
+use Rattle.std.specs.Prelude.{ℕ, Bool, false, cond, List, [], ◌∷◌, ◌++◌, slice_index_or, Some}
+use Rattle.std.specs.Prelude.{None, codes, Option}
+use Rattle.leak_report.specs.Prelude.{AbstractState, census_of, Counts, ended_in, flat_map, from}
+use Rattle.leak_report.specs.Prelude.{held_on, Holding, made_in, State, state_in, totals_text}
+use Rattle.script_stepper.specs.Lines.{block_text}
 use Rattle.leak_report.specs.Cells.{block_cell_text}
 use Rattle.leak_report.specs.Circles.{circles}
 use Rattle.leak_report.specs.Findings.{Findings, held_at, ties_at}

@@ -1,8 +1,8 @@
 //! From a script's bytes to the text of what is left at its end.
-ghost use Rattle.std.specs.Prelude.{◌≡◌, ℕ, IfErr, IfOk, false, string_bytes};
-ghost use Rattle.script_stepper.specs.Ends.{IsRunEnd, IsRefused};
-ghost use Rattle.script_stepper.specs.Runs.{Delivers, TellsRun, is_output};
-ghost use Rattle.step_core.specs.Worlds.{abstraction};
+ghost use Rattle.std.specs.Prelude.{◌≡◌, ℕ, false, IfOk, IfErr, string_bytes};
+ghost use Rattle.leak_report.specs.Prelude.{abstraction};
+ghost use Rattle.script_stepper.specs.Ends.{IsRefused, IsRunEnd};
+ghost use Rattle.script_stepper.specs.Runs.{Delivers, is_output, TellsRun};
 ghost use Rattle.leak_report.specs.Left.{IsLeftText, TellsOf};
 
 use crate::finding::find;

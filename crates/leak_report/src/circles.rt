@@ -1,10 +1,8 @@
 //! The lines of leaked blocks that own each other in a circle.
-ghost use Rattle.std.specs.Prelude.{◌≡◌, ◌∷◌, ◌++◌, ◌+◌, ◌≤◌, ℕ, [], OnOk, length};
-ghost use Rattle.std.specs.Prelude.{string_bytes};
-ghost use Rattle.std.specs.List.{flat_map};
-ghost use Rattle.script_text.specs.Canonical.{AddsLines};
-ghost use Rattle.owner_graph.specs.Rows.{held_on, row_at};
-ghost use Rattle.leak_report.specs.Circles.{owner_cell_text, circle_lines, circles, cut_lines, cycle_text, knot_lines};
+ghost use Rattle.std.specs.Prelude.{◌≡◌, ℕ, ◌+◌, ◌≤◌, [], ◌∷◌, ◌++◌, length, OnOk, string_bytes};
+ghost use Rattle.leak_report.specs.Prelude.{AddsLines, flat_map, held_on, row_at};
+ghost use Rattle.leak_report.specs.Circles.{circle_lines, circles, cut_lines, cycle_text};
+ghost use Rattle.leak_report.specs.Circles.{knot_lines, owner_cell_text};
 
 use crate::knotting::Circles;
 use crate::lines::put_cell;

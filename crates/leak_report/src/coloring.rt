@@ -1,10 +1,7 @@
 //! The colors of blocks that are left at a run's end.
-ghost use Rattle.std.specs.Prelude.{◌≡◌, ◌+◌, ◌<◌, ◌≤◌, ◌++◌, ℕ, IfOk, OnOk, false, length, map, slice_index_or};
-ghost use Rattle.step_core.specs.Totals.{IsAtEnd};
-ghost use Rattle.step_core.specs.Worlds.{abstraction};
-ghost use Rattle.step_threads.specs.AbstractStates.{state_in};
-ghost use Rattle.owner_graph.specs.Labels.{at};
-ghost use Rattle.owner_graph.specs.Rows.{held_on, row_at};
+ghost use Rattle.std.specs.Prelude.{◌≡◌, ℕ, ◌+◌, ◌<◌, ◌≤◌, false, ◌++◌, map, length, IfOk, OnOk};
+ghost use Rattle.std.specs.Prelude.{slice_index_or};
+ghost use Rattle.leak_report.specs.Prelude.{abstraction, at, held_on, IsAtEnd, row_at, state_in};
 ghost use Rattle.leak_report.specs.Coloring.{AreColored, colored, in_color};
 ghost use Rattle.leak_report.specs.Graph.{color_text, is_tied};
 

@@ -1,8 +1,6 @@
 //! Which cells cut a knot, found by the blocks in which they are.
-ghost use Rattle.std.specs.Prelude.{◌≡◌, All, IfOk, map};
-ghost use Rattle.owner_graph.specs.Owners.{IsAmong};
-ghost use Rattle.owner_graph.specs.Rows.{row_at};
-ghost use Rattle.owner_graph.specs.declared.holding.Holding.{Holding};
+ghost use Rattle.std.specs.Prelude.{◌≡◌, map, IfOk, All};
+ghost use Rattle.leak_report.specs.Prelude.{Holding, IsAmong, row_at};
 ghost use Rattle.leak_report.specs.Graph.{at_source, is_listed};
 
 use owner_graph::{Holding, by_vertex, same_place};

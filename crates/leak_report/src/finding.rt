@@ -1,12 +1,8 @@
 //! What is held at a run's end, and what of it is kept.
-ghost use Rattle.std.specs.Prelude.{◌≡◌, ◌≢◌, ◌↔◌, ◌+◌, ◌≤◌, ℕ, None, All, IfOk, IsTrue};
-ghost use Rattle.std.specs.Prelude.{false, true, length, slice_index_or};
-ghost use Rattle.step_core.specs.Totals.{IsAtEnd, census_of};
-ghost use Rattle.step_core.specs.Worlds.{abstraction};
-ghost use Rattle.holders.specs.Registers.{AllCounted};
-ghost use Rattle.step_threads.specs.AbstractStates.{state_in};
-ghost use Rattle.owner_graph.specs.Owners.{IsAmong, IsKept};
-ghost use Rattle.owner_graph.specs.Rows.{held_on, row_at};
+ghost use Rattle.std.specs.Prelude.{◌≡◌, ℕ, ◌+◌, ◌≤◌, true, false, ◌≢◌, ◌↔◌, length, IfOk, IsTrue};
+ghost use Rattle.std.specs.Prelude.{slice_index_or, None, All};
+ghost use Rattle.leak_report.specs.Prelude.{abstraction, AllCounted, census_of, held_on, IsAmong};
+ghost use Rattle.leak_report.specs.Prelude.{IsAtEnd, IsKept, row_at, state_in};
 ghost use Rattle.leak_report.specs.Findings.{findings, held_at, ties_at};
 ghost use Rattle.leak_report.specs.Left.{AreFound, Leaks, MarksKept};
 

@@ -1,20 +1,13 @@
 //! What is left at a run's end as a graph for Graphviz.
-ghost use Rattle.std.specs.Prelude.{◌≡◌, ◌∷◌, ◌++◌, ◌+◌, ◌<◌, ◌≤◌, ℕ, []};
-ghost use Rattle.std.specs.Prelude.{All, IfOk, OnOk};
-ghost use Rattle.std.specs.Prelude.{length, string_bytes, true};
-ghost use Rattle.std.specs.List.{flat_map};
-ghost use Rattle.script_text.specs.Canonical.{AddsLines};
-ghost use Rattle.step_core.specs.Totals.{IsAtEnd};
-ghost use Rattle.step_core.specs.Worlds.{abstraction};
-ghost use Rattle.owner_graph.specs.declared.holding.Holding.{Holding};
-ghost use Rattle.step_threads.specs.AbstractStates.{state_in};
-ghost use Rattle.owner_graph.specs.Owners.{IsAmong};
-ghost use Rattle.owner_graph.specs.Rows.{held_on, row_at};
-ghost use Rattle.holders.specs.Registers.{AllCounted};
+ghost use Rattle.std.specs.Prelude.{◌≡◌, ℕ, ◌+◌, ◌<◌, ◌≤◌, true, [], ◌∷◌, ◌++◌, length, IfOk};
+ghost use Rattle.std.specs.Prelude.{OnOk, string_bytes, All};
+ghost use Rattle.leak_report.specs.Prelude.{abstraction, AddsLines, AllCounted, flat_map, held_on};
+ghost use Rattle.leak_report.specs.Prelude.{Holding, IsAmong, IsAtEnd, row_at, state_in};
 ghost use Rattle.leak_report.specs.Findings.{findings, held_at, ties_at};
-ghost use Rattle.leak_report.specs.Graph.{all_nodes, edge_by, edge_lines, free_lines};
-ghost use Rattle.leak_report.specs.Graph.{box_text, fields_text, free_text, head_lines, is_listed};
-ghost use Rattle.leak_report.specs.Graph.{member_lines, node_lines, node_text, style_text, tie_text};
+ghost use Rattle.leak_report.specs.Graph.{all_nodes, box_text, edge_by, edge_lines, fields_text};
+ghost use Rattle.leak_report.specs.Graph.{free_lines, free_text, head_lines, is_listed};
+ghost use Rattle.leak_report.specs.Graph.{member_lines, node_lines, node_text, style_text};
+ghost use Rattle.leak_report.specs.Graph.{tie_text};
 ghost use Rattle.leak_report.specs.Left.{AreFound, TellsOf};
 
 use crate::coloring::color_of;

@@ -1,9 +1,6 @@
 //! Which leaked blocks own each other in a circle, and which owners cut one.
-ghost use Rattle.std.specs.Prelude.{◌≡◌, ◌+◌, ℕ, All, IfOk, length};
-ghost use Rattle.owner_graph.specs.Knots.{KnotsAre};
-ghost use Rattle.owner_graph.specs.Owners.{IsAmong};
-ghost use Rattle.owner_graph.specs.Rows.{held_on, row_at};
-ghost use Rattle.owner_graph.specs.Ties.{AreCuts, ties};
+ghost use Rattle.std.specs.Prelude.{◌≡◌, ℕ, ◌+◌, length, IfOk, All};
+ghost use Rattle.leak_report.specs.Prelude.{AreCuts, held_on, IsAmong, KnotsAre, row_at, ties};
 
 use owner_graph::{Holding, by_vertex, cuts, knots, ties};
 use std::alloc::{AllocError, Global};

@@ -1,10 +1,9 @@
 //! The lines that tell what is left, as text.
-ghost use Rattle.std.specs.Prelude.{◌≡◌, ◌∷◌, ◌++◌, [], OnOk, codes, decimal, string_bytes};
-ghost use Rattle.std.specs.List.{flat_map};
-ghost use Rattle.script_text.specs.Canonical.{AddsLines};
+ghost use Rattle.std.specs.Prelude.{◌≡◌, [], ◌∷◌, ◌++◌, OnOk, string_bytes, codes, decimal};
+ghost use Rattle.leak_report.specs.Prelude.{AddsLines, flat_map, member_text};
 ghost use Rattle.leak_report.specs.Cells.{block_cell_text, free_cell_text};
-ghost use Rattle.script_text.specs.Cells.{member_text};
-ghost use Rattle.leak_report.specs.Lines.{holder_lines, holder_text, kept_text, kind_text, left_text};
+ghost use Rattle.leak_report.specs.Lines.{holder_lines, holder_text, kept_text, kind_text};
+ghost use Rattle.leak_report.specs.Lines.{left_text};
 
 use control_word::Counts;
 use owner_graph::Holding;

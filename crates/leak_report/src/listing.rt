@@ -1,13 +1,8 @@
 //! What is left, block by block.
-ghost use Rattle.std.specs.Prelude.{◌≡◌, ◌∷◌, [], ◌+◌, ◌≤◌, ℕ, OnOk, IfOk};
-ghost use Rattle.std.specs.Prelude.{false, length, string_bytes};
-ghost use Rattle.script_text.specs.Canonical.{AddsLines};
-ghost use Rattle.step_core.specs.Totals.{IsAtEnd, ended_in, made_in};
-ghost use Rattle.script_stepper.specs.Lines.{totals_text};
-ghost use Rattle.step_core.specs.Worlds.{abstraction};
-ghost use Rattle.step_threads.specs.AbstractStates.{state_in};
-ghost use Rattle.owner_graph.specs.Rows.{held_on, row_at};
-ghost use Rattle.holders.specs.Registers.{AllCounted};
+ghost use Rattle.std.specs.Prelude.{◌≡◌, ℕ, ◌+◌, ◌≤◌, false, [], ◌∷◌, length, IfOk, OnOk};
+ghost use Rattle.std.specs.Prelude.{string_bytes};
+ghost use Rattle.leak_report.specs.Prelude.{abstraction, AddsLines, AllCounted, ended_in, held_on};
+ghost use Rattle.leak_report.specs.Prelude.{IsAtEnd, made_in, row_at, state_in, totals_text};
 ghost use Rattle.leak_report.specs.Findings.{findings, held_at, ties_at};
 ghost use Rattle.leak_report.specs.Left.{AreFound, TellsOf};
 ghost use Rattle.leak_report.specs.Lines.{left_lines, listing};

@@ -1,13 +1,10 @@
 -- What is told is told of the graph that the text spells.
-use Rattle.std.proofs.Common.{◌≡◌, ℕ, Bool, List, subst}
-use Rattle.std.specs.Prelude.{nat_lt}
-use Rattle.text_lines.specs.Lines.{ended}
-use Rattle.owner_graph.specs.declared.findings.Findings.{Findings}
+use Rattle.std.proofs.Common.{◌≡◌, ℕ, Bool, List, nat_lt, subst}
+use Rattle.owner_text.proofs.Prelude.{Draft, ended, Findings, vertices_of}
 use Rattle.owner_graph.specs.Findings.{AreFindings}
 use Rattle.owner_text.specs.Answers.{IsOwnersText, lines_told}
-use Rattle.owner_text.specs.Drafts.{Draft}
 use Rattle.owner_text.specs.Grammar.{ReadsAs}
-use Rattle.owner_text.specs.Lines.{leaked_in, vertices_of}
+use Rattle.owner_text.specs.Lines.{leaked_in}
 
 pub told_is : (draws : Bool) (bytes text : List ℕ) (leaks : Bool) (d : Draft) (n : ℕ) (f : Findings)
     → ReadsAs bytes d → n ≡ vertices_of d

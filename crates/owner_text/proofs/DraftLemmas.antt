@@ -1,10 +1,10 @@
 -- A graph with an object or a handle more.
 use Rattle.std.proofs.Common.{◌≡◌, ℕ, zero, suc, ◌+◌, ◌-◌, ◌<◌, Bool, List, [], ◌∷◌, ◌++◌, length}
-use Rattle.std.proofs.Common.{Result, Ok, refl, ap, sym, ◌∙◌, arith, length-append}
-use Rattle.std.specs.Prelude.{replicate, slice_set}
-use Rattle.owner_graph.specs.declared.holding.Holding.{Holding}
+use Rattle.std.proofs.Common.{replicate, slice_set, Ok, Result, refl, sym, ap, ◌∙◌, arith}
+use Rattle.std.proofs.Common.{length-append}
+use Rattle.owner_text.proofs.Prelude.{Draft, Holding}
+use Rattle.owner_text.specs.Drafts.{with_handle, with_object, with_room}
 use Rattle.owner_text.specs.declared.fault.Cause.{Cause}
-use Rattle.owner_text.specs.Drafts.{Draft, with_handle, with_object, with_room}
 
 abbrev pub good : Draft → Result Draft Cause
 good d = Ok d

@@ -1,18 +1,15 @@
 -- Looking a label up in a table, and adding one.
-use Rattle.std.proofs.Common.{◌≡◌, ℕ, suc, ◌+◌, Bool, true, false, not, cond, ltb, List, [], ◌∷◌}
-use Rattle.std.proofs.Common.{◌++◌, length, Option}
-use Rattle.std.proofs.Common.{Some, None, refl, sym, ap, ◌∙◌, arith}
-use Rattle.std.specs.Prelude.{String}
-use Rattle.std.specs.Option.{option_map}
+use Rattle.std.proofs.Common.{◌≡◌, ℕ, suc, ◌+◌, Bool, true, false, cond, not, ltb, List, [], ◌∷◌}
+use Rattle.std.proofs.Common.{◌++◌, length, Some, None, Option, String, refl, sym, ap, ◌∙◌, arith}
+use Rattle.std.proofs.Common.{lt-ltb}
+use Rattle.owner_text.proofs.Prelude.{find_label, labels_in, nat_tests, with_label}
 use Rattle.std.specs.List.{position, position_or_len}
 use Rattle.std.specs.Map.{keys_of}
+use Rattle.std.specs.Option.{option_map}
 use Rattle.std.specs.Str.{bytes_eq}
 use Rattle.std.specs.String.{string_bytes, string_eq}
-use Rattle.std.proofs.lemmas.Bool.Decides.{nat_tests}
-use Rattle.std.proofs.lemmas.Bool.{lt-ltb}
-use Rattle.indexmap.specs.IndexMap.{insert_entry}
 use Rattle.std.proofs.lemmas.List.{length-map}
-use Rattle.owner_text.specs.Labels.{find_label, labels_in, with_label}
+use Rattle.indexmap.specs.IndexMap.{insert_entry}
 
 -- what `find_label` gives at another first label than the one looked for
 abbrev there : Option ℕ → Option ℕ

@@ -1,3 +1,4 @@
+pub mod Prelude
 pub mod AnswerLemmas
 pub mod DraftLemmas
 pub mod LabelLemmas

@@ -1,27 +1,24 @@
 -- The lines of knots, and whole texts.
-use Rattle.std.proofs.Common.{◌≡◌, ◌≢◌, ◌==◌, ℕ, Bool, true, false, cond, List, [], ◌∷◌, ◌++◌}
-use Rattle.std.proofs.Common.{length, codes, map, refl, ap, sym, ◌∙◌}
-use Rattle.std.specs.List.{filter, flat_map}
+use Rattle.std.proofs.Common.{◌≡◌, ℕ, Bool, true, false, cond, ◌≢◌, List, [], ◌∷◌, ◌++◌, map}
+use Rattle.std.proofs.Common.{length, ◌==◌, codes, refl, sym, ap, ◌∙◌, append-nil}
+use Rattle.owner_text.proofs.Prelude.{counted, cut_lines, Draft, edge_lines, ended, Findings}
+use Rattle.owner_text.proofs.Prelude.{flat_map, handle_text, Holding, is_leaked, is_object}
+use Rattle.owner_text.proofs.Prelude.{knot_lines, lines_to, node_lines, object_lines, tie_text}
+use Rattle.owner_text.proofs.Prelude.{vertices_of, weaken_text}
+use Rattle.std.specs.List.{filter}
 use Rattle.std.proofs.lemmas.Bool.{cond-false, cond-true}
-use Rattle.std.proofs.lemmas.List.{append-nil}
-use Rattle.text_lines.specs.Lines.{ended}
-use Rattle.owner_graph.specs.declared.findings.Findings.{Findings}
-use Rattle.owner_graph.specs.declared.holding.Holding.{Holding}
-use Rattle.owner_graph.specs.declared.weakenings.LabelPair.{LabelPair}
-use Rattle.owner_graph.specs.Findings.{pairs_at}
-use Rattle.owner_graph.specs.Members.{homes}
 use Rattle.owner_graph.specs.Fed.{marked}
+use Rattle.owner_graph.specs.Findings.{pairs_at}
 use Rattle.owner_graph.specs.Labels.{at}
+use Rattle.owner_graph.specs.Members.{homes}
 use Rattle.owner_graph.specs.Rows.{held_in, held_on, row_at}
 use Rattle.owner_graph.specs.Ties.{is_tie}
 use Rattle.owner_graph.specs.Weakenings.{knot_ties}
+use Rattle.owner_graph.specs.declared.weakenings.LabelPair.{LabelPair}
 use Rattle.owner_graph.proofs.WeakeningLemmas.{ties_by_rows}
-use Rattle.owner_text.specs.Drafts.{Draft, is_object}
-use Rattle.owner_text.specs.Drawing.{edge_lines, graph_lines, head_lines, node_lines}
-use Rattle.owner_text.specs.Lines.{all_lines, counted, cut_lines, handle_text, is_leaked}
-use Rattle.owner_text.specs.Lines.{knot_lines, knot_text, lines_to, object_label}
-use Rattle.owner_text.specs.Lines.{object_lines, object_text, status_text, tie_text, tied_lines}
-use Rattle.owner_text.specs.Lines.{totals_text, vertices_of, weaken_text}
+use Rattle.owner_text.specs.Drawing.{graph_lines, head_lines}
+use Rattle.owner_text.specs.Lines.{all_lines, knot_text, object_label, object_text, status_text}
+use Rattle.owner_text.specs.Lines.{tied_lines, totals_text}
 use Rattle.owner_text.proofs.LineLemmas.{lines_then}
 
 -- what has no lines

@@ -1,12 +1,11 @@
 -- Labels are ASCII, and which numbers an object may have.
-use Rattle.std.proofs.Common.{◌≡◌, ℕ, ◌<◌, true, List}
-use Rattle.std.proofs.Common.{arith}
+use Rattle.std.proofs.Common.{◌≡◌, ℕ, ◌<◌, true, List, arith}
+use Rattle.owner_text.proofs.Prelude.{nat_tests}
 use Rattle.std.specs.List.{list_all}
 use Rattle.std.specs.Str.{IsUtf8}
 use Rattle.std.proofs.lemmas.Str.{IsUtf8-from_ascii}
-use Rattle.std.proofs.lemmas.Bool.Decides.{nat_tests}
-use Rattle.owner_text.specs.Words.{is_label_byte}
 use Rattle.text_lines.proofs.ByteTests.{ascii_from_test}
+use Rattle.owner_text.specs.Words.{is_label_byte}
 
 label_low : (b : ℕ) → is_label_byte b ≡ true → b < 128
 label_low b h = grind (arith, nat_tests)

@@ -1,8 +1,6 @@
 -- What is answered to the text of a graph. All of it is own.
-use Rattle.std.specs.Prelude.{◌≡◌, ℕ, Bool, true, false, nat_lt, List}
-use Rattle.text_lines.specs.Lines.{ended}
-use Rattle.owner_graph.specs.declared.findings.Findings.{Findings}
-use Rattle.owner_graph.specs.Findings.{AreFindings}
+use Rattle.std.specs.Prelude.{◌≡◌, ℕ, Bool, true, false, List, nat_lt}
+use Rattle.owner_text.specs.Prelude.{AreFindings, ended, Findings}
 use Rattle.owner_text.specs.Drafts.{Draft}
 use Rattle.owner_text.specs.Drawing.{graph_lines}
 use Rattle.owner_text.specs.Grammar.{ReadsAs}

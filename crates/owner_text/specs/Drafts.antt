@@ -1,20 +1,18 @@
 -- A graph so far, and what each line adds to it. All of it is own.
-use Rattle.std.specs.Prelude.{ℕ, ◌+◌, ◌-◌, ◌++◌, ◌==◌, ◌&&◌, ◌||◌, Bool, true, false, List, [], ◌∷◌}
-use Rattle.std.specs.Prelude.{length, replicate, slice_set, slice_index_or, Result, Ok, Err, nat_lt}
-use Rattle.std.specs.Prelude.{if◌then◌else◌, codes}
-use Rattle.std.specs.List.{list_all}
-use Rattle.std.specs.Str.{bytes_eq}
-use Rattle.owner_graph.specs.declared.holding.Holding.{Holding}
-use Rattle.owner_text.specs.declared.draft.Draft as rust
+use Rattle.std.specs.Prelude.{ℕ, ◌+◌, ◌-◌, Bool, true, false, ◌&&◌, ◌||◌, List, [], ◌∷◌, ◌++◌}
+use Rattle.std.specs.Prelude.{length, replicate, if◌then◌else◌, nat_lt, ◌==◌, slice_index_or}
+use Rattle.std.specs.Prelude.{slice_set, Ok, Err, codes, Result}
+use Rattle.owner_text.specs.Prelude.{bytes_eq, Holding, list_all}
+use Rattle.text_lines.specs.Lines.{is_clean_byte, line_content}
+use Rattle.text_lines.specs.Reading.{◌>>=◌}
+use Rattle.text_lines.specs.Words.{after_word, first_word, without_last_spaces, without_spaces}
+use Rattle.owner_text.specs.Labels.{with_label}
+use Rattle.owner_text.specs.Words.{label_at, object_number_at}
 use Rattle.owner_text.specs.declared.fault.Cause.{Cause}
 use Rattle.owner_text.specs.declared.fault.Cause.TheVariants.{BadByte, NoSuchObject}
 use Rattle.owner_text.specs.declared.fault.Cause.TheVariants.{ObjectNamedTwice, TooManyHandles}
 use Rattle.owner_text.specs.declared.fault.Cause.TheVariants.{UnknownStatement, WrongNumberOfWords}
-use Rattle.owner_text.specs.Labels.{with_label}
-use Rattle.text_lines.specs.Reading.{◌>>=◌}
-use Rattle.owner_text.specs.Words.{label_at, object_number_at}
-use Rattle.text_lines.specs.Lines.{is_clean_byte, line_content}
-use Rattle.text_lines.specs.Words.{after_word, first_word, without_last_spaces, without_spaces}
+use Rattle.owner_text.specs.declared.draft.Draft as rust
 
 -- a graph so far: of each number, from 0, one more than the number of the object's label, or 0
 -- where there is no such object; the labels; and the handles, each with its place among them as its

@@ -1,12 +1,8 @@
 -- A graph of owners for Graphviz, line by line, each without its line feed. All of it is own.
-use Rattle.std.specs.Prelude.{ℕ, ◌==◌, ◌||◌, ◌++◌, Bool, cond, List, [], ◌∷◌, codes, decimal}
-use Rattle.std.specs.List.{flat_map, list_any}
+use Rattle.std.specs.Prelude.{ℕ, Bool, cond, ◌||◌, List, [], ◌∷◌, ◌++◌, ◌==◌, codes, decimal}
+use Rattle.owner_text.specs.Prelude.{Findings, flat_map, held_in, Holding, is_tie, list_any}
+use Rattle.owner_text.specs.Prelude.{marked}
 use Rattle.std.specs.Char.{encode_utf8}
-use Rattle.owner_graph.specs.declared.findings.Findings.{Findings}
-use Rattle.owner_graph.specs.declared.holding.Holding.{Holding}
-use Rattle.owner_graph.specs.Fed.{marked}
-use Rattle.owner_graph.specs.Rows.{held_in}
-use Rattle.owner_graph.specs.Ties.{is_tie}
 use Rattle.owner_text.specs.Drafts.{Draft, is_object}
 use Rattle.owner_text.specs.Labels.{label_text}
 use Rattle.owner_text.specs.Lines.{lines_to, object_label, vertices_of}

@@ -1,13 +1,13 @@
 -- The grammar by lines: which text spells which graph, and which line of which text is faulty. All
 -- of it is own.
-use Rattle.std.specs.Prelude.{ℕ, List, Result, Ok, Err}
-use Rattle.text_lines.specs.declared.fault.LineFault.{LineFault}
+use Rattle.std.specs.Prelude.{ℕ, List, Ok, Err, Result}
 use Rattle.text_lines.specs.Grammar.{IsReadAs}
-use Rattle.text_lines.specs.Grammar as by_lines
-use Rattle.owner_text.specs.declared.draft.Draft as rust
+use Rattle.text_lines.specs.declared.fault.LineFault.{LineFault}
+use Rattle.owner_text.specs.Drafts.{after_line, Draft, draft_of, new_draft}
 use Rattle.owner_text.specs.declared.fault.Cause.{Cause}
 use Rattle.owner_text.specs.declared.fault.Cause.TheVariants.{UnfinishedLine}
-use Rattle.owner_text.specs.Drafts.{Draft, after_line, draft_of, new_draft}
+use Rattle.text_lines.specs.Grammar as by_lines
+use Rattle.owner_text.specs.declared.draft.Draft as rust
 
 -- the text is good lines that lead to the graph
 abbrev pub ReadsAs : List ℕ → Draft → Type 0

@@ -1,8 +1,8 @@
 -- Labels and their numbers. All of it is own.
-use Rattle.std.specs.Prelude.{ℕ, ◌+◌, ◌++◌, String, List, [], ◌∷◌, length, map, if◌then◌else◌}
-use Rattle.std.specs.Prelude.{Option, Some, None, slice_get}
+use Rattle.std.specs.Prelude.{ℕ, ◌+◌, List, [], ◌∷◌, ◌++◌, map, length, if◌then◌else◌, slice_get}
+use Rattle.std.specs.Prelude.{Some, None, Option, String}
+use Rattle.owner_text.specs.Prelude.{bytes_eq}
 use Rattle.std.specs.Option.{option_map}
-use Rattle.std.specs.Str.{bytes_eq}
 use Rattle.std.specs.String.{string_bytes}
 
 -- the labels of a table

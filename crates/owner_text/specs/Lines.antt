@@ -1,18 +1,11 @@
 -- The lines that tell what was found of a graph of owners, each without its line feed. All of it is
 -- own.
-use Rattle.std.specs.Prelude.{ℕ, zero, suc, ◌-◌, ◌==◌, ◌&&◌, ◌++◌, Bool, cond, not, List, [], ◌∷◌}
-use Rattle.std.specs.Prelude.{length, map}
-use Rattle.std.specs.Prelude.{codes, decimal}
-use Rattle.std.specs.List.{flat_map}
-use Rattle.owner_graph.specs.declared.findings.Findings.{Findings}
-use Rattle.owner_graph.specs.declared.holding.Holding.{Holding}
-use Rattle.owner_graph.specs.declared.weakenings.LabelPair.{LabelPair}
-use Rattle.owner_graph.specs.Fed.{marked}
-use Rattle.owner_graph.specs.Findings.{pairs_at}
-use Rattle.owner_graph.specs.Labels.{at}
-use Rattle.owner_graph.specs.Members.{homes}
-use Rattle.owner_graph.specs.Rows.{held_on}
+use Rattle.std.specs.Prelude.{ℕ, zero, suc, ◌-◌, Bool, cond, not, ◌&&◌, List, [], ◌∷◌, ◌++◌, map}
+use Rattle.std.specs.Prelude.{length, ◌==◌, codes, decimal}
+use Rattle.owner_text.specs.Prelude.{at, Findings, flat_map, held_on, Holding, homes, marked}
+use Rattle.owner_text.specs.Prelude.{pairs_at}
 use Rattle.owner_graph.specs.Weakenings.{knot_ties}
+use Rattle.owner_graph.specs.declared.weakenings.LabelPair.{LabelPair}
 use Rattle.owner_text.specs.Drafts.{Draft, is_object, object_at}
 use Rattle.owner_text.specs.Labels.{label_text}
 

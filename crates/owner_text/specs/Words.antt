@@ -1,8 +1,7 @@
 -- The numbers and the label of a line. All of it is own.
-use Rattle.std.specs.Prelude.{ℕ, ◌&&◌, Bool, List, length, Option, Some, None, Result, Ok, Err}
-use Rattle.std.specs.Prelude.{nat_lt, nat_le}
-use Rattle.std.specs.Prelude.{if◌then◌else◌}
-use Rattle.std.specs.List.{list_all}
+use Rattle.std.specs.Prelude.{ℕ, Bool, ◌&&◌, List, length, if◌then◌else◌, nat_lt, nat_le, Some}
+use Rattle.std.specs.Prelude.{None, Ok, Err, Option, Result}
+use Rattle.owner_text.specs.Prelude.{list_all}
 use Rattle.text_lines.specs.Numbers.{number_in}
 use Rattle.owner_text.specs.declared.fault.Cause.{Cause}
 use Rattle.owner_text.specs.declared.fault.Cause.TheVariants.{BadByte, BadLabel, BadNumber}

@@ -1,8 +1,7 @@
 //! The answer to the text of a graph.
 
-ghost use Rattle.std.specs.Prelude.{◌≡◌, All, IfErr, IfOk, IfSome, IsTrue, nat_lt, string_bytes};
-ghost use Rattle.text_lines.specs.Lines.{ended};
-ghost use Rattle.owner_graph.specs.Findings.{AreFindings};
+ghost use Rattle.std.specs.Prelude.{◌≡◌, IfSome, IfOk, IfErr, IsTrue, nat_lt, string_bytes, All};
+ghost use Rattle.owner_text.specs.Prelude.{AreFindings, ended};
 ghost use Rattle.owner_graph.specs.Owners.{IsAmong};
 ghost use Rattle.owner_text.specs.Answers.{IsOwnersText, lines_told};
 ghost use Rattle.owner_text.specs.Drafts.{draft_of};

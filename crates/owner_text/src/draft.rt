@@ -1,11 +1,10 @@
 //! A graph so far.
 
-ghost use Rattle.std.specs.Prelude.{◌≡◌, ◌<◌, IfOk, Ok, OnOk, vec_len};
+ghost use Rattle.std.specs.Prelude.{◌≡◌, ◌<◌, IfOk, OnOk, Ok, vec_len};
+ghost use Rattle.owner_text.specs.Prelude.{Gives};
 ghost use Rattle.owner_text.specs.Drafts.{draft_of, held, is_object, named, new_draft, object_at};
-ghost use Rattle.owner_text.specs.Drafts.{with_handle, with_object};
-ghost use Rattle.owner_text.specs.Drafts.{with_room};
+ghost use Rattle.owner_text.specs.Drafts.{with_handle, with_object, with_room};
 ghost use Rattle.owner_text.specs.Labels.{with_label};
-ghost use Rattle.text_lines.specs.Reading.{Gives};
 
 use crate::fault::{Cause, Stop};
 use crate::labels::Labels;

@@ -1,17 +1,13 @@
 //! A graph of owners for Graphviz.
 
-ghost use Rattle.std.specs.Prelude.{◌≡◌, ◌∷◌, ◌++◌, [], ℕ, IfOk, OnOk, string_bytes};
-ghost use Rattle.std.specs.List.{flat_map, list_any};
-ghost use Rattle.text_lines.specs.Lines.{AddsLines, ended};
-ghost use Rattle.owner_graph.specs.Findings.{AreFindings};
-ghost use Rattle.owner_graph.specs.Rows.{held_in, row_at};
-ghost use Rattle.owner_graph.specs.Ties.{is_tie};
+ghost use Rattle.std.specs.Prelude.{◌≡◌, ℕ, [], ◌∷◌, ◌++◌, IfOk, OnOk, string_bytes};
+ghost use Rattle.owner_text.specs.Prelude.{AddsLines, AreFindings, ended, flat_map, held_in};
+ghost use Rattle.owner_text.specs.Prelude.{is_tie, list_any, row_at};
 ghost use Rattle.owner_text.specs.Drafts.{draft_of};
 ghost use Rattle.owner_text.specs.Drawing.{box_text, color_text, edge_lines, edge_text};
-ghost use Rattle.owner_text.specs.Drawing.{graph_lines, has_tie, head_lines};
-ghost use Rattle.owner_text.specs.Drawing.{node_lines, node_text, quoted, quoted_byte};
-ghost use Rattle.owner_text.specs.Drawing.{root_edge_text, root_lines};
-ghost use Rattle.owner_text.specs.Drawing.{style_text, tie_color};
+ghost use Rattle.owner_text.specs.Drawing.{graph_lines, has_tie, head_lines, node_lines};
+ghost use Rattle.owner_text.specs.Drawing.{node_text, quoted, quoted_byte, root_edge_text};
+ghost use Rattle.owner_text.specs.Drawing.{root_lines, style_text, tie_color};
 ghost use Rattle.owner_text.specs.Lines.{lines_to, vertices_of};
 
 use crate::draft::{Draft, is_object};

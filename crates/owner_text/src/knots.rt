@@ -1,17 +1,13 @@
 //! The lines of knots.
 
-ghost use Rattle.std.specs.Prelude.{◌≡◌, ◌∷◌, ◌++◌, ◌==◌, [], ℕ, IfOk, OnOk, codes, map};
-ghost use Rattle.std.specs.Prelude.{string_bytes};
-ghost use Rattle.std.specs.List.{filter, flat_map};
-ghost use Rattle.text_lines.specs.Lines.{AddsLines};
-ghost use Rattle.owner_graph.specs.Labels.{at};
-ghost use Rattle.owner_graph.specs.Members.{homes};
-ghost use Rattle.owner_graph.specs.Rows.{held_in, held_on, row_at};
-ghost use Rattle.owner_graph.specs.Ties.{is_tie};
+ghost use Rattle.std.specs.Prelude.{◌≡◌, ℕ, [], ◌∷◌, ◌++◌, map, IfOk, OnOk, ◌==◌, string_bytes};
+ghost use Rattle.std.specs.Prelude.{codes};
+ghost use Rattle.owner_text.specs.Prelude.{AddsLines, at, flat_map, held_in, held_on, homes};
+ghost use Rattle.owner_text.specs.Prelude.{is_tie, row_at};
+ghost use Rattle.std.specs.List.{filter};
 ghost use Rattle.owner_text.specs.Drafts.{draft_of};
 ghost use Rattle.owner_text.specs.Lines.{cut_lines, knot_lines, knot_text, lines_to, member_text};
-ghost use Rattle.owner_text.specs.Lines.{tie_text, tied_lines};
-ghost use Rattle.owner_text.specs.Lines.{vertices_of, weaken_text};
+ghost use Rattle.owner_text.specs.Lines.{tie_text, tied_lines, vertices_of, weaken_text};
 
 use crate::draft::Draft;
 use crate::labels::Labels;

@@ -25,7 +25,7 @@ impl Model for Labels {
 
 impl Labels {
     ghost use Rattle.std.specs.Prelude.{◌≡◌, [], None, Ok};
-    ghost use Rattle.text_lines.specs.Reading.{Gives};
+    ghost use Rattle.owner_text.specs.Prelude.{Gives};
     ghost use Rattle.owner_text.specs.Labels.{find_label, label_text, with_label};
 
     pub(crate) fn new(alloc: Global) -> Labels

@@ -1,10 +1,9 @@
 //! The parts of lines, as text.
 
-ghost use Rattle.std.specs.Prelude.{◌≡◌, ◌∷◌, ◌++◌, [], OnOk, codes, decimal, map, string_bytes};
-ghost use Rattle.text_lines.specs.Lines.{AddsLines};
+ghost use Rattle.std.specs.Prelude.{◌≡◌, [], ◌∷◌, ◌++◌, map, OnOk, string_bytes, codes, decimal};
+ghost use Rattle.owner_text.specs.Prelude.{AddsLines};
 ghost use Rattle.owner_text.specs.Lines.{handle_text, kind_text, label_part, object_text};
-ghost use Rattle.owner_text.specs.Lines.{status_text, tie_text};
-ghost use Rattle.owner_text.specs.Lines.{totals_text, weaken_text};
+ghost use Rattle.owner_text.specs.Lines.{status_text, tie_text, totals_text, weaken_text};
 
 use crate::labels::Labels;
 use owner_graph::{Holding, LabelPair};

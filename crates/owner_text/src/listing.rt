@@ -1,8 +1,7 @@
 //! The lines of objects, and how many there are.
 
-ghost use Rattle.std.specs.Prelude.{◌≡◌, ◌+◌, ◌-◌, ℕ, OnOk};
-ghost use Rattle.text_lines.specs.Lines.{AddsLines};
-ghost use Rattle.owner_graph.specs.Rows.{held_on, row_at};
+ghost use Rattle.std.specs.Prelude.{◌≡◌, ℕ, ◌+◌, ◌-◌, OnOk};
+ghost use Rattle.owner_text.specs.Prelude.{AddsLines, held_on, row_at};
 ghost use Rattle.owner_text.specs.Drafts.{draft_of, is_object};
 ghost use Rattle.owner_text.specs.Lines.{counted, is_leaked, lines_to, object_label, object_lines};
 

@@ -1,9 +1,7 @@
 //! What was found of a graph, by the numbers of its objects.
 
 ghost use Rattle.std.specs.Prelude.{◌≡◌};
-ghost use Rattle.owner_graph.specs.Fed.{marked};
-ghost use Rattle.owner_graph.specs.Findings.{pairs_at};
-ghost use Rattle.owner_graph.specs.Rows.{row_at};
+ghost use Rattle.owner_text.specs.Prelude.{marked, pairs_at, row_at};
 
 use owner_graph::{Findings, Holding, LabelPair, row};
 

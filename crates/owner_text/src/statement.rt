@@ -1,9 +1,8 @@
 //! What each line adds to a graph.
 
+ghost use Rattle.owner_text.specs.Prelude.{Gives};
 ghost use Rattle.owner_text.specs.Drafts.{after_words, draft_of, handle_line, labelled};
-ghost use Rattle.owner_text.specs.Drafts.{object_line, root_line};
-ghost use Rattle.owner_text.specs.Drafts.{statement_line};
-ghost use Rattle.text_lines.specs.Reading.{Gives};
+ghost use Rattle.owner_text.specs.Drafts.{object_line, root_line, statement_line};
 
 use crate::draft::{Draft, Ends, add_handle, name_object};
 use crate::fault::{Cause, Stop};

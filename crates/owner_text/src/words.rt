@@ -1,8 +1,7 @@
 //! The numbers and the label of a line.
 
 ghost use Rattle.std.specs.Prelude.{◌≡◌};
-ghost use Rattle.std.specs.List.{list_all};
-ghost use Rattle.text_lines.specs.Reading.{Gives};
+ghost use Rattle.owner_text.specs.Prelude.{Gives, list_all};
 ghost use Rattle.owner_text.specs.Words.{is_label_byte, label_at, object_number_at};
 
 use crate::fault::{Cause, Stop};

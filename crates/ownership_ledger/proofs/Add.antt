@@ -1,14 +1,12 @@
 -- An add keeps the rule: the share and the word grow in one step.
-use Rattle.std.proofs.Common.{◌≡◌, ℕ, ◌+◌, ◌%◌, ◌^◌, ◌<◌, List, refl, ap, ◌∙◌, arith}
-use Rattle.std.specs.Prelude.{slice_index, slice_set}
-use mathlib.Core.Option.{none}
-use Rattle.atomic_table.specs.Table.{Me, step, keeps, Allows}
-use Rattle.ownership_ledger.specs.declared.share.View.{View}
-use Rattle.ownership_ledger.specs.Rule.{KeptBook, totals_words, own_made, own_ended, seen_made, seen_ended}
-use Rattle.ownership_ledger.specs.Now.{one_more_made, one_more_ended}
-use Rattle.ownership_ledger.specs.Steps.{plus_made, plus_ended, added_made, added_ended}
-use Rattle.ownership_ledger.proofs.Numbers.{one_fits, seen-le, added, untouched}
+use Rattle.std.proofs.Common.{◌≡◌, ℕ, ◌+◌, ◌%◌, ◌^◌, ◌<◌, List, slice_index, slice_set, refl, ap}
+use Rattle.std.proofs.Common.{◌∙◌, arith}
+use Rattle.ownership_ledger.proofs.Prelude.{Allows, keeps, KeptBook, Me, none, own_ended, own_made}
+use Rattle.ownership_ledger.proofs.Prelude.{seen_ended, seen_made, step, totals_words, View}
+use Rattle.ownership_ledger.specs.Now.{one_more_ended, one_more_made}
+use Rattle.ownership_ledger.specs.Steps.{added_ended, added_made, plus_ended, plus_made}
 use Rattle.ownership_ledger.proofs.Kept.{kept}
+use Rattle.ownership_ledger.proofs.Numbers.{added, one_fits, seen-le, untouched}
 
 -- what a fetch_add of 1 makes of the words
 abbrev one_more : ℕ → List ℕ → List ℕ

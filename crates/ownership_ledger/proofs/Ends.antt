@@ -1,18 +1,16 @@
 -- The book as it is opened, and at its end.
-use Rattle.std.proofs.Common.{◌≡◌, ℕ, ◌<◌, ◌≤◌, List, [], ◌∷◌, length}
-use Rattle.std.proofs.Common.{refl, sym, ap, ◌∙◌, zero-add, arith}
-use Rattle.std.specs.Prelude.{sum_by, All}
-use Rattle.std.proofs.lemmas.List.Elements.{All-nil, All-cons, All-weaker}
-use mathlib.Core.Option.{some, some-injective}
-use lib.ListN.{get_elem?}
-use Rattle.atomic_table.specs.Table.{opening, Final, Seen}
-use Rattle.ownership_ledger.specs.declared.share.View.{View}
-use Rattle.ownership_ledger.specs.declared.share.Totals.{Totals}
-use Rattle.ownership_ledger.specs.Rule.{IsNumber, KeptBook, totals_words, zeros, fresh_seat}
-use Rattle.ownership_ledger.specs.Rule.{own_made, own_ended, seen_made, seen_ended}
-use Rattle.ownership_ledger.specs.Now.{ShareNow, IsAtMost, StandsForShares}
-use Rattle.ownership_ledger.proofs.Numbers.{IsBounded, seen-le, sole}
+use Rattle.std.proofs.Common.{◌≡◌, ℕ, ◌<◌, ◌≤◌, List, [], ◌∷◌, length, All, sum_by, refl, sym, ap}
+use Rattle.std.proofs.Common.{◌∙◌, zero-add, arith}
+use Rattle.ownership_ledger.proofs.Prelude.{All-weaker, fresh_seat, get_elem?, IsNumber, KeptBook}
+use Rattle.ownership_ledger.proofs.Prelude.{own_ended, own_made, seen_ended, seen_made, ShareNow}
+use Rattle.ownership_ledger.proofs.Prelude.{some, some-injective, StandsForShares, Totals}
+use Rattle.ownership_ledger.proofs.Prelude.{totals_words, View}
+use Rattle.std.proofs.lemmas.List.Elements.{All-cons, All-nil}
+use Rattle.atomic_table.specs.Table.{Final, opening, Seen}
+use Rattle.ownership_ledger.specs.Now.{IsAtMost}
+use Rattle.ownership_ledger.specs.Rule.{zeros}
 use Rattle.ownership_ledger.proofs.Kept.{Knows}
+use Rattle.ownership_ledger.proofs.Numbers.{IsBounded, seen-le, sole}
 
 All-one : (P : View → Type 0) (v : View) → P v → All P (v ∷ [])
 All-one P v h = All-cons P v [] h (All-nil P)

@@ -1,12 +1,8 @@
 -- The rule after a step of a seat, which stands for as many shares as before.
 use Rattle.std.proofs.Common.{◌≡◌, ℕ, ◌<◌, List, set, ◌∙◌, arith}
-use Rattle.std.proofs.lemmas.List.Elements.{All-set}
-use mathlib.Core.Option.{some}
-use lib.ListN.{get_elem?}
-use Rattle.ownership_ledger.specs.declared.share.Totals.{Totals}
-use Rattle.ownership_ledger.specs.declared.share.View.{View}
-use Rattle.ownership_ledger.specs.Rule.{BookState, IsNumber, KeptBook, totals_words, seat_parts}
-use Rattle.ownership_ledger.specs.Rule.{own_made, own_ended, seen_made, seen_ended}
+use Rattle.ownership_ledger.proofs.Prelude.{All-set, BookState, get_elem?, IsNumber, KeptBook}
+use Rattle.ownership_ledger.proofs.Prelude.{own_ended, own_made, seat_parts, seen_ended, seen_made}
+use Rattle.ownership_ledger.proofs.Prelude.{some, Totals, totals_words, View}
 use Rattle.ownership_ledger.proofs.Views.{All-at, sum_by-replaced}
 
 abbrev pub Knows : ℕ → View → Type 0

@@ -1,3 +1,4 @@
+pub mod Prelude
 pub mod Views
 pub mod Numbers
 pub mod Kept

@@ -1,15 +1,11 @@
 -- A look keeps the rule, and finds at least what the seat knows of.
-use Rattle.std.proofs.Common.{◌≡◌, ℕ, ◌<◌, List, refl, ap, ◌∙◌, arith}
-use Rattle.std.specs.Prelude.{slice_index, slice_set}
-use mathlib.Core.Option.{none, some}
-use lib.ListN.{get_elem?}
-use Rattle.atomic_table.specs.Table.{Me, step, keeps, Allows}
-use Rattle.ownership_ledger.specs.declared.share.View.{View}
-use Rattle.ownership_ledger.specs.Rule.{BookState, IsNumber, KeptBook, joined_seat}
-use Rattle.ownership_ledger.specs.Rule.{own_made, own_ended, seen_made, seen_ended}
-use Rattle.ownership_ledger.specs.Steps.{ShowsNumber, saw_made, saw_ended, read_made, read_ended}
-use Rattle.ownership_ledger.proofs.Numbers.{seen-le, own-le, sole, looked, untouched}
-use Rattle.ownership_ledger.proofs.Kept.{knows, kept}
+use Rattle.std.proofs.Common.{◌≡◌, ℕ, ◌<◌, List, slice_index, slice_set, refl, ap, ◌∙◌, arith}
+use Rattle.ownership_ledger.proofs.Prelude.{Allows, BookState, get_elem?, IsNumber, joined_seat}
+use Rattle.ownership_ledger.proofs.Prelude.{keeps, KeptBook, Me, none, own_ended, own_made}
+use Rattle.ownership_ledger.proofs.Prelude.{seen_ended, seen_made, some, step, View}
+use Rattle.ownership_ledger.specs.Steps.{read_ended, read_made, saw_ended, saw_made, ShowsNumber}
+use Rattle.ownership_ledger.proofs.Kept.{kept, knows}
+use Rattle.ownership_ledger.proofs.Numbers.{looked, own-le, seen-le, sole, untouched}
 
 -- what a load makes of the words
 abbrev same_word : ℕ → List ℕ → List ℕ

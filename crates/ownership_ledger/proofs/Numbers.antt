@@ -1,12 +1,10 @@
 -- One of the book's numbers after the view of one seat has changed.
-use Rattle.std.proofs.Common.{◌≡◌, ℕ, ◌+◌, ◌*◌, ◌%◌, ◌^◌, ◌<◌, ◌≤◌, List, [], ◌∷◌, set, arith}
-use Rattle.std.specs.Prelude.{sum_by, All}
+use Rattle.std.proofs.Common.{◌≡◌, ℕ, ◌+◌, ◌*◌, ◌%◌, ◌^◌, ◌<◌, ◌≤◌, List, [], ◌∷◌, set, All}
+use Rattle.std.proofs.Common.{sum_by, arith}
+use Rattle.ownership_ledger.proofs.Prelude.{All-set, All-weaker, get_elem?, IsNumber, joined_seat}
+use Rattle.ownership_ledger.proofs.Prelude.{seat_parts, some, View}
+use Rattle.std.proofs.lemmas.List.Elements.{All-head, All-tail}
 use Rattle.std.proofs.lemmas.List.Sums.{sum_by-cons}
-use Rattle.std.proofs.lemmas.List.Elements.{All-set, All-weaker, All-head, All-tail}
-use mathlib.Core.Option.{some}
-use lib.ListN.{get_elem?}
-use Rattle.ownership_ledger.specs.declared.share.View.{View}
-use Rattle.ownership_ledger.specs.Rule.{IsNumber, seat_parts, joined_seat}
 use Rattle.ownership_ledger.proofs.Views.{All-at, sum_by-at, sum_by-replaced}
 
 module _ (own : View → ℕ) where

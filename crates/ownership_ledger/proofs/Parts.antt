@@ -1,18 +1,17 @@
 -- The rule stays when a share is cut off, and when two seats are joined.
-use Rattle.std.proofs.Common.{◌≡◌, ℕ, ◌+◌, ◌<◌, ◌≤◌, List, [], ◌∷◌, ◌++◌, set, refl, sym, ◌∙◌, arith}
+use Rattle.std.proofs.Common.{◌≡◌, ℕ, ◌+◌, ◌<◌, ◌≤◌, List, [], ◌∷◌, ◌++◌, set, refl, sym, ◌∙◌}
+use Rattle.std.proofs.Common.{arith}
+use Rattle.ownership_ledger.proofs.Prelude.{All-set, get_elem?, IsNumber, joined_seat, KeptBook}
+use Rattle.ownership_ledger.proofs.Prelude.{own_ended, own_made, seat_parts, seen_ended, seen_made}
+use Rattle.ownership_ledger.proofs.Prelude.{some, View}
+use Rattle.std.proofs.lemmas.List.Elements.{All-push}
 use Rattle.std.proofs.lemmas.List.Sums.{sum_by_push}
-use Rattle.std.proofs.lemmas.List.Elements.{All-set, All-push}
-use mathlib.Core.Option.{some}
-use lib.ListN.{get_elem?}
-use Rattle.atomic_table.specs.Table.{Splits, Joins}
+use Rattle.atomic_table.specs.Table.{Joins, Splits}
 use Rattle.atomic_table.proofs.Lists.{set_else}
-use Rattle.ownership_ledger.specs.declared.share.View.{View}
-use Rattle.ownership_ledger.specs.Rule.{IsNumber, KeptBook, joined_seat, seat_parts}
-use Rattle.ownership_ledger.specs.Rule.{own_made, own_ended, seen_made, seen_ended}
-use Rattle.ownership_ledger.specs.Steps.{without_one, one_apart, seats_together}
-use Rattle.ownership_ledger.proofs.Views.{All-at, sum_by-replaced}
-use Rattle.ownership_ledger.proofs.Numbers.{IsBounded, seen-le, changed}
+use Rattle.ownership_ledger.specs.Steps.{one_apart, seats_together, without_one}
 use Rattle.ownership_ledger.proofs.Kept.{Knows, knows}
+use Rattle.ownership_ledger.proofs.Numbers.{changed, IsBounded, seen-le}
+use Rattle.ownership_ledger.proofs.Views.{All-at, sum_by-replaced}
 
 module _ (own seen : View → ℕ) where
   -- a seat comes that has added and seen nothing

@@ -1,11 +1,10 @@
 -- The views of a table, of which one is read or changed.
 use Rattle.std.proofs.Common.{◌≡◌, ℕ, zero, suc, ◌+◌, ◌<◌, ◌≤◌, List, [], ◌∷◌, length, get_or, set}
-use Rattle.std.proofs.Common.{sym, ap, ◌∙◌, subst, arith}
-use Rattle.std.specs.Prelude.{sum_by, All}
-use Rattle.std.proofs.lemmas.List.Sums.{sum_by-set, get_or-le-sum_by}
+use Rattle.std.proofs.Common.{All, sum_by, sym, ap, ◌∙◌, subst, arith}
+use Rattle.ownership_ledger.proofs.Prelude.{get_elem?, some, some-injective}
 use Rattle.std.proofs.lemmas.List.Elements.{All-get_or}
-use mathlib.Core.Option.{some, some-ne-none, some-injective}
-use lib.ListN.{get_elem?}
+use Rattle.std.proofs.lemmas.List.Sums.{get_or-le-sum_by, sum_by-set}
+use mathlib.Core.Option.{some-ne-none}
 
 module _ {A : Type 0} where
   there : (l : List A) (i : ℕ) (a d : A) → get_elem? l i ≡ some a → (i < length l) × (get_or l i d ≡ a)

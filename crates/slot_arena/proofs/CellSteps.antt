@@ -3,29 +3,22 @@
 --     empty_out, empty_in    an empty one is [the room; the rest of the block; the handle]
 --     full_opens             a full one behind a `&mut` is
 --                            [the value; the rest with the handle; the word; the open borrow; obs; auth]
-use mathlib.Core.Path.{◌≡◌, refl, sym, ap, subst}
-use Prim.Native.Nat.{ℕ}
-use mathlib.Core.List.{List, [], ◌∷◌, ◌++◌}
-use seplogic.Ra.Ura.{Ura}
-use base.Fraction.{full_share}
-use mir.Raw.{raw as bare}
-use mir.Val.{Val, vptr, vstruct, of_list}
-use base.Logic.{fst∗, never}
-use base.Fml.{GName, Lft, Share, fauth, fbor, fobor, fobs, froom, fsep, flft}
-use types.Logic.{Logic, sem}
-use types.Kit.{Goal, Soaks, Step, step, Seq, Item, ‵, ◌$◌, move, drop, rewrite}
-use types.Kit.{fsplit, fjoin, fpick, fpack, feq_l, feq_i}
-use types.SemTy.{Body as Borrowed}
-use denote.RattleType.{Valss}
-use denote.Memory.{cell_at, part_at, mem}
-use denote.RawPtr.{Ptr, RawPtr, block_ptr, null_ptr, ptr_val, in_a_block}
-use denote.Steps.{nothing, opens}
-use denote.Struct.Owning.{shape}
-use denote.Struct.Struct.{within}
-use Rattle.std.proofs.alloc.Calls.{Fits, handle_tells, token}
-use Rattle.std.proofs.BoxSteps.Form.{Bx, P, R, X, handle, τ}
+use Rattle.std.proofs.Common.{◌≡◌, ℕ, List, [], ◌∷◌, ◌++◌, refl, sym, ap, subst}
+use Rattle.slot_arena.proofs.Prelude.{block_ptr, Bx, cell_at, drop, feq_i, Fits, fjoin, flft}
+use Rattle.slot_arena.proofs.Prelude.{fpack, froom, fsep, fsplit, fst∗, full_share, GName, handle}
+use Rattle.slot_arena.proofs.Prelude.{handle_tells, Lft, Logic, mem, move, nothing, null_ptr, P}
+use Rattle.slot_arena.proofs.Prelude.{part_at, Ptr, R, RawPtr, sem, shape, Share, token, Ura, Val}
+use Rattle.slot_arena.proofs.Prelude.{Valss, vptr, vstruct, within, X, τ, ‵, ◌$◌}
+use base.Fml.{fauth, fbor, fobor, fobs}
+use base.Logic.{never}
+use denote.RawPtr.{in_a_block, ptr_val}
+use denote.Steps.{opens}
+use mir.Val.{of_list}
+use types.Kit.{feq_l, fpick, Goal, Item, rewrite, Seq, Soaks, Step, step}
 use Rattle.slot_arena.specs.Ownership.{empty_owns, full_owns}
-use Rattle.slot_arena.proofs.Cells.{D, Empty, Full, block, empty, full, word}
+use Rattle.slot_arena.proofs.Cells.{block, D, Empty, empty, Full, full, word}
+use mir.Raw.{raw as bare}
+use types.SemTy.{Body as Borrowed}
 
 module _ (E : Bx) {M : Type 1} {𝓤 : Ura M} {𝓛 : Logic 𝓤} {K : Type 0} {Γ : List (Item 𝓤)} {G : Goal 𝓤 𝓛.H} where
   pub full_out : K → (d : D E) (vs : List Val)

@@ -1,21 +1,16 @@
 -- Cells at their type parameters, under short names.
 --     Full, Empty      the two kinds of cell as rows.       full_ty, empty_ty      their MIR types
 --     word             the machine value of either, at the allocator's handle
-use Prim.Native.Nat.{ℕ}
-use lib.Dec.{T}
-use mir.Syntax.{Ty, ty_ptr, ty_struct, tnil, tcons}
-use mir.Val.{Val, vptr, vstruct, vnil, vcons, has_ty, WT}
-use base.Fml.{Fml}
-use denote.RattleType.{RattleType, RowLaws}
-use denote.RawPtr.{Ptr, ptr_row_laws}
-use denote.SharingLaws.{beside_shr_laws}
-use denote.Struct.Lending.{lent_at, lent_at_shr_laws}
-use denote.Struct.Owning.{Owning, shape}
-use denote.Struct.Struct.{Struct, Struct-row_laws}
-use Rattle.std.proofs.alloc.Calls.{α, token, Fits}
-use Rattle.std.proofs.BoxSteps.Form.{Bx, X, R, P}
+use Rattle.std.proofs.Common.{ℕ, T}
+use Rattle.slot_arena.proofs.Prelude.{block_owns, Bx, Fits, Fml, has_ty, lent_at, lent_at_shr_laws}
+use Rattle.slot_arena.proofs.Prelude.{P, Ptr, ptr_row_laws, R, RattleType, shape, Struct}
+use Rattle.slot_arena.proofs.Prelude.{Struct-row_laws, tcons, tnil, token, Ty, ty_ptr, Val, vcons}
+use Rattle.slot_arena.proofs.Prelude.{vnil, vptr, vstruct, WT, X, α}
 use Rattle.std.proofs.ResultValues.{and_tt}
-use Rattle.slot_arena.specs.Ownership.{block_owns}
+use denote.RattleType.{RowLaws}
+use denote.SharingLaws.{beside_shr_laws}
+use denote.Struct.Owning.{Owning}
+use mir.Syntax.{ty_struct}
 use Rattle.slot_arena.specs.declared.cell.FullCell.{FullCell}
 use Rattle.slot_arena.specs.contracts.cell.EmptyCell as E-type
 use Rattle.slot_arena.specs.contracts.cell.FullCell as F-type

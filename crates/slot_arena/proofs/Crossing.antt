@@ -1,22 +1,19 @@
 -- Which cells may cross threads: as their values and their allocators may, where what frees the allocator's blocks
 -- names no key.
-use denote.Exit.{Exit, unchanged, leaves, hidden, under}
-use base.Fraction.{full_share}
+use Rattle.slot_arena.proofs.Prelude.{block_of, block_owns, block_ptr, count_of, Fml, Frees, ftrue}
+use Rattle.slot_arena.proofs.Prelude.{full_share, Ghosts, IsSend, IsSync, lent_at, lies_at}
+use Rattle.slot_arena.proofs.Prelude.{null_ptr, Ptr, RattleType, shape, Ty}
 use base.Shift.{Keyless}
-use mir.Raw.{raw}
-use mir.Syntax.{Ty}
 use denote.Builtin.{RawPtr}
+use denote.Exit.{Exit, hidden, leaves, unchanged, under}
 use denote.Memory.{lone}
-use denote.Param.Send.{IsSend, IsSync, Frees, Common, Quiet, part_keyless, owning_send, struct_send, struct_sync}
-use denote.Param.Send.{sendable}
-use denote.RattleType.{RattleType}
-use denote.RawPtr.{Ptr, block_ptr, null_ptr, block_of, count_of, lies_at, room_for, in_block}
-use denote.Struct.Lending.{lent_at}
-use denote.Struct.Owning.{shape, fields, to}
+use denote.Param.Send.{Common, owning_send, part_keyless, Quiet, sendable, struct_send}
+use denote.Param.Send.{struct_sync}
+use denote.RawPtr.{in_block, room_for}
+use denote.Struct.Owning.{fields, to}
 use denote.Struct.Struct.{exits_of}
-use base.Fml.{Fml, ftrue}
-use Rattle.std.specs.declared.alloc.Allocator.{Ghosts}
-use Rattle.slot_arena.specs.Ownership.{block_owns, block_type}
+use mir.Raw.{raw}
+use Rattle.slot_arena.specs.Ownership.{block_type}
 use Rattle.slot_arena.specs.contracts.cell.EmptyCell as E-type
 use Rattle.slot_arena.specs.contracts.cell.FullCell as F-type
 

@@ -1,3 +1,4 @@
+pub mod Prelude
 pub mod Cells
 pub mod CellSteps
 pub mod Crossing

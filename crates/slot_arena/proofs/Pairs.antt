@@ -1,18 +1,12 @@
 -- A pair is made of its two values. Assumes `Logic`.
-use mathlib.Core.Path.{refl}
-use mathlib.Core.List.{List, [], ◌∷◌}
-use lib.Dec.{T}
-use seplogic.Ra.Ura.{Ura}
-use mir.Syntax.{Ty, tcons, tnil}
-use mir.Val.{Val, vstruct, vcons, vnil, has_tys, has_ty, WT}
-use base.Logic.{ent, sep}
-use types.Logic.{Logic, sem}
-use types.Kit.{‵, ◌$◌, ◌∵◌, !, qed, move, fjoin, fpack, feq_i, done}
-use denote.RattleType.{RattleType, Valss}
-use denote.Steps.{nothing}
-use denote.Struct.Struct.{within, as_fields}
+use Rattle.std.proofs.Common.{T, List, [], ◌∷◌, refl}
+use Rattle.slot_arena.proofs.Prelude.{done, ent, feq_i, fjoin, fpack, has_ty, Logic, move, nothing}
+use Rattle.slot_arena.proofs.Prelude.{qed, RattleType, sem, sep, tcons, tnil, Tuple, Ty, Ura, Val}
+use Rattle.slot_arena.proofs.Prelude.{Valss, vcons, vnil, vstruct, within, WT, !, ‵, ◌$◌, ◌∵◌}
 use denote.Struct.Declared.{shape}
-use denote.Struct.Tuple.{Tuple, tuple_type}
+use denote.Struct.Struct.{as_fields}
+use denote.Struct.Tuple.{tuple_type}
+use mir.Val.{has_tys}
 
 abbrev pub pair_val : Val → Val → Val
 pair_val u v = vstruct (vcons u (vcons v vnil))

@@ -1,6 +1,5 @@
-use Rattle.std.proofs.Common.{arith, ◌+◌}
-use Rattle.step_table.specs.GhostStates.{model_state}
-use Rattle.holders.specs.Registers.{held_by_block}
+use Rattle.std.proofs.Common.{◌+◌, arith}
+use Rattle.holders.proofs.Prelude.{held_by_block, model_state}
 use Rattle.holders.proofs.Adding.{one_more}
 use Rattle.holders.proofs.held.add_blocks.Goals as goal
 

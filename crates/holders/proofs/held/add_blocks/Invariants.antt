@@ -1,8 +1,5 @@
 use Rattle.std.proofs.Common.{◌≡◌, ◌++◌}
-use Rattle.std.specs.List.{flat_map}
-use Rattle.step_table.specs.GhostStates.{model_state}
-use Rattle.step_threads.specs.Stocks.{from}
-use Rattle.holders.specs.Registers.{AddsAmong, held_by_block}
+use Rattle.holders.proofs.Prelude.{AddsAmong, flat_map, from, held_by_block, model_state}
 use Rattle.holders.proofs.held.add_blocks.Given as goal
 
 abbrev pub invariant-loop-before : goal.invariant-loop-before

@@ -1,6 +1,5 @@
 use Rattle.std.proofs.Common.{arith}
-use Rattle.step_table.specs.GhostStates.{model_state}
-use Rattle.holders.specs.Registers.{held_by_free}
+use Rattle.holders.proofs.Prelude.{held_by_free, model_state}
 use Rattle.holders.proofs.Adding.{one_more}
 use Rattle.holders.proofs.held.add_free.Goals as goal
 

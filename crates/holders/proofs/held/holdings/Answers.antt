@@ -1,12 +1,8 @@
-use Rattle.std.proofs.Common.{◌≡◌, ◌∙◌, ◌++◌, ℕ, List, ap, subst, sym}
-use Rattle.std.specs.List.{flat_map}
+use Rattle.std.proofs.Common.{◌≡◌, ℕ, List, ◌++◌, sym, ap, ◌∙◌, subst}
+use Rattle.holders.proofs.Prelude.{all_held, AllCounted, flat_map, from, held_by_block}
+use Rattle.holders.proofs.Prelude.{held_by_free, Holding, model_state, opening}
 use Rattle.control_word.proofs.history.Kept.{cells_led}
-use Rattle.step_table.specs.Openings.{opening}
-use Rattle.step_table.specs.GhostStates.{model_state}
 use Rattle.step_table.proofs.contained.Told.{shared_is}
-use Rattle.step_threads.specs.Stocks.{from}
-use Rattle.owner_graph.specs.declared.holding.Holding.{Holding}
-use Rattle.holders.specs.Registers.{AllCounted, all_held, held_by_block, held_by_free}
 use Rattle.holders.proofs.Counting.{counted}
 use Rattle.holders.proofs.held.holdings.Goals as goal
 

@@ -1,5 +1,5 @@
-use Rattle.std.specs.Prelude.{string_bytes}
-use Rattle.step_core.specs.Worlds.{abstraction}
+use Rattle.std.proofs.Common.{string_bytes}
+use Rattle.leak_report.proofs.Prelude.{abstraction}
 use Rattle.leak_report.proofs.Telling.{left_told}
 use Rattle.leak_report.proofs.answering.left_of.Goals as goal
 

@@ -1,5 +1,4 @@
-use Rattle.std.proofs.Common.{◌+◌, ◌<◌, arith, length}
-use Rattle.std.specs.Prelude.{string_bytes}
+use Rattle.std.proofs.Common.{◌+◌, ◌<◌, length, string_bytes, arith}
 use Rattle.leak_report.proofs.Circling.{knot_more}
 use Rattle.leak_report.proofs.Telling.{row_is}
 use Rattle.leak_report.proofs.circles.put_circles.Goals as goal

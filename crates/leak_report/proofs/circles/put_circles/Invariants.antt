@@ -1,7 +1,5 @@
-use Rattle.std.proofs.Common.{◌≡◌, ◌++◌}
-use Rattle.std.specs.Prelude.{string_bytes}
-use Rattle.script_text.specs.Grammar.{ended}
-use Rattle.leak_report.specs.Circles.{circles}
+use Rattle.std.proofs.Common.{◌≡◌, ◌++◌, string_bytes}
+use Rattle.leak_report.proofs.Prelude.{circles, ended}
 use Rattle.leak_report.proofs.circles.put_circles.Given as goal
 
 abbrev pub invariant-loop-before : goal.invariant-loop-before

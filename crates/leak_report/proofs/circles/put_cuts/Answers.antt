@@ -1,6 +1,5 @@
-use Rattle.std.specs.Prelude.{string_bytes}
-use Rattle.script_stepper.proofs.LineLemmas.{lines_on}
-use Rattle.leak_report.specs.Circles.{cut_lines}
+use Rattle.std.proofs.Common.{string_bytes}
+use Rattle.leak_report.proofs.Prelude.{cut_lines, lines_on}
 use Rattle.leak_report.proofs.circles.put_cuts.Goals as goal
 
 pub loop-cut-preserved : goal.loop-cut-preserved

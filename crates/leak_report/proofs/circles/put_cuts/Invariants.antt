@@ -1,8 +1,5 @@
-use Rattle.std.proofs.Common.{◌≡◌, ◌++◌, take}
-use Rattle.std.specs.Prelude.{string_bytes}
-use Rattle.std.specs.List.{flat_map}
-use Rattle.script_text.specs.Grammar.{ended}
-use Rattle.leak_report.specs.Circles.{cut_lines}
+use Rattle.std.proofs.Common.{◌≡◌, ◌++◌, take, string_bytes}
+use Rattle.leak_report.proofs.Prelude.{cut_lines, ended, flat_map}
 use Rattle.leak_report.proofs.circles.put_cuts.Given as goal
 
 abbrev pub invariant-loop-cut : goal.invariant-loop-cut

@@ -1,5 +1,5 @@
-use Rattle.std.specs.Prelude.{string_bytes}
-use Rattle.leak_report.specs.Circles.{owner_cell_text}
+use Rattle.std.proofs.Common.{string_bytes}
+use Rattle.leak_report.proofs.Prelude.{owner_cell_text}
 use Rattle.leak_report.proofs.Circling.{words_on}
 use Rattle.leak_report.proofs.circles.put_words.Goals as goal
 

@@ -1,7 +1,5 @@
-use Rattle.std.proofs.Common.{◌≡◌, ◌++◌, take}
-use Rattle.std.specs.Prelude.{string_bytes}
-use Rattle.std.specs.List.{flat_map}
-use Rattle.leak_report.specs.Circles.{owner_cell_text}
+use Rattle.std.proofs.Common.{◌≡◌, ◌++◌, take, string_bytes}
+use Rattle.leak_report.proofs.Prelude.{flat_map, owner_cell_text}
 use Rattle.leak_report.proofs.circles.put_words.Given as goal
 
 abbrev pub invariant-loop-tie : goal.invariant-loop-tie

@@ -1,8 +1,7 @@
-use Rattle.step_core.specs.Worlds.{abstraction}
-use Rattle.step_threads.specs.AbstractStates.{state_in}
+use Rattle.std.proofs.Common.{refl}
+use Rattle.leak_report.proofs.Prelude.{abstraction, state_in}
 use Rattle.leak_report.proofs.ColorLemmas.{colored_none, colored_then}
 use Rattle.leak_report.proofs.coloring.add_colored.Goals as goal
-use Rattle.std.proofs.Common.{refl}
 
 pub returns-in_ok-push-in-Some : goal.returns-in_ok-push-in-Some
 returns-in_ok-push-in-Some c =

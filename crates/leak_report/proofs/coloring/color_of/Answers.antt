@@ -1,8 +1,5 @@
-use Rattle.std.proofs.Common.{◌<◌, ◌∙◌, ℕ, Bool, ap, arith, false, length}
-use Rattle.std.specs.Prelude.{slice_index_or}
-use Rattle.owner_graph.specs.Labels.{at}
-use Rattle.owner_graph.specs.Rows.{row_at}
-use Rattle.leak_report.specs.Graph.{color_text, is_tied}
+use Rattle.std.proofs.Common.{ℕ, ◌<◌, Bool, false, length, slice_index_or, ap, ◌∙◌, arith}
+use Rattle.leak_report.proofs.Prelude.{at, color_text, is_tied, row_at}
 use Rattle.leak_report.proofs.Telling.{mark_is}
 use Rattle.leak_report.proofs.coloring.color_of.Goals as goal
 

@@ -1,12 +1,6 @@
-use Rattle.std.proofs.Common.{◌≡◌, ◌∙◌, ℕ, List, ap, arith}
-use Rattle.std.specs.Prelude.{map}
-use Rattle.std.specs.List.{flat_map}
-use Rattle.step_core.specs.Worlds.{abstraction}
-use Rattle.step_threads.specs.AbstractStates.{state_in}
-use Rattle.step_threads.specs.Stocks.{from}
-use Rattle.owner_graph.specs.declared.holding.Holding.{Holding}
-use Rattle.leak_report.specs.Coloring.{colored, in_color}
-use Rattle.leak_report.specs.Findings.{findings}
+use Rattle.std.proofs.Common.{◌≡◌, ℕ, List, map, ap, ◌∙◌, arith}
+use Rattle.leak_report.proofs.Prelude.{abstraction, colored, findings, flat_map, from, Holding}
+use Rattle.leak_report.proofs.Prelude.{in_color, state_in}
 use Rattle.leak_report.proofs.ColorLemmas.{colors_then}
 use Rattle.leak_report.proofs.coloring.colors.Goals as goal
 

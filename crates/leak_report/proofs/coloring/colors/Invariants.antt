@@ -1,10 +1,5 @@
-use Rattle.std.proofs.Common.{◌≡◌}
-use Rattle.std.specs.Prelude.{map}
-use Rattle.std.specs.List.{flat_map}
-use Rattle.step_core.specs.Worlds.{abstraction}
-use Rattle.step_threads.specs.AbstractStates.{state_in}
-use Rattle.step_threads.specs.Stocks.{from}
-use Rattle.leak_report.specs.Coloring.{colored, in_color}
+use Rattle.std.proofs.Common.{◌≡◌, map}
+use Rattle.leak_report.proofs.Prelude.{abstraction, colored, flat_map, from, in_color, state_in}
 use Rattle.leak_report.proofs.coloring.colors.Given as goal
 
 abbrev pub invariant-loop-before : goal.invariant-loop-before

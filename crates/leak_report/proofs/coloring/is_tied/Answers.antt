@@ -1,11 +1,5 @@
-use Rattle.std.proofs.Common.{◌≡◌, ◌∙◌, List, ap, arith, false, length, refl, sym}
-use Rattle.std.specs.Global.{Vec}
-use Rattle.std.specs.Prelude.{nat_lt}
-use Rattle.owner_graph.specs.declared.holding.Holding.{Holding}
-use Rattle.owner_graph.specs.Labels.{at}
-use Rattle.owner_graph.specs.Rows.{row_at}
-use Rattle.owner_graph.proofs.Stepping.{same_at}
-use Rattle.leak_report.specs.Graph.{is_tied}
+use Rattle.std.proofs.Common.{◌≡◌, false, List, length, nat_lt, refl, sym, ap, ◌∙◌, arith}
+use Rattle.leak_report.proofs.Prelude.{at, Holding, is_tied, row_at, same_at, Vec}
 use Rattle.leak_report.proofs.Drawing.{row_past, tied_by}
 use Rattle.leak_report.proofs.Telling.{row_is}
 use Rattle.leak_report.proofs.coloring.is_tied.Goals as goal

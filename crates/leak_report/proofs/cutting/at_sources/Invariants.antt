@@ -1,5 +1,5 @@
 use Rattle.std.proofs.Common.{◌≡◌, map, take}
-use Rattle.leak_report.specs.Graph.{at_source}
+use Rattle.leak_report.proofs.Prelude.{at_source}
 use Rattle.leak_report.proofs.cutting.at_sources.Given as goal
 
 abbrev pub invariant-loop-holding : goal.invariant-loop-holding

@@ -1,7 +1,6 @@
-use Rattle.std.proofs.Common.{◌∙◌, subst, sym}
-use Rattle.std.specs.Prelude.{All}
+use Rattle.std.proofs.Common.{All, sym, ◌∙◌, subst}
+use Rattle.leak_report.proofs.Prelude.{IsAmong}
 use Rattle.std.proofs.lemmas.Result.{IfOk-weaker}
-use Rattle.owner_graph.specs.Owners.{IsAmong}
 use Rattle.leak_report.proofs.Drawing.{moved_among, rows_tell}
 use Rattle.leak_report.proofs.cutting.by_source.Goals as goal
 

@@ -1,6 +1,5 @@
-use Rattle.std.proofs.Common.{◌≡◌, ◌∙◌, arith, ap, false, sym, refl, length}
-use Rattle.std.specs.Prelude.{nat_lt}
-use Rattle.leak_report.specs.Graph.{is_listed}
+use Rattle.std.proofs.Common.{◌≡◌, false, length, nat_lt, refl, sym, ap, ◌∙◌, arith}
+use Rattle.leak_report.proofs.Prelude.{is_listed}
 use Rattle.leak_report.proofs.Drawing.{row_past}
 use Rattle.leak_report.proofs.Telling.{row_is}
 use Rattle.leak_report.proofs.cutting.is_listed_in.Goals as goal

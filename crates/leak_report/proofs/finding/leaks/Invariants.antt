@@ -1,6 +1,5 @@
-use Rattle.std.proofs.Common.{ℕ}
-use Rattle.std.specs.Prelude.{◌≤◌}
-use Rattle.step_core.specs.Worlds.{abstraction}
+use Rattle.std.proofs.Common.{ℕ, ◌≤◌}
+use Rattle.leak_report.proofs.Prelude.{abstraction}
 use Rattle.leak_report.specs.Left.{IsLeaked}
 use Rattle.leak_report.proofs.finding.leaks.Given as goal
 

@@ -1,9 +1,5 @@
-use Rattle.std.proofs.Common.{◌∙◌, ◌++◌, List, ℕ, ap, sym}
-use Rattle.std.specs.Prelude.{string_bytes}
-use Rattle.script_text.specs.Grammar.{ended}
-use Rattle.step_core.specs.Worlds.{abstraction}
-use Rattle.leak_report.specs.Findings.{findings}
-use Rattle.leak_report.specs.Graph.{head_lines}
+use Rattle.std.proofs.Common.{ℕ, List, ◌++◌, string_bytes, sym, ap, ◌∙◌}
+use Rattle.leak_report.proofs.Prelude.{abstraction, ended, findings, head_lines}
 use Rattle.leak_report.proofs.Drawing.{graph_then}
 use Rattle.leak_report.proofs.Telling.{counted_at}
 use Rattle.leak_report.proofs.graph.drawn_at.Goals as goal

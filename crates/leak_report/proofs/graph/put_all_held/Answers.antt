@@ -1,7 +1,5 @@
-use Rattle.std.specs.Prelude.{string_bytes}
-use Rattle.script_stepper.proofs.LineLemmas.{lines_on}
-use Rattle.leak_report.specs.Findings.{findings}
-use Rattle.leak_report.specs.Graph.{edge_lines}
+use Rattle.std.proofs.Common.{string_bytes}
+use Rattle.leak_report.proofs.Prelude.{edge_lines, findings, lines_on}
 use Rattle.leak_report.proofs.graph.put_all_held.Goals as goal
 
 pub loop-held-preserved : goal.loop-held-preserved

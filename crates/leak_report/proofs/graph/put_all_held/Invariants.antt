@@ -1,9 +1,5 @@
-use Rattle.std.proofs.Common.{◌≡◌, ◌++◌, take}
-use Rattle.std.specs.Prelude.{string_bytes}
-use Rattle.std.specs.List.{flat_map}
-use Rattle.script_text.specs.Grammar.{ended}
-use Rattle.leak_report.specs.Findings.{findings}
-use Rattle.leak_report.specs.Graph.{edge_lines}
+use Rattle.std.proofs.Common.{◌≡◌, ◌++◌, take, string_bytes}
+use Rattle.leak_report.proofs.Prelude.{edge_lines, ended, findings, flat_map}
 use Rattle.leak_report.proofs.graph.put_all_held.Given as goal
 
 abbrev pub invariant-loop-held : goal.invariant-loop-held

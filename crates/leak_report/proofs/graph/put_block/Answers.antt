@@ -1,10 +1,5 @@
-use Rattle.std.proofs.Common.{false, refl}
-use Rattle.std.specs.Prelude.{slice_index_or, string_bytes}
-use Rattle.step_core.specs.Worlds.{abstraction}
-use Rattle.step_threads.specs.AbstractStates.{state_in}
-use Rattle.owner_graph.specs.Labels.{at}
-use Rattle.owner_graph.specs.Rows.{held_on}
-use Rattle.leak_report.specs.Graph.{is_tied}
+use Rattle.std.proofs.Common.{false, slice_index_or, string_bytes, refl}
+use Rattle.leak_report.proofs.Prelude.{abstraction, at, held_on, is_tied, state_in}
 use Rattle.leak_report.proofs.Drawing.{node_then}
 use Rattle.leak_report.proofs.graph.put_block.Goals as goal
 

@@ -1,7 +1,5 @@
-use Rattle.std.specs.Prelude.{string_bytes}
-use Rattle.step_core.specs.Worlds.{abstraction}
-use Rattle.step_threads.specs.AbstractStates.{state_in}
-use Rattle.leak_report.specs.Graph.{node_lines}
+use Rattle.std.proofs.Common.{string_bytes}
+use Rattle.leak_report.proofs.Prelude.{abstraction, node_lines, state_in}
 use Rattle.leak_report.proofs.Telling.{numbers_then}
 use Rattle.leak_report.proofs.graph.put_blocks.Goals as goal
 

@@ -1,10 +1,5 @@
-use Rattle.std.proofs.Common.{◌∙◌, ◌++◌, List, ap}
-use Rattle.std.specs.Prelude.{string_bytes}
-use Rattle.std.specs.List.{flat_map}
-use Rattle.script_text.specs.Grammar.{ended}
-use Rattle.owner_graph.specs.declared.holding.Holding.{Holding}
-use Rattle.leak_report.specs.Findings.{findings}
-use Rattle.leak_report.specs.Graph.{edge_lines}
+use Rattle.std.proofs.Common.{List, ◌++◌, string_bytes, ap, ◌∙◌}
+use Rattle.leak_report.proofs.Prelude.{edge_lines, ended, findings, flat_map, Holding}
 use Rattle.leak_report.proofs.graph.put_edges.Goals as goal
 
 pub returns : goal.returns

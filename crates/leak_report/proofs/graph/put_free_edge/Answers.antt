@@ -1,6 +1,5 @@
-use Rattle.std.proofs.Common.{◌∷◌, []}
-use Rattle.std.specs.Prelude.{string_bytes}
-use Rattle.script_stepper.proofs.LineLemmas.{lines_then}
+use Rattle.std.proofs.Common.{[], ◌∷◌, string_bytes}
+use Rattle.leak_report.proofs.Prelude.{lines_then}
 use Rattle.leak_report.specs.Graph.{box_text, free_text}
 use Rattle.leak_report.proofs.graph.put_free_edge.Goals as goal
 

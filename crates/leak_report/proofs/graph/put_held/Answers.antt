@@ -1,8 +1,5 @@
-use Rattle.std.proofs.Common.{◌∙◌, ap, ap₂, Bool, List, ℕ}
-use Rattle.std.specs.Prelude.{string_bytes}
-use Rattle.owner_graph.specs.Ties.{is_tie}
-use Rattle.leak_report.specs.Findings.{findings}
-use Rattle.leak_report.specs.Graph.{style_text, tie_text}
+use Rattle.std.proofs.Common.{ℕ, Bool, List, string_bytes, ap, ◌∙◌, ap₂}
+use Rattle.leak_report.proofs.Prelude.{findings, is_tie, style_text, tie_text}
 use Rattle.leak_report.proofs.Drawing.{held_then}
 use Rattle.leak_report.proofs.graph.put_held.Goals as goal
 

@@ -1,6 +1,5 @@
-use Rattle.std.specs.Prelude.{string_bytes}
-use Rattle.leak_report.specs.Lines.{holder_lines}
-use Rattle.script_stepper.proofs.LineLemmas.{lines_on}
+use Rattle.std.proofs.Common.{string_bytes}
+use Rattle.leak_report.proofs.Prelude.{holder_lines, lines_on}
 use Rattle.leak_report.proofs.lines.put_holders.Goals as goal
 
 pub loop-holding-preserved : goal.loop-holding-preserved

@@ -1,8 +1,5 @@
-use Rattle.std.proofs.Common.{◌≡◌, ◌++◌, take}
-use Rattle.std.specs.Prelude.{string_bytes}
-use Rattle.std.specs.List.{flat_map}
-use Rattle.script_text.specs.Grammar.{ended}
-use Rattle.leak_report.specs.Lines.{holder_lines}
+use Rattle.std.proofs.Common.{◌≡◌, ◌++◌, take, string_bytes}
+use Rattle.leak_report.proofs.Prelude.{ended, flat_map, holder_lines}
 use Rattle.leak_report.proofs.lines.put_holders.Given as goal
 
 abbrev pub invariant-loop-holding : goal.invariant-loop-holding

@@ -1,11 +1,6 @@
-use Rattle.std.proofs.Common.{◌∙◌, ◌++◌, ℕ, List, ap, refl, sym}
-use Rattle.std.specs.Prelude.{string_bytes}
-use Rattle.script_text.specs.Grammar.{ended}
-use Rattle.step_core.specs.Totals.{ended_in, made_in}
-use Rattle.step_core.specs.Worlds.{abstraction}
-use Rattle.step_threads.specs.AbstractStates.{state_in}
-use Rattle.leak_report.specs.Findings.{findings, held_at}
-use Rattle.leak_report.specs.Lines.{listing}
+use Rattle.std.proofs.Common.{ℕ, List, ◌++◌, string_bytes, refl, sym, ap, ◌∙◌}
+use Rattle.leak_report.proofs.Prelude.{abstraction, ended, ended_in, findings, held_at, listing}
+use Rattle.leak_report.proofs.Prelude.{made_in, state_in}
 use Rattle.leak_report.proofs.Telling.{all_then, counted_at}
 use Rattle.leak_report.proofs.listing.left_at.Goals as goal
 

@@ -1,8 +1,5 @@
-use Rattle.std.proofs.Common.{◌<◌, arith, length}
-use Rattle.std.specs.Prelude.{string_bytes}
-use Rattle.step_core.specs.Worlds.{abstraction}
-use Rattle.step_threads.specs.AbstractStates.{state_in}
-use Rattle.leak_report.specs.Findings.{held_at}
+use Rattle.std.proofs.Common.{◌<◌, length, string_bytes, arith}
+use Rattle.leak_report.proofs.Prelude.{abstraction, held_at, state_in}
 use Rattle.leak_report.proofs.Telling.{block_then, mark_is, row_is}
 use Rattle.leak_report.proofs.listing.put_left.Goals as goal
 

@@ -1,8 +1,5 @@
-use Rattle.std.specs.Prelude.{string_bytes}
-use Rattle.step_core.specs.Worlds.{abstraction}
-use Rattle.step_threads.specs.AbstractStates.{state_in}
-use Rattle.leak_report.specs.Findings.{held_at}
-use Rattle.leak_report.specs.Lines.{left_lines}
+use Rattle.std.proofs.Common.{string_bytes}
+use Rattle.leak_report.proofs.Prelude.{abstraction, held_at, left_lines, state_in}
 use Rattle.leak_report.proofs.Telling.{numbers_then}
 use Rattle.leak_report.proofs.listing.put_listing.Goals as goal
 

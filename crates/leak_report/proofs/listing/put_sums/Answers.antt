@@ -1,8 +1,5 @@
-use Rattle.std.proofs.Common.{◌∙◌, ◌∷◌, ◌++◌, [], ℕ, ap}
-use Rattle.std.specs.Prelude.{string_bytes}
-use Rattle.script_text.specs.Grammar.{ended}
-use Rattle.script_stepper.specs.Lines.{totals_text}
-use Rattle.step_core.specs.Totals.{made_in}
+use Rattle.std.proofs.Common.{ℕ, [], ◌∷◌, ◌++◌, string_bytes, ap, ◌∙◌}
+use Rattle.leak_report.proofs.Prelude.{ended, made_in, totals_text}
 use Rattle.leak_report.proofs.listing.put_sums.Goals as goal
 
 pub returns : goal.returns

@@ -1,6 +1,5 @@
-use Rattle.std.proofs.Common.{arith}
-use Rattle.std.specs.Prelude.{string_bytes}
-use Rattle.owner_text.specs.Drafts.{draft_of}
+use Rattle.std.proofs.Common.{string_bytes, arith}
+use Rattle.owner_text.proofs.Prelude.{draft_of}
 use Rattle.owner_text.proofs.TextLemmas.{all_then}
 use Rattle.owner_text.proofs.answering.listed.Goals as goal
 

@@ -1,5 +1,5 @@
-use Rattle.std.specs.Prelude.{string_bytes}
-use Rattle.owner_text.specs.Drafts.{draft_of}
+use Rattle.std.proofs.Common.{string_bytes}
+use Rattle.owner_text.proofs.Prelude.{draft_of}
 use Rattle.owner_text.proofs.AnswerLemmas.{told_is}
 use Rattle.owner_text.proofs.answering.owners_text.Goals as goal
 

@@ -1,6 +1,5 @@
 use Rattle.std.proofs.Common.{refl}
-use Rattle.owner_text.specs.Drafts.{draft_of}
-use Rattle.owner_text.specs.Labels.{with_label}
+use Rattle.owner_text.proofs.Prelude.{draft_of, with_label}
 use Rattle.owner_text.proofs.DraftLemmas.{object_added}
 use Rattle.owner_text.proofs.draft.add_object.Goals as goal
 

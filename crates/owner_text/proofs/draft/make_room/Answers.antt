@@ -1,4 +1,4 @@
-use Rattle.std.proofs.Common.{◌+◌, ◌-◌, arith, length}
+use Rattle.std.proofs.Common.{◌+◌, ◌-◌, length, arith}
 use Rattle.owner_text.proofs.RoomLemmas.{room_is, room_more, room_none}
 use Rattle.owner_text.proofs.draft.make_room.Goals as goal
 

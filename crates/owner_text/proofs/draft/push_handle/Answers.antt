@@ -1,6 +1,5 @@
 use Rattle.std.proofs.Common.{arith}
-use Rattle.owner_text.specs.Drafts.{draft_of}
-use Rattle.owner_text.specs.Labels.{with_label}
+use Rattle.owner_text.proofs.Prelude.{draft_of, with_label}
 use Rattle.owner_text.proofs.DraftLemmas.{handle_added}
 use Rattle.owner_text.proofs.draft.push_handle.Goals as goal
 

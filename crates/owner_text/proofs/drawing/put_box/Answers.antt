@@ -1,5 +1,4 @@
-use Rattle.std.proofs.Common.{◌++◌, codes}
-use Rattle.std.specs.Prelude.{decimal, string_bytes}
+use Rattle.std.proofs.Common.{◌++◌, string_bytes, codes, decimal}
 use Rattle.owner_text.specs.Drawing.{quoted}
 use Rattle.owner_text.proofs.LineLemmas.{line_then}
 use Rattle.owner_text.proofs.drawing.put_box.Goals as goal

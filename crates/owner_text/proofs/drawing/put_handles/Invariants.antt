@@ -1,9 +1,5 @@
-use Rattle.std.proofs.Common.{◌≡◌, ◌++◌, take}
-use Rattle.std.specs.Prelude.{string_bytes}
-use Rattle.std.specs.List.{flat_map}
-use Rattle.text_lines.specs.Lines.{ended}
-use Rattle.owner_text.specs.Drafts.{draft_of}
-use Rattle.owner_text.specs.Drawing.{edge_lines}
+use Rattle.std.proofs.Common.{◌≡◌, ◌++◌, take, string_bytes}
+use Rattle.owner_text.proofs.Prelude.{draft_of, edge_lines, ended, flat_map}
 use Rattle.owner_text.proofs.drawing.put_handles.Given as goal
 
 abbrev pub invariant-loop-handle : goal.invariant-loop-handle

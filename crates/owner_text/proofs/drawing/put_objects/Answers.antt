@@ -1,6 +1,5 @@
-use Rattle.std.specs.Prelude.{string_bytes}
-use Rattle.owner_text.specs.Drafts.{draft_of}
-use Rattle.owner_text.specs.Drawing.{node_lines}
+use Rattle.std.proofs.Common.{string_bytes}
+use Rattle.owner_text.proofs.Prelude.{draft_of, node_lines}
 use Rattle.owner_text.proofs.LineLemmas.{numbers_on}
 use Rattle.owner_text.proofs.drawing.put_objects.Goals as goal
 

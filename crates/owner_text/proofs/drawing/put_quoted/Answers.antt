@@ -1,5 +1,5 @@
-use Rattle.std.specs.Prelude.{string_bytes}
-use Rattle.owner_text.specs.Drawing.{quoted_byte}
+use Rattle.std.proofs.Common.{string_bytes}
+use Rattle.owner_text.proofs.Prelude.{quoted_byte}
 use Rattle.owner_text.proofs.LineLemmas.{bytes_on}
 use Rattle.owner_text.proofs.drawing.put_quoted.Goals as goal
 

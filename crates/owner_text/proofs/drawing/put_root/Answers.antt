@@ -1,5 +1,4 @@
-use Rattle.std.proofs.Common.{[], ◌∷◌}
-use Rattle.std.specs.Prelude.{string_bytes}
+use Rattle.std.proofs.Common.{[], ◌∷◌, string_bytes}
 use Rattle.owner_text.specs.Drawing.{box_text, root_edge_text}
 use Rattle.owner_text.proofs.LineLemmas.{lines_then}
 use Rattle.owner_text.proofs.drawing.put_root.Goals as goal

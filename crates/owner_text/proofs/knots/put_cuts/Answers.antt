@@ -1,5 +1,5 @@
-use Rattle.std.specs.Prelude.{string_bytes}
-use Rattle.owner_text.specs.Lines.{cut_lines}
+use Rattle.std.proofs.Common.{string_bytes}
+use Rattle.owner_text.proofs.Prelude.{cut_lines}
 use Rattle.owner_text.proofs.LineLemmas.{lines_on}
 use Rattle.owner_text.proofs.knots.put_cuts.Goals as goal
 

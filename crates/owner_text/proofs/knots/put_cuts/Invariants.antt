@@ -1,8 +1,5 @@
-use Rattle.std.proofs.Common.{◌≡◌, ◌++◌, take}
-use Rattle.std.specs.Prelude.{string_bytes}
-use Rattle.std.specs.List.{flat_map}
-use Rattle.text_lines.specs.Lines.{ended}
-use Rattle.owner_text.specs.Lines.{cut_lines}
+use Rattle.std.proofs.Common.{◌≡◌, ◌++◌, take, string_bytes}
+use Rattle.owner_text.proofs.Prelude.{cut_lines, ended, flat_map}
 use Rattle.owner_text.proofs.knots.put_cuts.Given as goal
 
 abbrev pub invariant-loop-tie : goal.invariant-loop-tie

@@ -1,6 +1,5 @@
-use Rattle.std.specs.Prelude.{string_bytes}
-use Rattle.owner_text.specs.Drafts.{draft_of}
-use Rattle.owner_text.specs.Lines.{knot_lines}
+use Rattle.std.proofs.Common.{string_bytes}
+use Rattle.owner_text.proofs.Prelude.{draft_of, knot_lines}
 use Rattle.owner_text.proofs.LineLemmas.{numbers_on}
 use Rattle.owner_text.proofs.knots.put_knots.Goals as goal
 

@@ -1,5 +1,5 @@
-use Rattle.std.specs.Prelude.{string_bytes}
-use Rattle.owner_text.specs.Lines.{member_text}
+use Rattle.std.proofs.Common.{string_bytes}
+use Rattle.owner_text.proofs.Prelude.{member_text}
 use Rattle.owner_text.proofs.LineLemmas.{bytes_on}
 use Rattle.owner_text.proofs.knots.put_members.Goals as goal
 

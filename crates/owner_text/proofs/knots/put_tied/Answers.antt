@@ -1,6 +1,5 @@
-use Rattle.std.proofs.Common.{◌∙◌, rules}
-use Rattle.std.specs.Prelude.{string_bytes}
-use Rattle.owner_text.specs.Drafts.{draft_of}
+use Rattle.std.proofs.Common.{string_bytes, ◌∙◌, rules}
+use Rattle.owner_text.proofs.Prelude.{draft_of}
 use Rattle.owner_text.proofs.TextLemmas.{tied_is}
 use Rattle.owner_text.proofs.knots.put_tied.Goals as goal
 

@@ -1,6 +1,5 @@
-use Rattle.std.proofs.Common.{codes}
-use Rattle.std.specs.Prelude.{string_bytes}
-use Rattle.owner_text.specs.Lines.{tie_text}
+use Rattle.std.proofs.Common.{string_bytes, codes}
+use Rattle.owner_text.proofs.Prelude.{tie_text}
 use Rattle.owner_text.proofs.LineLemmas.{line_on}
 use Rattle.owner_text.proofs.knots.put_ties.Goals as goal
 

@@ -1,7 +1,5 @@
-use Rattle.std.proofs.Common.{◌≡◌, ◌++◌, codes, map, take}
-use Rattle.std.specs.Prelude.{string_bytes}
-use Rattle.text_lines.specs.Lines.{ended}
-use Rattle.owner_text.specs.Lines.{tie_text}
+use Rattle.std.proofs.Common.{◌≡◌, ◌++◌, map, take, string_bytes, codes}
+use Rattle.owner_text.proofs.Prelude.{ended, tie_text}
 use Rattle.owner_text.proofs.knots.put_ties.Given as goal
 
 abbrev pub invariant-loop-tie : goal.invariant-loop-tie

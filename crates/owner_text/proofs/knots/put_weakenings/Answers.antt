@@ -1,5 +1,5 @@
-use Rattle.std.specs.Prelude.{string_bytes}
-use Rattle.owner_text.specs.Lines.{weaken_text}
+use Rattle.std.proofs.Common.{string_bytes}
+use Rattle.owner_text.proofs.Prelude.{weaken_text}
 use Rattle.owner_text.proofs.LineLemmas.{line_on}
 use Rattle.owner_text.proofs.knots.put_weakenings.Goals as goal
 

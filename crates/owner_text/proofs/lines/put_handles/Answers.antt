@@ -1,5 +1,5 @@
-use Rattle.std.specs.Prelude.{string_bytes}
-use Rattle.owner_text.specs.Lines.{handle_text}
+use Rattle.std.proofs.Common.{string_bytes}
+use Rattle.owner_text.proofs.Prelude.{handle_text}
 use Rattle.owner_text.proofs.LineLemmas.{line_on}
 use Rattle.owner_text.proofs.lines.put_handles.Goals as goal
 

@@ -1,7 +1,5 @@
-use Rattle.std.proofs.Common.{◌≡◌, ◌++◌, map, take}
-use Rattle.std.specs.Prelude.{string_bytes}
-use Rattle.text_lines.specs.Lines.{ended}
-use Rattle.owner_text.specs.Lines.{handle_text}
+use Rattle.std.proofs.Common.{◌≡◌, ◌++◌, map, take, string_bytes}
+use Rattle.owner_text.proofs.Prelude.{ended, handle_text}
 use Rattle.owner_text.proofs.lines.put_handles.Given as goal
 
 abbrev pub invariant-loop-handle : goal.invariant-loop-handle

@@ -1,6 +1,5 @@
 use Rattle.std.proofs.Common.{◌≡◌, ◌≤◌}
-use Rattle.owner_text.specs.Drafts.{draft_of}
-use Rattle.owner_text.specs.Lines.{counted, is_leaked}
+use Rattle.owner_text.proofs.Prelude.{counted, draft_of, is_leaked}
 use Rattle.owner_text.proofs.listing.leaked_in.Given as goal
 
 abbrev pub invariant-loop-before : goal.invariant-loop-before

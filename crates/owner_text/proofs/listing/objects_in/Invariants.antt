@@ -1,6 +1,5 @@
 use Rattle.std.proofs.Common.{◌≡◌, ◌≤◌}
-use Rattle.owner_text.specs.Drafts.{is_object}
-use Rattle.owner_text.specs.Lines.{counted}
+use Rattle.owner_text.proofs.Prelude.{counted, is_object}
 use Rattle.owner_text.proofs.listing.objects_in.Given as goal
 
 abbrev pub invariant-loop-before : goal.invariant-loop-before

@@ -1,6 +1,5 @@
-use Rattle.std.proofs.Common.{◌∙◌, sym}
-use Rattle.std.specs.Prelude.{string_bytes}
-use Rattle.owner_text.specs.Drafts.{draft_of}
+use Rattle.std.proofs.Common.{string_bytes, sym, ◌∙◌}
+use Rattle.owner_text.proofs.Prelude.{draft_of}
 use Rattle.owner_text.proofs.TextLemmas.{none_put, object_then}
 use Rattle.owner_text.proofs.listing.put_lines.Goals as goal
 

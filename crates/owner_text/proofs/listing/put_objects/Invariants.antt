@@ -1,9 +1,5 @@
-use Rattle.std.proofs.Common.{◌≡◌, ◌++◌}
-use Rattle.std.specs.Prelude.{string_bytes}
-use Rattle.text_lines.specs.Lines.{ended}
-use Rattle.owner_text.specs.Drafts.{draft_of}
-use Rattle.owner_text.specs.Lines.{object_lines}
-use Rattle.owner_text.specs.Lines.{lines_to}
+use Rattle.std.proofs.Common.{◌≡◌, ◌++◌, string_bytes}
+use Rattle.owner_text.proofs.Prelude.{draft_of, ended, lines_to, object_lines}
 use Rattle.owner_text.proofs.listing.put_objects.Given as goal
 
 abbrev pub invariant-loop-before : goal.invariant-loop-before

@@ -1,7 +1,8 @@
 use Rattle.std.proofs.Common.{subst}
+use Rattle.owner_text.proofs.Prelude.{Draft, draft_of}
 use Rattle.text_lines.specs.Grammar.{IsReadAs, Refuses}
+use Rattle.owner_text.specs.Drafts.{after_line}
 use Rattle.owner_text.specs.declared.fault.Cause.TheVariants.{UnfinishedLine}
-use Rattle.owner_text.specs.Drafts.{Draft, after_line, draft_of}
 use Rattle.owner_text.proofs.text.read.Goals as goal
 
 pub returns-in-Ok-read_lines : goal.returns-in-Ok-read_lines

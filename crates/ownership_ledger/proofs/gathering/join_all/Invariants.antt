@@ -1,5 +1,5 @@
 use Rattle.std.proofs.Common.{◌≡◌, ◌<◌, List, ◌++◌, All}
-use Rattle.ownership_ledger.specs.Now.{ShareNow, StandsForShares}
+use Rattle.ownership_ledger.proofs.Prelude.{ShareNow, StandsForShares}
 use Rattle.ownership_ledger.proofs.gathering.join_all.Given as goal
 
 abbrev pub invariant-loop-other : goal.invariant-loop-other

@@ -1,4 +1,4 @@
-use Rattle.std.proofs.Common.{rules, ap, arith}
+use Rattle.std.proofs.Common.{ap, arith, rules}
 use Rattle.ownership_ledger.proofs.Parts.{cuts}
 use Rattle.ownership_ledger.proofs.opening.deal.Goals as goal
 

@@ -1,6 +1,6 @@
 use Rattle.std.proofs.Common.{◌≡◌, ◌+◌, ◌-◌, [], replicate, vec_capacity}
+use Rattle.ownership_ledger.proofs.Prelude.{fresh_seat}
 use Rattle.ownership_ledger.specs.Now.{new_share}
-use Rattle.ownership_ledger.specs.Rule.{fresh_seat}
 use Rattle.ownership_ledger.proofs.opening.deal.Given as goal
 
 abbrev pub invariant-loop : goal.invariant-loop

@@ -1,19 +1,13 @@
 -- A `&` to an entry holds a share of its life, and where it stands. Assumes `Logic`.
 use Rattle.std.proofs.Common.{◌^◌, [], ◌∷◌}
-use denote.RattleType.{RattleType}
-use denote.Sharing.{said}
-use denote.Param.Laws.{Laws}
-use denote.Param.Shared.{copy_shared}
-use denote.Struct.Tuple.{Tuple}
-use denote.Struct.Laws.{field_copy}
-use denote.Struct.Lending.{of_Lends}
-use Rattle.std.specs.contracts.marker.PhantomData as marker
-use Rattle.ghost_map.specs.declared.map.Named.{Ghosts}
+use Rattle.ghost_map.proofs.Prelude.{copy_shared, field_copy, Ghosts, Laws, of_Lends, RattleType}
+use Rattle.ghost_map.proofs.Prelude.{said, Tuple}
+use Rattle.left_right.proofs.PartSteps.{Lends-part, lent_laws}
 use Rattle.ghost_map.specs.Chain.{entry_path}
-use Rattle.ghost_map.specs.contracts.entry.GhostEntry as C
-use Rattle.ghost_map.proofs.entry.GhostEntry.TheLaw.Statement.{statement}
 use Rattle.ghost_map.proofs.Steps.{path_laws}
-use Rattle.left_right.proofs.PartSteps.{lent_laws, Lends-part}
+use Rattle.ghost_map.proofs.entry.GhostEntry.TheLaw.Statement.{statement}
+use Rattle.std.specs.contracts.marker.PhantomData as marker
+use Rattle.ghost_map.specs.contracts.entry.GhostEntry as C
 
 pub shares : (N T : RattleType) (g : Ghosts N.Denot) (L : Laws N) (L' : Laws T) → statement N T g L L'
 shares N T g L L' = let Pair : RattleType = Tuple (N ∷ T ∷ []) in

@@ -1,9 +1,6 @@
 use Rattle.std.proofs.Common.{◌^◌}
-use denote.RattleType.{RattleType}
-use denote.Param.Send.{IsSend}
-use Rattle.ghost_map.specs.declared.map.Named.{Ghosts}
-use Rattle.ghost_map.specs.contracts.entry.GhostEntry.{the_row}
-use Rattle.ghost_map.proofs.Sent.{tokens_keyless, entry_keyless}
+use Rattle.ghost_map.proofs.Prelude.{Ghosts, IsSend, RattleType, the_row}
+use Rattle.ghost_map.proofs.Sent.{entry_keyless, tokens_keyless}
 
 pub send : (N T : RattleType) (g : Ghosts N.Denot) → IsSend (the_row N T g)
 send N T g = record {

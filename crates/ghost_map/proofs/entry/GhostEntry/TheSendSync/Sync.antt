@@ -1,9 +1,5 @@
-use denote.RattleType.{RattleType}
-use denote.Param.Send.{IsSync, sendable}
-use denote.Struct.Struct.{Struct}
-use denote.Struct.Owning.{shape}
-use Rattle.ghost_map.specs.declared.map.Named.{Ghosts}
-use Rattle.ghost_map.specs.contracts.entry.GhostEntry.{the_row, the_type}
+use Rattle.ghost_map.proofs.Prelude.{Ghosts, IsSync, RattleType, sendable, shape, Struct, the_row}
+use Rattle.ghost_map.specs.contracts.entry.GhostEntry.{the_type}
 use Rattle.ghost_map.proofs.Sent.{entry_keyless}
 
 pub sync : (N T : RattleType) (g : Ghosts N.Denot) → IsSync (the_row N T g)

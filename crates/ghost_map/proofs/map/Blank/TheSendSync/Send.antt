@@ -1,4 +1,4 @@
-use denote.Param.Send.{IsSend}
+use Rattle.ghost_map.proofs.Prelude.{IsSend}
 use Rattle.ghost_map.specs.contracts.map.Blank.{the_row}
 use Rattle.ghost_map.proofs.Sent.{blank_keyless}
 

@@ -1,25 +1,15 @@
 -- `new` makes one open cell.
 use Rattle.std.proofs.Common.{ℕ, [], ◌∷◌, refl}
-use mir.Val.{Val}
-use base.Logic.{SProp, id⊢}
-use types.Kit.{‵, raw, ◌⊛◌, some, later, ◌$◌, ◌∵◌, !, qed, by, move, keep, split, fjoin, pick, use0, await}
-use types.Run.{no_more, and_then, returns, enter}
-use types.ByLocal.{alloc_all, pass_all, free_all, look_at, get, sets}
-use types.Part.{agg}
-use contract.Running.{tables}
-use denote.RattleType.{owns}
-use denote.Signature.{types_at}
-use denote.Builtin.{unit}
-use denote.Steps.{nothing}
-use denote.Triple.Entry.{alive}
-use denote.Triple.Walked.{Stays, walk_of}
-use Rattle.atomic_table.proofs.Walks.{proved}
-use Rattle.ghost_map.specs.Chain.{blank_owns}
-use Rattle.ghost_map.proofs.Steps as steps
-use Rattle.ghost_map.proofs.Walks.{token, Token, token_made, ends}
-use Rattle.ghost_map.specs.contracts.map.Blank.new.{ended, clauses}
-use Rattle.ghost_map.specs.contracts.map.Blank.new.Key.{name as #self}
+use Rattle.ghost_map.proofs.Prelude.{agg, alive, alloc_all, and_then, await, blank_owns, by, enter}
+use Rattle.ghost_map.proofs.Prelude.{fjoin, free_all, get, id⊢, keep, later, look_at, move}
+use Rattle.ghost_map.proofs.Prelude.{no_more, nothing, owns, pass_all, pick, proved, qed, raw}
+use Rattle.ghost_map.proofs.Prelude.{returns, sets, some, split, SProp, Stays, tables, types_at}
+use Rattle.ghost_map.proofs.Prelude.{unit, use0, Val, walk_of, !, ‵, ◌$◌, ◌∵◌, ◌⊛◌}
+use Rattle.ghost_map.specs.contracts.map.Blank.new.{clauses, ended}
+use Rattle.ghost_map.proofs.Walks.{ends, Token, token, token_made}
 use Rattle.ghost_map.proofs.map.Blank.new.Statement.{statement}
+use Rattle.ghost_map.proofs.Steps as steps
+use Rattle.ghost_map.specs.contracts.map.Blank.new.Key.{name as #self}
 use Rattle.ghost_map.proofs.map.Blank.new.Code as code
 
 pub new_spec : {M : Type 1} → statement M

@@ -1,35 +1,20 @@
 -- `open` hands out the map at the brand's name.
 use Rattle.std.proofs.Common.{ℕ, [], ◌∷◌, refl}
-use mir.Syntax.{a_type, dcons, dnil}
-use mir.Val.{Val}
-use mir.MapTy.{inst_fn}
-use base.Logic.{SProp, id⊢}
-use base.Fml.{ftrue}
-use types.Kit.{‵, raw, ◌⊛◌, given, ◌$◌, ◌∵◌, !, qed, by, move, keep, drop, split, fsplit, fjoin, learn, use0, use1, rewrite}
-use types.Run.{no_more, and_then, returns, enter}
-use types.ByLocal.{alloc_all, pass_all, free_all, look_at, get, sets}
-use types.Part.{agg}
-use contract.Running.{tables}
-use contract.Monad.{fact, fact_i}
-use denote.Exit.{yes}
-use denote.RattleType.{RattleType, owns}
-use denote.Signature.{types_at, plain}
-use denote.Builtin.{unit}
-use denote.Steps.{nothing}
-use denote.Param.{param, bounded}
-use denote.Struct.Tuple.{Tuple}
-use denote.Triple.Entry.{alive}
-use denote.Triple.Walked.{Stays, stay_dropped, walk_of, Goes-dropped}
-use Rattle.atomic_table.proofs.Walks.{proved}
-use Rattle.ghost_map.specs.Chain.{blank_owns, map_owns}
+use Rattle.ghost_map.proofs.Prelude
+use Prelude.{a_type, agg, alive, alloc_all, and_then, blank_owns, bounded, by, dcons, dnil, drop}
+use Prelude.{enter, fact, fact_i, fjoin, free_all, fsplit, ftrue, get, given, Goes-dropped}
+use Prelude.{inst_fn, keep, learn, look_at, map_owns, move, no_more, nothing, owns, param}
+use Prelude.{pass_all, plain, proved, qed, RattleType, raw, returns, rewrite, sets, split, SProp}
+use Prelude.{stay_dropped, Stays, tables, Tuple, types_at, unit, use0, use1, Val, walk_of, yes, ! }
+use Prelude.{‵, ◌$◌, ◌∵◌, ◌⊛◌}
+use Rattle.ghost_map.specs.contracts.map.Blank.open.{clauses, ended}
+use Rattle.ghost_map.proofs.Walks.{ends, Token, token, token_made, token_told}
+use Rattle.ghost_map.proofs.map.Blank.open.Statement.{statement}
 use Rattle.ghost_map.specs.contracts.map.Blank as Blank
 use Rattle.ghost_map.specs.contracts.map.GhostMap as GhostMap
 use Rattle.ghost_map.specs.contracts.entry.GhostEntry as GhostEntry
 use Rattle.ghost_map.proofs.Steps as steps
-use Rattle.ghost_map.proofs.Walks.{token, Token, token_told, token_made, ends}
-use Rattle.ghost_map.specs.contracts.map.Blank.open.{ended, clauses}
 use Rattle.ghost_map.specs.contracts.map.Blank.open.Key.{name as #self}
-use Rattle.ghost_map.proofs.map.Blank.open.Statement.{statement}
 use Rattle.ghost_map.proofs.map.Blank.open.Code as code
 
 pub open_spec : {M : Type 1} → statement M

@@ -1,6 +1,4 @@
-use denote.RattleType.{RattleType}
-use denote.Param.Send.{IsSend}
-use Rattle.ghost_map.specs.declared.map.Named.{Ghosts}
+use Rattle.ghost_map.proofs.Prelude.{Ghosts, IsSend, RattleType}
 use Rattle.ghost_map.specs.contracts.map.GhostMap.{the_row}
 use Rattle.ghost_map.proofs.Sent.{map_keyless}
 

@@ -1,33 +1,21 @@
 -- `insert` names the last cell and opens another.
 use Rattle.std.proofs.Common.{◌≡◌, ℕ, List, [], ◌∷◌, ◌++◌, length, Some, refl}
-use mir.Syntax.{a_type, dcons, dnil, named}
-use mir.Val.{Val, vptr}
-use mir.MapTy.{inst_fn}
-use base.Logic.{SProp}
-use base.Fml.{Fml, ftrue, fsep, flft}
-use types.Kit.{‵, raw, ◌⊛◌, some, later, ◌$◌, ◌∵◌, !, qed, by, move, keep, split, join, fsplit, fsplit3, fjoin, fjoin3, pick, use0, use1, await, feq_i}
-use types.Run.{no_more, and_then, returns, enter}
-use types.ByLocal.{alloc_all, pass_all, free_all, look_at, get, sets}
-use types.Part.{agg}
-use contract.Running.{tables}
-use denote.Exit.{no}
-use denote.RattleType.{RattleType, owns}
-use denote.Signature.{types_at, plain}
-use denote.Ref.{mut_vals, mut_Tells}
-use denote.Steps.{nothing, opens, closes}
-use denote.Param.{param, bounded}
-use denote.Struct.Tuple.{Tuple}
-use denote.Triple.Walked.{Stays, stay_dropped, stay_ref, walk_of, Goes-dropped, Goes-ref}
-use Rattle.atomic_table.proofs.Walks.{proved}
-use Rattle.ghost_map.specs.Chain.{map_owns, entry_owns}
+use Rattle.ghost_map.proofs.Prelude
+use Prelude.{a_type, agg, alloc_all, and_then, await, bounded, by, closes, dcons, dnil, enter}
+use Prelude.{entry_owns, feq_i, fjoin, fjoin3, flft, Fml, free_all, fsep, fsplit, fsplit3, ftrue}
+use Prelude.{get, Goes-dropped, Goes-ref, inst_fn, join, keep, later, look_at, map_owns, move}
+use Prelude.{mut_Tells, mut_vals, named, no, no_more, nothing, opens, owns, param, pass_all, pick}
+use Prelude.{plain, proved, qed, RattleType, raw, returns, sets, some, split, SProp, stay_dropped}
+use Prelude.{stay_ref, Stays, tables, Tuple, types_at, use0, use1, Val, vptr, walk_of, !, ‵, ◌$◌}
+use Prelude.{◌∵◌, ◌⊛◌}
+use Rattle.ghost_map.specs.contracts.map.GhostMap.insert.{clauses, ended}
+use Rattle.ghost_map.proofs.Walks.{ends, tells_all, Token, token, token_made, token_told}
+use Rattle.ghost_map.proofs.map.GhostMap.insert.Statement.{statement}
 use Rattle.ghost_map.specs.contracts.map.GhostMap as GhostMap
 use Rattle.ghost_map.specs.contracts.entry.GhostEntry as GhostEntry
 use Rattle.ghost_map.specs.contracts.value.Ghost as Ghost
 use Rattle.ghost_map.proofs.Steps as steps
-use Rattle.ghost_map.proofs.Walks.{token, Token, token_told, token_made, ends, tells_all}
-use Rattle.ghost_map.specs.contracts.map.GhostMap.insert.{ended, clauses}
 use Rattle.ghost_map.specs.contracts.map.GhostMap.insert.Key.{name as #self}
-use Rattle.ghost_map.proofs.map.GhostMap.insert.Statement.{statement}
 use Rattle.ghost_map.proofs.map.GhostMap.insert.Code as code
 
 pub insert_spec : {M : Type 1} → statement M

@@ -1,33 +1,21 @@
 -- `look` reads the map beside the entry that is lent.
 use Rattle.std.proofs.Common.{◌≡◌, ℕ, List, [], ◌∷◌, refl}
-use mir.Syntax.{a_type, dcons, dnil, named}
-use mir.Val.{Val, vunit, vptr}
-use mir.MapTy.{inst_fn}
-use base.Logic.{SProp}
-use base.Fml.{Fml, ftrue, fsep, flft}
-use types.Kit.{‵, raw, ◌⊛◌, given, later, ◌$◌, ◌∵◌, !, qed, by, move, keep, drop, split, join, fsplit, fsplit3, fjoin, fjoin3, learn, use3, await, feq_i}
-use types.Run.{unit_lit, of_opd, returns, enter}
-use types.ByLocal.{alloc_all, pass_all, free_all, look_at, sets}
-use contract.Running.{tables}
-use denote.Exit.{yes}
-use denote.RattleType.{RattleType, owns}
-use denote.Signature.{types_at, plain}
-use denote.Builtin.{RefOf}
-use denote.Ref.{mut_vals, mut_Tells, shr_vals, shr_Tells}
+use Rattle.ghost_map.proofs.Prelude
+use Prelude.{a_type, alloc_all, await, bounded, by, closes, dcons, dnil, drop, enter, feq_i, fjoin}
+use Prelude.{fjoin3, flft, Fml, free_all, fsep, fsplit, fsplit3, ftrue, given, Goes-dropped}
+use Prelude.{Goes-ref, inst_fn, join, keep, later, learn, look_at, map_owns, move, mut_Tells}
+use Prelude.{mut_vals, named, nothing, of_opd, opens, owns, param, pass_all, plain, proved, qed}
+use Prelude.{RattleType, raw, RefOf, returns, sets, shr_Tells, shr_vals, split, SProp}
+use Prelude.{stay_dropped, stay_ref, Stays, tables, Tuple, types_at, unit_lit, use3, Val, vptr}
+use Prelude.{vunit, walk_of, yes, !, ‵, ◌$◌, ◌∵◌, ◌⊛◌}
 use denote.Opens.{unhide}
-use denote.Steps.{nothing, opens, closes}
-use denote.Param.{param, bounded}
-use denote.Struct.Tuple.{Tuple}
-use denote.Triple.Walked.{Stays, stay_dropped, stay_ref, walk_of, Goes-dropped, Goes-ref}
-use Rattle.atomic_table.proofs.Walks.{proved}
-use Rattle.ghost_map.specs.Chain.{map_owns}
+use Rattle.ghost_map.specs.contracts.map.GhostMap.look.{clauses, ended}
+use Rattle.ghost_map.proofs.Walks.{ends, tells_all}
+use Rattle.ghost_map.proofs.map.GhostMap.look.Statement.{statement}
 use Rattle.ghost_map.specs.contracts.map.GhostMap as GhostMap
 use Rattle.ghost_map.specs.contracts.entry.GhostEntry as GhostEntry
 use Rattle.ghost_map.proofs.Steps as steps
-use Rattle.ghost_map.proofs.Walks.{ends, tells_all}
-use Rattle.ghost_map.specs.contracts.map.GhostMap.look.{ended, clauses}
 use Rattle.ghost_map.specs.contracts.map.GhostMap.look.Key.{name as #self}
-use Rattle.ghost_map.proofs.map.GhostMap.look.Statement.{statement}
 use Rattle.ghost_map.proofs.map.GhostMap.look.Code as code
 
 pub look_spec : {M : Type 1} → statement M

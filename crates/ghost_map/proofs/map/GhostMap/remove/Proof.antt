@@ -1,31 +1,20 @@
 -- `remove` ends the entry's life.
 use Rattle.std.proofs.Common.{◌≡◌, ℕ, List, [], ◌∷◌, slice_set, None, refl}
-use mir.Syntax.{a_type, dcons, dnil, named}
-use mir.Val.{Val, vunit, vptr}
-use mir.MapTy.{inst_fn}
-use base.Logic.{SProp}
-use base.Fml.{Fml, ftrue, fsep, flft}
-use types.Kit.{‵, raw, ◌⊛◌, given, later, ◌$◌, ◌∵◌, !, qed, by, move, keep, split, join, fsplit, fsplit3, fjoin, fjoin3, learn, use2, await, feq_i}
-use types.Run.{unit_lit, of_opd, returns, enter}
-use types.ByLocal.{alloc_all, pass_all, free_all, look_at, sets}
-use contract.Running.{tables}
-use denote.Exit.{no}
-use denote.RattleType.{RattleType, owns}
-use denote.Signature.{types_at, plain}
-use denote.Ref.{mut_vals, mut_Tells}
-use denote.Steps.{nothing, opens, closes}
-use denote.Param.{param, bounded}
-use denote.Struct.Tuple.{Tuple}
-use denote.Triple.Walked.{Stays, stay_dropped, stay_ref, walk_of, Goes-dropped, Goes-ref}
-use Rattle.atomic_table.proofs.Walks.{proved}
-use Rattle.ghost_map.specs.Chain.{map_owns}
+use Rattle.ghost_map.proofs.Prelude
+use Prelude.{a_type, alloc_all, await, bounded, by, closes, dcons, dnil, enter, feq_i, fjoin}
+use Prelude.{fjoin3, flft, Fml, free_all, fsep, fsplit, fsplit3, ftrue, given, Goes-dropped}
+use Prelude.{Goes-ref, inst_fn, join, keep, later, learn, look_at, map_owns, move, mut_Tells}
+use Prelude.{mut_vals, named, no, nothing, of_opd, opens, owns, param, pass_all, plain, proved}
+use Prelude.{qed, RattleType, raw, returns, sets, split, SProp, stay_dropped, stay_ref, Stays}
+use Prelude.{tables, Tuple, types_at, unit_lit, use2, Val, vptr, vunit, walk_of, !, ‵, ◌$◌, ◌∵◌}
+use Prelude.{◌⊛◌}
+use Rattle.ghost_map.specs.contracts.map.GhostMap.remove.{clauses, ended}
+use Rattle.ghost_map.proofs.Walks.{ends, tells_all, token, token_told}
+use Rattle.ghost_map.proofs.map.GhostMap.remove.Statement.{statement}
 use Rattle.ghost_map.specs.contracts.map.GhostMap as GhostMap
 use Rattle.ghost_map.specs.contracts.entry.GhostEntry as GhostEntry
 use Rattle.ghost_map.proofs.Steps as steps
-use Rattle.ghost_map.proofs.Walks.{token, token_told, ends, tells_all}
-use Rattle.ghost_map.specs.contracts.map.GhostMap.remove.{ended, clauses}
 use Rattle.ghost_map.specs.contracts.map.GhostMap.remove.Key.{name as #self}
-use Rattle.ghost_map.proofs.map.GhostMap.remove.Statement.{statement}
 use Rattle.ghost_map.proofs.map.GhostMap.remove.Code as code
 
 pub remove_spec : {M : Type 1} → statement M

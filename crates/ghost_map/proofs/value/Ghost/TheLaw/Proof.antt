@@ -1,21 +1,14 @@
 -- A `&` to a ghost value holds nothing. Assumes `Logic`.
 use Rattle.std.proofs.Common.{[], ◌∷◌}
-use seplogic.Ra.Ura.{Ura}
-use base.Logic.{snd∗}
-use base.Fml.{Lft, ftrue, fbor}
-use base.Before.{before}
-use types.Logic.{Logic, sem, lfts}
-use types.Kit.{‵, raw, ◌$◌, ◌∵◌, !, qed, updating, now, drop, done}
-use denote.RattleType.{RattleType}
-use denote.Sharing.{said}
-use denote.Steps.{nothing}
-use denote.Param.Laws.{Laws}
-use denote.Param.Shared.{copy_shared}
-use denote.Struct.Laws.{field_copy}
-use denote.Struct.Lending.{Lends, of_Lends}
+use Rattle.ghost_map.proofs.Prelude.{before, copy_shared, done, drop, field_copy, ftrue, Laws, Lft}
+use Rattle.ghost_map.proofs.Prelude.{Logic, nothing, now, of_Lends, qed, RattleType, raw, said}
+use Rattle.ghost_map.proofs.Prelude.{sem, snd∗, updating, Ura, !, ‵, ◌$◌, ◌∵◌}
+use base.Fml.{fbor}
+use denote.Struct.Lending.{Lends}
+use types.Logic.{lfts}
+use Rattle.ghost_map.proofs.value.Ghost.TheLaw.Statement.{statement}
 use Rattle.std.specs.contracts.marker.PhantomData as marker
 use Rattle.ghost_map.specs.contracts.value.Ghost as C
-use Rattle.ghost_map.proofs.value.Ghost.TheLaw.Statement.{statement}
 
 lends_nothing : {M : Type 1} {𝓤 : Ura M} (𝓛 : Logic 𝓤) (l : Lft) → Lends 𝓛 ftrue (said ftrue) l
 lends_nothing {𝓤 = 𝓤} 𝓛 l κ ts inc sp = qed 𝓛 (‵ (fbor κ ftrue) ∷ raw (lfts 𝓛 ts) ∷ []) ∵ updating ! $ drop ! $ nothing ! $ now ! $ done !

@@ -1,5 +1,4 @@
-use denote.RattleType.{RattleType}
-use denote.Param.Send.{IsSend}
+use Rattle.ghost_map.proofs.Prelude.{IsSend, RattleType}
 use Rattle.ghost_map.specs.contracts.value.Ghost.{the_row}
 
 pub send : (T : RattleType) → IsSend (the_row T)

@@ -1,7 +1,4 @@
-use denote.RattleType.{RattleType}
-use denote.Param.Send.{IsSync, sendable}
-use denote.Struct.Struct.{Struct}
-use denote.Struct.Owning.{shape}
+use Rattle.ghost_map.proofs.Prelude.{IsSync, RattleType, sendable, shape, Struct}
 use Rattle.ghost_map.specs.contracts.value.Ghost.{the_row, the_type}
 
 pub sync : (T : RattleType) → IsSync (the_row T)

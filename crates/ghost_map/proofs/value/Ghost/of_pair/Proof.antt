@@ -1,30 +1,16 @@
 -- `of_pair` makes a value of no bytes: what it says is read off the arguments.
 use Rattle.std.proofs.Common.{[], ◌∷◌, refl}
-use mir.Syntax.{a_type, dcons, dnil, named}
-use mir.Val.{Val, vptr}
-use mir.MapTy.{inst_fn}
-use base.Logic.{SProp, id⊢}
-use types.Kit.{‵, raw, ◌⊛◌, ◌$◌, ◌∵◌, !, qed, by, move, keep, split, fjoin, use0}
-use types.Run.{no_more, and_then, returns, enter}
-use types.ByLocal.{alloc_all, pass_all, free_all, look_at, get, sets}
-use types.Part.{agg}
-use contract.Running.{tables}
-use contract.Monad.{fact_i}
-use denote.Exit.{yes}
-use denote.RattleType.{RattleType, owns}
-use denote.Signature.{types_at, plain}
-use denote.Builtin.{RefOf}
-use denote.Ref.{shr_vals, shr_Tells}
-use denote.Steps.{nothing}
-use denote.Param.{param, bounded}
-use denote.Triple.Entry.{alive}
-use denote.Triple.Walked.{Stays, stay_dropped, walk_of, Goes-dropped}
-use Rattle.atomic_table.proofs.Walks.{proved}
-use Rattle.ghost_map.specs.contracts.value.Ghost as Ghost
-use Rattle.ghost_map.proofs.Walks.{token, Token, token_made, ends}
-use Rattle.ghost_map.specs.contracts.value.Ghost.of_pair.{ended, clauses}
-use Rattle.ghost_map.specs.contracts.value.Ghost.of_pair.Key.{name as #self}
+use Rattle.ghost_map.proofs.Prelude
+use Prelude.{a_type, agg, alive, alloc_all, and_then, bounded, by, dcons, dnil, enter, fact_i}
+use Prelude.{fjoin, free_all, get, Goes-dropped, inst_fn, keep, look_at, move, named, no_more}
+use Prelude.{nothing, owns, param, pass_all, plain, proved, qed, RattleType, raw, RefOf, returns}
+use Prelude.{sets, shr_Tells, shr_vals, split, SProp, stay_dropped, Stays, tables, types_at, use0}
+use Prelude.{Val, vptr, walk_of, yes, !, ‵, ◌$◌, ◌∵◌, ◌⊛◌}
+use Rattle.ghost_map.specs.contracts.value.Ghost.of_pair.{clauses, ended}
+use Rattle.ghost_map.proofs.Walks.{ends, Token, token, token_made}
 use Rattle.ghost_map.proofs.value.Ghost.of_pair.Statement.{statement}
+use Rattle.ghost_map.specs.contracts.value.Ghost as Ghost
+use Rattle.ghost_map.specs.contracts.value.Ghost.of_pair.Key.{name as #self}
 use Rattle.ghost_map.proofs.value.Ghost.of_pair.Code as code
 
 pub of_pair_spec : {M : Type 1} → statement M

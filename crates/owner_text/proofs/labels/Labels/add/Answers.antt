@@ -1,5 +1,5 @@
-use Rattle.std.proofs.Common.{◌≡◌, List, None, Ok, ap, rules, ℕ}
-use Rattle.owner_text.specs.Labels.{find_label, labels_in}
+use Rattle.std.proofs.Common.{◌≡◌, ℕ, List, None, Ok, ap, rules}
+use Rattle.owner_text.proofs.Prelude.{find_label, labels_in}
 use Rattle.owner_text.proofs.LabelLemmas.{label_numbered}
 use Rattle.owner_text.proofs.labels.Labels.add.Goals as goal
 

@@ -1,4 +1,4 @@
-use Rattle.std.proofs.Common.{◌∙◌, sym}
+use Rattle.std.proofs.Common.{sym, ◌∙◌}
 use Rattle.owner_text.proofs.LabelLemmas.{label_place}
 use Rattle.owner_text.proofs.labels.Labels.find.Goals as goal
 

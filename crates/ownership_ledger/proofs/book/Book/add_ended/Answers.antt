@@ -1,4 +1,4 @@
-use Rattle.std.proofs.Common.{arith, ◌<◌, sym, ap, ◌∙◌, subst}
+use Rattle.std.proofs.Common.{◌<◌, sym, ap, ◌∙◌, subst, arith}
 use Rattle.ownership_ledger.proofs.Add.{adds_ended}
 use Rattle.ownership_ledger.proofs.book.Book.add_ended.Goals as goal
 

@@ -1,5 +1,5 @@
-use Rattle.std.proofs.Common.{arith, sym, ap, ◌∙◌}
-use Rattle.ownership_ledger.proofs.Look.{looks_made, looks_ended}
+use Rattle.std.proofs.Common.{sym, ap, ◌∙◌, arith}
+use Rattle.ownership_ledger.proofs.Look.{looks_ended, looks_made}
 use Rattle.ownership_ledger.proofs.book.Book.so_far.Goals as goal
 
 pub load-ended-requires : goal.load-ended-requires

@@ -1,4 +1,4 @@
-use Rattle.std.proofs.Common.{◌≡◌, vec_capacity, vec_len}
+use Rattle.std.proofs.Common.{◌≡◌, vec_len, vec_capacity}
 use Rattle.slot_arena.proofs.arena.Arena.new.Given as goal
 
 abbrev pub invariant-loop : goal.invariant-loop

@@ -1,8 +1,6 @@
-use denote.RattleType.{RattleType}
-use denote.Param.Send.{IsSend, Frees}
-use Rattle.std.specs.declared.alloc.Allocator.{Ghosts}
-use Rattle.slot_arena.proofs.Crossing.{Empty-send}
+use Rattle.slot_arena.proofs.Prelude.{Frees, Ghosts, IsSend, RattleType}
 use Rattle.slot_arena.specs.contracts.cell.EmptyCell.{the_row}
+use Rattle.slot_arena.proofs.Crossing.{Empty-send}
 
 pub send : (V A : RattleType) (g : Ghosts A.Denot) → IsSend V → IsSend A → Frees g g.dealloc_token
     → IsSend (the_row V A g)

@@ -1,61 +1,37 @@
 -- `allocate` lends the handle for the call, and cuts the block that comes. Assumes `Logic`.
-use mathlib.Core.Path.{◌≡◌, refl, sym, subst, ap}
-use mathlib.Core.Bool.{true, false}
-use Prim.Native.Nat.{ℕ}
-use mathlib.Core.List.{List, [], ◌∷◌, ◌++◌}
-use seplogic.Ra.Ura.{Ura}
-use base.Fraction.{full_share}
-use mir.Syntax.{Body, Fn, Ty}
-use mir.MapTy.{inst_fn}
-use mir.Raw.{raw as bare}
-use mir.Val.{Val, vcons, vnil}
-use base.Logic.{SProp, ent, sep, emp, via, fst∗, wand, id⊢, apply∗}
-use base.Fml.{Fml, Lft, Share, ftrue, fat, flft, Incl-trans}
-use prog.Memory.{Memory, size, align, capped}
-use prog.Capped.{capped_fits}
-use prog.RawLaws.{size-raw, align-raw}
-use prog.Routine.{Routine}
-use prog.Wp.{Env, Calls, Loops, WpFn, Tables, Wp, after_seq, at_return}
-use types.Logic.{Logic, sem}
-use types.Kit.{Post as After, any_q, ‵, raw, ◌⊛◌, some, later, given, at_ret, ◌$◌, ◌∵◌, !, qed, by, move, keep, use1}
-use types.Kit.{use2}
-use types.Kit.{pick, learn, split, split3, join, fsplit, fjoin, suffices, await, done}
-use types.Part.{whole, agg}
-use types.Match.{live, vrt, in_variant}
-use types.Run.{stop, fld, from, addr, lit, size_word, align_word, no_more, and_then, of_opd, first, switches_on, exec}
-use types.Run.{returns, enter}
-use types.ByLocal.{alloc_all, pass_all, free_all, look_at, take_at, give_at, get, get_in, get_tag, sets, sets_last}
-use types.ByLocal.{lands_as, env}
-use contract.Monad.{Fun}
-use contract.BorrowLft.{◌⊑◌, meet_⊑_right}
-use contract.Running.{tables, tables_of}
-use sound.WpLaws.{FmC, fm_of, WpFn-mono}
-use borrow.Table.OneValue.{part_in, part_out}
-use denote.Exit.{no}
-use denote.RattleType.{RattleType, owns}
-use denote.Memory.{part_at}
-use denote.Param.{param}
-use denote.RawPtr.{block_ptr}
-use denote.Signature.{plain}
-use denote.Steps.{nothing}
-use denote.Triple.Call.{calls_at}
-use denote.Triple.Clauses.{Clauses, Ended, closing}
-use denote.Triple.Entry.{on_entry}
-use denote.Triple.Spec.{Meets, triple_of}
-use denote.Triple.Statement.{Triple}
-use denote.Triple.Table.{entered}
-use denote.Triple.Walked.{says, Stays, stay_dropped, walk_of, ends_at, Goes-dropped, walk_Meets}
-use Rattle.std.specs.Prelude.{MatchResult, Ok, Err}
-use Rattle.std.specs.contracts.result.Result as RS
-use Rattle.std.proofs.alloc.Calls.{second, Answer-typed, α, Fits, seen, Lent, lends, handle_tells, takes_key, Takes}
-use Rattle.std.proofs.alloc.Calls.{at_takes}
-use Rattle.std.proofs.alloc.Calls.{Answered, Takes-goes, Takes-gives, answers}
-use Rattle.std.proofs.BoxSteps.Form.{Bx, args, P, τ}
+use Rattle.std.proofs.Common.{◌≡◌, ℕ, true, false, List, [], ◌∷◌, ◌++◌, MatchResult, Ok, Err, refl}
+use Rattle.std.proofs.Common.{sym, ap, subst}
+use Rattle.slot_arena.proofs.Prelude
+use Prelude.{addr, after, agg, align, align-raw, align_word, alloc_all, and_then, args, await}
+use Prelude.{block_ptr, Body, Bx, Calls, capped, capped_fits, Clauses, closing, done, emp, Ended}
+use Prelude.{ends_at, ent, enter, entered, Env, env, exec, fat, first, Fits, fjoin, fld, flft}
+use Prelude.{fm_of, FmC, Fml, Fn, free_all, from, fsplit, fst∗, ftrue, full_share, Fun, get}
+use Prelude.{get_in, give_at, Goes-dropped, handle_tells, Incl-trans, inst_fn, join, learn, Lft}
+use Prelude.{Logic, look_at, Loops, meet_⊑_right, Meets, Memory, no, no_more, nothing, of_opd}
+use Prelude.{on_entry, owns, P, part_at, pass_all, pick, plain, RattleType, returns, Routine, says}
+use Prelude.{second, sem, sep, sets, sets_last, Share, size, size-raw, size_word, split, split3}
+use Prelude.{SProp, stay_dropped, Stays, stop, suffices, Tables, tables, take_at, Triple}
+use Prelude.{triple_of, Ty, Ura, use2, Val, vcons, via, vnil, walk_Meets, walk_of, whole, WpFn}
+use Prelude.{WpFn-mono, α, τ, ◌⊑◌}
 use Rattle.std.proofs.RcSteps.{first_Good, some_Good}
-use Rattle.std.proofs.ResultValues.{ok_of, err_of}
-use Rattle.std.proofs.VecSteps.Shapes.{after, head, arm_body}
-use Rattle.slot_arena.proofs.Cells.{Empty, empty_ty, word, empty_typed}
+use Rattle.std.proofs.ResultValues.{err_of, ok_of}
+use Rattle.std.proofs.VecSteps.Shapes.{arm_body, head}
+use Rattle.std.proofs.alloc.Calls.{Answer-typed, Answered, answers, at_takes, lends, Lent, seen}
+use Rattle.std.proofs.alloc.Calls.{Takes, Takes-gives, Takes-goes, takes_key}
+use base.Logic.{apply∗, id⊢, wand}
+use borrow.Table.OneValue.{part_in, part_out}
+use contract.Running.{tables_of}
+use denote.Param.{param}
+use denote.Triple.Call.{calls_at}
+use prog.Wp.{after_seq, at_return, Wp}
+use types.ByLocal.{get_tag, lands_as}
+use types.Match.{in_variant, live, vrt}
+use types.Run.{lit, switches_on}
 use Rattle.slot_arena.proofs.CellSteps.{empty_in}
+use Rattle.slot_arena.proofs.Cells.{Empty, empty_ty, empty_typed, word}
+use mir.Raw.{raw as bare}
+use types.Kit.{Post as After, any_q, ‵, raw, ◌⊛◌, some, later, given, at_ret, ◌$◌, ◌∵◌, !, qed, by, move, keep, use1}
+use Rattle.std.specs.contracts.result.Result as RS
 use Rattle.slot_arena.specs.contracts.cell.EmptyCell.allocate as F
 use Rattle.slot_arena.specs.contracts.cell.EmptyCell.allocate.Key.{name as #self}
 use Rattle.slot_arena.proofs.cell.EmptyCell.allocate.Statement as stated

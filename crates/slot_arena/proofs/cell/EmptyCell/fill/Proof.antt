@@ -1,43 +1,21 @@
 -- `fill` writes the value into the room, at any type of value. Assumes `Logic`.
-use mathlib.Core.Path.{◌≡◌, refl, sym, subst}
-use Prim.Native.Nat.{ℕ}
-use mathlib.Core.List.{List, [], ◌∷◌, ◌++◌}
-use seplogic.Ra.Ura.{Ura}
-use base.Fraction.{full_share}
-use mir.Syntax.{Fn}
-use mir.MapTy.{inst_fn}
-use mir.Val.{Val}
-use mir.Raw.{raw as bare}
-use base.Logic.{SProp, ent, sep, emp, via, fst∗}
-use prog.Wp.{Env, Calls, Loops, WpFn, Tables}
-use types.Logic.{Logic, sem}
-use contract.Monad.{fact}
-use contract.Running.{tables, tables_of}
-use sound.WpLaws.{WpFn-mono}
-use denote.Exit.{no}
-use denote.RattleType.{owns}
-use denote.Memory.{part_at}
-use denote.RawPtr.{block_ptr}
-use denote.Signature.{plain}
-use denote.Steps.{nothing}
-use denote.Triple.Carry.{spared}
-use denote.Triple.Clauses.{Clauses, Ended, closing}
-use denote.Triple.Entry.{on_entry}
-use denote.Triple.Spec.{Meets, triple_of}
-use denote.Triple.Table.{entered, run_framed}
-use base.Fml.{ftrue, froom}
-use types.Kit.{‵, ◌⊛◌, at_ret, ◌$◌, ◌∵◌, !, qed, by, move, keep, use2, drop, split, join, fsplit, fjoin, suffices, done}
-use types.Part.{whole, sub, agg}
-use types.Run.{init, stop, fld, of_opd, and_then, no_more, assigns_last, first, blocks, exec, returns, enter}
-use types.ByLocal.{alloc_all, pass_all, free_all, look_at, get, get_in, through, sets, env}
-use denote.Triple.Walked.{says, Stays, stay_dropped, walk_of, ends_at, Goes-dropped, walk_Meets}
-use Rattle.std.proofs.alloc.Calls.{Fits, Goes-blank}
-use Rattle.std.proofs.RawLayout.{as_written}
-use Rattle.std.proofs.BoxSteps.Form.{Bx, args, X, τ, own, Good, R, handle}
+use Rattle.std.proofs.Common.{◌≡◌, ℕ, List, [], ◌∷◌, ◌++◌, refl, sym, subst}
+use Rattle.slot_arena.proofs.Prelude
+use Prelude.{after, agg, alloc_all, and_then, args, assigns_last, at_ret, block_ptr, blocks, Bx}
+use Prelude.{by, Calls, Clauses, closing, done, drop, emp, Ended, ends_at, ent, enter, entered}
+use Prelude.{Env, env, exec, fact, first, Fits, fjoin, fld, Fn, free_all, froom, fsplit, fst∗}
+use Prelude.{ftrue, full_share, get, get_in, Goes-blank, Goes-dropped, Good, handle, init, inst_fn}
+use Prelude.{join, keep, Logic, look_at, Loops, Meets, move, no, no_more, nothing, of_opd}
+use Prelude.{on_entry, own, owns, part_at, pass_all, plain, qed, R, returns, run_framed, says, sem}
+use Prelude.{sep, sets, spared, split, SProp, stay_dropped, Stays, stop, sub, suffices, Tables}
+use Prelude.{tables, through, triple_of, Ura, use2, Val, via, walk_Meets, walk_of, whole, WpFn}
+use Prelude.{WpFn-mono, X, τ, !, ‵, ◌$◌, ◌∵◌, ◌⊛◌}
 use Rattle.std.proofs.BoxSteps.Steps.{el_in, el_tells}
-use Rattle.std.proofs.VecSteps.Shapes.{after}
-use Rattle.slot_arena.proofs.Cells.{D, Empty, Full, block, word, full_typed, empty_typed}
+use Rattle.std.proofs.RawLayout.{as_written}
+use contract.Running.{tables_of}
 use Rattle.slot_arena.proofs.CellSteps.{empty_out, full_in}
+use Rattle.slot_arena.proofs.Cells.{block, D, Empty, empty_typed, Full, full_typed, word}
+use mir.Raw.{raw as bare}
 use Rattle.slot_arena.specs.contracts.cell.EmptyCell.fill.Key.{name as #self}
 use Rattle.slot_arena.proofs.cell.EmptyCell.fill.Statement as stated
 use Rattle.slot_arena.proofs.cell.EmptyCell.fill.Code as code

@@ -1,50 +1,29 @@
 -- `free` joins the block again, lends the handle for the call, and returns it. Assumes `Logic`.
-use mathlib.Core.Path.{◌≡◌, refl, sym, subst, ap}
-use Prim.Native.Nat.{ℕ, ◌+◌}
-use mathlib.Core.List.{List, [], ◌∷◌, ◌++◌}
-use lib.Dec.{T}
-use seplogic.Ra.Ura.{Ura}
-use mir.Syntax.{Fn, Ty, Tys, ty_ptr, ty_unit, tcons, tnil}
-use mir.MapTy.{inst_fn}
-use mir.Raw.{raw as bare}
-use mir.Val.{Val, Vals, vunit, vptr, vcons, vnil, has_ty, WT}
-use base.Logic.{SProp, ent, sep, emp, via, fst∗}
-use base.Fml.{Lft, Share, ftrue, flft, froom, Incl-trans}
-use prog.Memory.{Memory, size, align, capped, up}
-use prog.Capped.{capped_fits}
-use prog.RawLaws.{size-raw, align-raw}
-use prog.Routine.{Routine}
-use prog.Wp.{Env, Calls, Loops, WpFn, Tables}
-use types.Logic.{Logic, sem}
-use types.Kit.{‵, raw, ◌⊛◌, later, given, at_ret, ◌$◌, ◌∵◌, !, qed, by, move, keep, use1, use3, learn, split3}
-use types.Kit.{join}
-use types.Kit.{fsplit, fjoin, suffices, await, done}
-use types.Part.{whole, sub}
-use types.Run.{stop, fld, from, addr, size_word, align_word, no_more, and_then, of_opd, first, blocks, exec, returns}
-use types.Run.{enter}
-use types.ByLocal.{alloc_all, pass_all, free_all, look_at, take_at, give_at, get, get_in, sets, lands_last, env}
-use contract.Monad.{Fun}
-use contract.BorrowLft.{◌⊑◌, meet_⊑_right}
-use contract.Running.{tables, tables_of}
-use sound.WpLaws.{FmC, fm_of, WpFn-mono}
-use denote.Exit.{no}
-use denote.RattleType.{owns}
-use denote.RawPtr.{block_ptr}
-use denote.Signature.{plain}
-use denote.Steps.{nothing}
+use Rattle.std.proofs.Common.{◌≡◌, ℕ, ◌+◌, T, List, [], ◌∷◌, ◌++◌, refl, sym, ap, subst}
+use Rattle.slot_arena.proofs.Prelude
+use Prelude.{addr, after, align, align-raw, align_word, alloc_all, and_then, args, at_ret, await}
+use Prelude.{block_ptr, blocks, Bx, by, Calls, capped, capped_fits, Clauses, closing, done, emp}
+use Prelude.{Ended, ends_at, ent, enter, entered, Env, env, exec, first, Fits, fjoin, fld, flft}
+use Prelude.{fm_of, FmC, Fn, free_all, from, froom, fsplit, fst∗, ftrue, Fun, get, get_in, give_at}
+use Prelude.{given, Goes-blank, has_ty, Incl-trans, inst_fn, join, keep, later, learn, Lft, Logic}
+use Prelude.{look_at, Loops, meet_⊑_right, Meets, Memory, move, no, no_more, nothing, of_opd}
+use Prelude.{on_entry, owns, pass_all, plain, qed, raw, returns, Routine, says, second, sem, sep}
+use Prelude.{sets, Share, size, size-raw, size_word, split3, SProp, stay_dropped, Stays, stop, sub}
+use Prelude.{suffices, Tables, tables, take_at, tcons, tnil, Triple, triple_of, Ty, ty_ptr, Ura}
+use Prelude.{use1, Val, vcons, via, vnil, vptr, walk_Meets, walk_of, whole, WpFn, WpFn-mono, WT, α}
+use Prelude.{τ, !, ‵, ◌$◌, ◌∵◌, ◌⊑◌, ◌⊛◌}
+use Rattle.std.proofs.alloc.Calls.{at_gives, Gives, Gives-Gives, Gives-goes, gives_key}
+use Rattle.std.proofs.alloc.Calls.{lends_field, takes_back}
+use contract.Running.{tables_of}
 use denote.Triple.Call.{calls_at_last}
-use denote.Triple.Clauses.{Clauses, Ended, closing}
-use denote.Triple.Entry.{on_entry}
-use denote.Triple.Spec.{Meets, triple_of}
-use denote.Triple.Statement.{Triple}
-use denote.Triple.Table.{entered}
-use denote.Triple.Walked.{says, Stays, stay_dropped, walk_of, ends_at, walk_Meets}
-use Rattle.std.proofs.alloc.Calls.{second, α, Fits, gives_key, Gives, at_gives, Gives-goes, Gives-Gives, lends_field}
-use Rattle.std.proofs.alloc.Calls.{takes_back, Goes-blank}
-use Rattle.std.proofs.BoxSteps.Form.{Bx, args, τ}
-use Rattle.std.proofs.VecSteps.Shapes.{after}
-use Rattle.slot_arena.proofs.Cells.{Empty, block, empty, word, empty_typed}
+use mir.Syntax.{ty_unit, Tys}
+use mir.Val.{Vals, vunit}
+use prog.Memory.{up}
+use types.ByLocal.{lands_last}
+use types.Kit.{use3}
 use Rattle.slot_arena.proofs.CellSteps.{empty_out}
+use Rattle.slot_arena.proofs.Cells.{block, Empty, empty, empty_typed, word}
+use mir.Raw.{raw as bare}
 use Rattle.slot_arena.specs.contracts.cell.EmptyCell.free as F
 use Rattle.slot_arena.specs.contracts.cell.EmptyCell.free.Key.{name as #self}
 use Rattle.slot_arena.proofs.cell.EmptyCell.free.Statement as stated

@@ -1,20 +1,16 @@
 -- A `&` to a full cell is made where one to its value is. Assumes `Logic`.
-use mathlib.Core.List.{[], ◌++◌}
-use base.Fraction.{full_share}
-use base.Fml.{Incl-trans}
+use Rattle.std.proofs.Common.{[], ◌++◌}
+use Rattle.slot_arena.proofs.Prelude.{block_owns, full_share, Ghosts, Incl-trans, lent_at}
+use Rattle.slot_arena.proofs.Prelude.{lent_at_shr_laws, lies_at, RattleType}
 use contract.BorrowLft.{meet_⊑_left}
-use denote.RattleType.{RattleType}
-use denote.RawPtr.{lies_at}
-use denote.Shares.{Shares-less}
 use denote.Param.Laws.{Laws, row_shared}
 use denote.Param.Shared.{copy_shared}
+use denote.Shares.{Shares-less}
 use denote.Struct.Field.{RawPtr-field}
 use denote.Struct.Laws.{RawPtr-copy}
-use denote.Struct.Lending.{lent_at, lent_at_shr_laws, Lends-lies, Lends-first, of_Lends}
-use Rattle.std.specs.declared.alloc.Allocator.{Ghosts}
-use Rattle.slot_arena.specs.Ownership.{block_owns}
-use Rattle.slot_arena.specs.contracts.cell.FullCell as C
+use denote.Struct.Lending.{Lends-first, Lends-lies, of_Lends}
 use Rattle.slot_arena.proofs.cell.FullCell.TheLaw.Statement.{statement}
+use Rattle.slot_arena.specs.contracts.cell.FullCell as C
 
 pub shares : (V A : RattleType) (g : Ghosts A.Denot) (L : Laws V) (K : Laws A) → statement V A g L K
 shares V A g L K =

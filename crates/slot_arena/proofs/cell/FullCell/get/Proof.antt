@@ -1,43 +1,28 @@
 -- `get` reads through a `&`, at any type of value. Assumes `Logic`.
-use mathlib.Core.Path.{◌≡◌, refl}
-use Prim.Native.Nat.{ℕ, ◌+◌}
-use mathlib.Core.List.{List, [], ◌∷◌}
-use seplogic.Ra.Ura.{Ura}
-use mir.Syntax.{Body, Fn, named, erased, imm, ty_ref, ty_param, ty_named, tnil, tcons, place, copy, assign, rv_opd}
-use mir.Syntax.{seq, return}
-use mir.MapTy.{inst_fn}
-use mir.Val.{Val, vptr}
-use base.Logic.{SProp, ent, sep, emp, via, fst∗}
-use base.Fml.{Fml, Lft, Share, ftrue, fhide, flft}
-use prog.Wp.{Env, Calls, Loops, WpFn, Tables}
-use types.Logic.{Logic, sem}
-use sound.WpLaws.{WpFn-mono}
-use types.Kit.{at_ret, ‵, ◌⊛◌, ◌$◌, ◌∵◌, !, qed, by, move, keep, use1, drop, split, join, fsplit, fjoin, feq_i, raw}
-use types.Kit.{suffices, frame, done}
-use types.Run.{look, init, forget, stop, hop, fld, from, load, of_opd, assigns, assigns_last, first, blocks, exec}
-use types.Run.{returns, enter, alloc1, alloc0, params1, pass1, pass0, free1, free0, addr}
-use contract.Monad.{fact}
-use contract.Running.{tables, tables_of}
+use Rattle.std.proofs.Common.{◌≡◌, ℕ, ◌+◌, List, [], ◌∷◌, refl, Bor}
+use Rattle.slot_arena.proofs.Prelude
+use Prelude.{addr, args, assigns_last, at_ret, block_of, blocks, Body, Bx, by, Calls, Clauses}
+use Prelude.{closing, count_of, done, drop, emp, Ended, ends_at, ent, enter, entered, Env, exec}
+use Prelude.{fact, feq_i, first, fjoin, fld, flft, Fml, Fn, frame, from, fsplit, fst∗, ftrue, init}
+use Prelude.{inst_fn, join, keep, Lft, load, Logic, look, Loops, Meets, move, named, nothing}
+use Prelude.{of_opd, on_entry, owns, P, plain, ptr_row_laws, qed, R, RattleType, raw, RawPtr}
+use Prelude.{returns, run_framed, says, sem, sep, shape, Share, spared, split, SProp, Stays, stop}
+use Prelude.{Struct, Struct-row_laws, suffices, Tables, tables, tcons, tnil, triple_of, Ura, use1}
+use Prelude.{Val, via, vptr, walk_Meets, walk_of, walked, WpFn, WpFn-mono, X, !, ‵, ◌$◌, ◌∵◌, ◌⊛◌}
+use Rattle.std.proofs.Words.{pointer_in, pointer_out}
+use base.Fml.{fhide}
+use contract.Running.{tables_of}
 use denote.Builtin.{RefOf}
 use denote.Exit.{yes}
-use denote.RattleType.{RattleType, owns}
 use denote.Memory.{hidden_shr}
-use denote.Opens.{shr_dup, unhide, hide}
-use denote.RawPtr.{RawPtr, block_of, count_of, InBlock, ptr_row_laws}
-use denote.Ref.{Bor, ShrRef, shr_vals, shr_Tells}
-use denote.Signature.{plain}
-use denote.Steps.{heard, nothing}
-use denote.Struct.Struct.{Struct, Struct-row_laws}
-use denote.Struct.Owning.{shape}
+use denote.Opens.{hide, shr_dup, unhide}
+use denote.RawPtr.{InBlock}
+use denote.Ref.{shr_Tells, shr_vals, ShrRef}
+use denote.Steps.{heard}
 use denote.Struct.Lending.{in_block_says, lent_out}
-use denote.Triple.Carry.{spared}
-use denote.Triple.Clauses.{Clauses, Ended, closing}
-use denote.Triple.Entry.{on_entry}
-use denote.Triple.Spec.{Meets, triple_of}
-use denote.Triple.Table.{entered, run_framed}
-use denote.Triple.Walked.{says, Stays, stay_none_ref, walk_of, ends_at, walked, Goes-none_ref, walk_Meets}
-use Rattle.std.proofs.BoxSteps.Form.{Bx, args, P, R, X}
-use Rattle.std.proofs.Words.{pointer_in, pointer_out}
+use denote.Triple.Walked.{Goes-none_ref, stay_none_ref}
+use mir.Syntax.{assign, copy, erased, imm, place, return, rv_opd, seq, ty_named, ty_param, ty_ref}
+use types.Run.{alloc0, alloc1, assigns, forget, free0, free1, hop, params1, pass0, pass1}
 use Rattle.slot_arena.proofs.Cells.{D, Full, full, full_row_laws}
 use Rattle.slot_arena.specs.contracts.cell.FullCell as F-type
 use Rattle.slot_arena.specs.contracts.cell.FullCell.get.Key.{name as #self}

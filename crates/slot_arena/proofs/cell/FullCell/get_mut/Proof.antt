@@ -1,45 +1,27 @@
 -- `get_mut` lends the value, and the cell follows it. Assumes `Logic`.
-use mathlib.Core.Path.{◌≡◌, refl}
-use Prim.Native.Nat.{ℕ}
-use mathlib.Core.List.{List, [], ◌∷◌}
-use seplogic.Ra.Ura.{Ura}
-use base.Fraction.{full_share}
-use mir.Syntax.{Fn, named}
-use mir.MapTy.{inst_fn}
-use mir.Val.{Val, vptr}
-use base.Logic.{SProp, ent, sep, emp, via, fst∗}
-use base.Fml.{Lft, GName, Share, Fml, ftrue, flft, fsep}
-use prog.Wp.{Env, Calls, Loops, WpFn, Tables}
-use types.Logic.{Logic, sem}
-use sound.WpLaws.{WpFn-mono}
-use types.Kit.{‵, ◌⊛◌, some, at_ret, ◌$◌, ◌∵◌, !, qed, by, move, keep, use1, drop, split, join, pick, fsplit, fsplit3}
-use types.Kit.{fjoin}
-use types.Kit.{suffices, frame, done, raw, later, await, group, fpack}
-use types.Part.{whole, sub, look_in}
-use types.Run.{stop, fld, load, of_opd, first, blocks, exec, returns, enter, addr}
-use types.ByLocal.{alloc_all, pass_all, free_all, look_at, get, through, sets, env, sets_last}
-use contract.Monad.{fact}
-use contract.Running.{tables, tables_of}
+use Rattle.std.proofs.Common.{◌≡◌, ℕ, List, [], ◌∷◌, refl, MutBor}
+use Rattle.slot_arena.proofs.Prelude
+use Prelude.{addr, after, alloc_all, args, at_ret, await, block_ptr, blocks, Bx, by, Calls}
+use Prelude.{cell_at, Clauses, closing, done, drop, emp, Ended, ends_at, ent, enter, entered, Env}
+use Prelude.{env, exec, fact, first, fjoin, fld, flft, Fml, Fn, fpack, frame, free_all, fsep}
+use Prelude.{fsplit, fst∗, ftrue, full_share, get, GName, handle, inst_fn, join, keep, later, Lft}
+use Prelude.{load, Logic, look_at, Loops, Meets, mem, move, named, no, nothing, of_opd, on_entry}
+use Prelude.{owns, part_at, pass_all, pick, plain, qed, R, raw, returns, run_framed, says, sem}
+use Prelude.{sep, sets, sets_last, Share, some, spared, split, SProp, stay_dropped, Stays, stop}
+use Prelude.{sub, suffices, Tables, tables, through, triple_of, Ura, use1, Val, via, vptr}
+use Prelude.{walk_Meets, walk_of, walked, whole, WpFn, WpFn-mono, X, !, ‵, ◌$◌, ◌∵◌, ◌⊛◌}
+use contract.Running.{tables_of}
 use denote.Builtin.{RefMutOf}
-use denote.Exit.{no}
-use denote.Follow.{follows, Part, lends_Part}
-use denote.RattleType.{owns}
-use denote.Memory.{part_at, mem, cell_at, part_of}
-use denote.RawPtr.{block_ptr}
-use denote.Ref.{MutBor, MutRef, mut_vals, mut_Tells}
-use denote.Signature.{plain, mut_ref_to}
-use denote.Steps.{nothing}
-use denote.Triple.Carry.{spared}
-use denote.Triple.Clauses.{closing, Clauses, Ended}
-use denote.Triple.Entry.{on_entry}
-use denote.Triple.Spec.{Meets, triple_of}
-use denote.Triple.Table.{entered, run_framed}
-use denote.Triple.Walked.{says, Stays, stay_dropped, walk_of, ends_at, walked, walk_Meets, Goes-spent_ref}
-use Rattle.std.proofs.BoxSteps.Form.{Bx, args, X, R, handle}
-use Rattle.std.proofs.VecSteps.Shapes.{after}
+use denote.Follow.{follows, lends_Part, Part}
+use denote.Memory.{part_of}
+use denote.Ref.{mut_Tells, mut_vals, MutRef}
+use denote.Signature.{mut_ref_to}
+use denote.Triple.Walked.{Goes-spent_ref}
+use types.Kit.{fsplit3, group}
+use types.Part.{look_in}
 use Rattle.slot_arena.specs.Lending.{with_value}
-use Rattle.slot_arena.proofs.Cells.{D, Full, block, word}
-use Rattle.slot_arena.proofs.CellSteps.{full_opens, full_in}
+use Rattle.slot_arena.proofs.CellSteps.{full_in, full_opens}
+use Rattle.slot_arena.proofs.Cells.{block, D, Full, word}
 use Rattle.slot_arena.specs.contracts.cell.FullCell.get_mut.Key.{name as #self}
 use Rattle.slot_arena.proofs.cell.FullCell.get_mut.Statement as stated
 use Rattle.slot_arena.proofs.cell.FullCell.get_mut.Code as code

@@ -1,46 +1,21 @@
 -- `take` moves the value out and leaves the room, at any type of value. Assumes `Logic`.
-use mathlib.Core.Path.{◌≡◌, refl, sym, subst}
-use Prim.Native.Nat.{ℕ}
-use mathlib.Core.List.{List, [], ◌∷◌, ◌++◌}
-use seplogic.Ra.Ura.{Ura}
-use base.Fraction.{full_share}
-use mir.Syntax.{Fn}
-use mir.MapTy.{inst_fn}
-use mir.Val.{Val}
-use base.Logic.{SProp, ent, sep, emp, via, fst∗}
-use prog.Wp.{Env, Calls, Loops, WpFn, Tables}
-use types.Logic.{Logic, sem}
-use contract.Monad.{fact}
-use contract.Running.{tables, tables_of}
-use sound.WpLaws.{WpFn-mono}
-use denote.Exit.{no}
-use denote.RattleType.{owns}
-use denote.Memory.{part_at}
-use denote.RawPtr.{block_ptr}
-use denote.Signature.{plain}
-use denote.Steps.{nothing}
-use denote.Triple.Carry.{spared}
-use denote.Triple.Clauses.{Clauses, Ended, closing}
-use denote.Triple.Entry.{on_entry}
-use denote.Triple.Spec.{Meets, triple_of}
-use denote.Triple.Table.{entered, run_framed}
-use base.Fml.{ftrue, fat, froom}
-use types.Kit.{‵, ◌⊛◌, some, given, at_ret, ◌$◌, ◌∵◌, !, qed, by, move, keep, use1, use2, drop, pick, learn, split}
-use types.Kit.{join}
-use types.Kit.{fsplit, fjoin, suffices, done}
-use types.Part.{whole, sub, agg}
-use types.Run.{look, load, stop, fld, of_opd, and_then, no_more, first, blocks, exec, returns, enter}
-use types.ByLocal.{alloc_all, pass_all, free_all, look_at, get, get_in, through, sets, sets_last, env}
-use denote.Struct.Tuple.{Tuple}
-use denote.Triple.Walked.{says, Stays, stay_dropped, walk_of, ends_at, walk_Meets}
-use Rattle.std.proofs.alloc.Calls.{Fits, Goes-blank}
-use Rattle.std.proofs.RawLayout.{as_raw}
-use Rattle.std.proofs.BoxSteps.Form.{Bx, args, τ, own, Good, R, handle}
+use Rattle.std.proofs.Common.{◌≡◌, ℕ, List, [], ◌∷◌, ◌++◌, refl, sym, subst}
+use Rattle.slot_arena.proofs.Prelude
+use Prelude.{after, agg, alloc_all, and_then, args, at_ret, block_ptr, blocks, Bx, by, Calls}
+use Prelude.{Clauses, closing, done, drop, emp, Ended, ends_at, ent, enter, entered, Env, env}
+use Prelude.{exec, fact, fat, first, Fits, fjoin, fld, Fn, free_all, froom, fsplit, fst∗, ftrue}
+use Prelude.{full_share, get, get_in, given, Goes-blank, Good, handle, inst_fn, join, keep, learn}
+use Prelude.{load, Logic, look, look_at, Loops, Meets, move, no, no_more, nothing, of_opd}
+use Prelude.{on_entry, own, owns, part_at, pass_all, pick, plain, qed, R, returns, run_framed}
+use Prelude.{says, sem, sep, sets, sets_last, some, spared, split, SProp, stay_dropped, Stays}
+use Prelude.{stop, sub, suffices, Tables, tables, through, triple_of, Tuple, Ura, use1, use2, Val}
+use Prelude.{via, walk_Meets, walk_of, whole, WpFn, WpFn-mono, τ, !, ‵, ◌$◌, ◌∵◌, ◌⊛◌}
 use Rattle.std.proofs.BoxSteps.Steps.{el_out}
-use Rattle.std.proofs.VecSteps.Shapes.{after}
-use Rattle.slot_arena.proofs.Cells.{D, Empty, Full, block, word, full_typed, empty_typed, empty_ty}
-use Rattle.slot_arena.proofs.CellSteps.{full_out, empty_in}
-use Rattle.slot_arena.proofs.Pairs.{pair_val, pair_Typed, pair_of}
+use Rattle.std.proofs.RawLayout.{as_raw}
+use contract.Running.{tables_of}
+use Rattle.slot_arena.proofs.CellSteps.{empty_in, full_out}
+use Rattle.slot_arena.proofs.Cells.{block, D, Empty, empty_ty, empty_typed, Full, full_typed, word}
+use Rattle.slot_arena.proofs.Pairs.{pair_of, pair_Typed, pair_val}
 use Rattle.slot_arena.specs.contracts.cell.FullCell.take.Key.{name as #self}
 use Rattle.slot_arena.proofs.cell.FullCell.take.Statement as stated
 use Rattle.slot_arena.proofs.cell.FullCell.take.Code as code

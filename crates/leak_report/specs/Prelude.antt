@@ -1,0 +1,18 @@
+-- The words of elsewhere that this crate's definitions and clauses cite, passed on from one place. Declares nothing.
+pub use Rattle.std.specs.List.{flat_map}
+pub use Rattle.control_word.specs.State.{State}
+pub use Rattle.control_word.specs.declared.packed.counts.Counts.{Counts}
+pub use Rattle.holders.specs.Registers.{AllCounted}
+pub use Rattle.owner_graph.specs.Knots.{KnotsAre}
+pub use Rattle.owner_graph.specs.Labels.{at}
+pub use Rattle.owner_graph.specs.Owners.{IsAmong, IsKept}
+pub use Rattle.owner_graph.specs.Rows.{held_on, row_at}
+pub use Rattle.owner_graph.specs.Ties.{AreCuts, ties}
+pub use Rattle.owner_graph.specs.declared.holding.Holding.{Holding}
+pub use Rattle.script_stepper.specs.Lines.{totals_text}
+pub use Rattle.script_text.specs.Canonical.{AddsLines}
+pub use Rattle.script_text.specs.Cells.{member_text}
+pub use Rattle.step_core.specs.Totals.{census_of, ended_in, IsAtEnd, made_in}
+pub use Rattle.step_core.specs.Worlds.{abstraction}
+pub use Rattle.step_threads.specs.AbstractStates.{AbstractState, state_in}
+pub use Rattle.step_threads.specs.Stocks.{from}
