@@ -1,7 +1,7 @@
 -- What the calls on cells say ([util.smartptr.atomic.shared], [util.smartptr.atomic.weak]).
 use Rattle.std.specs.Prelude.{◌≡◌, ◌+◌, Bool, cond, length, Option}
 use Rattle.control_word.specs.declared.model.event.Cell.{Cell}
-use Rattle.control_word.specs.declared.model.event.Event.TheVariants.{Load, Swap}
+use Rattle.control_word.specs.declared.model.event.Event.TheVariants.{Load, Same, Swap}
 use Rattle.control_word.specs.declared.model.handle.Kind.{Kind}
 use Rattle.control_word.specs.declared.model.handle.Kind.TheVariants.{Owner, Weak}
 use Rattle.control_word.specs.declared.place.Block.{Block}
@@ -16,6 +16,10 @@ module _ {V : Type 0} where
   -- cell c holds this handle now, and the desk has a copy
   abbrev pub Loads : DeskNow V → Cell → Kind → Option Block → Option Place → DeskNow V → Type 0
   Loads d c k b p e = AddsEvent d (Load c (handle_in e k b p)) e
+
+  -- whether cell c holds a pointer equivalent to the desk's handle (b, p)
+  abbrev pub TellsHeld : DeskNow V → Cell → Kind → Option Block → Option Place → Bool → DeskNow V → Type 0
+  TellsHeld d c k b p same e = AddsEvent d (Same c (handle_in d k b p) same) e
 
   -- the desk's handle (b, p) went into cell c, and the cell's, (a, q), came out
   abbrev pub Exchanges : DeskNow V → Cell → Kind → Option Block → Option Place → Option Block → Option Place

@@ -2,7 +2,7 @@
 ghost use Rattle.std.specs.Prelude.{◌≡◌, ◌↔◌, ◌+◌, IfErr, IfOk, IsErr, OnOk};
 ghost use Rattle.control_block.specs.Desks.{Belongs, Keeps, allowance_of, bag_of, held_of};
 ghost use Rattle.control_block.specs.CellCalls.{HoldsHandle, with_handle, without_handle};
-ghost use Rattle.atomic_cells.specs.Cells.{Exchanges, Loads};
+ghost use Rattle.atomic_cells.specs.Cells.{Exchanges, Loads, TellsHeld};
 
 use crate::sites::{CellSite, SharedSite, WeakSite};
 use control_block::cell_calls;
@@ -60,6 +60,23 @@ impl<'a, S: CellSite> At<'a, S> {
     {
         let found = cell_calls::load::<V, Brand, R>(rt, domain, desk, self.site.cell(domain))?;
         Ok(S::of_content(found))
+    }
+
+    /// Whether the cell holds a pointer equivalent to this one: the same place, and the same object or none. That is
+    /// `load() == p`, told by one look, which changes nothing, takes no room in the allowance, and waits for nobody.
+    #[inline]
+    pub fn holds<V: Drop>(&self, domain: &Domain<V>, desk: &mut Desk<V>, handle: &S::Handle) -> bool
+        requires domain { Belongs desk.old domain.now }
+        requires cell { S.is_open _ desk.old self.now.site }
+        requires holds { HoldsHandle desk.old S.kind (S.block_of handle.now) (S.place_of handle.now) }
+        ensures event { TellsHeld desk.old (S.cell_of _ desk.old self.now.site) S.kind (S.block_of handle.now)
+            (S.place_of handle.now) result desk.new }
+        ensures bag { bag_of desk.new ≡ bag_of desk.old }
+        ensures held { desk.new.held ≡ desk.old.held }
+        ensures keeps { Keeps desk.old desk.new }
+    {
+        let site = self.site.cell(domain).site;
+        cell_calls::holds::<V, Brand>(domain, desk, site, S::content(handle))
     }
 
     /// The pointer goes into the cell, and what the cell held comes out, in one step on the cell. It waits for nobody,

@@ -28,7 +28,7 @@ use Rattle.control_word.specs.declared.model.event.Entry.{Entry}
 use Rattle.control_word.specs.declared.model.event.Event.{Event}
 use Rattle.control_word.specs.declared.model.event.Event.TheVariants.{ClearMember, Compare, Count, Expired, Finish, Join, Leave, Load, Lock, Make, Read}
 use Rattle.control_word.specs.declared.model.event.Event.TheVariants.{Share, Split, Swap, Visit, WeakLeave, WeakShare}
-use Rattle.control_word.specs.declared.model.event.Event.TheVariants.{Shelve, Unshelve}
+use Rattle.control_word.specs.declared.model.event.Event.TheVariants.{Same, Shelve, Unshelve}
 use Rattle.control_word.specs.declared.model.handle.Kind.TheVariants.{Owner}
 use Rattle.control_word.specs.declared.shape.Shape.{Shape}
 use Rattle.control_block.specs.Rule.{Ruled, opening_of}
@@ -54,6 +54,7 @@ module _ {V : Type 0} where
   shared_after s d (Count h n) = refl
   shared_after s d (Expired h x) = refl
   shared_after s d (Read h n) = refl
+  shared_after s d (Same c h so) = refl
   shared_after s d (WeakShare o p) = refl
   shared_after s d (WeakLeave h x) = refl
   shared_after s d (Lock h x) = refl

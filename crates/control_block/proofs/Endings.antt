@@ -19,7 +19,7 @@ use Rattle.control_word.specs.declared.model.event.Entry.{Entry}
 use Rattle.control_word.specs.declared.model.event.Event.{Event}
 use Rattle.control_word.specs.declared.model.event.Event.TheVariants.{ClearMember, Compare, Count, Expired, Finish, Join, Leave, Load, Lock, Make, Read}
 use Rattle.control_word.specs.declared.model.event.Event.TheVariants.{Share, Split, Swap, Visit, WeakLeave, WeakShare}
-use Rattle.control_word.specs.declared.model.event.Event.TheVariants.{Shelve, Unshelve}
+use Rattle.control_word.specs.declared.model.event.Event.TheVariants.{Same, Shelve, Unshelve}
 use Rattle.control_word.specs.declared.model.handle.NumberedHandle.{NumberedHandle}
 use Rattle.control_word.specs.declared.model.handle.Kind.TheVariants.{Owner}
 
@@ -123,6 +123,7 @@ module _ {V : Type 0} where
     stays_after (Count h c) asks n m = record { latest = refl; object = alike (s.object (s.latest b)) }
     stays_after (Expired h c) asks n m = record { latest = refl; object = alike (s.object (s.latest b)) }
     stays_after (Read h c) asks n m = record { latest = refl; object = alike (s.object (s.latest b)) }
+    stays_after (Same c h so) asks n m = record { latest = refl; object = alike (s.object (s.latest b)) }
     stays_after (WeakShare o p) asks n m = record { latest = refl; object = alike (s.object (s.latest b)) }
     stays_after (WeakLeave h c) asks n m = record { latest = refl; object = alike (s.object (s.latest b)) }
     stays_after (Lock h c) asks n m = record { latest = refl; object = alike (s.object (s.latest b)) }
@@ -169,6 +170,7 @@ module _ {V : Type 0} where
     not_visited (Count h c) asks v = v
     not_visited (Expired h c) asks v = v
     not_visited (Read h c) asks v = v
+    not_visited (Same c h so) asks v = v
     not_visited (WeakShare o p) asks v = v
     not_visited (WeakLeave h c) asks v = v
     not_visited (Lock h c) asks v = v

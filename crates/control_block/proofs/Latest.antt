@@ -16,7 +16,7 @@ use Rattle.control_word.specs.declared.model.event.Entry.{Entry}
 use Rattle.control_word.specs.declared.model.event.Event.{Event}
 use Rattle.control_word.specs.declared.model.event.Event.TheVariants.{ClearMember, Compare, Count, Expired, Finish, Join, Leave, Load, Lock, Make, Read}
 use Rattle.control_word.specs.declared.model.event.Event.TheVariants.{Share, Split, Swap, Visit, WeakLeave, WeakShare}
-use Rattle.control_word.specs.declared.model.event.Event.TheVariants.{Shelve, Unshelve}
+use Rattle.control_word.specs.declared.model.event.Event.TheVariants.{Same, Shelve, Unshelve}
 use Rattle.control_word.specs.declared.model.handle.Kind.{Kind}
 use Rattle.control_word.specs.declared.place.Place.{Place}
 use Rattle.control_word.specs.declared.shape.Shape.{Shape}
@@ -48,6 +48,7 @@ module _ {V : Type 0} where
   latest_after z h n d (Count y c) k o b p legal asks has there = refl
   latest_after z h n d (Expired y c) k o b p legal asks has there = refl
   latest_after z h n d (Read y c) k o b p legal asks has there = refl
+  latest_after z h n d (Same c y so) k o b p legal asks has there = refl
   latest_after z h n d (WeakShare q y) k o b p legal asks has there = refl
   latest_after z h n d (WeakLeave y v) k o b p legal asks has there = refl
   latest_after z h n d (Lock y got) k o b p legal asks has there = refl

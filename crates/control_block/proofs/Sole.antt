@@ -12,7 +12,7 @@ use Rattle.control_word.specs.declared.model.event.Entry.{Entry}
 use Rattle.control_word.specs.declared.model.event.Event.{Event}
 use Rattle.control_word.specs.declared.model.event.Event.TheVariants.{ClearMember, Compare, Count, Expired, Finish, Join, Leave, Load, Lock, Make, Read}
 use Rattle.control_word.specs.declared.model.event.Event.TheVariants.{Share, Split, Swap, Visit, WeakLeave, WeakShare}
-use Rattle.control_word.specs.declared.model.event.Event.TheVariants.{Shelve, Unshelve}
+use Rattle.control_word.specs.declared.model.event.Event.TheVariants.{Same, Shelve, Unshelve}
 use Rattle.control_word.specs.declared.shape.Shape.{Shape}
 use Rattle.control_block.specs.Laws.{ComeInARow, ComesNext}
 use Rattle.control_block.specs.Own.{KeepsDesks, events_of}
@@ -39,6 +39,7 @@ module _ {V : Type 0} where
   allowance_after s d (Count h n) p = refl
   allowance_after s d (Expired h x) p = refl
   allowance_after s d (Read h n) p = refl
+  allowance_after s d (Same c h so) p = refl
   allowance_after s d (WeakShare o q) p = refl
   allowance_after s d (WeakLeave h v) p = refl
   allowance_after s d (Lock h got) p = refl

@@ -5,6 +5,7 @@ pub mod GiveBack
 pub mod Turn
 pub mod CellLook
 pub mod CellDiffer
+pub mod CellSame
 pub mod Take
 pub mod Refill
 pub mod Door

@@ -1,5 +1,5 @@
 -- What the steps on a cell tell.
-use Rattle.std.specs.Prelude.{◌≡◌, ◌≢◌, ℕ, ◌+◌, ◌-◌, ◌<◌, ◌++◌, Bool, true, false, List}
+use Rattle.std.specs.Prelude.{◌≡◌, ◌≢◌, ℕ, ◌+◌, ◌-◌, ◌%◌, ◌<◌, ◌==◌, ◌++◌, Bool, true, false, List}
 use Rattle.std.specs.Prelude.{Option, Some, None}
 use Rattle.atomic_table.specs.Table.{Step}
 use Rattle.control_word.specs.declared.packed.cell.CellWord.{CellWord}
@@ -7,7 +7,7 @@ use Rattle.control_word.specs.declared.model.event.Cell.{Cell}
 use Rattle.control_word.specs.declared.model.event.Cell.TheVariants.{Free, Member}
 use Rattle.control_word.specs.declared.model.event.Entry.{Entry}
 use Rattle.control_word.specs.declared.model.event.Event.{Event}
-use Rattle.control_word.specs.declared.model.event.Event.TheVariants.{ClearMember, Load, Compare}
+use Rattle.control_word.specs.declared.model.event.Event.TheVariants.{ClearMember, Load, Compare, Same}
 use Rattle.control_word.specs.declared.model.handle.NumberedHandle.{NumberedHandle}
 use Rattle.control_word.specs.declared.model.handle.Kind.{Kind}
 use Rattle.control_word.specs.declared.model.handle.Kind.TheVariants.{Owner}
@@ -23,7 +23,7 @@ use Rattle.control_word.specs.Layout.{cell_place, spot}
 use Rattle.control_word.specs.Packing.{IsCellWord, IsPackedCell, cell_bits}
 use Rattle.control_word.specs.State.{kind_of_free, kind_of_member}
 use Rattle.control_word.specs.Views.{NoneBy}
-use Rattle.control_word.specs.Words.{blocks_of, shown}
+use Rattle.control_word.specs.Words.{blocks_of, packed, shown}
 use Rattle.control_block.specs.StepKinds.{At, Added, HoldingInBlock, goes_on, known, tells}
 use Rattle.control_block.specs.FundStepKinds.{owing}
 use Rattle.control_block.specs.Rule.{opening_of}
@@ -106,6 +106,11 @@ module _ {V : Type 0} where
   abbrev pub differed_empty : Cell → NumberedHandle → NumberedHandle → Bool → Step (Option V) → At V
       → ℕ → At V → Type 0
   differed_empty c expected new weak st m n m' = of_cell (λ x. as_differed c expected new weak m x m') n
+
+  -- whether the cell holds this handle, by its word but for the funds taken
+  abbrev pub told_same : Cell → NumberedHandle → Step (Option V) → At V → ℕ → At V → Type 0
+  told_same c h st m n m' =
+      tells (Same c h (n % 17179869184 == packed (blocks_of (known m.0)) h)) m.0 m'.0 × (m'.1 ≡ m.1)
 
   -- a fund of the cell was taken, where its word was the one that was found; else it is another, and nothing changes
   abbrev pub took : Cell → (NumberedHandle → Event V) → Step (Option V) → At V → ℕ → At V → Type 0

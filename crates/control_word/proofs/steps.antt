@@ -1,4 +1,5 @@
 pub mod Look
+pub mod Sameness
 pub mod Write
 pub mod Claim
 pub mod Share

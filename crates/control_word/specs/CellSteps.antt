@@ -1,12 +1,12 @@
 -- The law of each kind of step on a cell's word, and of the funds that a cell's pointer comes with: as in Steps. All of
 -- it is own.
-use Rattle.std.specs.Prelude.{◌≡◌, ℕ, ◌+◌, ◌-◌, ◌*◌, ◌<◌, ◌≤◌, ◌==◌, Bool, true}
+use Rattle.std.specs.Prelude.{◌≡◌, ℕ, ◌+◌, ◌-◌, ◌*◌, ◌%◌, ◌<◌, ◌≤◌, ◌==◌, Bool, true}
 use Rattle.std.specs.Prelude.{false}
 use Rattle.std.specs.Prelude.{Option, Some, None}
 use Rattle.control_word.specs.declared.model.event.Cell.{Cell}
 use Rattle.control_word.specs.declared.model.event.Cell.TheVariants.{Member}
 use Rattle.control_word.specs.declared.model.event.Event.TheVariants.{Leave, WeakLeave, Load, Swap}
-use Rattle.control_word.specs.declared.model.event.Event.TheVariants.{Compare, ClearMember}
+use Rattle.control_word.specs.declared.model.event.Event.TheVariants.{Compare, Same, ClearMember}
 use Rattle.control_word.specs.declared.model.handle.NumberedHandle.{NumberedHandle}
 use Rattle.control_word.specs.declared.model.handle.Kind.{Kind}
 use Rattle.control_word.specs.declared.model.handle.Kind.TheVariants.{Owner, Weak}
@@ -16,7 +16,7 @@ use Rattle.control_word.specs.declared.model.view.Pending.TheVariants.{Idle, Pay
 use Rattle.control_word.specs.Handles.{handle, owner, weak_of, equivalent}
 use Rattle.control_word.specs.Packing.{cell_bits, IsCellWord}
 use Rattle.control_word.specs.State.{ending, HasRoom}
-use Rattle.control_word.specs.Events.{Asks, after, IsOpen, cell_of}
+use Rattle.control_word.specs.Events.{Asks, after, InHand, IsOpen, cell_of, kind_of}
 use Rattle.control_word.specs.Words.{blocks_of, packed, shown}
 use Rattle.control_word.specs.Steps.{Point, Ready, state, me, word, counts, Holding, HasOneMore, Adds, Tells, Moves}
 use Rattle.control_word.specs.Steps.{purse, cell_word}
@@ -45,6 +45,13 @@ module _ (V : Type 0) where
       → handle k None p ≡ cell_of (state at) c
       → Asks {V = V} (state at) (me at) (Compare c expected new (handle k None p) false weak)
       → Tells at (Compare c expected new (handle k None p) false weak) Idle
+
+  -- look: a cell holds what the desk has just where its word, but for the funds taken, is that handle's
+  abbrev pub TellsSame : Type 0
+  TellsSame =
+      (at : Point V) (c : Cell) (h : NumberedHandle) → Ready at Idle → let s = state at in
+      IsOpen s (me at) c → InHand s (me at) (kind_of s c) h
+      → Tells at (Same c h (word at (cell_word at c) % 17179869184 == packed (blocks_of s) h)) Idle
 
   -- bring funds: up to 256, under a handle in hand
   abbrev pub Brings : Type 0

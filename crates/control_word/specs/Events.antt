@@ -13,7 +13,7 @@ use Rattle.control_word.specs.declared.model.event.Event.TheVariants.{Make, Shar
 use Rattle.control_word.specs.declared.model.event.Event.TheVariants.{WeakShare}
 use Rattle.control_word.specs.declared.model.event.Event.TheVariants.{WeakLeave, Lock, Load, Swap}
 use Rattle.control_word.specs.declared.model.event.Event.TheVariants.{Compare, ClearMember, Finish, Visit, Split, Join}
-use Rattle.control_word.specs.declared.model.event.Event.TheVariants.{Shelve, Unshelve}
+use Rattle.control_word.specs.declared.model.event.Event.TheVariants.{Same, Shelve, Unshelve}
 use Rattle.control_word.specs.declared.model.event.Cell.{Cell}
 use Rattle.control_word.specs.declared.model.event.Cell.TheVariants.{Free, Member}
 use Rattle.control_word.specs.Handles.{handle, empty, object_of, has_object, equivalent, IsPointer, IsFormed}
@@ -93,6 +93,8 @@ module _ {V : Type 0} where
   Asks s d (Compare c expected new h swapped weak) =
       IsOpen s d c × InHand s d (kind_of s c) expected × InHand s d (kind_of s c) new × (h ≡ cell_of s c)
       × ((swapped ≡ equivalent h expected) ⊎ ((weak ≡ true) × (swapped ≡ false)))
+  -- whether a load would give an equivalent handle, as compare_exchange compares ([util.smartptr.atomic.shared]; own)
+  Asks s d (Same c h same) = IsOpen s d c × InHand s d (kind_of s c) h × (same ≡ equivalent (cell_of s c) h)
   -- a member goes out of an ending object (own)
   Asks s d (ClearMember o m h) = ((s.object o).phase ≡ ending d) × (m < 3) × (h ≡ (s.object o).member m)
   -- the object is gone and its value comes out; `vacant` where no weak handle is left (own)
@@ -227,6 +229,7 @@ module _ {V : Type 0} where
   after s d (Swap c new old) = swaps d c new old s
   after s d (Compare c expected new h true weak) = swaps d c new h s
   after s d (Compare c expected new h false weak) = gets d h s
+  after s d (Same c h same) = s
   after s d (ClearMember o m h) = clears d o m h s
   after s d (Finish o vacant value) = finishes d o vacant s
   after s d (Visit h was becomes) = s

@@ -6,7 +6,7 @@ use Rattle.control_word.specs.declared.model.event.Entry.{Entry}
 use Rattle.control_word.specs.declared.model.event.Event.{Event}
 use Rattle.control_word.specs.declared.model.event.Event.TheVariants.{Make, Share, Leave, Count, Expired, Read}
 use Rattle.control_word.specs.declared.model.event.Event.TheVariants.{WeakShare, WeakLeave, Lock, Load, Swap, Compare}
-use Rattle.control_word.specs.declared.model.event.Event.TheVariants.{ClearMember, Finish, Visit, Split, Join}
+use Rattle.control_word.specs.declared.model.event.Event.TheVariants.{Same, ClearMember, Finish, Visit, Split, Join}
 use Rattle.control_word.specs.declared.model.handle.NumberedHandle.{NumberedHandle}
 use Rattle.control_word.specs.declared.model.handle.Kind.TheVariants.{Owner, Weak}
 use Rattle.control_word.specs.Handles.{handle, empty, same_place}
@@ -181,6 +181,8 @@ BlockUsedAgain =
     IsLegal four_blocks reuse_ended
     × Counts reuse_stored 1 2 0 × (same_place leftover.place (owner_at 2 1).place ≡ true)
     × OnlyReply reuse_copied (compares leftover (owner_at 2 1)) (owner_at 2 1, false)
+    × OnlyReply reuse_copied (Same (Free 0) leftover) false
+    × OnlyReply reuse_copied (Same (Free 0) (owner_at 2 1)) true
     × Counts reuse_compared 1 3 0
     × (s.made ≡ 2) × ((s.object 1).phase ≡ gone) × ((s.object 2).phase ≡ live)
     × (s.latest 1 ≡ 2) × (s.cell 0 ≡ owner_at 2 1) × Counts reuse_ended 1 1 0

@@ -12,7 +12,7 @@ use Rattle.control_word.specs.declared.model.event.Entry.{Entry}
 use Rattle.control_word.specs.declared.model.event.Event.{Event}
 use Rattle.control_word.specs.declared.model.event.Event.TheVariants.{ClearMember, Compare, Count, Expired, Finish, Join, Leave, Load, Lock, Make, Read}
 use Rattle.control_word.specs.declared.model.event.Event.TheVariants.{Share, Split, Swap, Visit, WeakLeave, WeakShare}
-use Rattle.control_word.specs.declared.model.event.Event.TheVariants.{Shelve, Unshelve}
+use Rattle.control_word.specs.declared.model.event.Event.TheVariants.{Same, Shelve, Unshelve}
 use Rattle.control_block.specs.Desks.{many_ending}
 use Rattle.control_block.proofs.EndingCounts.{ends_there, sum_none}
 use Rattle.control_block.proofs.Endings.{fills_phase}
@@ -63,6 +63,7 @@ module _ {V : Type 0} where
   named_after s d (Count y c) acts all = all
   named_after s d (Expired y c) acts all = all
   named_after s d (Read y c) acts all = all
+  named_after s d (Same c h so) acts all = all
   named_after s d (WeakShare o p) acts all = all
   named_after s d (WeakLeave y v) acts all = all
   named_after s d (Lock y g) acts all = all

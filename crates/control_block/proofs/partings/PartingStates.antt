@@ -15,7 +15,7 @@ use Rattle.control_word.specs.declared.model.event.Entry.{Entry}
 use Rattle.control_word.specs.declared.model.event.Event.{Event}
 use Rattle.control_word.specs.declared.model.event.Event.TheVariants.{ClearMember, Compare, Count, Expired, Finish, Join, Leave, Load, Lock, Make, Read}
 use Rattle.control_word.specs.declared.model.event.Event.TheVariants.{Share, Split, Swap, Visit, WeakLeave, WeakShare}
-use Rattle.control_word.specs.declared.model.event.Event.TheVariants.{Shelve, Unshelve}
+use Rattle.control_word.specs.declared.model.event.Event.TheVariants.{Same, Shelve, Unshelve}
 use Rattle.control_word.specs.declared.place.Block.{Block}
 use Rattle.control_block.specs.Parting.{times}
 
@@ -65,6 +65,7 @@ module _ {V : Type 0} where
   there_after s d (Count y c) acts asks there = there
   there_after s d (Expired y c) acts asks there = there
   there_after s d (Read y c) acts asks there = there
+  there_after s d (Same c h so) acts asks there = there
   there_after s d (WeakShare o p) acts asks there = there
   there_after s d (WeakLeave y v) acts asks there =
       vacated_there s d (s.object (Rattle.control_word.specs.Handles.object_of y)).block v acts there

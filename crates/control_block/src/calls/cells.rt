@@ -1,15 +1,16 @@
 //! Calls on cells. Each makes its events, and when it returns nothing is under way: no fund is out, and no load.
 ghost use Rattle.std.specs.Prelude.{◌≡◌, ◌↔◌, ◌+◌, IfErr, IfOk, IsErr, OnOk};
-ghost use Rattle.control_word.specs.declared.model.event.Event.TheVariants.{Load, Swap};
+ghost use Rattle.control_word.specs.declared.model.event.Event.TheVariants.{Load, Same, Swap};
 ghost use Rattle.control_block.specs.Desks.{Belongs, AddsEvent, Keeps, allowance_of, bag_of, held_of};
 ghost use Rattle.control_block.specs.CellCalls.{HoldsHandle, IsOpenAt, cell_of_site, handle_in, with_handle};
 ghost use Rattle.control_block.specs.CellCalls.{without_handle};
+ghost use Rattle.control_block.specs.Outcomes.{Outcome};
 
 use crate::cell_calls::{CellAt, Content};
 use crate::desk::Desk;
 use crate::domain::Domain;
-use crate::retries;
 use crate::step_kinds::cells::CellArgs;
+use crate::{retries, steps};
 use control_word::packed::layout::site_word;
 use control_word::{CellWord, Refusal, Site};
 use std::sync::Wait;
@@ -47,6 +48,33 @@ pub fn load<V: Drop, A: CellArgs, R: Wait>(
         block: seen.owned,
         place: seen.place,
     })
+}
+
+/// Whether what a cell holds is equivalent to a handle that the desk has: the same place, and the same object or none
+/// ([util.smartptr.atomic.shared], [util.smartptr.atomic.weak]). One look, which changes nothing and waits for nobody.
+#[inline]
+pub fn holds<V: Drop, A: CellArgs>(
+    domain: &Domain<V>,
+    desk: &mut Desk<V>,
+    site: Site,
+    expected: Content,
+) -> bool
+    requires domain { Belongs desk.old domain.now }
+    requires cell { IsOpenAt desk.old site expected.kind × (A.cell ≡ cell_of_site desk.old site) }
+    requires expected { A.expected ≡ handle_in desk.old expected.kind expected.block expected.place }
+    requires holds { HoldsHandle desk.old expected.kind expected.block expected.place }
+    ensures event { AddsEvent desk.old (Same A.cell A.expected result) desk.new }
+    ensures outcome { Outcome desk.old (bag_of desk.old) desk.old.held desk.new }
+{
+    let table = &domain.table.shared;
+    let seat = &mut desk.seat;
+    let word = site_word(domain.shape.blocks, site);
+    let shown = CellWord {
+        owned: expected.block,
+        place: expected.place,
+        taken: 0,
+    };
+    steps::cells::holds::<V, A>(table, seat, word, shown)
 }
 
 /// A handle that the desk has goes into a cell, and what the cell held comes out ([util.smartptr.atomic.shared],

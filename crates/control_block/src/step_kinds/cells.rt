@@ -8,14 +8,15 @@ ghost use Rattle.control_word.specs.declared.model.handle.Kind.TheVariants.{Owne
 ghost use Rattle.control_word.specs.Handles.{empty};
 ghost use Rattle.control_block.specs.CellStepKinds.{cell_peeked, compare_swapped, differed_empty, loaded_empty};
 ghost use Rattle.control_block.specs.CellStepKinds.{refilled};
-ghost use Rattle.control_block.specs.CellStepKinds.{swapped, took};
+ghost use Rattle.control_block.specs.CellStepKinds.{swapped, told_same, took};
 
 use crate::slot::Slot;
 use crate::table::SeatView;
 use atomic_table::Play;
 use std::marker::{Brand, PhantomData};
 
-/// Which cell a step is about, which handle goes in, and what a compare expects. The proof of each call picks them.
+/// Which cell a step is about, which handle goes in, and what a compare or a look expects. The proof of each call picks
+/// them.
 pub trait CellArgs {
     ghost cell: { Cell };
 
@@ -56,6 +57,13 @@ pub struct DiffersEmpty<A>(PhantomData<A>);
 
 impl<V, A: CellArgs> Play<Slot<V>, SeatView<V>> for DiffersEmpty<A> {
     ghost then = { differed_empty A.cell A.expected A.new A.weak };
+}
+
+/// A look, which tells whether the cell holds what is expected.
+pub struct TellsSame<A>(PhantomData<A>);
+
+impl<V, A: CellArgs> Play<Slot<V>, SeatView<V>> for TellsSame<A> {
+    ghost then = { told_same A.cell A.expected };
 }
 
 /// A fund is taken, by a load.

@@ -5,7 +5,7 @@ ghost use Rattle.std.specs.Prelude.{IfErr, OnOk};
 ghost use Rattle.control_word.specs.Events.{InHand};
 ghost use Rattle.control_word.specs.Handles.{equivalent, handle};
 ghost use Rattle.control_word.specs.Packing.{IsCellWord};
-ghost use Rattle.control_word.specs.declared.model.event.Event.TheVariants.{Compare, Load, Swap};
+ghost use Rattle.control_word.specs.declared.model.event.Event.TheVariants.{Compare, Load, Same, Swap};
 ghost use Rattle.control_block.specs.StepKinds.{HasRoomFor, Rests, goes_on, known, tells};
 ghost use Rattle.control_word.specs.declared.place.Block.{Block};
 ghost use Rattle.control_word.specs.declared.place.Place.{Place};
@@ -14,7 +14,7 @@ ghost use Rattle.control_block.specs.CellStepKinds.{Gave, IsCellAt, IsHeld, IsWo
 
 use crate::step_kinds::cells::{
     CellArgs, CompareSwaps, DiffersEmpty, LoadsEmpty, Peeks, Refills, Swaps, TakesToCompare,
-    TakesToLoad,
+    TakesToLoad, TellsSame,
 };
 use crate::steps::words;
 use crate::table::{Seat, Table};
@@ -76,6 +76,32 @@ pub fn look_differing<V, A: CellArgs>(table: &Table<V>, seat: &mut Seat<V>, word
     ensures same { result.owned ≢ None → seat.new.me ≡ seat.old.me }
 {
     unpack(words::load::<V, DiffersEmpty<A>>(table, seat, word))
+}
+
+/// Look: whether what a cell holds at this step is equivalent to a handle that the desk has, as a compare-exchange
+/// compares ([util.smartptr.atomic.shared], [util.smartptr.atomic.weak]).
+#[inline]
+pub fn holds<V, A: CellArgs>(
+    table: &Table<V>,
+    seat: &mut Seat<V>,
+    word: usize,
+    expected: CellWord,
+) -> bool
+    requires table { seat.old.table_id ≡ table.now.table_id }
+    requires rests { Rests seat.old.me }
+    requires word { word < table.now.table_id.words }
+    requires cell { IsCellAt seat.old.me.0 A.cell word }
+    requires expected { IsCellWord expected × (expected.taken ≡ 0) × IsWordOf seat.old.me.0 A.expected expected }
+    requires hand { InHand (known seat.old.me.0) seat.old.me.0.view.name
+        (kind_in seat.old.me.0.shape A.cell) A.expected }
+    ensures seat { (seat.new.table_id ≡ seat.old.table_id) × (seat.new.id ≡ seat.old.id)
+        × (seat.new.me.1 ≡ []) }
+    ensures event { tells (Same A.cell A.expected result) seat.old.me.0 seat.new.me.0 }
+{
+    // The desk's handle keeps its object's block from being vacant, so that no other object is there: where both words
+    // show one block, both handles own one object. Funds that others took meanwhile lie above block and place, and say
+    // only how often the handle in the cell was loaded.
+    words::load::<V, TellsSame<A>>(table, seat, word) % ONE_TAKEN == pack(expected)
 }
 
 /// Take a fund, where the cell still shows what was seen: the load of a cell with an object

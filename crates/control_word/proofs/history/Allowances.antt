@@ -16,7 +16,7 @@ use Rattle.control_word.specs.declared.model.event.Entry.{Entry}
 use Rattle.control_word.specs.declared.model.event.Event.{Event}
 use Rattle.control_word.specs.declared.model.event.Event.TheVariants.{ClearMember, Compare, Count, Expired, Finish, Join, Leave, Load, Lock, Make, Read}
 use Rattle.control_word.specs.declared.model.event.Event.TheVariants.{Share, Split, Swap, Visit, WeakLeave, WeakShare}
-use Rattle.control_word.specs.declared.model.event.Event.TheVariants.{Shelve, Unshelve}
+use Rattle.control_word.specs.declared.model.event.Event.TheVariants.{Same, Shelve, Unshelve}
 use Rattle.control_word.specs.declared.model.handle.NumberedHandle.{NumberedHandle}
 use Rattle.control_word.specs.declared.model.handle.Kind.TheVariants.{Owner, Weak}
 use Rattle.control_word.specs.declared.place.Block.{Block}
@@ -160,6 +160,7 @@ module _ {V : Type 0} where
   allowed_after z s d (Count h n) al there act asks room = al
   allowed_after z s d (Expired h x) al there act asks room = al
   allowed_after z s d (Read h n) al there act asks room = al
+  allowed_after z s d (Same c h so) al there act asks room = al
   allowed_after z s d (WeakShare o p) al there act asks room =
       allowed_still z s d _ _ _ _ _ _ al room
       (λ q ne. let t = bag_others q d (handle Weak (Some o) p) s.hands ne in omega arith)

@@ -23,7 +23,7 @@ use Rattle.control_word.specs.declared.model.event.Event.{Event}
 use Rattle.control_word.specs.declared.model.event.Event.TheVariants.{ClearMember, Compare, Count, Expired, Finish, Join}
 use Rattle.control_word.specs.declared.model.event.Event.TheVariants.{Leave, Load, Lock, Make, Read}
 use Rattle.control_word.specs.declared.model.event.Event.TheVariants.{Share, Split, Swap, Visit, WeakLeave, WeakShare}
-use Rattle.control_word.specs.declared.model.event.Event.TheVariants.{Shelve, Unshelve}
+use Rattle.control_word.specs.declared.model.event.Event.TheVariants.{Same, Shelve, Unshelve}
 use Rattle.control_word.specs.declared.model.handle.NumberedHandle.{NumberedHandle}
 use Rattle.control_word.specs.declared.model.handle.Kind.TheVariants.{Owner}
 
@@ -81,6 +81,7 @@ module _ {V : Type 0} where
   free_after s d (Count h n) asks acts free = free
   free_after s d (Expired h n) asks acts free = free
   free_after s d (Read h n) asks acts free = free
+  free_after s d (Same c h so) asks acts free = free
   free_after s d (WeakShare o p) asks acts free = free
   free_after s d (WeakLeave h v) asks acts free = free
   free_after s d (Lock h got) asks acts free = free
@@ -135,6 +136,7 @@ module _ {V : Type 0} where
   still_after z s e d o (Count h c) fine asks n m ends = ends
   still_after z s e d o (Expired h c) fine asks n m ends = ends
   still_after z s e d o (Read h c) fine asks n m ends = ends
+  still_after z s e d o (Same c h so) fine asks n m ends = ends
   still_after z s e d o (WeakShare q p) fine asks n m ends = ends
   still_after z s e d o (WeakLeave h c) fine asks n m ends = ends
   still_after z s e d o (Lock h c) fine asks n m ends = ends

@@ -20,7 +20,7 @@ use Rattle.control_word.specs.declared.model.event.Entry.{Entry}
 use Rattle.control_word.specs.declared.model.event.Event.{Event}
 use Rattle.control_word.specs.declared.model.event.Event.TheVariants.{ClearMember, Compare, Count, Expired, Finish, Join, Leave, Load, Lock, Make, Read}
 use Rattle.control_word.specs.declared.model.event.Event.TheVariants.{Share, Split, Swap, Visit, WeakLeave, WeakShare}
-use Rattle.control_word.specs.declared.model.event.Event.TheVariants.{Shelve, Unshelve}
+use Rattle.control_word.specs.declared.model.event.Event.TheVariants.{Same, Shelve, Unshelve}
 use Rattle.control_word.specs.declared.model.handle.NumberedHandle.{NumberedHandle}
 use Rattle.control_word.specs.declared.model.handle.Kind.{Kind}
 use Rattle.control_word.specs.declared.model.handle.Kind.TheVariants.{Owner, Weak}
@@ -216,6 +216,7 @@ module _ {V : Type 0} where
   formed_after z s d (Count h n) few fine formed asks = formed
   formed_after z s d (Expired h x) few fine formed asks = formed
   formed_after z s d (Read h n) few fine formed asks = formed
+  formed_after z s d (Same c h so) few fine formed asks = formed
   formed_after z s d (WeakShare o p) few fine formed asks =
       formed_hands s _ s.stores s.object s.names s.joined s.allowance formed
       (good_cons d (handle Weak (Some o) p) s.hands formed.bags

@@ -17,7 +17,7 @@ use Rattle.control_word.specs.declared.model.event.Entry.{Entry}
 use Rattle.control_word.specs.declared.model.event.Event.{Event}
 use Rattle.control_word.specs.declared.model.event.Event.TheVariants.{ClearMember, Compare, Count, Expired, Finish, Join, Leave, Load, Lock, Make, Read}
 use Rattle.control_word.specs.declared.model.event.Event.TheVariants.{Share, Split, Swap, Visit, WeakLeave, WeakShare}
-use Rattle.control_word.specs.declared.model.event.Event.TheVariants.{Shelve, Unshelve}
+use Rattle.control_word.specs.declared.model.event.Event.TheVariants.{Same, Shelve, Unshelve}
 use Rattle.control_word.specs.declared.model.handle.Kind.TheVariants.{Owner, Weak}
 
 -- the object's last owner has left
@@ -58,6 +58,7 @@ module _ {V : Type 0} where
   over_after z s d (Count h n) sound asks q = omega arith
   over_after z s d (Expired h x) sound asks q = omega arith
   over_after z s d (Read h n) sound asks q = omega arith
+  over_after z s d (Same c h so) sound asks q = omega arith
   over_after z s d (WeakShare o p) sound asks q = omega arith
   over_after z s d (WeakLeave h x) sound asks q = omega arith
   over_after z s d (Lock h x) sound asks q = omega arith

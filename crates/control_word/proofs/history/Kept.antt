@@ -22,6 +22,7 @@ use Rattle.control_word.specs.declared.model.event.Event.TheVariants.{ClearMembe
 use Rattle.control_word.specs.declared.model.event.Event.TheVariants.{Leave, Load, Lock, Make, Read}
 use Rattle.control_word.specs.declared.model.event.Event.TheVariants.{Share, Split, Swap, Visit, WeakLeave, WeakShare}
 use Rattle.control_word.specs.declared.model.event.Event.TheVariants.{Shelve, Unshelve}
+use Rattle.control_word.specs.declared.model.event.Event.TheVariants as event
 use Rattle.control_word.specs.declared.model.handle.NumberedHandle.{NumberedHandle}
 use Rattle.control_word.specs.declared.model.handle.Kind.TheVariants.{Owner, Weak}
 use Rattle.control_word.specs.declared.place.Block.{Block}
@@ -116,6 +117,7 @@ module _ {V : Type 0} where
   same_after s d e (Count y c) n j = still s d
   same_after s d e (Expired y c) n j = still s d
   same_after s d e (Read y c) n j = still s d
+  same_after s d e (event.Same c h so) n j = still s d
   same_after s d e (WeakShare o p) n j = hands_only s _ d (part_other desk_of d (held e (handle Weak (Some o) p)) s.hands n)
   same_after s d e (WeakLeave y v) n j = record {
     in_bag = bag_loses s e d y n;
@@ -205,6 +207,7 @@ module _ {A : Type 0} (f : Object → A) (members : (x : Object) (m : ℕ → Nu
     alike_after s d o (Count y c) le = refl
     alike_after s d o (Expired y c) le = refl
     alike_after s d o (Read y c) le = refl
+    alike_after s d o (event.Same c h so) le = refl
     alike_after s d o (WeakShare q p) le = refl
     alike_after s d o (WeakLeave y c) le = refl
     alike_after s d o (Lock y got) le = refl

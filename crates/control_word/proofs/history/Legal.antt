@@ -23,7 +23,7 @@ use Rattle.control_word.specs.declared.model.event.Entry.{Entry}
 use Rattle.control_word.specs.declared.model.event.Event.{Event}
 use Rattle.control_word.specs.declared.model.event.Event.TheVariants.{ClearMember, Compare, Count, Expired, Finish, Join, Leave, Load, Lock, Make, Read}
 use Rattle.control_word.specs.declared.model.event.Event.TheVariants.{Share, Split, Swap, Visit, WeakLeave, WeakShare}
-use Rattle.control_word.specs.declared.model.event.Event.TheVariants.{Shelve, Unshelve}
+use Rattle.control_word.specs.declared.model.event.Event.TheVariants.{Same, Shelve, Unshelve}
 use Rattle.control_word.specs.declared.model.handle.NumberedHandle.{NumberedHandle}
 use Rattle.control_word.specs.declared.model.handle.Kind.{Kind}
 use Rattle.control_word.specs.declared.model.handle.Kind.TheVariants.{Owner, Weak}
@@ -60,6 +60,7 @@ module _ {V : Type 0} where
   sound_after z s d (Count h n) sound asks = sound
   sound_after z s d (Expired h expired) sound asks = sound
   sound_after z s d (Read h field) sound asks = sound
+  sound_after z s d (Same c h so) sound asks = sound
   sound_after z s d (WeakShare o p) sound asks =
       sound_weak z s d o p sound
       (⊎_elim

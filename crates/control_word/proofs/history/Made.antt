@@ -15,7 +15,7 @@ use Rattle.control_word.specs.declared.model.event.Entry.{Entry}
 use Rattle.control_word.specs.declared.model.event.Event.{Event}
 use Rattle.control_word.specs.declared.model.event.Event.TheVariants.{ClearMember, Compare, Count, Expired, Finish, Join, Leave, Load, Lock, Make, Read}
 use Rattle.control_word.specs.declared.model.event.Event.TheVariants.{Share, Split, Swap, Visit, WeakLeave, WeakShare}
-use Rattle.control_word.specs.declared.model.event.Event.TheVariants.{Shelve, Unshelve}
+use Rattle.control_word.specs.declared.model.event.Event.TheVariants.{Same, Shelve, Unshelve}
 
 -- an object that was made stays so
 abbrev is_made : Phase → ℕ
@@ -44,6 +44,7 @@ module _ {V : Type 0} where
   made_after s d (Count h n) q m = m
   made_after s d (Expired h x) q m = m
   made_after s d (Read h n) q m = m
+  made_after s d (Same c h so) q m = m
   made_after s d (WeakShare o p) q m = m
   made_after s d (WeakLeave h x) q m = m
   made_after s d (Lock h x) q m = m
@@ -75,6 +76,7 @@ module _ {V : Type 0} where
   made_grows s d (Count h n) = inl refl
   made_grows s d (Expired h x) = inl refl
   made_grows s d (Read h n) = inl refl
+  made_grows s d (Same c h so) = inl refl
   made_grows s d (WeakShare o p) = inl refl
   made_grows s d (WeakLeave h x) = inl refl
   made_grows s d (Lock h x) = inl refl

@@ -12,7 +12,7 @@ use Rattle.control_word.specs.declared.model.event.Event.{Event}
 use Rattle.control_word.specs.declared.model.event.Event.TheVariants.{ClearMember, Compare, Count, Expired, Finish, Join}
 use Rattle.control_word.specs.declared.model.event.Event.TheVariants.{Leave, Load, Lock, Make, Read}
 use Rattle.control_word.specs.declared.model.event.Event.TheVariants.{Share, Split, Swap, Visit, WeakLeave, WeakShare}
-use Rattle.control_word.specs.declared.model.event.Event.TheVariants.{Shelve, Unshelve}
+use Rattle.control_word.specs.declared.model.event.Event.TheVariants.{Same, Shelve, Unshelve}
 
 module _ {V : Type 0} where
   -- a desk that an event names is one of those that there are then
@@ -23,6 +23,7 @@ module _ {V : Type 0} where
   named_low s e d (Count y c) asks n = absurd n
   named_low s e d (Expired y c) asks n = absurd n
   named_low s e d (Read y c) asks n = absurd n
+  named_low s e d (Same c h so) asks n = absurd n
   named_low s e d (WeakShare o p) asks n = absurd n
   named_low s e d (WeakLeave y v) asks n = absurd n
   named_low s e d (Lock y g) asks n = absurd n
@@ -44,6 +45,7 @@ module _ {V : Type 0} where
   names_grow s e (Count y c) = omega arith
   names_grow s e (Expired y c) = omega arith
   names_grow s e (Read y c) = omega arith
+  names_grow s e (Same c h so) = omega arith
   names_grow s e (WeakShare o p) = omega arith
   names_grow s e (WeakLeave y v) = omega arith
   names_grow s e (Lock y g) = omega arith
@@ -92,6 +94,7 @@ module _ {V : Type 0} where
   named_free z h legal e d (Count y c) asks n = absurd n
   named_free z h legal e d (Expired y c) asks n = absurd n
   named_free z h legal e d (Read y c) asks n = absurd n
+  named_free z h legal e d (Same c y so) asks n = absurd n
   named_free z h legal e d (WeakShare o p) asks n = absurd n
   named_free z h legal e d (WeakLeave y v) asks n = absurd n
   named_free z h legal e d (Lock y g) asks n = absurd n

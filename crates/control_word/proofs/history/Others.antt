@@ -18,7 +18,7 @@ use Rattle.control_word.specs.declared.model.event.Cell.TheVariants.{Free, Membe
 use Rattle.control_word.specs.declared.model.event.Event.{Event}
 use Rattle.control_word.specs.declared.model.event.Event.TheVariants.{ClearMember, Compare, Count, Expired, Finish, Join, Leave, Load, Lock, Make, Read}
 use Rattle.control_word.specs.declared.model.event.Event.TheVariants.{Share, Split, Swap, Visit, WeakLeave, WeakShare}
-use Rattle.control_word.specs.declared.model.event.Event.TheVariants.{Shelve, Unshelve}
+use Rattle.control_word.specs.declared.model.event.Event.TheVariants.{Same, Shelve, Unshelve}
 use Rattle.control_word.specs.declared.model.handle.Kind.{Kind}
 use Rattle.control_word.specs.declared.model.handle.Kind.TheVariants.{Owner}
 use Rattle.control_word.specs.declared.place.Place.{Place}
@@ -65,6 +65,7 @@ module _ {V : Type 0} where
   plain_names (Count h c) plain d n = n
   plain_names (Expired h c) plain d n = n
   plain_names (Read h c) plain d n = n
+  plain_names (Same c h so) plain d n = n
   plain_names (WeakShare o p) plain d n = n
   plain_names (WeakLeave h c) plain d n = n
   plain_names (Lock h c) plain d n = n
@@ -86,6 +87,7 @@ module _ {V : Type 0} where
   plain_visits (Count h c) plain o n = n
   plain_visits (Expired h c) plain o n = n
   plain_visits (Read h c) plain o n = n
+  plain_visits (Same c h so) plain o n = n
   plain_visits (WeakShare q p) plain o n = n
   plain_visits (WeakLeave h c) plain o n = n
   plain_visits (Lock h c) plain o n = n
@@ -108,6 +110,7 @@ module _ {V : Type 0} where
   plain_values (Count h c) values plain f = tt
   plain_values (Expired h c) values plain f = tt
   plain_values (Read h c) values plain f = tt
+  plain_values (Same c h so) values plain f = tt
   plain_values (WeakShare q p) values plain f = tt
   plain_values (WeakLeave h c) values plain f = tt
   plain_values (Lock h c) values plain f = tt
@@ -131,6 +134,7 @@ module _ {V : Type 0} where
   valued_else s (Count h c) values o le n = refl
   valued_else s (Expired h c) values o le n = refl
   valued_else s (Read h c) values o le n = refl
+  valued_else s (Same c h so) values o le n = refl
   valued_else s (WeakShare q p) values o le n = refl
   valued_else s (WeakLeave h c) values o le n = refl
   valued_else s (Lock h c) values o le n = refl
@@ -178,6 +182,7 @@ module _ {V : Type 0} where
   acts_after s d (Count h c) acts asks = acts
   acts_after s d (Expired h c) acts asks = acts
   acts_after s d (Read h c) acts asks = acts
+  acts_after s d (Same c h so) acts asks = acts
   acts_after s d (WeakShare o p) acts asks = acts
   acts_after s d (WeakLeave h c) acts asks = acts
   acts_after s d (Lock h c) acts asks = acts

@@ -19,7 +19,7 @@ use Rattle.control_word.specs.declared.model.event.Entry.{Entry}
 use Rattle.control_word.specs.declared.model.event.Event.{Event}
 use Rattle.control_word.specs.declared.model.event.Event.TheVariants.{ClearMember, Compare, Count, Expired, Finish, Join, Leave, Load, Lock, Make, Read}
 use Rattle.control_word.specs.declared.model.event.Event.TheVariants.{Share, Split, Swap, Visit, WeakLeave, WeakShare}
-use Rattle.control_word.specs.declared.model.event.Event.TheVariants.{Shelve, Unshelve}
+use Rattle.control_word.specs.declared.model.event.Event.TheVariants.{Same, Shelve, Unshelve}
 use Rattle.control_word.specs.declared.model.handle.Kind.TheVariants.{Owner, Weak}
 
 all_kept : (f : ℕ → ℕ) (n b : ℕ) → 1 ≤ b → b ≤ n → 0 < how_often b (all_stored f n)
@@ -48,6 +48,7 @@ module _ {V : Type 0} where
   kept_after z s d (Count h n) fine kept asks = kept
   kept_after z s d (Expired h x) fine kept asks = kept
   kept_after z s d (Read h n) fine kept asks = kept
+  kept_after z s d (Same c h so) fine kept asks = kept
   kept_after z s d (WeakShare o p) fine kept asks =
       kept_hands z s _ kept
       (λ q. ⊎_elim (λ e. let t = (more_weaks s d o p q).0 e in omega arith)

@@ -11,7 +11,7 @@ use Rattle.control_word.specs.declared.model.event.Entry.{Entry}
 use Rattle.control_word.specs.declared.model.event.Event.{Event}
 use Rattle.control_word.specs.declared.model.event.Event.TheVariants.{ClearMember, Compare, Count, Expired, Finish, Join, Leave, Load, Lock, Make, Read}
 use Rattle.control_word.specs.declared.model.event.Event.TheVariants.{Share, Split, Swap, Visit, WeakLeave, WeakShare}
-use Rattle.control_word.specs.declared.model.event.Event.TheVariants.{Shelve, Unshelve}
+use Rattle.control_word.specs.declared.model.event.Event.TheVariants.{Same, Shelve, Unshelve}
 
 module _ {V : Type 0} where
   -- what has a value has one after an event, and a new object has one
@@ -26,6 +26,7 @@ module _ {V : Type 0} where
   has_value_after s d (Count y c) f o before le = before le
   has_value_after s d (Expired y c) f o before le = before le
   has_value_after s d (Read y c) f o before le = before le
+  has_value_after s d (Same c h so) f o before le = before le
   has_value_after s d (WeakShare q p) f o before le = before le
   has_value_after s d (WeakLeave y c) f o before le = before le
   has_value_after s d (Lock y c) f o before le = before le

@@ -53,6 +53,13 @@ pub shown_fits : (block : ℕ → ℕ) (h : NumberedHandle) (t : ℕ) → IsForm
     → IsCellWord (shown block h t)
 shown_fits block h t formed blocks few = record { owned = owned_fits block h.object blocks; place = place_fits h.place formed.0; taken = few }
 
+-- what a cell holds is counted
+pub kept_busy : (z : Opening) (s : State) → Sound z s → (c : Cell) → IsKept s c → (r : ℕ) → (cell_of s c).object ≡ Some r → IsBusy s r
+kept_busy z s fine (Free d) kept r e = cell_busy z s fine d r kept e
+kept_busy z s fine (Member o m) kept r e =
+    let made = was_made z s o fine (λ u. let t = fine.unmade_free o u in let b = kept.1 in omega arith) in
+    member_busy z s fine o m r made kept.0 e
+
 module _ {V : Type 0} where
   module _ (z : Opening) (words : List ℕ) (views : List (View V)) (h : List (Entry V)) (stands : Stands z words views h)
       (i : ℕ) (v : View V) (at : get_elem? views i ≡ some v) (awake : v.spent ≡ false) (c : Cell) (kept : IsKept (leads z h) c) where
@@ -83,6 +90,4 @@ module _ {V : Type 0} where
 
         there : (d : Cell) → IsKept (leads z h) d → (r : ℕ) → (cell_of (leads z h) d).object ≡ Some r
             → (1 ≤ blocks_of (leads z h) r) × (blocks_of (leads z h) r ≤ 65535)
-        there (Free d) op r e = inside r (cell_busy z (leads z h) fine d r op e)
-        there (Member o m) op r e = inside r (member_busy z (leads z h) fine o m r (was_made z (leads z h) o fine (λ u. let t = fine.unmade_free o u in
-            let b = op.1 in omega arith)) op.0 e)
+        there d op r e = inside r (kept_busy z (leads z h) fine d op r e)

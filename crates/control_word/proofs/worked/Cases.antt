@@ -164,6 +164,8 @@ block_used_again = (
   (refl, refl),
   refl,
   compare_reply reuse_copied leftover (owner_at 2 1),
+  (λ other next. next.asks.2),
+  (λ other next. next.asks.2),
   (refl, refl),
   refl,
   refl,

@@ -6,7 +6,7 @@
 ghost use Rattle.control_word.specs.Steps.{WritesWeakWord, WritesWord, Claims, Shares, Leaves};
 ghost use Rattle.control_word.specs.Steps.{WeakShares, WeakLeaves, Finishes, Locks, TellsCount};
 ghost use Rattle.control_word.specs.Steps.{TellsExpired, Reads, LooksOn};
-ghost use Rattle.control_word.specs.CellSteps.{LoadsEmpty, DiffersEmpty};
+ghost use Rattle.control_word.specs.CellSteps.{LoadsEmpty, DiffersEmpty, TellsSame};
 ghost use Rattle.control_word.specs.CellSteps.{Brings, GivesBack, LeavesWithFunds};
 ghost use Rattle.control_word.specs.CellSteps.{WeakLeavesWithFunds, Takes, Turns, Refills, Swaps};
 ghost use Rattle.control_word.specs.Steps.{Shuts, Opens, Splits, CutsView};
@@ -55,6 +55,8 @@ pub fn looks<V>()
     ensures load_empty { LoadsEmpty V }
     // Look: a compare that differs, of a cell without an object.
     ensures differ_empty { DiffersEmpty V }
+    // Look: whether a cell holds what the desk has.
+    ensures tell_same { TellsSame V }
 {}
 
 /// Funds: on a count, out of a cell and into it.

@@ -69,6 +69,11 @@ pub enum Event<V> {
         swapped: bool,
         weak: bool,
     },
+    Same {
+        cell: Cell,
+        handle: NumberedHandle,
+        same: bool,
+    },
     ClearMember {
         object: u64,
         member: u64,

@@ -1,4 +1,5 @@
 use Rattle.control_word.proofs.steps.Look as look
+use Rattle.control_word.proofs.steps.Sameness as sameness
 use Rattle.control_word.proofs.laws.step_laws.looks.Goals as goal
 
 pub returns : goal.returns
@@ -9,4 +10,5 @@ returns g c = record {
   look_on = look.looks_on;
   load_empty = look.loads_empty;
   differ_empty = look.differs_empty;
+  tell_same = sameness.tells_same;
 }

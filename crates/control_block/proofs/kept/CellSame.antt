@@ -1,0 +1,55 @@
+-- A look at a cell which tells whether it holds a handle that the desk has.
+use Rattle.std.proofs.Common.{◌≡◌, ℕ, ◌%◌, ◌==◌, List, ◌∷◌, get_or, set, map, Option, refl, sym, ap, subst, arith}
+use Rattle.atomic_table.specs.Table.{Allows, step}
+use mathlib.Core.Option.{none}
+use Rattle.control_word.proofs.steps.Sameness as law
+use Rattle.control_word.proofs.words.Decoding.{cell_shown}
+use Rattle.control_word.specs.Events.{InHand}
+use Rattle.control_word.specs.Histories.{entry, leads}
+use Rattle.control_word.specs.Packing.{cell_bits}
+use Rattle.control_word.specs.Views.{Stands, sees_as}
+use Rattle.control_word.specs.Words.{block_of, blocks_of, packed, shown}
+use Rattle.control_word.specs.declared.packed.cell.CellWord.{CellWord}
+use Rattle.control_word.specs.declared.model.event.Cell.{Cell}
+use Rattle.control_word.specs.declared.model.event.Entry.{Entry}
+use Rattle.control_word.specs.declared.model.event.Event.TheVariants.{Same}
+use Rattle.control_word.specs.declared.model.handle.NumberedHandle.{NumberedHandle}
+use Rattle.control_word.specs.declared.model.view.Pending.TheVariants.{Idle}
+use Rattle.control_word.specs.declared.place.Block.{Block}
+use Rattle.control_word.specs.declared.shape.Shape.{Shape}
+use Rattle.control_block.specs.CellStepKinds.{IsCellAt, kind_in, told_same}
+use Rattle.control_block.specs.Rule.{Ruled, opening_of, view_of}
+use Rattle.control_block.specs.StepKinds.{At, Rests, known}
+use Rattle.control_block.proofs.CellWords.{is_open, opened}
+use Rattle.control_block.proofs.Passage.{allows_event, plain, point, ready}
+use Rattle.control_block.proofs.kept.Look.{looked}
+use Rattle.control_block.proofs.words.Hands.{hand_block, hand_there}
+
+-- a handle's word goes by its object's block alone
+pub packed_by : (f g : ℕ → ℕ) (h : NumberedHandle) → block_of f h.object ≡ block_of g h.object → packed f h ≡ packed g h
+packed_by f g h e =
+    let a = cell_shown f h 0 in let b = cell_shown g h 0 in
+    let same = ap (λ (q : Option Block). cell_bits record { owned = q; place = h.place; taken = 0 }) e in omega arith
+
+-- the word that shows a handle with no fund taken is the handle's
+pub shown_bits : (block : ℕ → ℕ) (h : NumberedHandle) (x : CellWord) → x ≡ shown block h x.taken → x.taken ≡ 0 → packed block h ≡ cell_bits x
+shown_bits block h x shows bare =
+    let a = cell_shown block h x.taken in let b = ap cell_bits shows in omega arith
+
+module _ {V : Type 0} where
+  pub allows_same : (k : Shape) (slots id i : ℕ) (c : Cell) (h : NumberedHandle) (me : At V) → Rests me → IsCellAt me.0 c i
+      → InHand (known me.0) me.0.view.name (kind_in me.0.shape c) h
+      → Allows (Ruled k) slots id me i (λ n. n) (told_same c h (step slots i 0 0 none) me)
+  allows_same k slots id i c h me rests cell hand =
+      allows_event k slots id i me (λ n. n) (λ n. Same c h (n % 17179869184 == packed (blocks_of (known me.0)) h)) Idle rests.awake rests.empty
+      (λ n. (plain (λ s d. refl) (λ s d. refl) (λ s f. refl)))
+      (λ s r at small.
+      let v = me.0 in let z = opening_of k in let t = leads z r.history in let views = map view_of s.views in
+      let is = opened k s r id v at rests.awake c i cell in let p = point k s r id v in
+      let word = packed_by (blocks_of t) (blocks_of (known v)) h (sym (hand_block k s r id v at rests.awake (kind_in v.shape c) h hand)) in
+      let told : ℕ → ℕ → List (Entry V) =
+      λ x n. entry v.view.name (Same c h (get_or s.words x 0 % 17179869184 == n)) ∷ r.history in
+      looked z s.words i _ _ (subst (λ (y : ℕ × ℕ). Stands z s.words (set views id (sees_as v.view Idle (told y.0 y.1))) (told y.0 y.1))
+      (λ j. (is.there j, word j))
+      (law.tells_same p c h (ready k s r id v at rests.awake Idle rests.idle) (is_open k s r id v at rests.awake c i cell)
+      (hand_there k s r id v at rests.awake (kind_in v.shape c) h hand _ is.kind))))

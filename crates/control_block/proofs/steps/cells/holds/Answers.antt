@@ -1,0 +1,20 @@
+use Rattle.std.proofs.Common.{◌%◌, ◌==◌, ◌∙◌, sym, subst}
+use Rattle.control_word.specs.Words.{blocks_of}
+use Rattle.control_word.specs.declared.model.event.Event.TheVariants.{Same}
+use Rattle.control_block.specs.StepKinds.{known, tells}
+use Rattle.control_block.proofs.kept.CellSame.{allows_same, shown_bits}
+use Rattle.control_block.proofs.steps.cells.holds.Goals as goal
+
+pub load-requires : goal.load-requires
+load-requires g c =
+    let r = c.requires in let table = c.args.table.now in let seat = c.args.seat.now in let a = g.A.CellArgs in (
+      r.table,
+      r.word,
+      record { allows = allows_same table.key table.table_id.slots seat.id c.args.word a.cell a.expected seat.me r.rests r.cell r.hand },
+    )
+
+pub returns-clause-event : goal.returns-clause-event
+returns-clause-event g c =
+    let v = c.args.seat.now.me.0 in let a = g.A.CellArgs in let r = c.requires.expected in
+    let word = shown_bits (blocks_of (known v)) a.expected c.args.expected r.2 r.1 ∙ sym c.pack.ensures in
+    subst (λ n. tells (Same a.cell a.expected (c.load.result % 17179869184 == n)) v c.load.new.seat.me.0) word c.load.ensures.2.0

@@ -1,0 +1,115 @@
+-- A look at a cell which tells whether it holds a handle that the desk has. The word says so: a desk's handle keeps its
+-- object's block, so that no other object is there, and the funds taken lie above all else.
+use Rattle.std.proofs.Common.{◌≡◌, ◌≢◌, ℕ, ◌*◌, ◌/◌, ◌%◌, ◌<◌, ◌≤◌, ◌&&◌, ◌==◌, Option, Some, None, refl, sym, ap, ◌∙◌, arith}
+use Rattle.std.proofs.Common.{eq-eqb, ne_eqb, subst, ⊎_elim}
+use Rattle.std.specs.Prelude.{IfSome}
+use Rattle.std.proofs.lemmas.Bool.{cases_eq}
+use Rattle.control_word.proofs.history.Allowances.{opened}
+use Rattle.control_word.proofs.history.Formation.{formed}
+use Rattle.control_word.proofs.history.Legal.{held_busy, sound, written}
+use Rattle.control_word.proofs.history.Soundness.{IsBusy}
+use Rattle.control_word.proofs.steps.Look.{look_event}
+use Rattle.control_word.proofs.words.Banks.{open_kept}
+use Rattle.control_word.proofs.words.CellWords.{cell_read}
+use Rattle.control_word.proofs.words.Decoding.{cell_decodes, kept_busy, shown_fits}
+use Rattle.control_word.specs.CellSteps.{TellsSame}
+use Rattle.control_word.specs.Events.{Holds, InHand, cell_of, kind_of}
+use Rattle.control_word.specs.Handles.{IsFormed, equivalent, handle, object_of, same_number, same_place}
+use Rattle.control_word.specs.Packing.{IsBlock, IsCellWord, IsPlace}
+use Rattle.control_word.specs.Steps.{Point, Ready, cell_word, me, state, word}
+use Rattle.control_word.specs.Words.{block_of, blocks_of, owned_bits, packed, place_bits, shown}
+use Rattle.control_word.specs.declared.model.event.Event.TheVariants.{Same}
+use Rattle.control_word.specs.declared.model.handle.NumberedHandle.{NumberedHandle}
+use Rattle.control_word.specs.declared.model.handle.Kind.{Kind}
+use Rattle.control_word.specs.declared.model.view.Pending.TheVariants.{Idle}
+use Rattle.control_word.specs.declared.place.Place.{Place}
+
+-- numbers of two parts are equal just where both parts are
+both_parts : (a b c d e f : ℕ) → (a ≡ b → c ≡ d → e ≡ f) → (e ≡ f → (a ≡ b) × (c ≡ d)) → (e == f) ≡ (a == b && c == d)
+both_parts a b c d e f to from =
+    ⊎_elim
+    (λ (x : a ≡ b). ⊎_elim
+    (λ (y : c ≡ d). eq-eqb e f (to x y) ∙ sym (λ i. eq-eqb a b x i && eq-eqb c d y i))
+    (λ (n : c ≢ d). ne_eqb e f (λ q. n (from q).1) ∙ sym (λ i. eq-eqb a b x i && ne_eqb c d n i)) (cases_eq c d))
+    (λ (n : a ≢ b). ne_eqb e f (λ q. n (from q).0) ∙ sym (ap (λ z. z && (c == d)) (ne_eqb a b n))) (cases_eq a b)
+
+place_few : (p : Option Place) → IfSome p IsPlace → place_bits p ≤ 17179803648
+place_few None f = omega arith
+place_few (Some p) f = let a = f.0.1 in let b = f.1 in omega arith
+
+-- a place lies above the owned block
+place_times : (p : Option Place) → place_bits p ≡ 65536 * (place_bits p / 65536)
+place_times None = omega arith
+place_times (Some p) = omega arith
+
+places_alike : (p q : Option Place) → IfSome p IsPlace → IfSome q IsPlace → (place_bits p == place_bits q) ≡ same_place p q
+places_alike None None f g = refl
+places_alike None (Some q) f g = let a = g.0.0 in ne_eqb _ _ (λ e. omega arith)
+places_alike (Some p) None f g = let a = f.0.0 in ne_eqb _ _ (λ e. omega arith)
+places_alike (Some p) (Some q) f g =
+    let a = f.0.1 in let b = g.0.1 in let c = f.1 in let d = g.1 in
+    both_parts p.block.0 q.block.0 p.field q.field _ _ (λ x y. omega arith) (λ e. (omega arith, omega arith))
+
+module _ (block : ℕ → ℕ) where
+  owned_few : (a : Option ℕ) → IfSome (block_of block a) IsBlock → owned_bits block a < 65536
+  owned_few None f = omega arith
+  owned_few (Some o) f = let t = f.1 in omega arith
+
+  owned_alike : (a b : Option ℕ) → IfSome (block_of block a) IsBlock → IfSome (block_of block b) IsBlock
+      → ((o r : ℕ) → a ≡ Some o → b ≡ Some r → block o ≡ block r → o ≡ r)
+      → (owned_bits block a == owned_bits block b) ≡ same_number a b
+  owned_alike None None f g one = refl
+  owned_alike None (Some r) f g one = let t = g.0 in ne_eqb _ _ (λ e. omega arith)
+  owned_alike (Some o) None f g one = let t = f.0 in ne_eqb _ _ (λ e. omega arith)
+  owned_alike (Some o) (Some r) f g one =
+      ⊎_elim (λ (e : o ≡ r). eq-eqb (block o) (block r) (ap block e) ∙ sym (eq-eqb o r e))
+      (λ (n : o ≢ r). ne_eqb (block o) (block r) (λ e. n (one o r refl refl e)) ∙ sym (ne_eqb o r n)) (cases_eq o r)
+
+  -- a word without its funds is below them
+  pub packed_few : (x : NumberedHandle) (t : ℕ) → IsCellWord (shown block x t) → packed block x < 17179869184
+  unfolding packed
+  packed_few x t f = let a = owned_few x.object f.owned in let b = place_few x.place f.place in omega arith
+
+  -- words of handles are equal just where the handles are equivalent, if no two objects share a block
+  pub words_alike : (x y : NumberedHandle) (t u : ℕ) → IsCellWord (shown block x t) → IsCellWord (shown block y u)
+      → ((o r : ℕ) → x.object ≡ Some o → y.object ≡ Some r → block o ≡ block r → o ≡ r)
+      → (packed block x == packed block y) ≡ equivalent x y
+  unfolding packed
+  words_alike x y t u f g one =
+      let a = owned_few x.object f.owned in let b = owned_few y.object g.owned in
+      let p = place_times x.place in let q = place_times y.place in
+      both_parts (owned_bits block x.object) (owned_bits block y.object) (place_bits x.place) (place_bits y.place) _ _
+      (λ e d. omega arith) (λ e. (omega arith, omega arith))
+      ∙ (λ i. owned_alike x.object y.object f.owned g.owned one i && places_alike x.place y.place f.place g.place i)
+
+module _ {V : Type 0} where
+  -- an object of which the desk has a handle is counted, and the handle well formed
+  hand_busy : (at : Point V) → Ready at Idle → (k : Kind) (x : NumberedHandle) → InHand (state at) (me at) k x
+      → IsFormed x × ((r : ℕ) → x.object ≡ Some r → IsBusy (state at) r)
+  hand_busy at ready k x hand =
+      let s = state at in let d = me at in
+      ⊎_elim (λ n. (n.1, λ r e. absurd (some_none (sym e ∙ n.0))))
+      (λ (t : Holds s d k x).
+      let busy = held_busy at.opening s d (object_of x) k x.place (sound at.opening at.history ready.stands.legal) (written s.hands d k x t.0 t.1 t.2) in (
+        ((formed at.opening at.history ready.stands.legal).bags _ t.0).0,
+        λ r e. subst (λ o. IsBusy s o) (ap (λ (o : Option ℕ). object_of (handle k o x.place)) e) busy,
+      )) hand.1
+    where
+      some_none : {r : ℕ} → Some r ≡ None → ⊥
+      some_none e = cc
+
+  pub tells_same : TellsSame V
+  tells_same at c x ready open' hand =
+      let z = at.opening in let s = state at in let old = cell_of s c in let fine = sound z at.history ready.stands.legal in
+      let kept = open_kept z s (me at) c fine open' in
+      let mine = hand_busy at ready (kind_of s c) x hand in
+      let shows = (cell_decodes z at.words at.views at.history ready.stands at.seat at.view ready.seated ready.awake c kept).1 in
+      let limit = (opened z at.history ready.stands.legal).limits.0 in
+      let fits = shown_fits (blocks_of s) x 0 mine.0 (λ r e. let p = (fine.placed r (mine.1 r e)).1 in let a = p.1 in (p.0, omega arith)) (omega arith) in
+      let read = cell_read z at.words at.views at.history ready.stands at.seat at.view ready.seated ready.awake c kept in
+      let few = packed_few (blocks_of s) old _ shows in
+      let bare : word at (cell_word at c) % 17179869184 ≡ packed (blocks_of s) old = omega arith in
+      let alike = words_alike (blocks_of s) old x _ 0 shows fits (λ o r a b e.
+      sym (fine.placed o (kept_busy z s fine c kept o a)).0 ∙ (ap s.latest e ∙ (fine.placed r (mine.1 r b)).0)) in
+      look_event z at.words at.views at.history ready.stands at.seat at.view ready.seated ready.awake ready.pending 0 None (Same c x _) tt
+      (open', hand, ap (λ n. n == packed (blocks_of s) x) bare ∙ alike) tt refl refl
