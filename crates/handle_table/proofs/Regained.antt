@@ -1,19 +1,15 @@
 -- Where each worker leaves its table the allowance that it had, the last desk has the whole one again.
-use Rattle.std.proofs.Common.{◌≡◌, ℕ, suc, ◌+◌, List, [], ◌∷◌, Result, Ok, Err, IfErr, refl, sym, ap}
-use Rattle.std.proofs.Common.{subst, ◌∙◌, ⊎_elim, arith}
+use Rattle.std.proofs.Common.{◌≡◌, ℕ, ◌+◌, List, [], ◌∷◌, Result, Ok, Err, IfErr, refl, sym, ap}
+use Rattle.std.proofs.Common.{◌∙◌, arith}
 use Rattle.control_block.specs.Desks.{DeskNow, DomainNow, allowance_of}
 use Rattle.control_block.specs.Own.{IsSole}
 use Rattle.control_word.specs.declared.refusal.Refusal.TheVariants.{NotSole}
 use Rattle.control_word.specs.declared.refusal.Refusal.{Refusal}
 use Rattle.control_word.specs.declared.shape.Shape.{Shape}
 use Rattle.handle_table.proofs.Sharing.{first_whole}
-use Rattle.handle_table.specs.Openings.{GoesOn}
-use Rattle.handle_table.specs.Parting.{AbsorbsAll, IsNew, IsPartedInto}
-use Rattle.handle_table.specs.Programs.{AllKeepAllowance, EachWorks, NumberedWork, Works, WorksIn}
+use Rattle.handle_table.specs.Parting.{AbsorbsAll, IsPartedInto}
 use Rattle.handle_table.specs.Staffs.{EachDoes, KeepsAllowance, StaffsIn, WorkerRelation}
 use Rattle.handle_table.specs.Tables.{TableNow}
-use Rattle.handle_table.specs.declared.program.Manned.{Manned}
-use Rattle.handle_table.specs.declared.program.Team.{Team}
 use Rattle.handle_table.specs.declared.staff.Share.{Share}
 
 module _ {V : Type 0} where
@@ -67,36 +63,5 @@ module _ {V W : Type 0} (does : WorkerRelation V W) (keeps : KeepsAllowance does
       let whole = first_whole domain first works.begins in
       let up : allowance_of last ≡ allowance_of works.out.after.desk = works.out.winds_up.allowance in
       let came = back.0 in let kept = all_kept had s.lent has s.left s.each in let went = lent.0 in
-      let all : allowance_of last ≡ domain.shape.allowance = omega (arith, whole, up, came, kept, went) in
-      all ∙ ap (λ (k : Shape). k.allowance) (sym (works.out.winds_up.shape ∙ (back.1 ∙ (lent.1 ∙ works.begins.shape))))
-
--- what a team did in a domain, of which this desk is left
-pub works_in : {V : Type 0} (did : NumberedWork V) (domain : DomainNow) (team : Team) (manned : Manned) (n : ℕ) (last : DeskNow V) → n ≡ team.slots
-    → GoesOn (λ t u. Works did t team manned u) domain n last → WorksIn did domain team manned last
-works_in did domain team manned n last many g = record {
-  first = g.first;
-  begins = g.begins;
-  new = subst (λ (k : ℕ). IsNew k g.first) many g.new;
-  out = record { after = g.after; works = g.done; winds_up = g.winds_up };
-}
-
-module _ {V : Type 0} (did : NumberedWork V) (keeps : AllKeepAllowance did) where
-  each_kept : (n : ℕ) (lent left : List (TableNow V)) → EachWorks did n lent left → allowances left ≡ allowances lent
-  each_kept n [] [] each = refl
-  each_kept n (t ∷ ts) (u ∷ us) each =
-      let y = keeps n t u each.0 in let z = each_kept (suc n) ts us each.1 in omega (arith, y, z)
-  each_kept n [] (u ∷ us) each = absurd each
-  each_kept n (t ∷ ts) [] each = absurd each
-
-  pub whole_again : (domain : DomainNow) (team : Team) (manned : Manned) (last : DeskNow V)
-      → WorksIn did domain team manned last → IsSole last
-  whole_again domain team manned last works =
-      let s = works.out.works in let first = works.first.desk in let t = record works.first { desk = s.between } in
-      let lent = lent_out first s.between team.allowance team.blocks s.lent s.parts in
-      let back = come_back t works.out.after s.left s.absorbs in
-      let whole = first_whole domain first works.begins in
-      let up : allowance_of last ≡ allowance_of works.out.after.desk = works.out.winds_up.allowance in
-      let kept : allowances s.left ≡ allowances s.lent = ⊎_elim (λ w. each_kept 0 s.lent s.left w.0) (λ w. ap allowances w.0) s.worked in
-      let came = back.0 in let went = lent.0 in
       let all : allowance_of last ≡ domain.shape.allowance = omega (arith, whole, up, came, kept, went) in
       all ∙ ap (λ (k : Shape). k.allowance) (sym (works.out.winds_up.shape ∙ (back.1 ∙ (lent.1 ∙ works.begins.shape))))

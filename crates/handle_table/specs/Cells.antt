@@ -1,6 +1,6 @@
 -- What the calls on cells say: on free ones, and on members of objects that owners in slots own
 -- ([util.smartptr.atomic.shared], [util.smartptr.atomic.weak]; members: own).
-use Rattle.std.specs.Prelude.{◌≡◌, ◌⊎◌, ℕ, ◌+◌, ◌<◌, ◌≤◌, List, slice_get, slice_set, None}
+use Rattle.std.specs.Prelude.{◌≡◌, ◌⊎◌, ℕ, ◌+◌, ◌<◌, ◌≤◌, Bool, List, slice_get, slice_set, None}
 use Rattle.std.specs.Prelude.{Some}
 use Rattle.control_word.specs.declared.model.handle.Kind.{Kind}
 use Rattle.control_word.specs.declared.model.handle.Kind.TheVariants as kind
@@ -93,6 +93,17 @@ module _ {V : Type 0} where
 
   abbrev pub WhyNotLoaded : TableNow V → Cell → ℕ → Fault → Type 0
   WhyNotLoaded t c to why = IsNoSlot t.slots to why ⊎ (WhyNoCell t.desk.shape t.slots c why ⊎ IsAtLimit t why)
+
+  -- whether the cell holds what is equivalent to the handle in a slot; nothing else changes
+  pub record TellsSlotHeld (t : TableNow V) (c : Cell) (i : ℕ) (same : Bool) (u : TableNow V) : Type 0 where
+    pub site : Site
+    pub is : IsCellAtSite t.desk.shape t.slots c site
+    pub of : Held
+    pub at : IsAt t i of
+    pub kind : kind_of_held of ≡ kind_of_cell c
+    pub tells : cells.TellsHeld t.desk (cell_of_site t.desk site) (kind_of_cell c) (block_of_held of)
+        (place_of_held of) same u.desk
+    pub rest : (u.slots ≡ t.slots) × (u.endings ≡ t.endings)
 
   -- the handle in a slot went into the cell, and what that held came out
   pub record SwapsFromSlot (t : TableNow V) (from : ℕ) (c : Cell) (old : Held) (e : DeskNow V) : Type 0 where

@@ -13,7 +13,6 @@ pub mod Visits
 pub mod Parting
 pub mod Openings
 pub mod Programs
-pub mod Leading
 pub mod Staffs
 pub mod Peeks
 pub mod Slots

@@ -23,6 +23,7 @@ use shared_handle::{Held, Shared};
 mod calls;
 mod compares;
 mod held;
+mod looks;
 
 /// A cell ([util.smartptr.atomic.shared], [util.smartptr.atomic.weak]): a free one by its number from 0 among those of
 /// its kind, or a member of the object that the owner in slot `of` owns and points into (own).

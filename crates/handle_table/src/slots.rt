@@ -14,10 +14,10 @@ use control_block::handles::Weak;
 use control_word::Place;
 use shared_handle::{Held, Shared};
 
-pub mod assigning;
+pub(crate) mod assigning;
 pub(crate) mod kinds;
-pub mod seen;
-pub mod slot;
+pub(crate) mod seen;
+pub(crate) mod slot;
 
 /// So many vacant slots.
 #[tactic(auto, using(crate::proofs::Filling::vacant_append))]
@@ -47,7 +47,7 @@ pub(crate) fn handle_at(slots: &Vec<Slot>, at: usize) -> Result<Seen<Held>, Faul
 
 /// The owner in the slot, to be looked at; it stays there.
 #[inline(always)]
-pub fn owner_at(slots: &Vec<Slot>, at: usize) -> Result<Seen<Shared>, Fault>
+pub(crate) fn owner_at(slots: &Vec<Slot>, at: usize) -> Result<Seen<Shared>, Fault>
     ensures found { IfOk result (λ h. slice_get slots.now.items at ≡ Some (Some (held.Owner h.handle))) }
     ensures fault { IfErr result (WhyNoOwner slots.now.items at) }
 {
@@ -93,7 +93,7 @@ pub(crate) fn weak_again(weak: &Weak) -> Weak
 
 /// A handle goes into a slot, and what lay there comes out.
 #[inline(always)]
-pub fn put(slots: &mut Vec<Slot>, at: usize, handle: Held) -> Option<Held>
+pub(crate) fn put(slots: &mut Vec<Slot>, at: usize, handle: Held) -> Option<Held>
     requires { at < length slots.old.items }
     ensures { (slice_get slots.old.items at ≡ Some result)
         × (slots.new.items ≡ slice_set slots.old.items at (Some handle)) }
@@ -184,25 +184,9 @@ pub(crate) fn take_handle(slots: &mut Vec<Slot>, at: usize) -> Result<Held, Faul
     }
 }
 
-/// The owner in the slot goes out of it.
-pub fn take_owner(slots: &mut Vec<Slot>, at: usize) -> Result<Shared, Fault>
-    ensures taken { IfOk result (λ h. (slice_get slots.old.items at ≡ Some (Some (held.Owner h)))
-        × (slots.new.items ≡ slice_set slots.old.items at None)) }
-    ensures fault { IfErr result (λ why. WhyNoOwner slots.old.items at why × (slots.new.items ≡ slots.old.items)) }
-{
-    owner_at(slots, at)?;
-    match take_handle(slots, at)? {
-        Held::Owner(owner) => Ok(owner),
-        Held::Weak(weak) => {
-            weak.into_parts();
-            unreachable!()
-        }
-    }
-}
-
 /// None is left of it.
 #[inline(always)]
-pub fn spent(slot: Option<Held>)
+pub(crate) fn spent(slot: Option<Held>)
     requires { slot ≡ None }
 {
     match slot {

@@ -20,14 +20,12 @@ impl Home for Brand {
 }
 
 /// A thread's part of a domain, with numbered slots for its handles. All memory that it needs it has from the start.
-/// Its parts are open to crates with more calls on a table, as `table_structures`: a call that changes them owes the
-/// table's invariant where it ends.
 pub struct HandleTable<'d, V: Drop, H: Home> {
-    pub domain: &'d Domain<V>,
+    pub(crate) domain: &'d Domain<V>,
     pub(crate) home: PhantomData<H>,
-    pub desk: Desk<V>,
-    pub slots: Vec<Slot, Global>,
-    pub pile: Pile<V>,
+    pub(crate) desk: Desk<V>,
+    pub(crate) slots: Vec<Slot, Global>,
+    pub(crate) pile: Pile<V>,
 }
 
 impl<'d, V: Drop, H: Home> Model for HandleTable<'d, V, H> {

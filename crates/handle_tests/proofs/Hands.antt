@@ -34,7 +34,7 @@ use Rattle.control_block.proofs.Bags.{taken_out}
 use Rattle.control_block.proofs.PartingLists.{length_without}
 use Rattle.control_block.proofs.PartingSplit.{few_listed}
 use Rattle.control_block.proofs.HandleLists.{holds_none, holds_more, holds_less, holds_rest, holds_each, holds_in_order}
-use Rattle.handle_tests.specs.Hands.{Comes, Gains, HoldsBeside, HoldsCame, HoldsShared, HoldsSlots, HoldsWeak, Stays}
+use Rattle.handle_tests.specs.Hands.{Comes, Gains, HoldsBeside, HoldsCame, HoldsShared, HoldsSlots, Stays}
 
 -- two slots change places
 flip : (x y : Option Held) (l : List (Option Held)) → IsPermutation (handles_in (x ∷ y ∷ l)) (handles_in (y ∷ x ∷ l))
@@ -197,15 +197,6 @@ module _ (d e : DeskNow ℕ) (ss : List (Option Held)) (stands : Standing d) whe
       subst (λ (y : Shared). HoldsAll e (held.Owner h ∷ held.Owner y ∷ handles_in ss)) (sym back)
       (all_more d e (held.Owner h) (held.Owner x ∷ handles_in ss) stands all bag count)
 
-  weak_compared : (x : weak_handle.Weak) (c : Compared weak_handle.Weak) → HoldsBeside d (held.Weak x) ss → GivesBackDesired x c
-      → bag_of e ≡ bag_compared (has_swapped c) Weak x.block x.place (came_out c).block (came_out c).place (bag_of d)
-      → e.held ≡ d.held + cond (has_swapped c) 0 1 → HoldsWeak e c ss
-  weak_compared x (Swapped old) all back bag count =
-      all_other d e (held.Weak x) (held.Weak old) (handles_in ss) stands all bag (count ∙ add-zero d.held)
-  weak_compared x (Differs h k) all back bag count =
-      subst (λ (y : weak_handle.Weak). HoldsAll e (held.Weak h ∷ held.Weak y ∷ handles_in ss)) (sym back)
-      (all_more d e (held.Weak h) (held.Weak x ∷ handles_in ss) stands all bag count)
-
   pub owners_compared : (x : Shared) (r : Result (Compared Shared) (Refused Shared)) → HoldsBeside d (held.Owner x) ss
       → IfErr r (λ y. (y.why ≡ Limit) × (y.back ≡ x) × (e ≡ d)) → IfOk r (λ c. GivesBackDesired x c)
       → IfOk r (λ c. bag_of e ≡ bag_compared (has_swapped c) Owner x.block x.place (came_out c).block (came_out c).place (bag_of d))
@@ -214,16 +205,6 @@ module _ (d e : DeskNow ℕ) (ss : List (Option Held)) (stands : Standing d) whe
   owners_compared x (Ok c) all kept back bag count = owner_compared x c all back bag count
   owners_compared x (Err y) all kept back bag count =
       subst (λ (z : Shared). HoldsBeside e (held.Owner z) ss) (sym kept.1) (subst (λ (m : DeskNow ℕ). HoldsBeside m (held.Owner x) ss) (sym kept.2) all)
-
-  pub weaks_compared : (x : weak_handle.Weak) (r : Result (Compared weak_handle.Weak) (Refused weak_handle.Weak)) → HoldsBeside d (held.Weak x) ss
-      → IfErr r (λ y. (y.why ≡ Limit) × (y.back ≡ x) × (e ≡ d)) → IfOk r (λ c. GivesBackDesired x c)
-      → IfOk r (λ c. bag_of e ≡ bag_compared (has_swapped c) Weak x.block x.place (came_out c).block (came_out c).place (bag_of d))
-      → IfOk r (λ c. e.held ≡ d.held + cond (has_swapped c) 0 1)
-      → MatchResult r (λ c. HoldsWeak e c ss) (λ y. HoldsBeside e (held.Weak y.back) ss)
-  weaks_compared x (Ok c) all kept back bag count = weak_compared x c all back bag count
-  weaks_compared x (Err y) all kept back bag count =
-      subst (λ (z : weak_handle.Weak). HoldsBeside e (held.Weak z) ss) (sym kept.1)
-      (subst (λ (m : DeskNow ℕ). HoldsBeside m (held.Weak x) ss) (sym kept.2) all)
 
 pub compared_desk : {C X : Type 0} (d e : DeskNow ℕ) (x : X) (r : Result C (Refused X))
     → IfErr r (λ y. (y.why ≡ Limit) × (y.back ≡ x) × (e ≡ d)) → OnOk r (Keeps d e) → IsSameDesk d e
@@ -243,18 +224,6 @@ module _ (d : DeskNow ℕ) (ss : List (Option Held)) (c : Compared Shared) where
   owner_seen h k e all is keeps bag count =
       all_still d e (held.Owner h ∷ held.Owner k ∷ handles_in ss) (owner_differs h k all is)
       (record { desk = keeps_desk d e keeps; bag = bag; held = count })
-
-module _ (d : DeskNow ℕ) (ss : List (Option Held)) (c : Compared weak_handle.Weak) where
-  pub weak_swapped : (old : weak_handle.Weak) → HoldsWeak d c ss → c ≡ Swapped old → HoldsBeside d (held.Weak old) ss
-  weak_swapped old all is = subst (λ (x : Compared weak_handle.Weak). HoldsWeak d x ss) is all
-
-  pub weak_differs : (h k : weak_handle.Weak) → HoldsWeak d c ss → c ≡ Differs h k → HoldsAll d (held.Weak h ∷ held.Weak k ∷ handles_in ss)
-  weak_differs h k all is = subst (λ (x : Compared weak_handle.Weak). HoldsWeak d x ss) is all
-
-  pub weak_seen : (h k : weak_handle.Weak) (e : DeskNow ℕ) → HoldsWeak d c ss → c ≡ Differs h k
-      → Keeps d e → bag_of e ≡ bag_of d → e.held ≡ d.held → HoldsAll e (held.Weak h ∷ held.Weak k ∷ handles_in ss)
-  weak_seen h k e all is keeps bag count =
-      all_still d e (held.Weak h ∷ held.Weak k ∷ handles_in ss) (weak_differs h k all is) (record { desk = keeps_desk d e keeps; bag = bag; held = count })
 
 -- the one in hand is held, and those in slots are
 pub hand_held : (d : DeskNow ℕ) (h : Held) (hs : List Held) → HoldsAll d (h ∷ hs) → IsHeldByDesk d h

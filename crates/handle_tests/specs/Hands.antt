@@ -7,7 +7,6 @@ use Rattle.control_block.specs.SlotLists.{handles_in}
 use Rattle.control_block.specs.declared.handles.Held.{Held}
 use Rattle.control_block.specs.declared.handles.Held.TheVariants as held
 use Rattle.control_block.specs.declared.handles.Shared.{Shared}
-use Rattle.control_block.specs.declared.handles.Weak.{Weak}
 use Rattle.atomic_cells.specs.declared.compared.Compared.{Compared}
 use Rattle.atomic_cells.specs.declared.compared.Compared.TheVariants.{Differs, Swapped}
 
@@ -45,7 +44,3 @@ Comes d (Err why) e = Stays d e
 abbrev pub HoldsShared : DeskNow ℕ → Compared Shared → List (Option Held) → Type 0
 HoldsShared d (Swapped old) ss = HoldsBeside d (held.Owner old) ss
 HoldsShared d (Differs h desired) ss = HoldsAll d (held.Owner h ∷ held.Owner desired ∷ handles_in ss)
-
-abbrev pub HoldsWeak : DeskNow ℕ → Compared Weak → List (Option Held) → Type 0
-HoldsWeak d (Swapped old) ss = HoldsBeside d (held.Weak old) ss
-HoldsWeak d (Differs h desired) ss = HoldsAll d (held.Weak h ∷ held.Weak desired ∷ handles_in ss)

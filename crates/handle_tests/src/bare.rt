@@ -3,5 +3,6 @@ pub(crate) mod alone;
 pub(crate) mod blocks;
 pub(crate) mod cells;
 pub(crate) mod handles;
+pub(crate) mod holding;
 pub(crate) mod limits;
 pub(crate) mod parted;

@@ -6,6 +6,7 @@ ghost use Rattle.handle_tests.specs.Hands.{HoldsSlots};
 use crate::listed::cells::load;
 use crate::listed::coming::{come, made};
 use crate::listed::compares::{Offer, compare};
+use crate::listed::holding::holds;
 use crate::listed::looks::{tell, tell_both};
 use crate::listed::slots::{arrive, let_go, take};
 use crate::listed::trades::{exchange, store};
@@ -19,6 +20,7 @@ use std::sync::Wait;
 mod cells;
 mod coming;
 mod compares;
+mod holding;
 mod looks;
 pub(crate) mod slots;
 mod trades;
@@ -39,9 +41,7 @@ pub(crate) enum New {
 pub(crate) enum Way {
     Share,
     Alias(Option<Place>),
-    Downgrade,
     FromThis,
-    WeakFromThis,
     Lock,
     Upgrade,
 }
@@ -68,17 +68,9 @@ pub(crate) enum Pair {
 #[derive(Clone, Copy, Drop)]
 pub(crate) enum Cell {
     Shared(u32),
-    Weak(u32),
     First(usize),
     Next(usize),
     Up(usize),
-}
-
-/// Which compare-and-swap.
-#[derive(Clone, Copy, Drop)]
-pub(crate) enum Form {
-    Strong,
-    Weak,
 }
 
 /// A call, with the numbers of its slots. What comes into a slot replaces what lies there, which leaves.
@@ -90,11 +82,12 @@ pub(crate) enum Call {
     Tell(usize, Look),
     TellBoth(usize, Pair, usize),
     Load(Cell, usize),
+    Holds(Cell, usize),
     Store(usize, Cell),
     Exchange(usize, Cell),
     /// The cell is compared with the handle in the first slot, and that in the second is desired. Where that doesn't go
-    /// in, it stays in its slot, and the copy of what the cell holds leaves. A weak one is tried 1,000 times.
-    Compare(Form, Cell, usize, usize),
+    /// in, it stays in its slot, and the copy of what the cell holds leaves.
+    Compare(Cell, usize, usize),
 }
 
 /// What a call answers.
@@ -154,6 +147,7 @@ pub(crate) fn answer_of<R: Wait>(
             let came = load(rt, domain, desk, slots, cell);
             arrive(domain, desk, slots, to, came)
         }
+        Call::Holds(cell, of) => holds(domain, desk, slots, (cell, of)),
         Call::Tell(of, look) => tell(rt, domain, desk, slots, (of, look)),
         Call::TellBoth(a, pair, b) => tell_both(domain, desk, slots, (a, pair, b)),
         _ => hand_in(rt, domain, desk, slots, call),
@@ -180,9 +174,8 @@ fn hand_in<R: Wait>(
         },
         Call::Store(from, cell) => store(domain, desk, slots, from, cell),
         Call::Exchange(at, cell) => exchange(domain, desk, slots, at, cell),
-        Call::Compare(form, cell, expected, desired) => {
+        Call::Compare(cell, expected, desired) => {
             let offer = Offer {
-                form,
                 cell,
                 expected,
                 desired,

@@ -2,5 +2,5 @@
 pub(crate) mod both_kinds;
 pub(crate) mod compares;
 pub(crate) mod holders;
-pub(crate) mod loads;
+pub(crate) mod holding;
 pub(crate) mod members;

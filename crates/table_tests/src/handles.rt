@@ -2,6 +2,4 @@
 pub(crate) mod calls;
 pub(crate) mod limits;
 pub(crate) mod looks;
-pub(crate) mod pointers;
 pub(crate) mod slots;
-pub(crate) mod telling;

@@ -1,4 +1,4 @@
-//! Tests of handle tables: programs as a user writes them, without a clause or a proof file, and every fault.
+//! Tests of handle tables: what slots have, without a clause or a proof file, and every fault.
 #![tactic(auto)]
 
 #[cfg(test)]
@@ -20,5 +20,3 @@ mod same;
 pub mod shapes;
 #[cfg(test)]
 mod shelf;
-#[cfg(test)]
-mod structures;

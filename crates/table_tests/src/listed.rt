@@ -41,6 +41,7 @@ pub(crate) enum Call {
     Exchange(usize, Cell),
     CompareStrong(Cell, usize, usize),
     CompareWeak(Cell, usize, usize),
+    Holds(Cell, usize),
     UseCount(usize),
     Expired(usize),
     Read(usize),
@@ -234,6 +235,7 @@ fn decide<R: Wait, H: Home>(
         Call::CompareWeak(cell, expected, desired) => {
             table.compare_exchange_weak(rt, cell, expected, desired)
         }
+        Call::Holds(cell, at) => table.holds(cell, at),
         Call::Expired(at) => table.expired(at),
         Call::SamePlace(a, b) => table.same_place(a, b),
         Call::OwnerBefore(a, b) => table.owner_before(a, b),

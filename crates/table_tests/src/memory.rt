@@ -1,10 +1,10 @@
 //! Growths that are refused. `tests/refuse_allocations` runs these with each allocation refused in turn.
-use crate::alone::{Listed, ends, led, ran};
-use crate::listed::{Answer, Call, all};
+use crate::alone::{Listed, ends, unmanned};
+use crate::listed::{Answer, Call};
 use crate::same::{is_told, same};
 use crate::shapes::{alone, shape};
 use control_word::Refusal;
-use handle_table::{Fault, HandleTable, Home, Leader, Manned, Program, Team};
+use handle_table::Fault;
 use std::alloc::Global;
 use std::process::Abort;
 use std::sync::Wait;
@@ -62,98 +62,17 @@ fn four_blocks_are_opened_and_closed(rt: HostRuntime) -> Result<(), Fail> {
     is_idle(&rt, rt.alloc(), 4)
 }
 
-/// A program has no worker, whose tables would have so many slots.
-fn unmanned<R: Abort + Threads + Wait + Sync>(
-    rt: &R,
-    alloc: Global,
-    slots: usize,
-) -> Result<(usize, u32), Refusal> {
-    let team = Team {
-        workers: 0,
-        slots,
-        allowance: 1,
-        blocks: 0,
-    };
-    ran(rt, alloc, shape(1, 0, 0, 1), team, &IDLE)
-}
-
 /// The first table has as many slots as a worker's. There is memory for no table of so many.
 #[test]
 fn a_first_table_is_refused(rt: HostRuntime) -> Result<(), Fail> {
-    same(
-        &rt,
-        unmanned(&rt, rt.alloc(), usize::MAX),
-        Err(Refusal::Memory),
-    );
-    let told = match unmanned(&rt, rt.alloc(), 1) {
-        Err(Refusal::Memory) => unmanned(&rt, rt.alloc(), 1),
+    let (alloc, shape) = (rt.alloc(), shape(1, 0, 0, 1));
+    let refused = unmanned(&rt, alloc, shape, alone(usize::MAX, 1, 0));
+    same(&rt, refused, Err(Refusal::Memory));
+    let told = match unmanned(&rt, alloc, shape, alone(1, 1, 0)) {
+        Err(Refusal::Memory) => unmanned(&rt, alloc, shape, alone(1, 1, 0)),
         told => told,
     };
-    is_told(&rt, told, (0, 1))
-}
-
-/// A leader that starts so many teams of one worker, has its own after each, and tells how many teams worked.
-#[derive(Drop)]
-struct Tries {
-    left: u32,
-    worked: usize,
-}
-
-impl<R: Abort + Threads + Wait + Sync> Program<u64, R> for Tries {
-    fn work<H: Home>(&self, rt: &R, _number: usize, table: &mut HandleTable<'_, u64, H>) {
-        all(
-            rt,
-            table,
-            &[(Call::Make(0, [2; 4], false, 2), Answer::Done)],
-        );
-    }
-}
-
-impl<R: Abort + Threads + Wait + Sync> Leader<u64, R> for Tries {
-    fn lead<H: Home>(
-        &mut self,
-        rt: &R,
-        before: Option<Manned>,
-        table: &mut HandleTable<'_, u64, H>,
-    ) -> Option<Team> {
-        match before {
-            None => all(rt, table, &BEGIN),
-            Some(Manned { workers, fewer }) => {
-                let wanted = if workers == 1 {
-                    None
-                } else {
-                    Some(Refusal::Memory)
-                };
-                same(rt, fewer, wanted);
-                self.worked = self.worked.saturating_add(workers);
-            }
-        }
-        if self.left == 0 {
-            all(rt, table, &HAS_ALL);
-            return None;
-        }
-        self.left = self.left.wrapping_sub(1);
-        Some(alone(1, 2, 1))
-    }
-}
-
-/// A leader of two teams: how many blocks are vacant then, where one of them worked at least.
-fn tried<R: Abort + Threads + Wait + Sync>(rt: &R, alloc: Global) -> Result<u32, Refusal> {
-    let mut leader = Tries { left: 2, worked: 0 };
-    match led(rt, alloc, shape(3, 0, 0, 4), 5, &mut leader) {
-        Ok(vacant) if leader.worked > 0 => Ok(vacant),
-        Ok(_) => Err(Refusal::Memory),
-        Err(why) => Err(why),
-    }
-}
-
-#[test]
-fn a_leader_is_told_that_its_team_was_refused(rt: HostRuntime) -> Result<(), Fail> {
-    let told = match tried(&rt, rt.alloc()) {
-        Err(Refusal::Memory) => tried(&rt, rt.alloc()),
-        told => told,
-    };
-    is_told(&rt, told, 3)
+    is_told(&rt, told, 1)
 }
 
 /// What tests ask for whose calls take no memory.

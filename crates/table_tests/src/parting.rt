@@ -1,7 +1,5 @@
-//! Tables in threads: splits, joins, teams and leaders.
+//! Tables in threads and apart: splits, joins, teams and workers.
 pub(crate) mod joins;
-pub(crate) mod leaders;
 pub(crate) mod splits;
 pub(crate) mod staff;
 pub(crate) mod teams;
-pub(crate) mod threads;

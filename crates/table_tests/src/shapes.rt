@@ -1,8 +1,8 @@
-//! Domains and teams that the tests work with.
+//! Domains and shares that the tests work with.
 ghost use Rattle.std.specs.Prelude.{◌≡◌};
 
 use control_word::Shape;
-use handle_table::Team;
+use handle_table::Share;
 
 /// A domain with so many blocks and free cells of both kinds.
 pub fn shape(blocks: u32, shared_cells: u32, weak_cells: u32, allowance: u32) -> Shape
@@ -21,12 +21,11 @@ pub fn shape(blocks: u32, shared_cells: u32, weak_cells: u32, allowance: u32) ->
     }
 }
 
-/// A team of one worker.
-pub fn alone(slots: usize, allowance: u32, blocks: u32) -> Team
-    ensures { result ≡ record { workers = 1; slots = slots; allowance = allowance; blocks = blocks } }
+/// What one worker gets.
+pub fn alone(slots: usize, allowance: u32, blocks: u32) -> Share
+    ensures { result ≡ record { slots = slots; allowance = allowance; blocks = blocks } }
 {
-    Team {
-        workers: 1,
+    Share {
         slots,
         allowance,
         blocks,

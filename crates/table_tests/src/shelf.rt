@@ -1,10 +1,11 @@
 //! The shelf: what goes there, what a make takes from it, and when it is left alone.
-use crate::alone::{answers, led, ran};
+use crate::alone::answers;
 use crate::listed::{Answer, Call, all};
 use crate::same::same;
 use crate::shapes::{alone, shape};
 use control_word::Refusal;
-use handle_table::{Fault, HandleTable, Home, Leader, Manned, Program, Team};
+use handle_table::{Fault, HandleTable, Home, Share, Work, run_workers};
+use std::alloc::Global;
 use std::process::Abort;
 use std::sync::Wait;
 use std::thread::Threads;
@@ -67,14 +68,17 @@ fn at_the_limit_the_shelf_is_left_alone(rt: HostRuntime) {
 }
 
 /// Of two threads one shelves its block, and the other makes an object more than it has blocks.
-struct Lends;
+#[derive(Drop)]
+struct Lends {
+    shelves: bool,
+}
 
 /// How often the other one tries.
 const TRIES: u32 = 10_000_000;
 
-impl<R: Abort + Threads + Wait + Sync> Program<u64, R> for Lends {
-    fn work<H: Home>(&self, rt: &R, number: usize, table: &mut HandleTable<'_, u64, H>) {
-        if number == 0 {
+impl<R: Abort + Threads + Wait + Sync> Work<u64, R> for Lends {
+    fn work<H: Home>(&mut self, rt: &R, table: &mut HandleTable<'_, u64, H>) {
+        if self.shelves {
             all(rt, table, &[(Call::Shelve(9), Answer::Count(1))]);
             return;
         }
@@ -92,52 +96,21 @@ impl<R: Abort + Threads + Wait + Sync> Program<u64, R> for Lends {
     }
 }
 
-#[test]
-fn a_thread_makes_in_anothers_block(rt: HostRuntime) {
-    let team = Team {
-        workers: 2,
+/// How many of two blocks are vacant when both are done.
+fn lent<R: Abort + Threads + Wait + Sync>(rt: &R, alloc: Global) -> Result<u32, Refusal> {
+    let mut workers = vec![in alloc; Lends { shelves: true }, Lends { shelves: false }]?;
+    let share = Share {
         slots: 2,
         allowance: 2,
         blocks: 1,
     };
-    let told = ran(&rt, rt.alloc(), shape(2, 0, 0, 6), team, &Lends);
-    same(&rt, told, Ok((2, 2)));
-}
-
-/// A sole table: a make is refused just where no block is in its store or on the shelf.
-const SOLE: [(Call, Answer); 8] = [
-    (Call::Shelve(9), Answer::Count(2)),
-    (Call::MakeNull(0, 1), Answer::Done),
-    (Call::Make(1, [2; 4], false, 2), Answer::Done),
-    (Call::Make(2, [3; 4], false, 3), FULL),
-    (Call::MakeNull(2, 3), FULL),
-    (Call::Reset(0), Answer::WasLast),
-    (Call::EndNext, Answer::Value(Some(1))),
-    (Call::Shelve(9), Answer::Count(1)),
-];
-
-/// A leader that has no team, and leaves a block on the shelf.
-#[derive(Drop)]
-struct Sole;
-
-impl<R: Abort + Threads + Wait + Sync> Program<u64, R> for Sole {
-    fn work<H: Home>(&self, _rt: &R, _number: usize, _table: &mut HandleTable<'_, u64, H>) {}
-}
-
-impl<R: Abort + Threads + Wait + Sync> Leader<u64, R> for Sole {
-    fn lead<H: Home>(
-        &mut self,
-        rt: &R,
-        _before: Option<Manned>,
-        table: &mut HandleTable<'_, u64, H>,
-    ) -> Option<Team> {
-        all(rt, table, &SOLE);
-        None
+    match run_workers(rt, alloc, shape(2, 0, 0, 6), share, &mut workers) {
+        Ok(census) => Ok(census.vacant()),
+        Err(why) => Err(why),
     }
 }
 
 #[test]
-fn a_sole_table_finds_all_that_is_shelved(rt: HostRuntime) {
-    let vacant = led(&rt, rt.alloc(), shape(2, 0, 0, 4), 3, &mut Sole);
-    same(&rt, vacant, Ok(2));
+fn a_thread_makes_in_anothers_block(rt: HostRuntime) {
+    same(&rt, lent(&rt, rt.alloc()), Ok(2));
 }

@@ -4,7 +4,7 @@ ghost use Rattle.control_word.specs.declared.refusal.Refusal.TheVariants.{Limit}
 ghost use Rattle.control_block.specs.CellCalls.{HoldsHandle, IsOpenAt, cell_of_site, without_handle};
 ghost use Rattle.control_block.specs.Desks.{Belongs, Keeps, allowance_of, bag_of, held_of};
 ghost use Rattle.control_block.specs.HandleLists.{IsHeldByDesk, with_held, without_held};
-ghost use Rattle.atomic_cells.specs.Cells.{Exchanges, Loads};
+ghost use Rattle.atomic_cells.specs.Cells.{Exchanges, Loads, TellsHeld};
 ghost use Rattle.atomic_cells.specs.Compares.{Compares};
 ghost use Rattle.handle_table.specs.Calls.{IsBelow};
 ghost use Rattle.handle_table.specs.Parts.{kind_of_held, block_of_held, place_of_held};
@@ -69,6 +69,27 @@ pub(crate) fn load_held<V: Drop, R: Wait>(
         Ok(found) => Ok(held_of(found)),
         Err(why) => Err(why),
     }
+}
+
+/// Whether the cell holds what is equivalent to a handle of its kind.
+#[inline]
+pub(crate) fn holds_held<V: Drop>(
+    domain: &Domain<V>,
+    desk: &mut Desk<V>,
+    cell: CellAt,
+    expected: Content,
+) -> bool
+    requires domain { Belongs desk.old domain.now }
+    requires cell { IsOpenAt desk.old cell.site cell.kind }
+    requires holds { HoldsHandle desk.old cell.kind expected.block expected.place }
+    requires kind { expected.kind ≡ cell.kind }
+    ensures event { TellsHeld desk.old (cell_of_site desk.old cell.site) cell.kind expected.block expected.place
+        result desk.new }
+    ensures bag { bag_of desk.new ≡ bag_of desk.old }
+    ensures held { desk.new.held ≡ desk.old.held }
+    ensures keeps { Keeps desk.old desk.new }
+{
+    cell_calls::holds::<V, Brand>(domain, desk, cell.site, expected)
 }
 
 /// The handle goes into the cell, and what the cell held comes out.

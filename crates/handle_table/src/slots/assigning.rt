@@ -45,7 +45,7 @@ pub(crate) fn let_go<V: Drop>(
 
 /// The handle in hand goes into a slot, and then what lay there leaves.
 #[inline(always)]
-pub fn assign<V: Drop>(
+pub(crate) fn assign<V: Drop>(
     domain: &Domain<V>,
     desk: &mut Desk<V>,
     slots: &mut Vec<Slot>,
@@ -100,7 +100,7 @@ fn assign_over<V: Drop>(
 
 /// A handle that came goes into a slot, and then what lay there leaves.
 #[inline(always)]
-pub fn arrive<V: Drop, E>(
+pub(crate) fn arrive<V: Drop, E>(
     domain: &Domain<V>,
     desk: &mut Desk<V>,
     slots: &mut Vec<Slot>,

@@ -5,7 +5,7 @@ use control_block::handles::Weak;
 use shared_handle::{Held, Shared};
 
 /// What lies in a slot.
-pub trait InSlot {
+pub(crate) trait InSlot {
     /// It was looked at, and is its slot's still.
     fn stays(self);
 }
@@ -35,7 +35,7 @@ impl InSlot for Held {
 }
 
 /// A handle in a slot, to be looked at. When the look ends it is the slot's still.
-pub struct Seen<H: InSlot> {
+pub(crate) struct Seen<H: InSlot> {
     pub handle: H,
 }
 

@@ -14,7 +14,7 @@ use std::marker::Model;
 
 /// A slot. Most handles that come and leave are owners of an object, so one that is lies in fields of its own, and its
 /// leave reads one of them.
-pub struct Slot {
+pub(crate) struct Slot {
     /// The number of the block of what an owner here owns, and 0 where there is none.
     owned: u16,
     /// Where such an owner points.

@@ -56,7 +56,11 @@ pub(crate) fn shared_at<'a>(
 
 /// The weak member of the object that the owner in a slot owns.
 #[tactic(auto, using(atomic_cells::proofs::Members::up_open))]
-fn up_of<'a>(desk: &Desk<u64>, slots: &'a [Option<Held>], of: usize) -> Result<WeakAt<'a>, Answer>
+pub(crate) fn up_of<'a>(
+    desk: &Desk<u64>,
+    slots: &'a [Option<Held>],
+    of: usize,
+) -> Result<WeakAt<'a>, Answer>
     requires holds { HoldsSlots desk.now slots.now }
     ensures { IfOk result (λ at. IsOpenWeakly desk.now at.site) }
 {
@@ -72,43 +76,20 @@ fn up_of<'a>(desk: &Desk<u64>, slots: &'a [Option<Held>], of: usize) -> Result<W
     }
 }
 
-/// The cell of weak pointers, if it is one.
-pub(crate) fn weak_at<'a>(
-    domain: &Domain<u64>,
-    desk: &Desk<u64>,
-    slots: &'a [Option<Held>],
-    cell: Cell,
-) -> Result<WeakAt<'a>, Answer>
-    requires domain { Belongs desk.now domain.now }
-    requires holds { HoldsSlots desk.now slots.now }
-    ensures { IfOk result (λ at. IsOpenWeakly desk.now at.site) }
-{
-    match cell {
-        Cell::Weak(index) if index < domain.weak_cells() => Ok(WeakAt::free(index)),
-        Cell::Up(of) => up_of(desk, slots, of),
-        _ => Err(Answer::NoSuch),
-    }
-}
-
-/// Whether a cell has weak pointers.
-fn is_weak(cell: Cell) -> bool {
-    matches!(cell, Cell::Weak(_) | Cell::Up(_))
-}
-
-/// A copy of what a cell of weak pointers holds.
+/// A copy of what a weak member holds.
 #[tactic(auto, using(crate::proofs::Hands::owner_gained, crate::proofs::Hands::weak_gained, crate::proofs::Hands::same_stays, crate::proofs::Hands::keeps_desk))]
 fn load_weak<R: Wait>(
     rt: &R,
     domain: &Domain<u64>,
     desk: &mut Desk<u64>,
     slots: &[Option<Held>],
-    cell: Cell,
+    of: usize,
 ) -> Result<Held, Answer>
     requires domain { Belongs desk.old domain.now }
     requires holds { HoldsSlots desk.old slots.now }
     ensures { Comes desk.old result desk.new }
 {
-    match weak_at(domain, desk, slots, cell) {
+    match up_of(desk, slots, of) {
         Ok(at) => match at.load(rt, domain, desk) {
             Ok(weak) => Ok(Held::Weak(weak)),
             Err(why) => Err(Answer::Not(why)),
@@ -154,8 +135,8 @@ pub(crate) fn load<R: Wait>(
     ensures came { HoldsCame desk.new result slots.now }
 {
     desk.stands();
-    if is_weak(cell) {
-        return load_weak(rt, domain, desk, slots, cell);
+    match cell {
+        Cell::Up(of) => load_weak(rt, domain, desk, slots, of),
+        _ => load_shared(rt, domain, desk, slots, cell),
     }
-    load_shared(rt, domain, desk, slots, cell)
 }

@@ -11,8 +11,7 @@ use control_block::domain::Domain;
 use control_block::handles::{self, Held};
 use control_word::Refused;
 use shared_handle::{
-    Shared, alias, downgrade, empty, empty_weak, lock, make, make_null, share, share_weak,
-    shared_from_this, upgrade, weak_from_this,
+    Shared, alias, empty, empty_weak, lock, make, make_null, share, shared_from_this, upgrade,
 };
 use std::sync::Wait;
 
@@ -41,31 +40,6 @@ fn owner_of(
             Ok(this) => Ok(Held::Owner(this)),
             Err(why) => Err(Answer::Not(why)),
         },
-        _ => weak_of(domain, desk, owner, way),
-    }
-}
-
-/// A weak handle that comes of an owner.
-#[tactic(auto, using(crate::proofs::Hands::weak_gained, crate::proofs::Hands::same_stays, crate::proofs::Hands::keeps_desk))]
-fn weak_of(
-    domain: &Domain<u64>,
-    desk: &mut Desk<u64>,
-    owner: &Shared,
-    way: Way,
-) -> Result<Held, Answer>
-    requires domain { Belongs desk.old domain.now }
-    requires holds { HoldsHandle desk.old Owner owner.now.block owner.now.place }
-    ensures { Comes desk.old result desk.new }
-{
-    match way {
-        Way::Downgrade => match downgrade(domain, desk, owner) {
-            Ok(weak) => Ok(Held::Weak(weak)),
-            Err(why) => Err(Answer::Not(why)),
-        },
-        Way::WeakFromThis => match weak_from_this(domain, desk, owner) {
-            Ok(this) => Ok(Held::Weak(this)),
-            Err(why) => Err(Answer::Not(why)),
-        },
         _ => Err(Answer::NoSuch),
     }
 }
@@ -84,10 +58,6 @@ fn of_weak<R: Wait>(
     ensures { Comes desk.old result desk.new }
 {
     match way {
-        Way::Share => match share_weak(domain, desk, weak) {
-            Ok(copy) => Ok(Held::Weak(copy)),
-            Err(why) => Err(Answer::Not(why)),
-        },
         Way::Lock => match lock(rt, domain, desk, weak) {
             Ok(owner) => Ok(Held::Owner(owner)),
             Err(why) => Err(Answer::Not(why)),

@@ -1,7 +1,7 @@
 //! Handles come into slots and go out of them.
 ghost use Rattle.std.specs.Prelude.{◌≡◌, ◌+◌, ◌<◌, IfSome, MatchOption, None, Some};
 ghost use Rattle.std.specs.Prelude.{length, slice_get, slice_set};
-ghost use Rattle.shared_handle.specs.Prelude.{Owner, Weak, HoldsHandle};
+ghost use Rattle.shared_handle.specs.Prelude.{Owner, HoldsHandle};
 ghost use Rattle.control_block.specs.Desks.{Belongs, IsSameDesk, bag_of};
 ghost use Rattle.control_block.specs.HandleLists.{IsHeldByDesk, without_held};
 ghost use Rattle.handle_tests.specs.Hands.{HoldsBeside, HoldsCame, HoldsSlots};
@@ -10,7 +10,7 @@ use crate::listed::{Answer, Outcome};
 use crate::parts::end_of;
 use control_block::desk::Desk;
 use control_block::domain::Domain;
-use control_block::handles::{self, Held};
+use control_block::handles::Held;
 use shared_handle::{Left, Shared, release, release_weak};
 
 /// What lies in a slot, and stays there.
@@ -72,24 +72,6 @@ pub(crate) fn owner_at<'a>(
     match handle {
         Held::Owner(owner) => Some(owner),
         Held::Weak(_) => None,
-    }
-}
-
-/// The weak handle in a slot.
-pub(crate) fn watcher_at<'a>(
-    desk: &Desk<u64>,
-    slots: &'a [Option<Held>],
-    at: usize,
-) -> Option<&'a handles::Weak>
-    requires { HoldsSlots desk.now slots.now }
-    ensures { IfSome result (λ h. HoldsHandle desk.now Weak h.now.block h.now.place) }
-{
-    let Some(handle) = held_at(desk, slots, at) else {
-        return None;
-    };
-    match handle {
-        Held::Owner(_) => None,
-        Held::Weak(weak) => Some(weak),
     }
 }
 

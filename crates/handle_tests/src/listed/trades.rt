@@ -4,13 +4,13 @@ ghost use Rattle.control_block.specs.Desks.{Belongs, IsSameDesk};
 ghost use Rattle.control_block.specs.declared.handles.Held.TheVariants as held;
 ghost use Rattle.handle_tests.specs.Hands.{HoldsBeside, HoldsSlots};
 
-use crate::listed::cells::{shared_at, weak_at};
+use crate::listed::cells::shared_at;
 use crate::listed::slots::{lay, take};
 use crate::listed::{Answer, Cell, Outcome};
 use crate::parts::end_of;
 use control_block::desk::Desk;
 use control_block::domain::Domain;
-use control_block::handles::{self, Held};
+use control_block::handles::Held;
 use shared_handle::{Left, Shared};
 
 /// An owner goes into a cell: what was left of what lay there, or why none went in, and the owner back.
@@ -37,31 +37,7 @@ fn store_shared(
     }
 }
 
-/// The same of a weak handle.
-fn store_weak(
-    domain: &Domain<u64>,
-    desk: &mut Desk<u64>,
-    slots: &[Option<Held>],
-    cell: Cell,
-    weak: handles::Weak,
-) -> Result<Outcome, (Answer, Held)>
-    requires domain { Belongs desk.old domain.now }
-    requires holds { HoldsBeside desk.old (held.Weak weak) slots.now }
-    ensures desk { IsSameDesk desk.old desk.new }
-    ensures holds { MatchResult result (λ _. HoldsSlots desk.new slots.now)
-        (λ back. HoldsBeside desk.new back.1 slots.now) }
-{
-    match weak_at(domain, desk, slots, cell) {
-        Ok(at) => match at.store(domain, desk, weak) {
-            Left::Empty => Ok(Outcome::Empty),
-            Left::Others => Ok(Outcome::Others),
-            Left::Last(ending) => Ok(Outcome::Ended(end_of(domain, desk, ending).3)),
-        },
-        Err(why) => Err((why, Held::Weak(weak))),
-    }
-}
-
-/// The same of a handle of either kind.
+/// The same of a handle; a weak one goes into none.
 fn store_held(
     domain: &Domain<u64>,
     desk: &mut Desk<u64>,
@@ -77,7 +53,7 @@ fn store_held(
 {
     match handle {
         Held::Owner(owner) => store_shared(domain, desk, slots, cell, owner),
-        Held::Weak(weak) => store_weak(domain, desk, slots, cell, weak),
+        Held::Weak(weak) => Err((Answer::NoSuch, Held::Weak(weak))),
     }
 }
 
@@ -127,10 +103,7 @@ fn trade(
             Ok(at) => (Answer::Done, Held::Owner(at.exchange(domain, desk, owner))),
             Err(why) => (why, Held::Owner(owner)),
         },
-        Held::Weak(weak) => match weak_at(domain, desk, slots, cell) {
-            Ok(at) => (Answer::Done, Held::Weak(at.exchange(domain, desk, weak))),
-            Err(why) => (why, Held::Weak(weak)),
-        },
+        Held::Weak(weak) => (Answer::NoSuch, Held::Weak(weak)),
     }
 }
 

@@ -1,5 +1,5 @@
 //! Who holds what is left of a closed domain.
-use crate::alone::Listed;
+use crate::alone::{Listed, played};
 use crate::listed::{Answer, Call};
 use crate::same::same;
 use crate::shapes::{alone, shape};
@@ -7,7 +7,7 @@ use control_block::cell_calls::CellAt;
 use control_block::census::{Census, Holders};
 use control_word::model::handle::Kind;
 use control_word::{Block, Site};
-use handle_table::{Cell, SharedMember, run};
+use handle_table::{Cell, SharedMember};
 use std::alloc::Global;
 use std::process::Abort;
 
@@ -73,11 +73,11 @@ fn held<R: Abort>(rt: &R, alloc: Global, census: &Census<u64>, block: u16, wante
 #[test]
 fn the_census_tells_who_holds(rt: HostRuntime) {
     let program = Listed { lists: &[&TANGLE] };
-    match run(&rt, rt.alloc(), shape(2, 1, 0, 8), alone(3, 4, 2), &program) {
-        Ok(ran) => {
+    match played(&rt, rt.alloc(), shape(2, 1, 0, 8), alone(3, 4, 2), &program) {
+        Ok(census) => {
             let first = [(0, 0, Kind::Owner), (2, 0, Kind::Owner), (2, 2, Kind::Weak)];
-            held(&rt, rt.alloc(), &ran.census, 1, &first);
-            held(&rt, rt.alloc(), &ran.census, 2, &[(1, 1, Kind::Owner)]);
+            held(&rt, rt.alloc(), &census, 1, &first);
+            held(&rt, rt.alloc(), &census, 2, &[(1, 1, Kind::Owner)]);
         }
         Err(why) => same(&rt, Some(why), None),
     }

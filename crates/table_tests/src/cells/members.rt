@@ -1,5 +1,5 @@
 //! Members of objects, and what their objects' ends find in them, member by member.
-use crate::handles::telling::hold;
+use crate::alone::hold;
 use crate::listed::{Answer, Call, Was};
 use handle_table::{Cell, SharedMember};
 

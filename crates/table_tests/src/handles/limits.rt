@@ -1,14 +1,13 @@
 //! Numbers that may be no greater: of cells, of a place's block and field, of handles, and of objects; and how large a
 //! program's domain may be.
-use crate::alone::{Listed, works};
+use crate::alone::{Play, unmanned, works};
 use crate::faults::{each, refused};
 use crate::handles::slots::{BEGIN, OWNER, TO, WEAK, cell_calls};
 use crate::listed::{Answer, Call, all};
 use crate::same::same;
 use crate::shapes::{alone, shape};
-use control_word::{Block, Place, Refusal, Shape};
-use handle_table::{Cell, Fault, HandleTable, Home, Program, run};
-use std::alloc::Global;
+use control_word::{Block, Place, Refusal};
+use handle_table::{Cell, Fault, HandleTable, Home};
 use std::process::Abort;
 use std::sync::Wait;
 use std::thread::Threads;
@@ -110,8 +109,8 @@ const BLOCKS: [(Call, Answer); 10] = [
 
 struct Limits;
 
-impl<R: Abort + Threads + Wait + Sync> Program<u64, R> for Limits {
-    fn work<H: Home>(&self, rt: &R, _number: usize, table: &mut HandleTable<'_, u64, H>) {
+impl<R: Abort + Threads + Wait + Sync> Play<R> for Limits {
+    fn play<H: Home>(&self, rt: &R, table: &mut HandleTable<'_, u64, H>) {
         refused(rt, table, None, &BEGIN);
         cells(rt, table);
         all(rt, table, &PLACES);
@@ -161,27 +160,12 @@ const DOMAINS: [(u32, u32, u32, u32, bool); 7] = [
     (1, 0, 0, 0, false),
 ];
 
-/// Why a domain is refused to a program, if it is.
-fn refusal<R: Abort + Threads + Wait + Sync>(
-    rt: &R,
-    alloc: Global,
-    shape: Shape,
-) -> Option<Refusal> {
-    match run(rt, alloc, shape, alone(1, 1, 1), &Listed { lists: &[] }) {
-        Ok(_) => None,
-        Err(why) => Some(why),
-    }
-}
-
 #[test]
 fn a_program_has_a_domain_within_limits(rt: HostRuntime) {
     for (blocks, shared, weak, allowance, opens) in DOMAINS {
         let shape = shape(blocks, shared, weak, allowance);
         let wanted = if opens { None } else { Some(Refusal::Shape) };
-        same(
-            &rt,
-            (shape, refusal(&rt, rt.alloc(), shape)),
-            (shape, wanted),
-        );
+        let refused = unmanned(&rt, rt.alloc(), shape, alone(1, 1, 1)).err();
+        same(&rt, (shape, refused), (shape, wanted));
     }
 }

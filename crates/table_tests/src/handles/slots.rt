@@ -1,9 +1,9 @@
 //! Every call with a slot: the last number and the next, a vacant slot, and one with a handle of the other kind.
-use crate::alone::works;
+use crate::alone::{Play, works};
 use crate::faults::{each, refused};
 use crate::listed::{Answer, Call, all};
 use crate::shapes::{alone, shape};
-use handle_table::{Cell, Fault, HandleTable, Home, Program, SharedMember};
+use handle_table::{Cell, Fault, HandleTable, Home, SharedMember};
 use std::process::Abort;
 use std::sync::Wait;
 use std::thread::Threads;
@@ -208,8 +208,8 @@ fn into_cell<R: Abort + Wait, H: Home>(
 
 struct Slots;
 
-impl<R: Abort + Threads + Wait + Sync> Program<u64, R> for Slots {
-    fn work<H: Home>(&self, rt: &R, _number: usize, table: &mut HandleTable<'_, u64, H>) {
+impl<R: Abort + Threads + Wait + Sync> Play<R> for Slots {
+    fn play<H: Home>(&self, rt: &R, table: &mut HandleTable<'_, u64, H>) {
         refused(rt, table, None, &BEGIN);
         with_faults(rt, table);
         all(rt, table, &BETWEEN);

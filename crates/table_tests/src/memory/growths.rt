@@ -1,4 +1,4 @@
-//! Calls of a table that take memory, where it is refused: each is asked for once more.
+//! A split where its memory is refused: it is asked for once more.
 use crate::listed::{Answer, Call, all};
 use crate::memory::{BEGIN, HAS_ALL};
 use crate::parting::joins::come_together;
@@ -11,40 +11,17 @@ use std::process::Abort;
 use std::sync::Wait;
 use std::test::Fail;
 use std::thread::Threads;
-use table_structures::{ObserverCalls, SceneCalls, StackCalls};
 
 const MEMORY: Fault = Fault::Call(Refusal::Memory);
-
-/// Calls of a table that take memory. The teardown's root has another owner, in slot 2.
-#[derive(Clone, Copy, Drop)]
-enum Growth {
-    Split,
-    Stack,
-    Observers,
-    Scene,
-    Teardown,
-}
 
 /// A call that takes memory, and gives it back.
 fn grow<R: Abort + Wait, H: Home>(
     rt: &R,
     alloc: Global,
-    growth: Growth,
     table: &mut HandleTable<'_, u64, H>,
 ) -> Result<(), Fault> {
-    match growth {
-        Growth::Split => {
-            let other = table.split(alloc, 2, 2, 1)?;
-            come_together(rt, table, other);
-        }
-        Growth::Stack => table.stack(alloc, 0)?.close(),
-        Growth::Observers => table.observers(alloc, 0)?.close(),
-        Growth::Scene => table.scene(alloc)?.close(),
-        Growth::Teardown => {
-            let values = table.teardown(alloc, 0)?;
-            same(rt, values.len(), 0);
-        }
-    }
+    let other = table.split(alloc, 2, 2, 1)?;
+    come_together(rt, table, other);
     Ok(())
 }
 
@@ -58,7 +35,6 @@ const HAS_BOTH: [(Call, Answer); 2] = [
 #[derive(Drop)]
 struct Growing {
     alloc: Global,
-    growth: Growth,
     is_refused: bool,
 }
 
@@ -69,7 +45,7 @@ impl Growing {
         rt: &R,
         table: &mut HandleTable<'_, u64, H>,
     ) -> bool {
-        match grow(rt, self.alloc, self.growth, table) {
+        match grow(rt, self.alloc, table) {
             Ok(()) => false,
             Err(why) => {
                 same(rt, why, MEMORY);
@@ -84,9 +60,7 @@ impl<R: Abort + Threads + Wait + Sync> Work<u64, R> for Growing {
     fn work<H: Home>(&mut self, rt: &R, table: &mut HandleTable<'_, u64, H>) {
         all(rt, table, &BEGIN);
         self.is_refused = self.is_refused_now(rt, table) && self.is_refused_now(rt, table);
-        if !matches!(self.growth, Growth::Teardown) {
-            all(rt, table, &HAS_ALL);
-        }
+        all(rt, table, &HAS_ALL);
     }
 }
 
@@ -112,45 +86,17 @@ fn worked<R: Abort + Threads + Wait + Sync>(
 }
 
 /// Where one allocation is refused, the call is made in the end. The test itself makes one, for its list.
-fn is_made<R: Abort + Threads + Wait + Sync>(
-    rt: &R,
-    alloc: Global,
-    growth: Growth,
-) -> Result<(), Fail> {
+#[test]
+fn a_refused_split_changes_nothing(rt: HostRuntime) -> Result<(), Fail> {
+    let alloc = rt.alloc();
     let mut workers = Vec::with_capacity(alloc, 1)?;
     workers.push_reserved(Growing {
         alloc,
-        growth,
         is_refused: false,
     });
-    let told = worked(rt, alloc, &mut workers);
+    let told = worked(&rt, alloc, &mut workers);
     if workers.iter().any(|it| it.is_refused) {
         return Err(Refusal::Memory.into());
     }
-    is_told(rt, told, 3)
-}
-
-#[test]
-fn a_refused_split_changes_nothing(rt: HostRuntime) -> Result<(), Fail> {
-    is_made(&rt, rt.alloc(), Growth::Split)
-}
-
-#[test]
-fn a_refused_stack_changes_nothing(rt: HostRuntime) -> Result<(), Fail> {
-    is_made(&rt, rt.alloc(), Growth::Stack)
-}
-
-#[test]
-fn refused_observers_change_nothing(rt: HostRuntime) -> Result<(), Fail> {
-    is_made(&rt, rt.alloc(), Growth::Observers)
-}
-
-#[test]
-fn a_refused_scene_changes_nothing(rt: HostRuntime) -> Result<(), Fail> {
-    is_made(&rt, rt.alloc(), Growth::Scene)
-}
-
-#[test]
-fn a_refused_teardown_changes_nothing(rt: HostRuntime) -> Result<(), Fail> {
-    is_made(&rt, rt.alloc(), Growth::Teardown)
+    is_told(&rt, told, 3)
 }

@@ -1,10 +1,10 @@
 //! Two tables of a domain become one: all that comes over, and handles that can't.
-use crate::alone::works;
+use crate::alone::{Play, works};
 use crate::listed::{Answer, Call, all};
 use crate::same::same;
 use crate::shapes::{alone, shape};
 use control_word::Refusal;
-use handle_table::{Fault, HandleTable, Home, Program, Returned};
+use handle_table::{Fault, HandleTable, Home, Returned};
 use std::alloc::Global;
 use std::process::Abort;
 use std::sync::Wait;
@@ -84,8 +84,8 @@ struct Joins {
     alloc: Global,
 }
 
-impl<R: Abort + Threads + Wait + Sync> Program<u64, R> for Joins {
-    fn work<H: Home>(&self, rt: &R, _number: usize, table: &mut HandleTable<'_, u64, H>) {
+impl<R: Abort + Threads + Wait + Sync> Play<R> for Joins {
+    fn play<H: Home>(&self, rt: &R, table: &mut HandleTable<'_, u64, H>) {
         all(
             rt,
             table,

@@ -1,10 +1,10 @@
 //! A split by itself: what each number may be, what goes over, and what the next number is refused with.
-use crate::alone::works;
+use crate::alone::{Play, works};
 use crate::listed::{Answer, Call, all};
 use crate::parting::joins::come_together;
 use crate::shapes::{alone, shape};
 use control_word::Refusal;
-use handle_table::{Fault, HandleTable, Home, Program};
+use handle_table::{Fault, HandleTable, Home};
 use std::alloc::Global;
 use std::process::Abort;
 use std::sync::Wait;
@@ -75,8 +75,8 @@ struct Splits {
     alloc: Global,
 }
 
-impl<R: Abort + Threads + Wait + Sync> Program<u64, R> for Splits {
-    fn work<H: Home>(&self, rt: &R, _number: usize, table: &mut HandleTable<'_, u64, H>) {
+impl<R: Abort + Threads + Wait + Sync> Play<R> for Splits {
+    fn play<H: Home>(&self, rt: &R, table: &mut HandleTable<'_, u64, H>) {
         let begin = [
             (Call::Make(0, [1; 4], false, 1), Answer::Done),
             (Call::Copy(0, 2), Answer::Done),

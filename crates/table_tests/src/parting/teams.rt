@@ -1,49 +1,18 @@
-//! Teams: how many workers have a table, why they are fewer, and a team within a worker's table.
-use crate::alone::works;
+//! Tables for a team within a worker's table: how many there are, why they are fewer, and what comes back.
+use crate::alone::{Play, works};
 use crate::listed::{Answer, Call, all};
 use crate::parting::joins::{come_together, try_join};
 use crate::same::same;
 use crate::shapes::{alone, shape};
 use control_word::Refusal;
-use handle_table::{Crew, Fault, HandleTable, Home, Program, Returned, Team, run};
+use handle_table::{Crew, Fault, HandleTable, Home, Returned, Team};
 use std::alloc::Global;
 use std::process::Abort;
 use std::sync::Wait;
 use std::thread::Threads;
 
-/// An owner of what the worker makes is left in its slot 0.
-struct Leaves;
-
-impl<R: Abort + Threads + Wait + Sync> Program<u64, R> for Leaves {
-    fn work<H: Home>(&self, rt: &R, number: usize, table: &mut HandleTable<'_, u64, H>) {
-        let make = Call::Make(0, [0; 4], false, number as u64);
-        all(rt, table, &[(make, Answer::Done)]);
-    }
-}
-
-/// How many of three workers have a table with such a part of 8 handles and 4 blocks, why they are fewer, and how many
-/// blocks are vacant when they are done.
-fn manned<R: Abort + Threads + Wait + Sync>(
-    rt: &R,
-    alloc: Global,
-    workers: usize,
-    allowance: u32,
-    blocks: u32,
-) -> Result<(usize, Option<Refusal>, u32), Refusal> {
-    let shape = shape(4, 0, 0, 8);
-    let team = Team {
-        workers,
-        slots: 1,
-        allowance,
-        blocks,
-    };
-    match run(rt, alloc, shape, team, &Leaves) {
-        Ok(ran) => Ok((ran.workers, ran.fewer, ran.census.vacant())),
-        Err(why) => Err(why),
-    }
-}
-
-/// How many workers are asked for, and what each gets; how many there are, and why they are fewer.
+/// How many workers are asked for, and what each gets of 8 handles, of which one is the desk's own, and 4 blocks; how
+/// many tables there are, and why they are fewer.
 const TEAMS: [(usize, u32, u32, usize, Option<Refusal>); 5] = [
     (0, 1, 1, 0, None),
     (2, 3, 1, 2, None),
@@ -52,12 +21,39 @@ const TEAMS: [(usize, u32, u32, usize, Option<Refusal>); 5] = [
     (3, 1, 2, 2, Some(Refusal::Full)),
 ];
 
+/// A worker that asks for each of these teams, whose tables come back.
+#[derive(Drop)]
+struct Asks {
+    alloc: Global,
+}
+
+impl<R: Abort + Threads + Wait + Sync> Play<R> for Asks {
+    fn play<H: Home>(&self, rt: &R, table: &mut HandleTable<'_, u64, H>) {
+        for (workers, allowance, blocks, there, fewer) in TEAMS {
+            let team = Team {
+                workers,
+                slots: 1,
+                allowance,
+                blocks,
+            };
+            let Crew { tables, fewer: why } = table.team(self.alloc, team);
+            same(rt, (tables.len(), why), (there, fewer));
+            table.absorb_all(rt, tables);
+        }
+    }
+}
+
 #[test]
 fn a_team_says_why_it_is_smaller(rt: HostRuntime) {
-    for (workers, allowance, blocks, there, fewer) in TEAMS {
-        let told = manned(&rt, rt.alloc(), workers, allowance, blocks);
-        same(&rt, told, Ok((there, fewer, 4)));
-    }
+    let program = Asks { alloc: rt.alloc() };
+    works(
+        &rt,
+        rt.alloc(),
+        shape(4, 0, 0, 9),
+        alone(1, 8, 4),
+        &program,
+        4,
+    );
 }
 
 /// The table of the team has a slot more than this one, and an owner in it.
@@ -99,8 +95,8 @@ struct Within {
     alloc: Global,
 }
 
-impl<R: Abort + Threads + Wait + Sync> Program<u64, R> for Within {
-    fn work<H: Home>(&self, rt: &R, _number: usize, table: &mut HandleTable<'_, u64, H>) {
+impl<R: Abort + Threads + Wait + Sync> Play<R> for Within {
+    fn play<H: Home>(&self, rt: &R, table: &mut HandleTable<'_, u64, H>) {
         all(
             rt,
             table,

@@ -11,9 +11,3 @@ returns-in-Ok-clause-holds c =
     let e = c.exchange.ensures in
     all_other c.args.desk.now c.exchange.new.desk (held.Owner c.in-Owner.owner) (held.Owner c.exchange.result) (handles_in c.args.slots.now)
     c.stands.ensures (subst (λ (h : Held). HoldsBeside c.args.desk.now h c.args.slots.now) c.in-Owner.is c.requires.holds) e.bag e.held
-
-pub returns-in-Ok-weak_at-clause-holds : goal.returns-in-Ok-weak_at-clause-holds
-returns-in-Ok-weak_at-clause-holds c =
-    let x = c.exchange-in-Ok-weak_at in let e = x.ensures in
-    all_other c.args.desk.now x.new.desk (held.Weak c.in-Weak.weak) (held.Weak x.result) (handles_in c.args.slots.now)
-    c.stands.ensures (subst (λ (h : Held). HoldsBeside c.args.desk.now h c.args.slots.now) c.in-Weak.is c.requires.holds) e.bag e.held
