@@ -1,6 +1,7 @@
 //! The calls that each worker makes over and over. By each a pointer comes and leaves.
 use crate::own::{FIELDS, Own};
 use crate::rows::Row;
+use pointer_structures::Stack;
 use pointers::{Domain, Fault};
 use std::hint::black_box;
 use std::sync::Wait;
@@ -124,4 +125,22 @@ impl<'t, D: Domain<Value = ()>> Row<Own<'t, D>> for Compare {
             .compare_exchange_strong(rt, &mut own.expected, &mut desired)
             .unwrap_or(false)
     }
+}
+
+/// A new object goes on the stack in the cell, and the top one comes out and ends.
+#[derive(Clone, Copy, Drop)]
+pub(crate) struct PushPop;
+
+impl<'t, D: Domain<Value = ()>> Row<Own<'t, D>> for PushPop {
+    #[inline]
+    fn once<R: Wait>(&self, rt: &R, own: &mut Own<'t, D>) -> bool {
+        push_and_pop(rt, own).is_ok()
+    }
+}
+
+fn push_and_pop<R: Wait, D: Domain<Value = ()>>(rt: &R, own: &Own<'_, D>) -> Result<(), Fault> {
+    let stack = Stack::at(own.desk.cell(own.cell));
+    stack.push(rt, own.desk.make(FIELDS, ())?)?;
+    drop(stack.pop(rt)?);
+    Ok(())
 }

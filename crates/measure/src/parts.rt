@@ -1,7 +1,7 @@
 //! The rows by one, two and four threads.
-use crate::calls::{Compare, Count, Downgrade, Exchange, Load, Lock, Make, Share, Store};
+use crate::calls::{Compare, Count, Downgrade, Exchange, Load, Lock, Make, PushPop, Share, Store};
 use crate::own::Own;
-use crate::rows::{Label, POINTERS, line};
+use crate::rows::{Label, POINTERS, STRUCTURES, line};
 use crate::timing::{Spent, Until, time};
 use pointers::Domain;
 use std::io;
@@ -21,6 +21,7 @@ pub(crate) enum Call {
     Store,
     Exchange,
     Compare,
+    PushPop,
 }
 
 /// What a thread does in a row, under its name: on what it has for itself, or on the common cell and its object.
@@ -31,7 +32,7 @@ pub(crate) enum Part {
 }
 
 /// Those of one, two and four threads, of which the first does this.
-pub(crate) const ROWS: [Part; 12] = [
+pub(crate) const ROWS: [Part; 13] = [
     Part::Own("make + end", Call::Make),
     Part::Own("share + release, own object", Call::Share),
     Part::Common("share + release, one object", Call::Share),
@@ -44,6 +45,7 @@ pub(crate) const ROWS: [Part; 12] = [
     Part::Own("cell exchange, own cell", Call::Exchange),
     Part::Own("cell compare_exchange of a copy, own cell", Call::Compare),
     Part::Common("cell store of a copy, others load", Call::Store),
+    Part::Common("stack push + pop", Call::PushPop),
 ];
 
 /// What the others do beside one that stores.
@@ -75,8 +77,12 @@ impl Part {
     }
 
     fn label(self) -> Label<'static> {
-        let (Part::Own(name, _) | Part::Common(name, _)) = self;
-        Label::of_turns(name, POINTERS, self.turns())
+        let (Part::Own(name, call) | Part::Common(name, call)) = self;
+        let peer = match call {
+            Call::PushPop => STRUCTURES,
+            _ => POINTERS,
+        };
+        Label::of_turns(name, peer, self.turns())
     }
 
     /// A thread's turns.
@@ -97,6 +103,7 @@ impl Part {
             Call::Store => time(rt, &Store, own, turns, until),
             Call::Exchange => time(rt, &Exchange, own, 1, until),
             Call::Compare => time(rt, &Compare, own, turns, until),
+            Call::PushPop => time(rt, &PushPop, own, turns, until),
         }
     }
 

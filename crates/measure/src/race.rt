@@ -17,8 +17,8 @@ const THREADS: usize = 4;
 /// How many objects there can be. A multiple of 512, so that the cells, which lie behind the blocks, begin a page.
 const BLOCKS: u32 = 65_024;
 
-/// How many free cells there are: an unused one lies between those of any two threads, so that they are 128 bytes apart,
-/// as the peers' are.
+/// How many free cells there are: an unused one lies between those of any two threads, so that they are 128 bytes
+/// apart, as the peers' are.
 const CELLS: u32 = 10;
 
 /// The cell that all threads have in common.

@@ -1,11 +1,11 @@
 //! Each call on a free cell for owners.
 
 use crate::players::{answers, answers_often};
-use crate::steps::Answer::{Done, Not, Nothing, Number};
-use crate::steps::Look::Read;
-use crate::steps::New::Object;
-use crate::steps::Step::{Clear, Drop, Ends, Exchange, Load, Lock, Look, Make, Store, Take};
-use crate::steps::{Cell, Row};
+use pointer_calls::Answer::{Done, Not, Nothing, Number};
+use pointer_calls::Look::Read;
+use pointer_calls::New::Object;
+use pointer_calls::Step::{Clear, Drop, Ends, Exchange, Load, Lock, Look, Make, Store, Take};
+use pointer_calls::{Cell, Row};
 use pointers::{Call, Fault, Spot};
 
 /// Stores, loads, exchanges, and cells that are emptied in each way.

@@ -1,13 +1,16 @@
-//! Compares, of owners and of weak pointers. Slots 8 and 9, 18 and 19 are vacant: there an empty pointer is expected or desired.
+//! Compares, of owners and of weak pointers. Slots 8 and 9, 18 and 19 are vacant: there an empty pointer is expected or
+//! desired.
 
 use crate::players::{answers, answers_within};
-use crate::steps::Answer::{Done, Is, Not, Nothing, Number};
-use crate::steps::Form::{Strong, Until, Weak};
-use crate::steps::Look::{Read, UseCount};
-use crate::steps::New::Object;
-use crate::steps::Step::{Both, Clear, Come, Compare, Drop, Ends, Load, Look, Make, Shares, Store};
-use crate::steps::Way::{Downgrade, Nowhere, Share};
-use crate::steps::{Cell, Look as Asks, Pair, Row, Way};
+use pointer_calls::Answer::{Done, Is, Not, Nothing, Number};
+use pointer_calls::Form::{Strong, Until, Weak};
+use pointer_calls::Look::{Read, UseCount};
+use pointer_calls::New::Object;
+use pointer_calls::Step::{
+    Both, Clear, Come, Compare, Drop, Ends, Load, Look, Make, Shares, Store,
+};
+use pointer_calls::Way::{Downgrade, Nowhere, Share};
+use pointer_calls::{Cell, Look as Asks, Pair, Row, Way};
 use pointers::{Call, Fault, Refusal, Spot};
 
 /// A free cell, by its place.

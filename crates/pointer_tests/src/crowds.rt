@@ -1,14 +1,14 @@
 //! A desk with as many pointers as it may have, and a domain with as many objects.
 
 use crate::players::answers;
-use crate::steps::Answer::{Done, Is, Not, Number};
-use crate::steps::Look::{Expired, UseCount};
-use crate::steps::New::{Enabled, Null, Object};
-use crate::steps::Step::{
+use pointer_calls::Answer::{Done, Is, Not, Number};
+use pointer_calls::Look::{Expired, UseCount};
+use pointer_calls::New::{Enabled, Null, Object};
+use pointer_calls::Step::{
     Chain, Clear, Come, Drop, Ends, EndsCount, Load, Look, Make, Shares, Store, Take,
 };
-use crate::steps::Way::{Downgrade, Nowhere, Share, This, Upgrade, WeakOfThis};
-use crate::steps::{Cell, Row, Way};
+use pointer_calls::Way::{Downgrade, Nowhere, Share, This, Upgrade, WeakOfThis};
+use pointer_calls::{Cell, Row, Way};
 use pointers::{Call, Fault, Refusal, Spot};
 
 /// A free cell, which has an owner of the object.

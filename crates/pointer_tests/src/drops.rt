@@ -1,11 +1,11 @@
 //! Pointers that let go by themselves, wherever they lie.
 
 use crate::players::{answers, answers_then};
-use crate::steps::Answer::{Done, Number};
-use crate::steps::New::Object;
-use crate::steps::Step::{Chain, Come, Drop, Ends, EndsCount, Make, Store};
-use crate::steps::Way::Share;
-use crate::steps::{Cell, Row};
+use pointer_calls::Answer::{Done, Number};
+use pointer_calls::New::Object;
+use pointer_calls::Step::{Chain, Come, Drop, Ends, EndsCount, Make, Store};
+use pointer_calls::Way::Share;
+use pointer_calls::{Cell, Row};
 
 /// A tree of four: 1 owns 2 as its first child and 4 as its next; 2 owns 3 as its next. All four lie in slots too, 1 in
 /// slot 0.

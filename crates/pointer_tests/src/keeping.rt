@@ -1,7 +1,7 @@
 //! Functions that keep pointers of their own, which let go at their ends, and pointers that are forgotten.
 
-use crate::plays::{row, same};
-use crate::values::{Told, Value, begin, ended, new_ends, object, order};
+use crate::players::same;
+use pointer_calls::{Told, Value, begin, ended, new_ends, object, order, row};
 use pointers::{Call, Desk, Domain, Fault, Program, Refusal, Shared, Team, run};
 use std::alloc::Global;
 use std::sync::Wait;

@@ -1,15 +1,15 @@
 //! Members of objects, and links to them.
 
 use crate::players::answers;
-use crate::steps::Answer::{Done, Is, Not, Nothing, Number};
-use crate::steps::Look::{Read, UseCount};
-use crate::steps::New::Object;
-use crate::steps::Step::{
+use pointer_calls::Answer::{Done, Is, Not, Nothing, Number};
+use pointer_calls::Look::{Read, UseCount};
+use pointer_calls::New::Object;
+use pointer_calls::Step::{
     Both, Clear, Come, Drop, Ends, EndsCount, Exchange, First, Load, Lock, Look, Make, Next, Store,
     Take,
 };
-use crate::steps::Way::{Downgrade, Nowhere, Parent};
-use crate::steps::{ByLink, Cell, Pair, Row};
+use pointer_calls::Way::{Downgrade, Nowhere, Parent};
+use pointer_calls::{ByLink, Cell, Pair, Row};
 use pointers::{Call, Fault, Refusal, Spot};
 
 /// A tree of two, whose child is moved from one member to the other.

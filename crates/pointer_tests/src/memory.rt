@@ -1,7 +1,7 @@
 //! Memory that is refused. `tests/refuse_allocations` runs these with each allocation refused in turn: a run that was
 //! refused is made again, and none leaves a block or a value behind.
 
-use crate::plays::row;
+use pointer_calls::row;
 use pointers::{
     Desk, Domain, Fault, FreeCells, Leader, Manned, NotRun, Program, Ran, Shared, SharedCell, Team,
     run, run_leader,

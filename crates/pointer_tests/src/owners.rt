@@ -1,13 +1,13 @@
 //! Each call on an owner.
 
 use crate::players::answers;
-use crate::steps::Answer::{Done, Is, Not, Nothing, Number};
-use crate::steps::Look::{Read, UseCount, Visit};
-use crate::steps::New::{Enabled, Null, Object, Zeros};
-use crate::steps::Pair::{Before, SamePlace};
-use crate::steps::Step::{Both, Come, Drop, Ends, Look, Make};
-use crate::steps::Way::{AtItsDesk, Nowhere, Share, This, WeakOfThis};
-use crate::steps::{Look as Asks, Pair, Row, Way};
+use pointer_calls::Answer::{Done, Is, Not, Nothing, Number};
+use pointer_calls::Look::{Read, UseCount, Visit};
+use pointer_calls::New::{Enabled, Null, Object, Zeros};
+use pointer_calls::Pair::{Before, SamePlace};
+use pointer_calls::Step::{Both, Come, Drop, Ends, Look, Make};
+use pointer_calls::Way::{AtItsDesk, Nowhere, Share, This, WeakOfThis};
+use pointer_calls::{Look as Asks, Pair, Row, Way};
 use pointers::{Call, Fault, Refusal};
 
 /// Two owners of one object.

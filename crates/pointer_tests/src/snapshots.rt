@@ -1,6 +1,6 @@
 //! Values that many threads read at once.
 
-use crate::plays::row;
+use pointer_calls::row;
 use pointers::{Desk, Domain, Fault, Program, SharedCell, Team, run};
 use std::alloc::Global;
 use std::sync::Wait;

@@ -2,15 +2,15 @@
 //! ends then.
 
 use crate::players::answers_within;
-use crate::steps::Answer::{Done, Is, Not, Nothing, Number};
-use crate::steps::Look::{Expired, Read, UseCount, Visit};
-use crate::steps::New::{Enabled, Object};
-use crate::steps::Pair::{Before, SamePlace};
-use crate::steps::Step::{
+use pointer_calls::Answer::{Done, Is, Not, Nothing, Number};
+use pointer_calls::Look::{Expired, Read, UseCount, Visit};
+use pointer_calls::New::{Enabled, Object};
+use pointer_calls::Pair::{Before, SamePlace};
+use pointer_calls::Step::{
     Both, Clear, Come, Drop, Ends, EndsCount, Exchange, Load, Lock, Look, Make, Store, Take,
 };
-use crate::steps::Way::{Downgrade, Share, WeakOfThis};
-use crate::steps::{Cell, Look as Asks, Pair, Row, Way};
+use pointer_calls::Way::{Downgrade, Share, WeakOfThis};
+use pointer_calls::{Cell, Look as Asks, Pair, Row, Way};
 use pointers::{Call, Fault, Spot};
 
 /// An object in slot 0 with a weak pointer to it.

@@ -1,13 +1,13 @@
 //! Each call on a weak pointer, and on free cells for them.
 
 use crate::players::answers;
-use crate::steps::Answer::{Done, Is, Not, Nothing, Number};
-use crate::steps::Look::{Expired, Read, UseCount};
-use crate::steps::New::Object;
-use crate::steps::Pair::Before;
-use crate::steps::Step::{Both, Clear, Come, Drop, Exchange, Load, Lock, Look, Make, Store, Take};
-use crate::steps::Way::{AtItsDesk, Downgrade, Share};
-use crate::steps::{Cell, Pair, Row, Way};
+use pointer_calls::Answer::{Done, Is, Not, Nothing, Number};
+use pointer_calls::Look::{Expired, Read, UseCount};
+use pointer_calls::New::Object;
+use pointer_calls::Pair::Before;
+use pointer_calls::Step::{Both, Clear, Come, Drop, Exchange, Load, Lock, Look, Make, Store, Take};
+use pointer_calls::Way::{AtItsDesk, Downgrade, Share};
+use pointer_calls::{Cell, Pair, Row, Way};
 use pointers::{Call, Fault, Refusal, Spot};
 
 /// While the object lives, and after its end.

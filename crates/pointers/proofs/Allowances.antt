@@ -7,7 +7,7 @@ use Rattle.control_word.specs.State.{State}
 use Rattle.control_word.specs.declared.model.event.Cell.TheVariants.{Free, Member}
 use Rattle.control_word.specs.declared.model.event.Event.{Event}
 use Rattle.control_word.specs.declared.model.event.Event.TheVariants.{ClearMember, Compare, Count, Expired, Finish, Join, Leave, Load, Lock, Make, Read}
-use Rattle.control_word.specs.declared.model.event.Event.TheVariants.{Share, Shelve, Split, Swap, Unshelve, Visit, WeakLeave, WeakShare}
+use Rattle.control_word.specs.declared.model.event.Event.TheVariants.{Same, Share, Shelve, Split, Swap, Unshelve, Visit, WeakLeave, WeakShare}
 use Rattle.control_block.specs.Desks.{AddsEvent, DeskNow, allowance_of}
 use Rattle.control_block.specs.Own.{KeepsDesks}
 use Rattle.control_block.specs.Rule.{opening_of}
@@ -27,6 +27,7 @@ module _ {V : Type 0} where
   kept_after s d (Count h n) p = refl
   kept_after s d (Expired h x) p = refl
   kept_after s d (Read h n) p = refl
+  kept_after s d (Same c h so) p = refl
   kept_after s d (WeakShare o q) p = refl
   kept_after s d (WeakLeave h v) p = refl
   kept_after s d (Lock h got) p = refl

@@ -1,15 +1,15 @@
 -- What the calls on cells say, by what is known of handles ([util.smartptr.atomic.shared],
 -- [util.smartptr.atomic.weak]).
-use Rattle.std.specs.Prelude.{◌≡◌, ◌⊎◌, ℕ, ◌<◌, ◌≤◌, Option, None, Some}
+use Rattle.std.specs.Prelude.{◌≡◌, ◌⊎◌, ℕ, ◌<◌, ◌≤◌, Bool, true, Option, None, Some}
 use Rattle.control_word.specs.declared.model.event.Cell.{Cell}
 use Rattle.control_word.specs.declared.model.handle.Kind.{Kind}
-use Rattle.control_word.specs.declared.model.handle.Kind.TheVariants.{Weak}
+use Rattle.control_word.specs.declared.model.handle.Kind.TheVariants.{Owner, Weak}
 use Rattle.control_word.specs.declared.place.Block.{Block}
 use Rattle.control_word.specs.declared.place.Place.{Place}
 use Rattle.control_block.specs.Desks.{DeskNow}
 use Rattle.control_block.specs.declared.handles.Held.{Held}
 use Rattle.control_block.specs.declared.handles.Held.TheVariants as held
-use Rattle.atomic_cells.specs.Cells.{Exchanges, Loads, Stores, StoresWeakly}
+use Rattle.atomic_cells.specs.Cells.{Exchanges, Loads, Stores, StoresWeakly, TellsHeld}
 use Rattle.atomic_cells.specs.Sites.{shared_cell, weak_cell}
 use Rattle.atomic_cells.specs.declared.sites.SharedSite.{SharedSite}
 use Rattle.atomic_cells.specs.declared.sites.SharedSite.TheVariants as shared
@@ -28,7 +28,7 @@ use Rattle.shared_handle.specs.Endings.{IsOutside}
 use Rattle.pointers.specs.declared.fault.Fault.{Fault}
 use Rattle.pointers.specs.declared.fault.Fault.TheVariants as fault
 use Rattle.pointers.specs.declared.fault.call.Call.{Call}
-use Rattle.pointers.specs.declared.fault.call.Call.TheVariants.{Lock}
+use Rattle.pointers.specs.declared.fault.call.Call.TheVariants.{Holds, Load, Lock}
 use Rattle.pointers.specs.declared.fault.call.Spot.{Spot}
 use Rattle.pointers.specs.declared.fault.call.Spot.TheVariants as spot
 use Rattle.atomic_cells.specs.declared.sites.SharedMember.TheVariants.{First, Next}
@@ -85,6 +85,11 @@ module _ {V : Type 0} where
       pub member : Stays o of before
       pub loads : Loads before x k (block_by got) (place_by got) after
       pub came : CameTo got after
+
+  -- since the owner and the pointer came, the desk looked whether cell x holds a pointer equivalent to this one
+  abbrev pub LookedFor : DeskNow V → Option (Known V) → Cell → Kind → Known V → Bool → Type 0
+  LookedFor o of x k mine same =
+      Since o mine (λ d e. Stays o of d × TellsHeld d x k (owned mine) (pointed mine) same e)
 
   -- since the owner and the pointer came, the pointer went into the cell and what that held came out, by one step on it
   pub record Exchanged (o : DeskNow V) (of : Option (Known V)) (x : Cell) (k : Kind) (new got : Option (Known V))
@@ -148,6 +153,18 @@ module _ {V : Type 0} where
   -- handles as it may have
   abbrev pub WhyNotDone : DeskNow V → ℕ → Option (Known V) → ℕ → Call → Fault → Type 0
   WhyNotDone o many of n call why = WhyNoCell many of n call why ⊎ WhyNoMore o of call why
+
+  -- why a look at a place wasn't done: there is no cell, or else it came within a visit
+  abbrev pub WhyNotLooked : ℕ → Option (Known V) → ℕ → Call → Fault → Type 0
+  WhyNotLooked many of n call why = WhyNoCell many of n call why ⊎ (why ≡ fault.Busy call)
+
+  -- since the owner came, the place held this pointer: by a load, or by a look where it was known before
+  abbrev pub Found : DeskNow V → Option (Known V) → Cell → Option (Known V) → Type 0
+  Found o of x got = Loaded o of x Owner got ⊎ ((c : Known V) × (got ≡ Some c) × LookedFor o of x Owner c true)
+
+  -- why nothing was found there: neither the look nor the load was done
+  abbrev pub WhyNotFound : DeskNow V → ℕ → Option (Known V) → ℕ → Spot → Fault → Type 0
+  WhyNotFound o many of n at why = WhyNotLooked many of n (Holds at) why ⊎ WhyNotDone o many of n (Load at) why
 
   -- why no owner came of a place for weak pointers: there was no load, or, of what was loaded, no lock
   abbrev pub WhyNotLocked : DeskNow V → ℕ → Option (Known V) → ℕ → Call → Fault → Type 0

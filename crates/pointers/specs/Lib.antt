@@ -13,3 +13,4 @@ pub mod Teams
 pub mod Staffs
 pub mod Leading
 pub mod Lists
+pub mod Pools

@@ -1,12 +1,14 @@
 //! Places for pointers that other threads see too: free cells, and members of objects.
 ghost use Rattle.std.specs.Prelude.{◌≡◌, ◌<◌, ◌≤◌, ◌^◌};
 
+pub mod cached;
 mod comparing;
 mod comparing_weak;
 pub mod link;
 pub mod member;
 pub mod pool;
 pub mod up;
+mod waiting;
 
 /// A free cell of the domain for owners, by its number from 0, in C++ `atomic<shared_ptr>`
 /// ([util.smartptr.atomic.shared]).

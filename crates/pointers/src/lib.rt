@@ -13,6 +13,7 @@ mod program;
 mod shared;
 mod weak;
 
+pub use crate::cells::cached::Cached;
 pub use crate::cells::link::Link;
 pub use crate::cells::member::Member;
 pub use crate::cells::pool::FreeCells;

@@ -1,5 +1,6 @@
 //! A program over a domain of its own, with a desk for each of its threads.
-ghost use Rattle.std.specs.Prelude.{◌≡◌, ◌⊎◌, ℕ, IfErr, IfOk, None};
+ghost use Rattle.std.specs.Prelude.{◌≡◌, ◌⊎◌, ℕ, IfErr, IfOk, None, slice_get};
+ghost use Rattle.pointers.specs.Beside.{seen_by};
 ghost use Rattle.pointers.specs.Programs.{Runs};
 ghost use Rattle.pointers.specs.Teams.{Fits, IsMisfit};
 
@@ -62,7 +63,9 @@ pub struct Ran<V: Drop> {
 
 impl<V: Drop> Ran<V> {
     /// The fault of the first worker that has one.
-    pub fn fault(&self) -> Option<Fault> {
+    pub fn fault(&self) -> Option<Fault>
+        ensures { result ≡ seen_by (λ f. f.why) (slice_get self.now.failed.items 0) }
+    {
         let first = self.failed.first()?;
         Some(first.why)
     }

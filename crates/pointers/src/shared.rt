@@ -1,6 +1,7 @@
 //! Owners.
 ghost use Rattle.std.specs.Fn.{FnOnceReturnsAtMut};
 ghost use Rattle.std.specs.Prelude.{◌≡◌, ◌≢◌, ◌⊎◌, ◌↔◌, IfErr, IfOk, IsTrue, None, Ok, Some};
+ghost use Rattle.control_block.specs.Desks.{Belongs};
 ghost use Rattle.control_word.specs.declared.model.handle.Kind.TheVariants as kind;
 ghost use Rattle.shared_handle.specs.Calls as calls;
 ghost use Rattle.shared_handle.specs.Visits.{IsVisit};
@@ -50,7 +51,9 @@ impl<'t, D: Domain> Drop for Shared<'t, D> {
 impl<'t, D: Domain> Shared<'t, D> {
     /// The desk that it comes from.
     #[inline(always)]
-    pub fn desk(&self) -> &'t Desk<'t, D> {
+    pub fn desk(&self) -> &'t Desk<'t, D>
+        ensures { Belongs D.opened result.now.domain.now }
+    {
         self.desk
     }
 

@@ -1,5 +1,6 @@
 //! Weak pointers.
 ghost use Rattle.std.specs.Prelude.{◌≡◌, ◌↔◌, IfErr, IfNone, IfOk, IfSome, IsTrue, Some};
+ghost use Rattle.control_block.specs.Desks.{Belongs};
 ghost use Rattle.control_word.specs.declared.model.handle.Kind.TheVariants as kind;
 ghost use Rattle.shared_handle.specs.Calls as calls;
 ghost use Rattle.pointers.specs.Faults.{WhyNoMore, WhyNoOwner, WhyNot};
@@ -48,7 +49,9 @@ impl<'t, D: Domain> Drop for Weak<'t, D> {
 impl<'t, D: Domain> Weak<'t, D> {
     /// The desk that it comes from.
     #[inline(always)]
-    pub fn desk(&self) -> &'t Desk<'t, D> {
+    pub fn desk(&self) -> &'t Desk<'t, D>
+        ensures { Belongs D.opened result.now.domain.now }
+    {
         self.desk
     }
 

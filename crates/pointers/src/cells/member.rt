@@ -3,8 +3,8 @@ ghost use Rattle.std.specs.Prelude.{◌≡◌, IfErr, IfOk, None, OnOk};
 ghost use Rattle.control_word.specs.declared.model.handle.Kind.TheVariants.{Owner};
 ghost use Rattle.shared_handle.specs.declared.pile.Gone.{Gone};
 ghost use Rattle.pointers.specs.Beside.{seen_by};
-ghost use Rattle.pointers.specs.Cells.{Exchanged, IsSharedSite, Loaded, Stored, WhyNoCell, WhyNotDone, shared_cell_at};
-ghost use Rattle.pointers.specs.Cells.{shared_site_of, shared_spot};
+ghost use Rattle.pointers.specs.Cells.{Exchanged, IsSharedSite, Loaded, LookedFor, Stored, WhyNoCell, WhyNotDone};
+ghost use Rattle.pointers.specs.Cells.{WhyNotLooked, shared_cell_at, shared_site_of, shared_spot};
 
 use crate::claim::shared_claim::SharedClaim;
 use crate::desk::Desk;
@@ -100,6 +100,26 @@ impl<'p, 't, D: Domain> Member<'p, 't, D> {
             Ok(owner) => Ok(pointer(desk, owner)),
             Err(why) => Err(Fault::of(call, why)),
         }
+    }
+
+    /// Whether it holds what this pointer is, in C++ `load() == p` by the rule of `compare_exchange`: the same place,
+    /// and the same object. It is one look, which changes nothing and waits for nobody.
+    #[inline(always)]
+    pub fn holds(&self, mine: &Shared<'t, D>) -> Result<bool, Fault>
+        ensures told { IfOk result (LookedFor D.opened (seen_by (λ x. x.now.known) self.now.of)
+            (shared_cell_at D.opened (seen_by (λ x. x.now.known) self.now.of)
+            self.now.which self.now.number) Owner mine.now) }
+        ensures refused { IfErr result
+            (WhyNotLooked D.opened.shape.shared_cells (seen_by (λ x. x.now.known) self.now.of) self.now.number
+            (Call.Holds (shared_spot (seen_by (λ x. x.now.known) self.now.of) self.now.which self.now.number))) }
+    {
+        let desk = self.desk;
+        let call = Call::Holds(self.spot());
+        let at = self.at(call)?;
+        Ok(
+            desk.open(call)?
+                .holds(desk.domain, at, self.of, &mine.owner),
+        )
     }
 
     /// The pointer, or an empty one, goes into it, in C++ `store(std::move(p))`, and what it held lets go.

@@ -4,7 +4,7 @@ ghost use Rattle.control_word.specs.declared.model.handle.Kind.TheVariants as ki
 ghost use Rattle.pointers.specs.Beside.{seen_by};
 ghost use Rattle.pointers.specs.declared.known.Known.{Known};
 ghost use Rattle.pointers.specs.Cells.{Exchanged, IsOwnerOf, IsWeakSite, Loaded, StoredWeakly, WhyNoCell, WhyNotDone};
-ghost use Rattle.pointers.specs.Cells.{WhyNotLocked};
+ghost use Rattle.pointers.specs.Cells.{LookedFor, WhyNotLocked, WhyNotLooked};
 ghost use Rattle.pointers.specs.Cells.{weak_cell_at, weak_site_of, weak_spot};
 
 use crate::claim::shared_claim::SharedClaim;
@@ -109,6 +109,25 @@ impl<'p, 't, D: Domain> Up<'p, 't, D> {
             Some(weak) => weak.lock(rt),
             None => Ok(None),
         }
+    }
+
+    /// Whether it holds what this pointer is, by the rule of `compare_exchange`: the same place, and the same object. It
+    /// is one look, which changes nothing and waits for nobody.
+    #[inline(always)]
+    pub fn holds(&self, mine: &Weak<'t, D>) -> Result<bool, Fault>
+        ensures told { IfOk result (LookedFor D.opened (seen_by (λ x. x.now.known) self.now.of)
+            (weak_cell_at D.opened (seen_by (λ x. x.now.known) self.now.of) self.now.number) kind.Weak mine.now) }
+        ensures refused { IfErr result
+            (WhyNotLooked D.opened.shape.weak_cells (seen_by (λ x. x.now.known) self.now.of) self.now.number
+            (Call.Holds (weak_spot (seen_by (λ x. x.now.known) self.now.of) self.now.number))) }
+    {
+        let desk = self.desk;
+        let call = Call::Holds(self.spot());
+        let at = self.at(call)?;
+        Ok(
+            desk.open(call)?
+                .holds_weak(desk.domain, at, self.of, &mine.weak),
+        )
     }
 
     /// The pointer, or an empty one, goes into it, in C++ `store(std::move(w))`, and what it held lets go.

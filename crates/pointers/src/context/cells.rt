@@ -5,7 +5,7 @@ ghost use Rattle.control_block.specs.Desks.{Belongs};
 ghost use Rattle.pointers.specs.Beside.{seen_by};
 ghost use Rattle.pointers.specs.Faults.{Was};
 ghost use Rattle.pointers.specs.Known.{IsAtAllowance};
-ghost use Rattle.pointers.specs.Cells.{Exchanged, IsSharedSite, Loaded, Stored, shared_cell_of};
+ghost use Rattle.pointers.specs.Cells.{Exchanged, IsSharedSite, Loaded, LookedFor, Stored, shared_cell_of};
 
 use crate::claim::shared_claim::SharedClaim;
 use crate::context::Context;
@@ -46,6 +46,26 @@ impl<D: Domain> Context<D> {
             &mut self.claims,
             found,
         ))
+    }
+
+    /// Whether the cell holds an equivalent of the owner.
+    #[inline(always)]
+    pub(crate) fn holds(
+        &mut self,
+        domain: &domain::Domain<D::Value>,
+        at: SharedAt<'_>,
+        of: Option<&SharedClaim<D>>,
+        mine: &SharedClaim<D>,
+    ) -> bool
+        requires domain { Belongs D.opened domain.now }
+        requires cell { IsSharedSite D.opened at.site (seen_by (λ x. x.now.known) of) }
+        ensures { LookedFor D.opened (seen_by (λ x. x.now.known) of.entry)
+            (shared_cell_of D.opened (seen_by (λ x. x.now.known) of.entry) at.entry.site) Owner
+            mine.now.known result }
+    {
+        look_at(of, &mut self.claims);
+        let handle = mine.look(&mut self.claims);
+        at.holds(domain, &mut self.desk, handle)
     }
 
     /// The pointer, or an empty one, goes into the cell, and what that held comes out.

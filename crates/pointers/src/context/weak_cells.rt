@@ -5,7 +5,7 @@ ghost use Rattle.control_block.specs.Desks.{Belongs};
 ghost use Rattle.pointers.specs.Beside.{seen_by};
 ghost use Rattle.pointers.specs.Faults.{Was};
 ghost use Rattle.pointers.specs.Known.{IsAtAllowance};
-ghost use Rattle.pointers.specs.Cells.{Exchanged, IsWeakSite, Loaded, StoredWeakly, weak_cell_of};
+ghost use Rattle.pointers.specs.Cells.{Exchanged, IsWeakSite, Loaded, LookedFor, StoredWeakly, weak_cell_of};
 
 use crate::claim::shared_claim::SharedClaim;
 use crate::claim::weak_claim::WeakClaim;
@@ -42,6 +42,26 @@ impl<D: Domain> Context<D> {
         look_at(of, &mut self.claims);
         let found = at.load(rt, domain, &mut self.desk)?;
         Ok(arrived_weak(domain, &mut self.desk, &self.pile, &mut self.claims, found))
+    }
+
+    /// Whether the cell holds an equivalent of the weak handle.
+    #[inline(always)]
+    pub(crate) fn holds_weak(
+        &mut self,
+        domain: &domain::Domain<D::Value>,
+        at: WeakAt<'_>,
+        of: Option<&SharedClaim<D>>,
+        mine: &WeakClaim<D>,
+    ) -> bool
+        requires domain { Belongs D.opened domain.now }
+        requires cell { IsWeakSite D.opened at.site (seen_by (λ x. x.now.known) of) }
+        ensures { LookedFor D.opened (seen_by (λ x. x.now.known) of.entry)
+            (weak_cell_of D.opened (seen_by (λ x. x.now.known) of.entry) at.entry.site) Weak
+            mine.now.known result }
+    {
+        look_at(of, &mut self.claims);
+        let handle = mine.look(&mut self.claims);
+        at.holds(domain, &mut self.desk, handle)
     }
 
     /// The pointer, or an empty one, goes into the cell, and what that held comes out.

@@ -1,14 +1,15 @@
 //! Free cells of the domain.
-ghost use Rattle.std.specs.Prelude.{◌≡◌, ◌+◌, IfErr, IfOk, None, OnOk, Option};
+ghost use Rattle.std.specs.Prelude.{◌≡◌, ◌+◌, false, IfErr, IfOk, None, OnOk, Option};
 ghost use Rattle.control_word.specs.declared.model.event.Cell.TheVariants.{Free};
 ghost use Rattle.control_word.specs.declared.model.handle.Kind.TheVariants as kind;
 ghost use Rattle.shared_handle.specs.declared.pile.Gone.{Gone};
 ghost use Rattle.pointers.specs.Cells.{Exchanged, IsOwnerOf, Loaded, Stored};
-ghost use Rattle.pointers.specs.Cells.{StoredWeakly, WhyNotDone, WhyNotLocked, weak_cell_at};
+ghost use Rattle.pointers.specs.Cells.{LookedFor, StoredWeakly, WhyNotDone, WhyNotLocked, WhyNotLooked, weak_cell_at};
 ghost use Rattle.pointers.specs.declared.fault.call.Spot.TheVariants as spot;
 ghost use Rattle.pointers.specs.declared.known.Known.{Known};
 ghost use Rattle.pointers.specs.Beside.{seen_by};
 
+use crate::cells::cached::Cached;
 use crate::cells::member::Member;
 use crate::cells::up::Up;
 use crate::cells::{SharedCell, WeakCell};
@@ -66,6 +67,53 @@ impl<'d, D: Domain> Desk<'d, D> {
             (WhyNotDone D.opened D.opened.shape.weak_cells None cell.0 (Call.Load (spot.Weak cell.0))) }
     {
         self.weak_cell(cell).load(rt)
+    }
+
+    /// Whether the cell holds what this pointer is, in C++ `load() == p` by the rule of `compare_exchange`: the same
+    /// place, and the same object. It is one look, which changes nothing and waits for nobody.
+    #[inline(always)]
+    pub fn holds<'t>(&'t self, cell: SharedCell, mine: &Shared<'t, D>) -> Result<bool, Fault>
+        ensures told { IfOk result (LookedFor D.opened None (Free cell.0) kind.Owner mine.now) }
+        ensures refused { IfErr result
+            (WhyNotLooked {V = D.Value} D.opened.shape.shared_cells None cell.0 (Call.Holds (spot.Shared cell.0))) }
+    {
+        self.cell(cell).holds(mine)
+    }
+
+    /// The same of a weak pointer.
+    #[inline(always)]
+    pub fn holds_weak<'t>(&'t self, cell: WeakCell, mine: &Weak<'t, D>) -> Result<bool, Fault>
+        ensures told { IfOk result
+            (LookedFor D.opened None (Free (D.opened.shape.shared_cells + cell.0)) kind.Weak mine.now) }
+        ensures refused { IfErr result
+            (WhyNotLooked {V = D.Value} D.opened.shape.weak_cells None cell.0 (Call.Holds (spot.Weak cell.0))) }
+    {
+        self.weak_cell(cell).holds(mine)
+    }
+
+    /// A free cell for owners, to be read again and again.
+    #[inline(always)]
+    pub fn cached(&self, cell: SharedCell) -> Cached<'_, '_, D>
+        ensures cell { (seen_by (λ x. x.now.known) result.place.of ≡ None) × (result.place.number ≡ cell.0) }
+        ensures none { result.found ≡ None }
+    {
+        self.cell(cell).cached()
+    }
+
+    /// Returns once a look tells that the cell no longer holds what this pointer is, in C++ `wait(p)` (waits). Nobody
+    /// has to notify, and nothing is promised of when.
+    #[inline(always)]
+    pub fn wait_while<'t, R: Wait>(
+        &'t self,
+        rt: &R,
+        cell: SharedCell,
+        mine: &Shared<'t, D>,
+    ) -> Result<(), Fault>
+        ensures changed { OnOk result (LookedFor D.opened None (Free cell.0) kind.Owner mine.now false) }
+        ensures refused { IfErr result
+            (WhyNotLooked {V = D.Value} D.opened.shape.shared_cells None cell.0 (Call.Holds (spot.Shared cell.0))) }
+    {
+        self.cell(cell).wait_while(rt, mine)
     }
 
     /// An owner of what a weak cell holds, in C++ `load().lock()` (waits). None where that is empty or expired.

@@ -48,6 +48,7 @@ pub enum Call {
     OwnerBefore,
     Visit,
     Load(Spot),
+    Holds(Spot),
     Store(Spot),
     Exchange(Spot),
     Clear(Spot),
@@ -88,6 +89,7 @@ impl Call {
             Call::OwnerBefore => "owner_before",
             Call::Visit => "visit",
             Call::Load(_) => "load",
+            Call::Holds(_) => "holds",
             Call::Store(_) => "store",
             Call::Exchange(_) => "exchange",
             Call::Clear(_) => "clear",
@@ -120,6 +122,7 @@ impl Call {
     fn spot(&self) -> Option<Spot> {
         match self {
             Call::Load(spot) => Some(*spot),
+            Call::Holds(spot) => Some(*spot),
             Call::Store(spot) => Some(*spot),
             Call::Exchange(spot) => Some(*spot),
             Call::Clear(spot) => Some(*spot),

@@ -1,0 +1,206 @@
+//! Places that are asked whether they hold a pointer.
+
+use pointer_calls::row;
+use pointers::{
+    Cached, Call, Desk, Domain, Fault, Place, Program, Refusal, Shared, SharedCell, Spot, WeakCell,
+};
+use std::sync::Wait;
+use std::thread::Threads;
+
+const CELL: SharedCell = SharedCell(0);
+
+const WATCHED: WeakCell = WeakCell(0);
+
+/// The second field of the block at whose first one the pointer points.
+fn second_field(place: Option<Place>) -> Option<Place> {
+    match place {
+        Some(place) => Some(Place {
+            block: place.block,
+            field: 1,
+        }),
+        None => None,
+    }
+}
+
+/// A free cell, by place and object; a load takes a fund meanwhile.
+struct Owners;
+
+impl<R: Threads + Wait + Sync> Program<u64, R> for Owners {
+    fn work<D: Domain<Value = u64>>(
+        &self,
+        rt: &R,
+        _number: usize,
+        desk: &Desk<D>,
+    ) -> Result<(), Fault> {
+        let a = desk.make([1, 2, 0, 0], 1)?;
+        row(1, !desk.holds(CELL, &a)?)?;
+        a.share()?.store(CELL)?;
+        row(2, desk.holds(CELL, &a)?)?;
+        if let Some(copy) = desk.load(rt, CELL)? {
+            row(3, desk.holds(CELL, &copy)?)?;
+        }
+        row(4, desk.holds(CELL, &a)?)?;
+        let elsewhere = a.alias(second_field(a.place()))?;
+        row(5, !desk.holds(CELL, &elsewhere)?)?;
+        let other = desk.make([1, 2, 0, 0], 2)?;
+        row(6, !desk.holds(CELL, &other)?)?;
+        elsewhere.store(CELL)?;
+        row(7, !desk.holds(CELL, &a)?)?;
+        desk.clear(CELL)?;
+        row(8, !desk.holds(CELL, &a)?)
+    }
+}
+
+/// The members of an object.
+fn members<D: Domain<Value = u64>>(desk: &Desk<D>, whole: &Shared<D>) -> Result<(), Fault> {
+    let part = desk.make([2; 4], 2)?;
+    row(1, !whole.first().holds(&part)?)?;
+    whole.first().store(Some(part.share()?))?;
+    row(2, whole.first().holds(&part)?)?;
+    row(3, !whole.next().holds(&part)?)?;
+    row(4, !whole.first().holds(whole)?)?;
+    let weak = part.downgrade()?;
+    row(5, !whole.up().holds(&weak)?)?;
+    whole.up().store(Some(weak.share()?))?;
+    row(6, whole.up().holds(&weak)?)
+}
+
+/// Those, a free weak cell, and why there is no answer.
+struct Places;
+
+impl<R: Threads + Wait + Sync> Program<u64, R> for Places {
+    fn work<D: Domain<Value = u64>>(
+        &self,
+        rt: &R,
+        _number: usize,
+        desk: &Desk<D>,
+    ) -> Result<(), Fault> {
+        let whole = desk.make([1; 4], 1)?;
+        members(desk, &whole)?;
+        let weak = whole.downgrade()?;
+        row(7, !desk.holds_weak(WATCHED, &weak)?)?;
+        weak.share()?.store(WATCHED)?;
+        row(8, desk.holds_weak(WATCHED, &weak)?)?;
+        desk.clear_weak(WATCHED)?;
+        let none = Fault::Cell(Call::Holds(Spot::Shared(2)));
+        row(9, desk.holds(SharedCell(2), &whole) == Err(none))?;
+        let none = Fault::Cell(Call::Holds(Spot::Weak(2)));
+        row(10, desk.holds_weak(WeakCell(2), &weak) == Err(none))?;
+        let nowhere = whole.alias(None)?;
+        let null = Fault::Refused(Call::Holds(Spot::First), Refusal::Null);
+        row(11, nowhere.first().holds(&whole) == Err(null))?;
+        let busy = Fault::Busy(Call::Holds(Spot::Shared(0)));
+        let within = whole.visit(rt, |_| desk.holds(CELL, &whole))?;
+        row(12, within == Err(busy))
+    }
+}
+
+/// What a cached read finds, by its field, or nothing.
+fn field<D: Domain<Value = u64>, R: Wait>(
+    rt: &R,
+    cached: &mut Cached<'_, '_, D>,
+) -> Result<Option<u64>, Fault> {
+    match cached.get(rt)? {
+        Some(now) => Ok(Some(now.read()?)),
+        None => Ok(None),
+    }
+}
+
+/// A cell that is read again and again: what was found last lives on until the next read.
+struct Reads;
+
+impl<R: Threads + Wait + Sync> Program<u64, R> for Reads {
+    fn work<D: Domain<Value = u64>>(
+        &self,
+        rt: &R,
+        _number: usize,
+        desk: &Desk<D>,
+    ) -> Result<(), Fault> {
+        let mut cached = desk.cached(CELL);
+        row(1, field(rt, &mut cached)? == None)?;
+        let first = desk.make([1; 4], 1)?;
+        let watch = first.downgrade()?;
+        first.store(CELL)?;
+        row(2, field(rt, &mut cached)? == Some(1))?;
+        row(3, watch.use_count()? == 2)?;
+        row(4, field(rt, &mut cached)? == Some(1))?;
+        row(5, watch.use_count()? == 2)?;
+        desk.make([2; 4], 2)?.store(CELL)?;
+        row(6, !watch.expired()?)?;
+        row(7, field(rt, &mut cached)? == Some(2))?;
+        row(8, watch.expired()?)?;
+        desk.clear(CELL)?;
+        row(9, field(rt, &mut cached)? == None)?;
+        row(10, cached.found().is_none())
+    }
+}
+
+/// A member that is read so, and a wait for what a cell no longer holds.
+struct Waits;
+
+impl<R: Threads + Wait + Sync> Program<u64, R> for Waits {
+    fn work<D: Domain<Value = u64>>(
+        &self,
+        rt: &R,
+        _number: usize,
+        desk: &Desk<D>,
+    ) -> Result<(), Fault> {
+        let whole = desk.make([1; 4], 1)?;
+        let mut cached = whole.first().cached();
+        row(1, field(rt, &mut cached)? == None)?;
+        whole.first().store(Some(desk.make([2; 4], 2)?))?;
+        cached.look(rt)?;
+        match cached.found() {
+            Some(part) => row(2, part.read()? == 2)?,
+            None => row(2, false)?,
+        }
+        desk.wait_while(rt, CELL, &whole)?;
+        whole.first().wait_while(rt, &whole)?;
+        let none = Fault::Cell(Call::Holds(Spot::Shared(2)));
+        row(3, desk.wait_while(rt, SharedCell(2), &whole) == Err(none))
+    }
+}
+
+#[cfg(test)]
+mod tests {
+    use super::*;
+    use crate::players::same;
+    use pointer_calls::{BLOCKS, worked};
+    use pointers::Team;
+    use std::alloc::Global;
+    use std::process::Abort;
+
+    /// The program's rows are as they should be, by one worker, and all blocks are vacant then.
+    fn plays<R, P>(rt: &R, alloc: Global, program: &P)
+    where
+        R: Abort + Threads + Wait + Sync,
+        P: Program<u64, R> + Sync,
+    {
+        let team = Team {
+            workers: 1,
+            pointers: 8,
+        };
+        let told = worked(rt, alloc, team, (BLOCKS, 2), program);
+        same(rt, told, Ok((None, 1, BLOCKS)));
+    }
+
+    #[test]
+    fn a_cell_holds_what_has_its_place_and_object(rt: HostRuntime) {
+        plays(&rt, rt.alloc(), &Owners);
+    }
+
+    #[test]
+    fn a_member_is_asked_as_a_free_cell_is(rt: HostRuntime) {
+        plays(&rt, rt.alloc(), &Places);
+    }
+
+    #[test]
+    fn a_cached_read_finds_what_the_cell_holds(rt: HostRuntime) {
+        plays(&rt, rt.alloc(), &Reads);
+    }
+
+    #[test]
+    fn a_wait_ends_where_the_cell_holds_something_else(rt: HostRuntime) {
+        plays(&rt, rt.alloc(), &Waits);
+    }
+}

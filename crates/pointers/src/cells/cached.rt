@@ -1,0 +1,109 @@
+//! Places that are read again and again.
+ghost use Rattle.std.specs.Prelude.{◌≡◌, true, IfErr, IfOk, None, OnOk, Some};
+ghost use Rattle.control_word.specs.declared.model.handle.Kind.TheVariants.{Owner};
+ghost use Rattle.pointers.specs.Beside.{seen_by};
+ghost use Rattle.pointers.specs.Cells.{Found, LookedFor, WhyNotFound, WhyNotLooked, shared_cell_at, shared_spot};
+ghost use Rattle.pointers.specs.declared.fault.call.Call.TheVariants.{Holds};
+ghost use Rattle.pointers.specs.declared.known.Known.{Known};
+
+use crate::cells::member::Member;
+use crate::domain::Domain;
+use crate::fault::Fault;
+use crate::shared::Shared;
+use std::sync::Wait;
+
+/// A place for an owner, with the pointer that was found there last, in arc-swap `Cache`. While the place holds that
+/// still, a read is one look at it, and changes no count. **What was found last lives on** until a `get` finds another
+/// pointer, or this is dropped.
+pub struct Cached<'p, 't, D: Domain> {
+    pub(crate) place: Member<'p, 't, D>,
+    pub(crate) found: Option<Shared<'t, D>>,
+}
+
+impl<'p, 't, D: Domain> Drop for Cached<'p, 't, D> {
+    #[inline(always)]
+    fn drop(self) {
+        let Self { place: _, found } = self;
+        drop(found);
+    }
+}
+
+impl<'p, 't, D: Domain> Member<'p, 't, D> {
+    /// The place, to be read again and again. Nothing is looked at yet.
+    #[inline(always)]
+    pub fn cached(self) -> Cached<'p, 't, D>
+        ensures of { seen_by (λ x. x.now.known) result.place.of ≡ seen_by (λ x. x.now.known) self.entry.of }
+        ensures which { (result.place.which ≡ self.entry.which) × (result.place.number ≡ self.entry.number) }
+        ensures none { result.found ≡ None }
+    {
+        Cached {
+            place: self,
+            found: None,
+        }
+    }
+}
+
+impl<'p, 't, D: Domain> Cached<'p, 't, D> {
+    /// What the place holds (waits): the pointer that was found last, where a look tells that it is there still, and
+    /// else a copy of what is there, by a load. None where that is empty. At a fault what was found last stays.
+    #[inline(always)]
+    pub fn get<R: Wait>(&mut self, rt: &R) -> Result<Option<&Shared<'t, D>>, Fault>
+        ensures found { IfOk result (λ r. Found D.opened (seen_by (λ x. x.now.known) self.old.place.of)
+            (shared_cell_at D.opened (seen_by (λ x. x.now.known) self.old.place.of)
+            self.old.place.which self.old.place.number) (seen_by (λ x. x.now) r)) }
+        ensures refused { IfErr result (WhyNotFound D.opened D.opened.shape.shared_cells
+            (seen_by (λ x. x.now.known) self.old.place.of) self.old.place.number
+            (shared_spot (seen_by (λ x. x.now.known) self.old.place.of) self.old.place.which
+            self.old.place.number)) }
+    {
+        self.look(rt)?;
+        Ok(self.found())
+    }
+
+    /// The same, for a caller that reads it by `found`.
+    #[inline(always)]
+    pub fn look<R: Wait>(&mut self, rt: &R) -> Result<(), Fault>
+        ensures found { OnOk result (Found D.opened (seen_by (λ x. x.now.known) self.old.place.of)
+            (shared_cell_at D.opened (seen_by (λ x. x.now.known) self.old.place.of)
+            self.old.place.which self.old.place.number) self.new.found) }
+        ensures stays { IfErr result (λ _. self.new.found ≡ self.old.found) }
+        ensures place { self.new.place ≡ self.old.place }
+        ensures refused { IfErr result (WhyNotFound D.opened D.opened.shape.shared_cells
+            (seen_by (λ x. x.now.known) self.old.place.of) self.old.place.number
+            (shared_spot (seen_by (λ x. x.now.known) self.old.place.of) self.old.place.which
+            self.old.place.number)) }
+    {
+        if self.holds_still()? {
+            return Ok(());
+        }
+        self.found = self.place.load(rt)?;
+        Ok(())
+    }
+
+    /// The pointer that was found last.
+    #[inline(always)]
+    pub fn found(&self) -> Option<&Shared<'t, D>>
+        ensures { seen_by (λ x. x.now) result ≡ self.now.found }
+    {
+        self.found.as_ref()
+    }
+
+    /// Whether the place holds what was found last, if that is a pointer.
+    #[inline(always)]
+    fn holds_still(&self) -> Result<bool, Fault>
+        ensures found { IfOk result (λ same. same ≡ true → (c : Known D.Value) × (self.now.found ≡ Some c)
+            × LookedFor D.opened (seen_by (λ x. x.now.known) self.now.place.of)
+            (shared_cell_at D.opened (seen_by (λ x. x.now.known) self.now.place.of)
+            self.now.place.which self.now.place.number) Owner c true) }
+        ensures refused { IfErr result
+            (WhyNotLooked D.opened.shape.shared_cells (seen_by (λ x. x.now.known) self.now.place.of)
+            self.now.place.number (Holds
+            (shared_spot (seen_by (λ x. x.now.known) self.now.place.of) self.now.place.which
+            self.now.place.number))) }
+    {
+        match &self.found {
+            Some(found) => self.place.holds(found),
+            None => Ok(false),
+        }
+    }
+}
