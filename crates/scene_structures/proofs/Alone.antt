@@ -14,7 +14,7 @@ use Rattle.control_word.specs.declared.model.event.Cell.TheVariants.{Member}
 use Rattle.control_word.specs.declared.model.event.Event.{Event}
 use Rattle.control_word.specs.declared.model.event.Event.TheVariants.{ClearMember, Compare, Count, Expired, Finish, Join, Leave, Load, Lock, Make, Read}
 use Rattle.control_word.specs.declared.model.event.Event.TheVariants.{Share, Split, Swap, Visit, WeakLeave, WeakShare}
-use Rattle.control_word.specs.declared.model.event.Event.TheVariants.{Shelve, Unshelve}
+use Rattle.control_word.specs.declared.model.event.Event.TheVariants.{Same, Shelve, Unshelve}
 use Rattle.control_word.specs.declared.model.handle.NumberedHandle.{NumberedHandle}
 use Rattle.control_word.specs.declared.place.Place.{Place}
 use Rattle.control_word.specs.declared.shape.Shape.{Shape}
@@ -47,6 +47,7 @@ module _ {V : Type 0} where
   puts_wider at bt f (Count h k) p = tt
   puts_wider at bt f (Expired h y) p = tt
   puts_wider at bt f (Read h k) p = tt
+  puts_wider at bt f (Same c h so) p = tt
   puts_wider at bt f (WeakShare q y) p = tt
   puts_wider at bt f (WeakLeave h v) p = tt
   puts_wider at bt f (Lock h got) p = tt

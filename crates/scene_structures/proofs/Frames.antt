@@ -18,7 +18,7 @@ use Rattle.control_word.specs.declared.model.event.Entry.{Entry}
 use Rattle.control_word.specs.declared.model.event.Event.{Event}
 use Rattle.control_word.specs.declared.model.event.Event.TheVariants.{ClearMember, Compare, Count, Expired, Finish, Join, Leave, Load, Lock, Make, Read}
 use Rattle.control_word.specs.declared.model.event.Event.TheVariants.{Share, Split, Swap, Visit, WeakLeave, WeakShare}
-use Rattle.control_word.specs.declared.model.event.Event.TheVariants.{Shelve, Unshelve}
+use Rattle.control_word.specs.declared.model.event.Event.TheVariants.{Same, Shelve, Unshelve}
 use Rattle.control_word.specs.declared.model.handle.NumberedHandle.{NumberedHandle}
 use Rattle.control_word.specs.declared.model.handle.Kind.TheVariants.{Owner}
 use Rattle.scene_structures.specs.Chains.{Chain, IsList}
@@ -119,6 +119,7 @@ module _ {V : Type 0} where
   keeps_after s d (Count h n) at o asks p not lives made = record { block = refl; next = refl }
   keeps_after s d (Expired h y) at o asks p not lives made = record { block = refl; next = refl }
   keeps_after s d (Read h n) at o asks p not lives made = record { block = refl; next = refl }
+  keeps_after s d (Same c h so) at o asks p not lives made = record { block = refl; next = refl }
   keeps_after s d (WeakShare q y) at o asks p not lives made = record { block = refl; next = refl }
   keeps_after s d (WeakLeave h v) at o asks p not lives made = record { block = refl; next = refl }
   keeps_after s d (Lock h got) at o asks p not lives made = record { block = refl; next = refl }
@@ -144,6 +145,7 @@ module _ {V : Type 0} where
   cell_after s d (Count h k) at n p not = refl
   cell_after s d (Expired h y) at n p not = refl
   cell_after s d (Read h k) at n p not = refl
+  cell_after s d (Same c h so) at n p not = refl
   cell_after s d (WeakShare q y) at n p not = refl
   cell_after s d (WeakLeave h v) at n p not = refl
   cell_after s d (Lock h got) at n p not = refl

@@ -17,7 +17,7 @@ use Rattle.control_word.specs.declared.model.event.Entry.{Entry}
 use Rattle.control_word.specs.declared.model.event.Event.{Event}
 use Rattle.control_word.specs.declared.model.event.Event.TheVariants.{ClearMember, Compare, Count, Expired, Finish, Join, Leave, Load, Lock, Make, Read}
 use Rattle.control_word.specs.declared.model.event.Event.TheVariants.{Share, Split, Swap, Visit, WeakLeave, WeakShare}
-use Rattle.control_word.specs.declared.model.event.Event.TheVariants.{Shelve, Unshelve}
+use Rattle.control_word.specs.declared.model.event.Event.TheVariants.{Same, Shelve, Unshelve}
 use Rattle.control_word.specs.declared.model.handle.NumberedHandle.{NumberedHandle}
 use Rattle.scene_structures.specs.Chains.{Chain, IsList}
 use Rattle.scene_structures.specs.Puts.{PutsOnly}
@@ -66,6 +66,7 @@ module _ {V : Type 0} where
   live_before s d o (Count h n) at p made = λ l. l
   live_before s d o (Expired h y) at p made = λ l. l
   live_before s d o (Read h n) at p made = λ l. l
+  live_before s d o (Same c h so) at p made = λ l. l
   live_before s d o (WeakShare q y) at p made = λ l. l
   live_before s d o (Lock h got) at p made = λ l. l
   live_before s d o (Load c got) at p made = λ l. l
@@ -110,6 +111,7 @@ module _ {V : Type 0} where
   member_after s d o k (Count h n) at asks p not made lives = refl
   member_after s d o k (Expired h y) at asks p not made lives = refl
   member_after s d o k (Read h n) at asks p not made lives = refl
+  member_after s d o k (Same c h so) at asks p not made lives = refl
   member_after s d o k (WeakShare q y) at asks p not made lives = refl
   member_after s d o k (Lock h got) at asks p not made lives = refl
   member_after s d o k (Load c got) at asks p not made lives = refl

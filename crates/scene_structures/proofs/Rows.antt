@@ -6,7 +6,7 @@ use Rattle.control_word.specs.declared.model.event.Cell.{Cell}
 use Rattle.control_word.specs.declared.model.event.Event.{Event}
 use Rattle.control_word.specs.declared.model.event.Event.TheVariants.{ClearMember, Compare, Count, Expired, Finish, Join, Leave, Load, Lock, Make, Read}
 use Rattle.control_word.specs.declared.model.event.Event.TheVariants.{Share, Split, Swap, Visit, WeakLeave, WeakShare}
-use Rattle.control_word.specs.declared.model.event.Event.TheVariants.{Shelve, Unshelve}
+use Rattle.control_word.specs.declared.model.event.Event.TheVariants.{Same, Shelve, Unshelve}
 use Rattle.control_block.specs.Desks.{DeskNow}
 use Rattle.control_block.specs.Own.{Does, KeepsDesks}
 use Rattle.shared_handle.specs.Piles.{IsParting}
@@ -36,6 +36,7 @@ module _ {V : Type 0} where
   puts_keep at (Count h k) p = tt
   puts_keep at (Expired h y) p = tt
   puts_keep at (Read h k) p = tt
+  puts_keep at (Same c h so) p = tt
   puts_keep at (WeakShare q y) p = tt
   puts_keep at (WeakLeave h v) p = tt
   puts_keep at (Lock h got) p = tt

@@ -103,7 +103,9 @@ fn aim_of(world: &World, thread: u8, act: Act) -> Option<Aim>
             let given = block_of(world.held(thread, Name(name)));
             aim_with(world, thread, cell, AimKind::Writes, given)
         }
-        Act::Load { cell } => aim_with(world, thread, cell, AimKind::Reads, None),
+        Act::Load { cell } | Act::Holds { cell, .. } => {
+            aim_with(world, thread, cell, AimKind::Reads, None)
+        }
         Act::Compare { cell, .. } => aim_with(world, thread, cell, AimKind::Compares, hand),
         _ => None,
     }
@@ -123,7 +125,7 @@ fn act_word(act: Act) -> &'static str {
         Act::Expired { .. } => "expired",
         Act::Read { .. } => "read",
         Act::FromThis { .. } => "this",
-        Act::Ask { .. } => "ask",
+        Act::Ask { .. } | Act::Holds { .. } => "ask",
         Act::Swap { .. } | Act::Exchange { .. } => "swap",
         Act::Load { .. } => "load",
         Act::Compare { .. } => "compare",

@@ -178,6 +178,7 @@ module _ {V : Type 0} where
   by_slot worth s n l (act.Offer k c) i last left v at leaves = absurd at
   by_slot worth s n l (act.Swap c) i last left v at leaves = absurd at
   by_slot worth s n l (act.Exchange k c) i last left v at leaves = absurd at
+  by_slot worth s n l (act.Holds k c) i last left v at leaves = absurd at
   by_slot worth s n l (act.Load c) i last left v at leaves = absurd at
   by_slot worth s n l (act.Compare k c weak) i last left v at leaves = absurd at
   by_slot worth s n l (act.OnShelf x) i last left v at leaves = absurd at

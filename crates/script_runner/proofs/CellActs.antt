@@ -4,7 +4,7 @@ use Rattle.control_block.specs.Standing.{Standing}
 use Rattle.control_word.specs.declared.model.handle.Kind.{Kind}
 use Rattle.control_word.specs.declared.refusal.Refusal.{Refusal}
 use Rattle.handle_table.specs.Calls.{Copies, IsBelow, MovesSlot}
-use Rattle.handle_table.specs.Cells.{ExchangesSlot, LoadsIntoSlot, WhyNoCell, WhyNotLoaded, WhyNotSwapped}
+use Rattle.handle_table.specs.Cells.{ExchangesSlot, TellsSlotHeld, LoadsIntoSlot, WhyNoCell, WhyNotLoaded, WhyNotSwapped}
 use Rattle.handle_table.specs.Compares.{ComparesSlots, WhyNotCompared}
 use Rattle.handle_table.specs.Ends.{NamesCell}
 use Rattle.handle_table.specs.Tables.{FitsSlots, TableNow}
@@ -101,6 +101,16 @@ module _ (hand : ℕ) (t : TableNow ℕ) (c : CellName) (of : IsOfName hand c) (
     exchange_refused taken f r u why call =
         subst (λ v. IsActed hand t taken (act.Exchange i c) (refuses taken r) v) (sym why.1)
         (law.exchange_not hand t t c of (third t c reach) taken is r (gone f r call (swap_gone f why.0)) i)
+
+    pub ask_refused : (taken : Bool) (f : Fault) (r : Refusal) (u : TableNow ℕ) → WhyNotSwapped t i to f × (u ≡ t) → f ≡ Call r
+        → IsActed hand t taken (act.Holds i c) (refuses taken r) u
+    ask_refused taken f r u why call =
+        subst (λ v. IsActed hand t taken (act.Holds i c) (refuses taken r) v) (sym why.1)
+        (law.holds_not hand t t c of (third t c reach) taken is r (gone f r call (swap_gone f why.0)) i)
+
+    pub ask_answered : (taken same : Bool) (u : TableNow ℕ) → i < hand → TellsSlotHeld t to i same u
+        → IsActed hand t taken (act.Holds i c) (went taken (Some (answer.Holds same))) u
+    ask_answered taken same u lt x = law.asked hand t u c of (third t c reach) i taken same is lt (subst (λ k. TellsSlotHeld t k i same u) e x)
 
     module _ (u : TableNow ℕ) (x : ExchangesSlot t i to u) where
       there : ExchangesSlot t i (as_cell c) u

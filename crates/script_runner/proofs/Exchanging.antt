@@ -1,5 +1,5 @@
 -- Exchanges of a table with cells, and what is to go into one, as acts of a thread.
-use Rattle.std.proofs.Common.{arith, length, ◌≡◌, ℕ, ◌<◌, Bool, true, cond, ◌&&◌, Option, Some, None, refl, sym, ap, subst, ◌∙◌}
+use Rattle.std.proofs.Common.{arith, length, ◌≡◌, ℕ, ◌<◌, Bool, true, false, cond, ◌&&◌, Option, Some, None, refl, sym, ap, subst, ◌∙◌}
 use Rattle.std.proofs.Common.{inl, inr}
 use Rattle.std.proofs.lemmas.List.{length-set, set-set}
 use Rattle.std.specs.Prelude.{option_map, slice_get, slice_set}
@@ -20,7 +20,7 @@ use Rattle.control_word.specs.declared.model.handle.Kind.TheVariants as kind
 use Rattle.control_word.specs.declared.model.handle.Kind.{Kind}
 use Rattle.control_word.specs.declared.place.Block.{Block}
 use Rattle.handle_table.specs.Calls.{LeavesSlot}
-use Rattle.handle_table.specs.Cells.{ExchangesSlot, kind_of_cell}
+use Rattle.handle_table.specs.Cells.{ExchangesSlot, TellsSlotHeld, kind_of_cell}
 use Rattle.handle_table.specs.Parts.{kind_of_held, block_of_held, place_of_held}
 use Rattle.handle_table.specs.Tables.{FitsSlots, IsAt, TableNow}
 use Rattle.script_runner.proofs.Calling as law
@@ -29,7 +29,7 @@ use Rattle.script_runner.proofs.Putting.{slice_get-set_same}
 use Rattle.script_runner.proofs.Seating as seating
 use Rattle.script_runner.proofs.Takings.{copies_taken, weak_nowhere}
 use Rattle.script_runner.specs.Calls as calls
-use Rattle.script_runner.specs.CellCalls.{ExchangesIn, OffersIn, as_cell}
+use Rattle.script_runner.specs.CellCalls.{ExchangesIn, HoldsIn, OffersIn, as_cell}
 use Rattle.script_runner.specs.Seats.{Acts, Done, IsSeated, as_slot, shown_slots}
 use Rattle.step_table.specs.CellAtomicSteps.{kind_in_state as kind_there}
 use Rattle.step_table.specs.Contents as contents
@@ -38,9 +38,9 @@ use Rattle.step_table.specs.Registers.{plain, pointer_of, slot_pointer, slot_val
 use Rattle.step_table.specs.declared.memory.form.Form.{Form}
 use Rattle.step_table.specs.declared.slots.slot.Slot.{Slot}
 use Rattle.step_threads.specs.Frames.{cell_of_name, fitting, hand as hand_of, offered}
-use Rattle.step_threads.specs.TraceLabels.{IsSwapEvent, Where, copy}
+use Rattle.step_threads.specs.TraceLabels.{IsSameEvent, IsSwapEvent, Where, copy}
 use Rattle.step_threads.specs.Programs.{kind_at}
-use Rattle.step_threads.specs.Rows.{Came, Plain, may_go, Hands}
+use Rattle.step_threads.specs.Rows.{Came, Got, Plain, may_go, Hands}
 use Rattle.step_threads.specs.declared.programs.act.Act.TheVariants as act
 use Rattle.step_threads.specs.declared.programs.call.CellName.{CellName}
 
@@ -155,7 +155,33 @@ module _ {V : Type 0} (worth : Form → V) (m i hand : ℕ) (taken : Bool) (t u 
       as_offer e (inl x) = inl (x.0, x.1 ∙ ap (λ y. option_map (copy {V = V} (state_of t.desk)) y) (sym e))
       as_offer e (inr x) = inr (x.0, x.1, x.2 ∙ ap (λ y. option_map (copy {V = V} (calls.state_before_event V x.1)) y) (sym e))
 
+  -- a cell is asked whether it holds what a slot has
+  holds_in : IsSeated m hand t → i < m → (same : Bool) (x : TellsSlotHeld t (as_cell c) i same u) → IsFound t (shown_slots m t.slots) c x.site
+      → Acts worth m t taken (act.Holds i c) (Got same) u
+  holds_in is below same x found =
+      let q = kind_of_cell (as_cell c) in
+      let v : Event V = event.Same (desk_cell t.desk x.site) (handle_in t.desk q (block_of_held x.of) (place_of_held x.of)) same in
+      let adds : AddsEvent t.desk v u.desk = x.tells in
+      let s = calls.state_before_event V adds in
+      let l = shown_slots m t.slots in
+      let kinds : kind_there s (cell_of_name s l c) ≡ q = found.kinds v u.desk adds ∙ sym found.kind in
+      let makes : IsSameEvent s l c i same (Some v) = λ j.
+      Some (event.Same (sym (found.named v u.desk adds) j)
+      ((sym (ap (λ k. contents.named_handle s k (slot_value l i)) kinds ∙ told_as m i t u.desk v adds x.of q is.fits below x.at x.kind)) j) same) in
+      let may : may_go l c i ≡ true =
+      (λ j. found.there j && is_of (kind_at c) (slot_value l i))
+      ∙ (ap (λ y. is_of (kind_at c) y) (seating.shown_at m t.slots i (Some x.of) below x.at) ∙ is_of_own x.of (kind_at c) (x.kind ∙ found.kind)) in
+      record {
+        done = inr (v, adds, subst (λ b. Where b (IsSameEvent s l c i same (Some v)) ((same ≡ false) × (Some v ≡ None))) (sym may) makes);
+        slots = ap (shown_slots m) x.rest.0;
+        ends = x.rest.1;
+      }
+
 module _ {V : Type 0} where
+  pub holds : HoldsIn V
+  holds worth m i hand taken t u c same is lt in_shape of x =
+      holds_in worth m i hand taken t u c is lt same x (is_found m t is.fits c x.site in_shape of x.is)
+
   pub exchanges : ExchangesIn V
   exchanges worth m i hand taken t u c is then lt in_shape of x =
       exchanges_in worth m i hand taken t u c is then (let e = is.last in omega (arith, e, lt)) x (is_found m t is.fits c x.swaps.site in_shape of x.swaps.is)

@@ -13,7 +13,7 @@ use Rattle.control_word.specs.State.{Object, Opening, State}
 use Rattle.control_word.specs.declared.model.event.Cell.TheVariants.{Free, Member}
 use Rattle.control_word.specs.declared.model.event.Entry.{Entry}
 use Rattle.control_word.specs.declared.model.event.Event.TheVariants.{ClearMember, Compare, Count, Expired, Finish, Join, Leave, Load, Lock, Make, Read}
-use Rattle.control_word.specs.declared.model.event.Event.TheVariants.{Share, Split, Swap, Visit, WeakLeave, WeakShare}
+use Rattle.control_word.specs.declared.model.event.Event.TheVariants.{Same, Share, Split, Swap, Visit, WeakLeave, WeakShare}
 use Rattle.control_word.specs.declared.model.event.Event.TheVariants.{Shelve, Unshelve}
 use Rattle.control_word.specs.declared.model.event.Event.{Event}
 use Rattle.handle_table.specs.Ends.{IsMadeAs}
@@ -64,6 +64,7 @@ module _ {V : Type 0} where
   new_four s d (Count y c) o asks low high = let no : ⊥ = omega (arith, low, high) in absurd no
   new_four s d (Expired y c) o asks low high = let no : ⊥ = omega (arith, low, high) in absurd no
   new_four s d (Read y c) o asks low high = let no : ⊥ = omega (arith, low, high) in absurd no
+  new_four s d (Same c y so) o asks low high = let no : ⊥ = omega (arith, low, high) in absurd no
   new_four s d (WeakShare q y) o asks low high = let no : ⊥ = omega (arith, low, high) in absurd no
   new_four s d (WeakLeave y v) o asks low high = let no : ⊥ = omega (arith, low, high) in absurd no
   new_four s d (Lock y got) o asks low high = let no : ⊥ = omega (arith, low, high) in absurd no

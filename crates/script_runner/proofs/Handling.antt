@@ -113,6 +113,7 @@ module _ (ks : List Kind) (x : Stance) (hand : ℕ) (taken : Bool) (t : TableNow
   asks (act.Swap c) alone s =
       (some_hand, cell_for c s.2, λ full. full_hand t.slots hand x.hand (kind_at c) taken is.in_hand s.1 full, other_vacant s.3)
   asks (act.Exchange i c) alone s = (named i (kind_at c) s.1, cell_for c s.2)
+  asks (act.Holds i c) alone s = (named i (kind_at c) s.1, cell_for c s.2)
   asks (act.Load c) alone s = (idle s.0, cell_for c s.1)
   asks (act.Compare i c weak) alone s = alone
   asks act.Drop alone s = some_hand
@@ -249,6 +250,7 @@ module _ (ks : List Kind) (x : Stance) (hand : ℕ) (taken : Bool) (t u : TableN
   arranged_after (act.Offer i d) takes alone s c = took (kind_at d) takes c s.0 _ refl refl refl
   arranged_after (act.Swap d) takes alone s c = swapped taken takes refl c.0 c.1 c.2 s.0 _ refl refl
   arranged_after (act.Exchange i d) takes alone s c = stays takes c.0 c.1 s.0 _ refl refl s.0.1
+  arranged_after (act.Holds i d) takes alone s c = stays takes c.0 (kinds_of_slots c.1) s.0 _ refl refl s.0.1
   arranged_after (act.Load d) takes alone s c = took (kind_at d) takes c s.0 _ refl refl refl
   arranged_after (act.Compare i d weak) takes alone s c = swapped false takes (sym alone) c.0 (λ e. c.1) (λ e. absurd (both alone e)) s.0 _ refl refl
     where
@@ -282,6 +284,7 @@ module _ (ks : List Kind) (x : Stance) (hand : ℕ) (taken : Bool) (t u : TableN
   taker (act.Offer i d) takes alone s c e = tt
   taker (act.Swap d) takes alone s c e = absurd (true_false takes e c.0)
   taker (act.Exchange i d) takes alone s c e = absurd (not_free takes e c.0 s.0)
+  taker (act.Holds i d) takes alone s c e = absurd (not_free takes e c.0 s.0)
   taker (act.Load d) takes alone s c e = tt
   taker (act.Compare i d weak) takes alone s c e = absurd (true_false takes e c.0)
   taker act.Drop takes alone s c e = absurd (not_free takes e c.0 s)

@@ -18,7 +18,7 @@ use Rattle.script_runner.proofs.Acting.{acted_as, below, took, went}
 use Rattle.script_runner.proofs.Celled.{loads, is_found}
 use Rattle.script_runner.proofs.Comparing.{compares_swap}
 use Rattle.script_runner.proofs.Differing.{compares_differ}
-use Rattle.script_runner.proofs.Exchanging.{exchanges, offers}
+use Rattle.script_runner.proofs.Exchanging.{exchanges, holds, offers}
 use Rattle.script_runner.proofs.Inquiring.{marked}
 use Rattle.script_runner.proofs.TableLaws.{as_seated}
 use Rattle.script_runner.proofs.Uncelled.{cells_not}
@@ -28,7 +28,7 @@ use Rattle.script_runner.specs.Seats.{IsHand, IsSeated}
 use Rattle.step_table.specs.Registers.{Slots, place_in, plain}
 use Rattle.step_threads.specs.Frames.{is_there}
 use Rattle.step_threads.specs.Programs.{IsIn, kind_at}
-use Rattle.step_threads.specs.Rows.{Came, Plain, Hands, outside, refusal}
+use Rattle.step_threads.specs.Rows.{Came, Got, Plain, Hands, outside, refusal, unless}
 use Rattle.step_threads.specs.declared.programs.act.Act.TheVariants as act
 use Rattle.step_threads.specs.declared.programs.call.CellName.TheVariants as cell
 use Rattle.step_threads.specs.declared.programs.call.CellName.{CellName}
@@ -92,6 +92,14 @@ module _ (hand : ℕ) (t u : TableNow ℕ) (c : CellName) (of : IsOfName hand c)
       (named_below hand c of) x in
       acted_as hand t u taken (act.Exchange i c) (Came a.0) (went taken None) refl a.1 refl (sym (no_refusal (thread_slots hand t) c y)) refl
 
+  pub asked : (i : ℕ) (taken same : Bool) → IsSeated (hand + 1) hand t → i < hand → cells.TellsSlotHeld t (as_cell c) i same u
+      → IsActed hand t taken (act.Holds i c) (went taken (Some (answer.Holds same))) u
+  asked i taken same is lt x =
+      let y = there_is is x.site x.is in
+      acted_as hand t u taken (act.Holds i c) (Got same) (went taken (Some (answer.Holds same))) refl
+      (holds field_0 (hand + 1) i hand taken t u c same is (below hand i lt) (in_shape t.desk.shape t.slots c x.site x.is third) (named_below hand c of) x)
+      refl (sym (ap (λ o. unless o (answer.Holds same)) (no_refusal (thread_slots hand t) c y))) refl
+
   module _ (taken : Bool) (is : IsSeated (hand + 1) hand t) (r : Refusal) (why : WhyNoCell t.desk.shape t.slots (as_cell c) (Call r)) where
     refused : RefusesCell ℕ field_0 (hand + 1) t taken c r
     refused = cells_not field_0 (hand + 1) hand taken t c r is (named_below hand c of) why
@@ -112,6 +120,9 @@ module _ (hand : ℕ) (t u : TableNow ℕ) (c : CellName) (of : IsOfName hand c)
     pub exchange_not : (i : ℕ) → IsActed hand t taken (act.Exchange i c) (went taken (Some (answer.Refused r))) t
     exchange_not i =
         marked hand t taken (act.Exchange i c) (Came plain) (answer.Refused r) taken refl (refused.exchange i) refl refl
+
+    pub holds_not : (i : ℕ) → IsActed hand t taken (act.Holds i c) (went taken (Some (answer.Refused r))) t
+    holds_not i = marked hand t taken (act.Holds i c) (Got false) (answer.Refused r) taken refl (refused.holds i) refl refl
 
   pub compared : (i other : ℕ) (weak : Bool) → IsSeated (hand + 1) hand t → other + 1 ≡ hand → i < other → slice_get t.slots other ≡ Some None
       → compares.ComparesSlots weak t (as_cell c) i hand true u → IsCompared hand t i c weak true u

@@ -37,6 +37,7 @@ idle_asks (act.Ask q) l taken is = refl
 idle_asks (act.Offer k c) l taken is = refl
 idle_asks (act.Swap c) l taken is = refl
 idle_asks (act.Exchange k c) l taken is = refl
+idle_asks (act.Holds k c) l taken is = refl
 idle_asks (act.Load c) l taken is = refl
 idle_asks (act.Compare k c weak) l taken is = refl
 idle_asks (act.OnShelf x) l taken is = refl

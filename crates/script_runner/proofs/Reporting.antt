@@ -16,8 +16,6 @@ use Rattle.control_word.specs.declared.model.event.Entry.{Entry}
 use Rattle.control_word.specs.declared.refusal.Refusal.{Refusal}
 use Rattle.control_word.specs.declared.refusal.Refusal.TheVariants.{NotSole}
 use Rattle.control_word.specs.declared.shape.Shape.{Shape}
-use Rattle.handle_table.proofs.Crews.{any_each}
-use Rattle.handle_table.specs.Programs.{WorksIn, any_work}
 use Rattle.handle_table.specs.Staffs.{StaffsOpen}
 use Rattle.handle_table.specs.declared.staff.Share.{Share}
 use Rattle.ownership_ledger.specs.Now.{ShareNow}
@@ -28,7 +26,7 @@ use Rattle.script_runner.proofs.Summing.{all_ended, all_made, sum_ended, sum_mad
 use Rattle.script_runner.proofs.Weaving.{teams_interleave}
 use Rattle.script_runner.specs.Assignments.{HasAssignment, IsReadyFor, asked_by_all}
 use Rattle.script_runner.specs.Deals.{field_0}
-use Rattle.script_runner.specs.Reports.{HasAdded, IsCounted, IsReport, all_of, domain_shape, share_for, team_of}
+use Rattle.script_runner.specs.Reports.{HadWorkers, HasAdded, IsCounted, IsReport, domain_shape, share_for}
 use Rattle.script_runner.specs.Teams.{IsInterleaved}
 use Rattle.script_runner.specs.declared.reports.report.Report.{Report}
 use Rattle.script_runner.specs.declared.workers.assignment.Assignment.{Assignment}
@@ -58,12 +56,11 @@ as_share script share blocks threads is all many =
     ∙ ap {B = Share} (λ (n : ℕ). record { slots = 36; allowance = 65535; blocks = n / threads }) all
     ∙ ap {B = Share} (λ (n : ℕ). record { slots = 36; allowance = 65535; blocks = blocks_in script.version / n }) many
 
--- the team, by how many they are and by their share
-manned : (domain : DomainNow) (desk : DeskNow ℕ) (share own : Share) (n k : ℕ) → share ≡ own → n ≡ k
-    → WorksIn any_work domain (team_of n share) (all_of n) desk → WorksIn any_work domain (team_of k own) (all_of k) desk
-manned domain desk share own n k is all works =
-    subst (λ (j : ℕ). WorksIn any_work domain (team_of j own) (all_of j) desk) all
-    (subst (λ (x : Share). WorksIn any_work domain (team_of n x) (all_of n) desk) is works)
+-- the workers, by how many they are and by their share
+workers_had : (domain : DomainNow) (desk : DeskNow ℕ) (share own : Share) (n k : ℕ) → share ≡ own → n ≡ k
+    → HadWorkers domain share n desk → HadWorkers domain own k desk
+workers_had domain desk share own n k is all had =
+    subst (λ (j : ℕ). HadWorkers domain own j desk) all (subst (λ (x : Share). HadWorkers domain x n desk) is had)
 
 module _ {G : Type 0} where
   -- what those said is told of so many threads
@@ -153,25 +150,20 @@ module _ {G : Type 0} where
           of = s.of;
           here = s.here;
           can_close = s.can_close;
-          works = manned domain desk share (share_for script) (length had) (length script.threads) is all (record {
+          works = workers_had domain desk share (share_for script) (length had) (length script.threads) is all (record {
             first = first;
             begins = s.works.begins;
             new = s.works.new;
-            out = record {
-              after = s.works.out.after;
-              works = record {
-                lent = st.lent;
-                between = st.between;
-                parts = st.parts;
-                new = st.new;
-                fewer = tt;
-                left = st.left;
-                many = many.1 ∙ sym many.0;
-                worked = inl (any_each 0 st.lent st.left (many.1 ∙ sym many.0), many.0);
-                absorbs = st.absorbs;
-              };
-              winds_up = s.works.out.winds_up;
-            };
+            lent = st.lent;
+            many = many.0;
+            between = st.between;
+            parts = st.parts;
+            each_new = st.new;
+            left = st.left;
+            all = many.1;
+            after = s.works.out.after;
+            absorbs = st.absorbs;
+            winds_up = s.works.out.winds_up;
           });
           interleaved = woven;
         };

@@ -6,7 +6,7 @@ use Rattle.std.specs.Prelude.{slice_set}
 use Rattle.step_table.specs.Registers.{Slots, plain, slot_value}
 use Rattle.step_threads.specs.Frames.{FrameView, hand, idle, other, placed, frame_settled, slots_idle, taken_idle}
 use Rattle.step_threads.specs.declared.programs.act.Act.TheVariants.{Make, Share, Downgrade, Lock, Put, Leave, Clear, Count, Expired, Read, FromThis, Alias}
-use Rattle.step_threads.specs.declared.programs.act.Act.TheVariants.{Move, Ask, Offer, Swap, Exchange, Load, Compare, Drop, OnShelf}
+use Rattle.step_threads.specs.declared.programs.act.Act.TheVariants.{Move, Ask, Offer, Swap, Exchange, Load, Compare, Holds, Drop, OnShelf}
 use Rattle.step_threads.specs.declared.programs.act.Act.{Act}
 use Rattle.step_threads.specs.declared.programs.act.Task.{Task}
 use Rattle.step_threads.specs.declared.ending.Ending.{Ending}
@@ -85,6 +85,7 @@ idle_empty (FromThis k kind) l taken e = record { many = refl; hand = e }
 idle_empty (Ask q) l taken e = record { many = refl; hand = e }
 idle_empty (Offer k c) l taken e = record { many = refl; hand = e }
 idle_empty (Exchange k c) l taken e = record { many = refl; hand = e }
+idle_empty (Holds k c) l taken e = record { many = refl; hand = e }
 idle_empty (Load c) l taken e = record { many = refl; hand = e }
 idle_empty (OnShelf x) l taken e = record { many = refl; hand = e }
 

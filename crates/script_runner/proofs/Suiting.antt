@@ -87,6 +87,7 @@ module _ (ks : List Kind) where
         let there = reached to c.0 n.1 in
         (((refl, refl), n.0, there), tt, ((refl, refl, there, refl), tt, ((refl, refl), tt, after)))
     call_suits (call.Exchange to name) n c none = (((refl, refl), n.0, reached to c.0 n.1), tt, after)
+    call_suits (call.Holds to name) n c none = (((refl, refl), n.0, reached to c.0 n.1), tt, after)
     call_suits (call.Load to from) n c none =
         (((refl, refl), reached from c.0 n.1), tt, put (Some (kind_at from)) to (kind_at from) n.0 refl)
     call_suits (call.Compare to expected desired weak) n c none =

@@ -236,6 +236,7 @@ module _ {V : Type 0} where
   parting_makes (event.Count y c) is = absurd is
   parting_makes (event.Expired y c) is = absurd is
   parting_makes (event.Read y c) is = absurd is
+  parting_makes (event.Same c y so) is = absurd is
   parting_makes (event.WeakShare o p) is = absurd is
   parting_makes (event.WeakLeave y v) is = absurd is
   parting_makes (event.Lock y g) is = absurd is

@@ -19,8 +19,8 @@ use Rattle.step_table.specs.declared.memory.ended.Ended.{Ended}
 use Rattle.step_table.specs.declared.memory.form.Form.{Form}
 use Rattle.control_word.specs.declared.handle.Handle.{Handle}
 use Rattle.step_threads.specs.Frames.{hand, is_there, offered, other}
-use Rattle.step_threads.specs.TraceLabels.{IsLeaveEvent, IsMakeEvent, IsLoadEvent, On, IsSwapEvent, Where, copies, copy, leaves_as}
-use Rattle.step_threads.specs.Rows.{Came, Compared, Found, Got, Left, Plain, Reply, Told, asked, may_go, not_given, row, lock_answer, outside, refusal}
+use Rattle.step_threads.specs.TraceLabels.{IsLeaveEvent, IsMakeEvent, IsLoadEvent, On, IsSameEvent, IsSwapEvent, Where, copies, copy, leaves_as}
+use Rattle.step_threads.specs.Rows.{Came, Compared, Found, Got, Left, Plain, Reply, Told, asked, may_go, not_given, row, unless, lock_answer, outside, refusal}
 use Rattle.step_threads.specs.AbstractStates.{remains_as}
 use Rattle.step_threads.specs.declared.programs.act.Act.{Act}
 use Rattle.step_threads.specs.declared.programs.act.Act.TheVariants as act
@@ -42,6 +42,15 @@ no_refusal_at l (cell.Weak n) = refl
 no_refusal_at l (cell.Member k m) = go (is_there l (cell.Member k m))
   where
     go : (b : Bool) → refuses (cond b None (Some (outside (place_in l k.0)))) ≡ 0
+    go true = refl
+    go false = no_refusal (place_in l k.0)
+
+no_held_refusal : (l : Slots) (c : CellName) (b : Bool) → refuses (unless (refusal l c) (answer.Holds b)) ≡ 0
+no_held_refusal l (cell.Shared n) b = refl
+no_held_refusal l (cell.Weak n) b = refl
+no_held_refusal l (cell.Member k m) b = go (is_there l (cell.Member k m))
+  where
+    go : (there : Bool) → refuses (unless (cond there None (Some (outside (place_in l k.0)))) (answer.Holds b)) ≡ 0
     go true = refl
     go false = no_refusal (place_in l k.0)
 
@@ -161,6 +170,11 @@ module _ {V : Type 0} where
     load_mild true c x e w = mild_some e _ w.1 refl refl tt
     load_mild false c x e w = mild_none e w
 
+    same_mild : (b : Bool) (c : CellName) (i : ℕ) (so : Bool) (e : Option (Event V)) → Where b (IsSameEvent s l c i so e) ((so ≡ false) × (e ≡ None))
+        → IsMild e
+    same_mild true c i so e w = mild_some e _ w refl refl tt
+    same_mild false c i so e w = mild_none e w.1
+
     pub act_counts : (a : Act) (r : Reply) (e : Option (Event V)) → IsMakeEvent worth s d l a r e → Counted a r e
     act_counts (act.Make form) (Found None) e m =
         subst (λ x. Counts (act.Make form) x (Some (answer.Refused Full)) None) (sym m.1) (record { makes = refl; ends = refl; keeps = tt })
@@ -227,6 +241,9 @@ module _ {V : Type 0} where
     act_counts (act.Compare k c weak) (Compared b x) e m =
         mild_counts (act.Compare k c weak) e (Some (answer.Compared b)) refl (mild_some e _ m.1 refl refl tt) refl
     act_counts (act.Compare k c weak) _ e m = absurd m
+    act_counts (act.Holds k c) (Got b) e m =
+        mild_counts (act.Holds k c) e (unless (refusal l c) (answer.Holds b)) refl (same_mild (may_go l c k) c k b e m) (no_held_refusal l c b)
+    act_counts (act.Holds k c) _ e m = absurd m
     act_counts (act.OnShelf Shelve) (Found None) e m =
         mild_counts (act.OnShelf Shelve) e None refl (subst IsMild (sym m.1) (record { makes = refl; ends = refl; keeps = tt })) refl
     act_counts (act.OnShelf Shelve) (Found (Some b)) e m = mild_counts (act.OnShelf Shelve) e None refl (mild_some e _ m refl refl tt) refl

@@ -21,9 +21,9 @@ use Rattle.step_table.specs.Contents.{is_of}
 use Rattle.step_table.specs.Registers.{Slots, is_full, place_in, plain, pointer_of, slot_value}
 use Rattle.step_table.specs.declared.memory.form.Form.{Form}
 use Rattle.step_threads.specs.Frames.{is_there, fitting, hand as hand_of}
-use Rattle.step_threads.specs.TraceLabels.{copy, IsLoadEvent, IsSwapEvent, Where}
+use Rattle.step_threads.specs.TraceLabels.{copy, IsLoadEvent, IsSameEvent, IsSwapEvent, Where}
 use Rattle.step_threads.specs.Programs.{kind_at}
-use Rattle.step_threads.specs.Rows.{may_go, Hands, outside, refusal}
+use Rattle.step_threads.specs.Rows.{may_go, Hands, outside, refusal, unless}
 use Rattle.step_threads.specs.declared.programs.call.CellName.TheVariants as cell
 use Rattle.step_threads.specs.declared.programs.call.CellName.{CellName}
 use Rattle.step_threads.specs.declared.programs.call.Name.{Name}
@@ -71,6 +71,18 @@ module _ {V : Type 0} (worth : Form → V) (m hand : ℕ) (taken : Bool) (t : Ta
             ends = refl;
           };
           says = says;
+        };
+        holds = λ i. record {
+          acts = record {
+            done = inl (
+              stayed t.desk t.desk refl,
+              subst (λ b. Where b (IsSameEvent {V = V} s l c i false None) ((false ≡ false) × (◌≡◌ {A = Option (Event V)} None None))) (sym (may i))
+                  (refl, refl),
+            );
+            slots = refl;
+            ends = refl;
+          };
+          says = ap (λ x. unless x (answer.Holds false)) says;
         };
       }
 

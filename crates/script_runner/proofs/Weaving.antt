@@ -143,6 +143,7 @@ module _ {V : Type 0} where
   lends_parts ns (event.Count y c) lends = absurd lends
   lends_parts ns (event.Expired y c) lends = absurd lends
   lends_parts ns (event.Read y c) lends = absurd lends
+  lends_parts ns (event.Same c y so) lends = absurd lends
   lends_parts ns (event.WeakShare o p) lends = absurd lends
   lends_parts ns (event.WeakLeave y v) lends = absurd lends
   lends_parts ns (event.Lock y g) lends = absurd lends
@@ -172,6 +173,7 @@ module _ {V : Type 0} where
   named s d x (event.Count y c) asks lt = inl lt
   named s d x (event.Expired y c) asks lt = inl lt
   named s d x (event.Read y c) asks lt = inl lt
+  named s d x (event.Same c y so) asks lt = inl lt
   named s d x (event.WeakShare o p) asks lt = inl lt
   named s d x (event.WeakLeave y v) asks lt = inl lt
   named s d x (event.Lock y g) asks lt = inl lt
@@ -221,6 +223,7 @@ module _ {V : Type 0} where
         new x (event.Count y c) how is = absurd is
         new x (event.Expired y c) how is = absurd is
         new x (event.Read y c) how is = absurd is
+        new x (event.Same c y so) how is = absurd is
         new x (event.WeakShare o p) how is = absurd is
         new x (event.WeakLeave y v) how is = absurd is
         new x (event.Lock y g) how is = absurd is

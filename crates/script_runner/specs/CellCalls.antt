@@ -19,7 +19,7 @@ use Rattle.step_table.specs.declared.memory.form.Form.{Form}
 use Rattle.step_table.specs.declared.slots.slot.Slot.{Slot}
 use Rattle.step_threads.specs.Frames.{idle, slots_idle}
 use Rattle.step_threads.specs.Programs.{IsIn, kind_at}
-use Rattle.step_threads.specs.Rows.{Came, Plain, Compared}
+use Rattle.step_threads.specs.Rows.{Came, Got, Plain, Compared}
 use Rattle.step_threads.specs.declared.programs.act.Act.TheVariants as act
 use Rattle.step_threads.specs.declared.programs.call.CellName.TheVariants as cell
 use Rattle.step_threads.specs.declared.programs.call.CellName.{CellName}
@@ -54,6 +54,14 @@ module _ (V : Type 0) where
       → IsSeated m hand t → IsSeated m hand u → i < hand → IsIn t.desk.shape c → IsOfName m c
       → cells.ExchangesSlot t i (as_cell c) u
       → (x : Slot) × Acts worth m t taken (act.Exchange i c) (Came x) u
+
+  -- a cell is asked whether it holds what a slot has
+  abbrev pub HoldsIn : Type 0
+  HoldsIn =
+      (worth : Form → V) (m i hand : ℕ) (taken : Bool) (t u : TableNow V) (c : CellName) (same : Bool)
+      → IsSeated m hand t → i < m → IsIn t.desk.shape c → IsOfName m c
+      → cells.TellsSlotHeld t (as_cell c) i same u
+      → Acts worth m t taken (act.Holds i c) (Got same) u
 
   -- a copy of what a slot has is to go into a cell that is there
   abbrev pub OffersIn : Type 0
@@ -113,12 +121,13 @@ module _ (V : Type 0) where
       × ByDiffering worth m k t u c weak
 
   -- A cell is none of the thread's: its name owns no object that it points into. The acts that would copy a value for
-  -- it, exchange one with it or load from it are marks, with this answer
+  -- it, exchange one with it, load from it or ask what it holds are marks, with this answer
   pub record RefusesCell (worth : Form → V) (m : ℕ) (t : TableNow V) (taken : Bool) (c : CellName)
       (r : Refusal) : Type 0 where
     pub offer : (i : ℕ) → MarksAct V worth m t taken (act.Offer i c) Plain (answer.Refused r)
     pub exchange : (i : ℕ) → MarksAct V worth m t taken (act.Exchange i c) (Came plain) (answer.Refused r)
     pub load : MarksAct V worth m t taken (act.Load c) (Came plain) (answer.Refused r)
+    pub holds : (i : ℕ) → MarksAct V worth m t taken (act.Holds i c) (Got false) (answer.Refused r)
 
   abbrev pub CellsNot : Type 0
   CellsNot =

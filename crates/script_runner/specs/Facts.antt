@@ -63,6 +63,7 @@ act_fact ks x (act.Swap c) = Prim.hlevel (sets, cell_fact)
 act_fact ks x (act.Exchange i c) = Prim.hlevel (sets, cell_fact)
 act_fact ks x (act.Load c) = Prim.hlevel (sets, cell_fact)
 act_fact ks x (act.Compare i c weak) = Prim.hlevel (sets, cell_fact)
+act_fact ks x (act.Holds i c) = Prim.hlevel (sets, cell_fact)
 act_fact ks x act.Drop = Prim.hlevel sets
 act_fact ks x (act.OnShelf s) = Prim.hlevel sets
 

@@ -58,6 +58,7 @@ Asks ks hand taken t (act.Swap c) = (0 < hand) × IsCellFor hand t c
 Asks ks hand taken t (act.Exchange i c) = IsHeldAs hand t i (kind_at c) × IsCellFor hand t c
 Asks ks hand taken t (act.Load c) = (taken ≡ false) × IsCellFor hand t c
 Asks ks hand taken t (act.Compare i c weak) = taken ≡ false
+Asks ks hand taken t (act.Holds i c) = IsHeldAs hand t i (kind_at c) × IsCellFor hand t c
 Asks ks hand taken t act.Drop = 0 < hand
 Asks ks hand taken t (act.OnShelf s) = ⊥
 

@@ -104,6 +104,7 @@ Suits ks x (act.Exchange i c) = IsFree ks x × IsName ks i (kind_at c) × IsReac
 Suits ks x (act.Load c) = IsFree ks x × IsReached ks c
 Suits ks x (act.Compare i c weak) =
     IsBefore ks x × (x.hand ≡ Some (kind_at c)) × IsName ks i (kind_at c) × IsReached ks c × (x.owes ≡ false)
+Suits ks x (act.Holds i c) = IsFree ks x × IsName ks i (kind_at c) × IsReached ks c
 Suits ks x act.Drop = IsFree ks x
 Suits ks x (act.OnShelf s) = ⊥
 

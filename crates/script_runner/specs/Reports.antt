@@ -1,13 +1,13 @@
 -- What a run of a script on real workers leaves: a report, and the domain with its sole desk. All of it is own.
-use Rattle.std.specs.Prelude.{◌≡◌, ℕ, ◌*◌, ◌/◌, length, List, map, None}
+use Rattle.std.specs.Prelude.{◌≡◌, ℕ, ◌*◌, ◌/◌, All, length, List, map}
 use Rattle.std.specs.List.{AllZip}
-use Rattle.control_block.specs.Desks.{Belongs, DeskNow, DomainNow}
+use Rattle.control_block.specs.Desks.{Belongs, DeskNow, DomainNow, IsFirstDesk}
 use Rattle.control_block.specs.Rule.{opening_of}
 use Rattle.control_word.specs.declared.model.event.Entry.{Entry}
 use Rattle.control_word.specs.declared.shape.Shape.{Shape}
-use Rattle.handle_table.specs.Programs.{CanClose, WorksIn, any_work}
-use Rattle.handle_table.specs.declared.program.Manned.{Manned}
-use Rattle.handle_table.specs.declared.program.Team.{Team}
+use Rattle.handle_table.specs.Parting.{AbsorbsAll, IsNew, IsPartedInto, WindsUp}
+use Rattle.handle_table.specs.Programs.{CanClose}
+use Rattle.handle_table.specs.Tables.{TableNow}
 use Rattle.handle_table.specs.declared.staff.Share.{Share}
 use Rattle.ownership_ledger.specs.Now.{ShareNow}
 use Rattle.script_text.specs.Beginnings.{script_shape}
@@ -29,14 +29,22 @@ abbrev pub share_for : ScriptView → Share
 share_for script =
     record { slots = 36; allowance = 65535; blocks = blocks_in script.version / length script.threads }
 
--- one worker a thread, each with such a share
-abbrev pub team_of : ℕ → Share → Team
-team_of n share =
-    record { workers = n; slots = share.slots; allowance = share.allowance; blocks = share.blocks }
-
--- all of them are there
-abbrev pub all_of : ℕ → Manned
-all_of n = record { workers = n; fewer = None }
+-- So many workers had tables of a new domain's parts, each with such a share, and the domain's first table absorbed what
+-- they left. Then all handles left it, and what was left to end did so
+pub record HadWorkers (domain : DomainNow) (share : Share) (count : ℕ) (last : DeskNow ℕ) : Type 0 where
+  pub first : TableNow ℕ
+  pub begins : IsFirstDesk domain first.desk
+  pub new : IsNew share.slots first
+  pub lent : List (TableNow ℕ)
+  pub many : length lent ≡ count
+  pub between : DeskNow ℕ
+  pub parts : IsPartedInto first.desk share.allowance share.blocks lent between
+  pub each_new : All (IsNew share.slots) lent
+  pub left : List (TableNow ℕ)
+  pub all : length left ≡ count
+  pub after : TableNow ℕ
+  pub absorbs : AbsorbsAll (record first { desk = between }) left after
+  pub winds_up : WindsUp after last
 
 -- what was added to a share is what the history has under a name
 abbrev pub HasAdded : {V : Type 0} → List (Entry V) → ℕ → ShareNow → Type 0
@@ -51,8 +59,7 @@ pub record IsPerformed (script : ScriptView) (lines : List (List Said)) (domain 
   pub of : domain.shape ≡ domain_shape script
   pub here : Belongs desk domain
   pub can_close : CanClose desk (domain_shape script)
-  pub works : WorksIn any_work domain (team_of (length script.threads) (share_for script))
-      (all_of (length script.threads)) desk
+  pub works : HadWorkers domain (share_for script) (length script.threads) desk
   pub interleaved : IsInterleaved field_0 (opening_of (domain_shape script)) desk.seen
       (program_in script.threads) lines
 

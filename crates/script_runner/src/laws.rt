@@ -8,7 +8,7 @@ ghost use Rattle.script_runner.specs.TableCalls.{UpgradesNot, MakesIn, MakesNull
 ghost use Rattle.script_runner.specs.TableCalls.{EmptiesIn, ResetsIn, MovesIn, CountsIn, ExpiresIn, ReadsIn};
 ghost use Rattle.script_runner.specs.TableCalls.{ReadsNot, ThisIn, WeakThisIn, ThisNot, PlacesIn, AlikeIn};
 ghost use Rattle.script_runner.specs.TableCalls.{MarksOrder};
-ghost use Rattle.script_runner.specs.CellCalls.{CellsNot, ComparesIn, DiffersIn, ExchangesIn, LoadsIn, OffersIn};
+ghost use Rattle.script_runner.specs.CellCalls.{CellsNot, ComparesIn, DiffersIn, ExchangesIn, HoldsIn, LoadsIn, OffersIn};
 ghost use Rattle.script_runner.specs.EndCalls.{RemainsIn, RoundsIn};
 ghost use Rattle.script_runner.specs.Goings.{ActsOn, PassesOver};
 ghost use Rattle.script_runner.specs.Laws.{BeginsThread, GoesOnByMark, GoesOnByCall, IsJoined, StaysJoined};
@@ -72,6 +72,7 @@ pub fn table_calls<V>()
     ensures offers { OffersIn V }
     ensures compares { ComparesIn V }
     ensures differs { DiffersIn V }
+    ensures holds { HoldsIn V }
     ensures cells_not { CellsNot V }
     ensures rounds { RoundsIn V }
     ensures remains { RemainsIn V }

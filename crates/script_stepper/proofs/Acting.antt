@@ -9,7 +9,7 @@ use Rattle.control_word.specs.State.{State}
 use Rattle.step_threads.specs.declared.programs.act.Act.{Act}
 use Rattle.step_threads.specs.declared.programs.act.Act.TheVariants.{Make, Share, Downgrade, Alias, Move, FromThis, Lock, Put, Leave, Clear, Count, Expired}
 use Rattle.step_threads.specs.declared.programs.act.Act.TheVariants.{Read, Ask}
-use Rattle.step_threads.specs.declared.programs.act.Act.TheVariants.{Offer, Swap, Exchange, Load, Compare, Drop, OnShelf}
+use Rattle.step_threads.specs.declared.programs.act.Act.TheVariants.{Offer, Swap, Exchange, Load, Compare, Holds, Drop, OnShelf}
 use Rattle.step_threads.specs.declared.programs.act.Task.{Task}
 use Rattle.step_threads.specs.declared.ending.Ending.{Ending}
 use Rattle.step_threads.specs.Frames.{FrameView, hand, idle, other, placed, frame_settled, slots_idle}
@@ -105,6 +105,7 @@ free_idle (Swap c) slots true h = free_placed (other slots) slots
 free_idle (Swap c) slots false h = h
 free_idle (Exchange k c) slots taken h = h
 free_idle (Load c) slots taken h = h
+free_idle (Holds k c) slots taken h = h
 free_idle (Compare k c weak) slots true h = free_placed (other slots) slots
 free_idle (Compare k c weak) slots false h = h
 free_idle Drop slots taken h = free_dropped slots h

@@ -10,6 +10,7 @@ pub mod Interleaving
 pub mod LeastBlocks
 pub mod LineLemmas
 pub mod Once
+pub mod OneEvent
 pub mod OneAct
 pub mod OneTrace
 pub mod OneTurn

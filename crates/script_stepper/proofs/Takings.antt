@@ -17,7 +17,7 @@ use Rattle.step_table.specs.GhostStates.{Nothing}
 use Rattle.step_threads.specs.declared.programs.act.Act.{Act}
 use Rattle.step_threads.specs.declared.programs.act.Act.TheVariants.{Make, Share, Downgrade, Lock, Put, Leave, Clear, Count, Expired, Read, FromThis, Alias}
 use Rattle.step_threads.specs.declared.programs.act.Act.TheVariants.{Move, Ask}
-use Rattle.step_threads.specs.declared.programs.act.Act.TheVariants.{Offer, Swap, Exchange, Load, Compare, Drop, OnShelf}
+use Rattle.step_threads.specs.declared.programs.act.Act.TheVariants.{Offer, Swap, Exchange, Load, Compare, Holds, Drop, OnShelf}
 use Rattle.step_threads.specs.declared.programs.act.Task.{Task}
 use Rattle.step_threads.specs.declared.said.Said.{Said}
 use Rattle.step_threads.specs.Frames.{FrameView, hand, is_there, offered, other}
@@ -32,7 +32,8 @@ use Rattle.step_core.specs.Turns.{ActsNow, Always, IsChosen, abstraction_after}
 use Rattle.script_text.specs.Traces.{Item, TakeTurns, TakesTurn}
 use Rattle.script_stepper.specs.Running.{heard}
 use Rattle.script_stepper.proofs.Plays.{play_from, plays, said, said_from, items_told}
-use Rattle.script_stepper.proofs.OneAct.{Events, Right, comes, one_reply}
+use Rattle.script_stepper.proofs.OneAct.{comes, one_reply}
+use Rattle.script_stepper.proofs.OneEvent.{Events, Right}
 
 -- ---- the machine's replies are right and chosen
 
@@ -91,6 +92,7 @@ module _ (z : Opening) (d : ℕ) (h : History) (w : FrameView) where
   fine (Offer i c) = of_map now d _ (λ x. of_copies now d x.kind x.place x) (offered w.slots i c)
   fine (Swap c) = of_test now d (may_go w.slots c (hand w.slots)) _ (refl, tt)
   fine (Exchange i c) = of_test now d (may_go w.slots c i) _ (refl, tt)
+  fine (Holds i c) = of_test now d (may_go w.slots c i) _ (refl, tt)
   fine (Load c) = of_test now d (is_there w.slots c) _ (refl, tt)
   fine (Compare i c weak) = (refl, refl)
 

@@ -11,7 +11,7 @@ use Rattle.control_word.specs.State.{Opening, State}
 use Rattle.step_threads.specs.declared.programs.act.Act.{Act}
 use Rattle.step_threads.specs.declared.programs.act.Act.TheVariants.{Make, Share, Downgrade, Alias, Move, FromThis, Lock, Put, Leave, Clear, Count, Expired}
 use Rattle.step_threads.specs.declared.programs.act.Act.TheVariants.{Read, Ask}
-use Rattle.step_threads.specs.declared.programs.act.Act.TheVariants.{Offer, Swap, Exchange, Load, Compare, Drop, OnShelf}
+use Rattle.step_threads.specs.declared.programs.act.Act.TheVariants.{Offer, Swap, Exchange, Load, Compare, Holds, Drop, OnShelf}
 use Rattle.step_table.specs.declared.memory.form.Form.{Form}
 use Rattle.step_threads.specs.declared.ending.Ending.{Ending}
 use Rattle.control_word.specs.declared.handle.Handle.{Handle}
@@ -24,7 +24,8 @@ use Rattle.step_threads.specs.Rows.{ending_as, with_end}
 use Rattle.step_core.proofs.telling.Leaves.{begun_by, leaves_by}
 use Rattle.step_table.specs.Registers.{Slots, inside, owner_slot, place_in, slot_pointer}
 use Rattle.step_threads.specs.Entries.{History, least}
-use Rattle.step_core.proofs.Entries.{acted, history_compares, does, giving, loads, make_step, history_swaps}
+use Rattle.step_threads.specs.Rows.{may_go}
+use Rattle.step_core.proofs.Entries.{acted, history_asks, history_compares, does, giving, loads, make_step, history_swaps}
 use Rattle.step_core.specs.Totals.{ended_in, made_in}
 use Rattle.script_stepper.specs.Running.{parts_left}
 
@@ -128,6 +129,7 @@ tally z d k slots h es (Offer i c) =
 tally z d k slots h es (Swap c) = swapped z d slots h es (going slots (Swap c))
 tally z d k slots h es (Exchange i c) = swapped z d slots h es (going slots (Exchange i c))
 tally z d k slots h es (Load c) = same_if (is_there slots c) h (loads z d slots h c) es refl refl
+tally z d k slots h es (Holds i c) = same_if (may_go slots c i) h (history_asks z d slots h i c) es refl refl
 tally z d k slots h es (Compare i c weak) = same 0 h (history_compares z d slots h i c weak) es refl refl
 tally z d k slots h es Drop = left_tally z d k h es (slot_pointer slots (other slots))
 tally z d k slots h es (OnShelf x) = moved_tally z d h es x (shelf_block (leads z h) d x)

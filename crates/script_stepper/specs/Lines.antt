@@ -8,7 +8,7 @@ use Rattle.control_word.specs.Refusal.{refusal_number}
 use Rattle.control_word.specs.State.{State}
 use Rattle.step_threads.specs.declared.said.Answer.{Answer}
 use Rattle.step_threads.specs.declared.said.Answer.TheVariants.{Count, Expired, Locked, Upgraded, Read, Same, Before}
-use Rattle.step_threads.specs.declared.said.Answer.TheVariants.{Compared, Refused}
+use Rattle.step_threads.specs.declared.said.Answer.TheVariants.{Compared, Holds, Refused}
 use Rattle.step_threads.specs.declared.said.Answer.TheVariants as answer
 use Rattle.step_table.specs.declared.memory.ended.Ended.{Ended}
 use Rattle.step_table.specs.declared.memory.ended.Ended.TheVariants.{Fields, Null}
@@ -50,6 +50,7 @@ answer_text (answer.Place place) = codes "place " ++ place_text place
 answer_text (Same is_same) = codes "same " ++ yes_or_no is_same
 answer_text (Before is_before) = codes "before " ++ yes_or_no is_before
 answer_text (Compared is_equivalent) = codes "compare " ++ yes_or_no is_equivalent
+answer_text (Holds is_held) = codes "holds " ++ yes_or_no is_held
 answer_text (Refused why) = codes "refused " ++ decimal (refusal_number why)
 
 abbrev pub ended_text : Ended → List ℕ

@@ -90,6 +90,7 @@ fn put_answer(text: &mut String, answer: Answer) -> Result<(), AllocError>
         Answer::Same(is_same) => put_words(text, "same ", yes_or_no(is_same)),
         Answer::Before(is_before) => put_words(text, "before ", yes_or_no(is_before)),
         Answer::Compared(is_equivalent) => put_words(text, "compare ", yes_or_no(is_equivalent)),
+        Answer::Holds(is_held) => put_words(text, "holds ", yes_or_no(is_held)),
         Answer::Refused(why) => put_last(text, "refused ", u64::from(why.number())),
     }
 }

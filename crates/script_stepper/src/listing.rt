@@ -42,8 +42,8 @@ fn thread_text(alloc: Global, thread: u8, said: &[Said]) -> Result<String, Alloc
 ///
 /// An answer is `T.S count N`, `T.S read N` or `T.S refused N`, where N is the count, the field or the number of the
 /// refusal; `T.S place B.F` or `T.S place null`, where B is a block and F a field; `T.S lock owner`, `T.S lock empty`
-/// or `T.S upgrade owner`; or `T.S expired A`, `T.S same A`, `T.S before A` or `T.S compare A`, where A is `yes` or
-/// `no`.
+/// or `T.S upgrade owner`; or `T.S expired A`, `T.S same A`, `T.S before A`, `T.S compare A` or `T.S holds A`, where A
+/// is `yes` or `no`.
 ///
 /// Refused by 1 where a growth was refused, before the first byte; by 12 just where the writer has failed, which then
 /// took a beginning of the lines. The writer hasn't failed before.

@@ -111,6 +111,10 @@ pub store_fits : (names new : NameList) (words : List (List ℕ)) (p : CellName 
     → cell_and_source names words ≡ Ok (with_names p new) → Fits (call.Store p.0 p.1)
 store_fits names new words p h = ((pair_cell names new words p h, tt), tt)
 
+pub holds_fits : (names new : NameList) (words : List (List ℕ)) (p : CellName × Name)
+    → cell_and_source names words ≡ Ok (with_names p new) → Fits (call.Holds p.0 p.1)
+holds_fits names new words p h = ((pair_cell names new words p h, tt), tt)
+
 -- ---- a cell and a name that it is no member of
 
 refused_or : {A : Type 0} (b : Bool) (d : Cause) (x y : A) → cond b (Err d) (given x) ≡ given y

@@ -32,7 +32,7 @@ use Rattle.script_text.proofs.Reversible.{source_reversible, write_two, asks_two
 use Rattle.script_text.proofs.Reversible.{target_and_source_reversible, asks_both}
 use Rattle.script_text.proofs.Reversible.{two_sources_reversible}
 use Rattle.script_text.proofs.Aliases.{Parts, write_alias, asks_alias, alias_size, alias_reversible}
-use Rattle.script_text.proofs.CellShapes.{Fits, asks_cell, cell_reversible, store_fits}
+use Rattle.script_text.proofs.CellShapes.{Fits, asks_cell, cell_reversible, holds_fits, store_fits}
 use Rattle.script_text.proofs.CellShapes.{other_reversible, exchange_fits, write_cell, asks_load}
 use Rattle.script_text.proofs.CellShapes.{load_reversible}
 use Rattle.script_text.proofs.CellShapes.{load_fits, write_load}
@@ -189,6 +189,10 @@ cell_rewrites cell.CompareWeak =
     rewrites_by (key.Cell cell.CompareWeak) (λ p. call.Compare p.0 p.1 p.2 true) cell_and_sources
     write_compare asks_compare (always 3)
     (λ ns ws. refl) (λ ns x. refl) (λ x. refl) (λ x. refl) compare_reversible (compare_fits true)
+cell_rewrites cell.Holds =
+    rewrites_by (key.Cell cell.Holds) (λ p. call.Holds p.0 p.1) cell_and_source write_cell asks_cell
+    (always 2)
+    (λ ns ws. refl) (λ ns x. refl) (λ x. refl) (λ x. refl) cell_reversible holds_fits
 
 -- each keyword on weak names by its shape
 weak_rewrites : (k : WeakKeyword) (names new : NameList) (words : List (List ℕ)) (c : Call)

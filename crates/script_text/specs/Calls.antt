@@ -102,6 +102,8 @@ cell_call_at names cell.Compare words =
     as_call (λ p. call.Compare p.0 p.1 p.2 false) (cell_and_sources names words)
 cell_call_at names cell.CompareWeak words =
     as_call (λ p. call.Compare p.0 p.1 p.2 true) (cell_and_sources names words)
+cell_call_at names cell.Holds words =
+    as_call (λ p. call.Holds p.0 p.1) (cell_and_source names words)
 
 -- the call of a statement on weak names, and the names with its target
 unfoldable pub weak_call_at : NameList → WeakKeyword → List (List ℕ)

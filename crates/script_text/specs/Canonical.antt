@@ -68,6 +68,8 @@ call_words names (call.Upgrade target source) =
     codes "upgrade" ∷ name_text names target ∷ name_text names source ∷ []
 call_words names (call.WeakCount name) = codes "wcount" ∷ name_text names name ∷ []
 call_words names (call.Expired name) = codes "expired" ∷ name_text names name ∷ []
+call_words names (call.Holds cell name) =
+    codes "holds" ∷ cell_text names cell ∷ name_text names name ∷ []
 call_words names (call.Shelve count) = codes "shelve" ∷ decimal count ∷ []
 call_words names (call.Unshelve block) = codes "unshelve" ∷ decimal block.0 ∷ []
 

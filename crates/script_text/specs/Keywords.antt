@@ -46,6 +46,7 @@ spelling_of (Cell cell.Store) = spelled (codes "store") 2 2
 spelling_of (Cell cell.Exchange) = spelled (codes "exchange") 2 2
 spelling_of (Cell cell.Compare) = spelled (codes "compare") 3 3
 spelling_of (Cell cell.CompareWeak) = spelled (codes "compare_weak") 3 3
+spelling_of (Cell cell.Holds) = spelled (codes "holds") 2 2
 spelling_of (Weak weak.Weak) = spelled (codes "weak") 2 2
 spelling_of (Weak weak.Copy) = spelled (codes "wcopy") 2 2
 spelling_of (Weak weak.Empty) = spelled (codes "wempty") 1 1
@@ -62,7 +63,7 @@ keywords =
     ∷ Place place.Move ∷ Place place.Alias ∷ Place place.This ∷ Place place.WeakThis
     ∷ Place place.Read ∷ Place place.Place ∷ Place place.Same ∷ Place place.Before
     ∷ Cell cell.Load ∷ Cell cell.Store ∷ Cell cell.Exchange ∷ Cell cell.Compare
-    ∷ Cell cell.CompareWeak
+    ∷ Cell cell.CompareWeak ∷ Cell cell.Holds
     ∷ Weak weak.Weak ∷ Weak weak.Copy ∷ Weak weak.Empty ∷ Weak weak.Reset
     ∷ Weak weak.Lock ∷ Weak weak.Upgrade ∷ Weak weak.Count ∷ Weak weak.Expired ∷ []
 

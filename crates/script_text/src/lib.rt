@@ -42,6 +42,7 @@
 //! | `exchange C X` | `Exchange`; the same, and C no member of X | |
 //! | `compare C X X` | `Compare`; the same | |
 //! | `compare_weak C X X` | `Compare`, weak; the same | |
+//! | `holds C X` | `Holds`; the same | |
 //!
 //! A number is at most 18446744073709551615, a field (`F`) a number from 0 to 3; leading zeros are
 //! read, and not written. A cell (`C`) is `s` ([util.smartptr.atomic.shared]) or `w`

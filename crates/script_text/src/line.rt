@@ -86,6 +86,7 @@ fn line_of(call: &Call) -> Line
             let word = if weak { "compare_weak" } else { "compare" };
             Line::Compare(word, cell, expected, desired)
         }
+        Call::Holds { cell, name } => Line::Cell("holds", cell, name),
         Call::Shelve { count } => Line::Number("shelve", count),
         Call::Unshelve { block } => Line::Number("unshelve", block.0),
     }

@@ -7,13 +7,14 @@ use Rattle.step_threads.specs.declared.programs.act.Act.TheVariants.{Make, Share
 use Rattle.step_threads.specs.declared.programs.act.Act.TheVariants.{Count}
 use Rattle.step_threads.specs.declared.programs.act.Act.TheVariants.{Expired, Read, FromThis, Alias, Move, Ask, Offer}
 use Rattle.step_threads.specs.declared.programs.act.Act.TheVariants.{Swap}
-use Rattle.step_threads.specs.declared.programs.act.Act.TheVariants.{Exchange, Load, Compare, Drop, OnShelf}
+use Rattle.step_threads.specs.declared.programs.act.Act.TheVariants.{Exchange, Load, Compare, Holds, Drop, OnShelf}
 use Rattle.step_table.specs.declared.memory.form.Form.{Form}
 use Rattle.step_threads.specs.declared.programs.call.CellName.{CellName}
 use Rattle.control_word.specs.declared.handle.Handle.{Handle}
 use Rattle.step_table.specs.declared.memory.ghost_history.AtomicStep.{AtomicStep}
 use Rattle.step_table.specs.declared.memory.ghost_history.AtomicStep.TheVariants as atomic_step
-use Rattle.step_table.specs.Contents.{compare_of, load_of, swap_of}
+use Rattle.step_table.specs.Contents.{compare_of, load_of, same_of, swap_of}
+use Rattle.step_threads.specs.Rows.{may_go}
 use Rattle.step_table.specs.AtomicSteps.{Telling, alias, aliased, downgrade, give, is_enabled, leave, lock}
 use Rattle.step_table.specs.AtomicSteps.{read_atomic_step, share}
 use Rattle.step_table.specs.AtomicSteps.{tell_count, tell_expired}
@@ -54,6 +55,11 @@ history_compares z d slots h k c weak =
     let s = leads z h in entry d
     (compare_of s (cell_of_name s slots c) (slot_value slots k) (slot_value slots (hand slots)) weak) ∷ h
 
+-- a cell is asked whether it holds what slot k does ([util.smartptr.atomic.shared], [util.smartptr.atomic.weak]; own)
+abbrev pub history_asks : Opening → ℕ → Slots → History → ℕ → CellName → History
+history_asks z d slots h k c = let s = leads z h in
+    entry d (same_of s (cell_of_name s slots c) (slot_value slots k)) ∷ h
+
 -- the history after an act of a desk whose thread has this in its slots, where counts are told so
 abbrev pub acted : Telling → Opening → ℕ → Slots → History → Act → History
 acted tell z d slots h (Make form) = does z d h (option_map (make_step form) (least d (leads z h).stores))
@@ -77,5 +83,6 @@ acted tell z d slots h (Swap c) = on_going (history_swaps z d slots h) h (going 
 acted tell z d slots h (Exchange k c) = on_going (history_swaps z d slots h) h (going slots (Exchange k c))
 acted tell z d slots h (Load c) = cond (is_there slots c) (loads z d slots h c) h
 acted tell z d slots h (Compare k c weak) = history_compares z d slots h k c weak
+acted tell z d slots h (Holds k c) = cond (may_go slots c k) (history_asks z d slots h k c) h
 acted tell z d slots h Drop = does z d h (option_map (leave (leads z h)) (slot_pointer slots (other slots)))
 acted tell z d slots h (OnShelf x) = does z d h (shelf_step x (shelf_block (leads z h) d x))

@@ -189,6 +189,9 @@ call_ready kinds k (call.Compare c x y b) ts named four r =
     let j = in_within kinds c y (All-head (IsDeclared kinds) (as_in c y) (through c) more) in
     let n = cell_within kinds c (All-tail (IsDeclared kinds) (as_in c y) (through c) more) in
     ((j, n, refl), tt, ((i, n), tt, (i, tt, (refl, tt, r))))
+call_ready kinds k (call.Holds c t) ts named four r =
+    let n = cell_within kinds c (All-tail (IsDeclared kinds) (as_in c t) (through c) named) in
+    ((in_within kinds c t (All-head (IsDeclared kinds) (as_in c t) (through c) named), n), tt, r)
 call_ready kinds k (call.Shelve n) ts named four r = many_ready (length kinds) k n ts r
 call_ready kinds k (call.Unshelve b) ts named four r = (tt, tt, r)
 
@@ -273,6 +276,7 @@ call_cells z k (call.Store c t) h = three z _ _ _ (first_cell z c h) (first_cell
 call_cells z k (call.Exchange c t) h = one z _ (first_cell z c h)
 call_cells z k (call.Load t c) h = two z _ _ (first_cell z c h) tt
 call_cells z k (call.Compare c x y b) h = four z _ _ _ _ (first_cell z c h) (first_cell z c h) tt tt
+call_cells z k (call.Holds c t) h = one z _ (first_cell z c h)
 call_cells z k (call.Shelve n) h = many_cells z k n
 call_cells z k (call.Unshelve b) h = one z _ tt
 

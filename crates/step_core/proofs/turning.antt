@@ -11,6 +11,7 @@ pub mod Making
 pub mod Choosing
 pub mod Saying
 pub mod Looking
+pub mod Holding
 pub mod Firsts
 pub mod Playing
 pub mod Swapping

@@ -122,6 +122,7 @@ fn names_of(call: Call) -> Names
         } => (Some(owner(target)), Some(owner(source)), Some(owner(of))),
         Call::Store { cell, source: name }
         | Call::Exchange { cell, name }
+        | Call::Holds { cell, name }
         | Call::Load { target: name, cell } => (Some(as_in(cell, name)), through(cell), None),
         Call::Compare {
             cell,
@@ -237,6 +238,7 @@ fn has_cells(shape: &Shape, call: Call) -> bool
     match call {
         Call::Store { cell, .. }
         | Call::Exchange { cell, .. }
+        | Call::Holds { cell, .. }
         | Call::Load { cell, .. }
         | Call::Compare { cell, .. } => is_in(shape, cell),
         _ => true,

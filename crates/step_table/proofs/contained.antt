@@ -1,6 +1,7 @@
 pub mod Coming
 pub mod Comparing
 pub mod Going
+pub mod Holding
 pub mod Offered
 pub mod Others
 pub mod Refilling

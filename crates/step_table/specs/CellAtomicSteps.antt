@@ -14,7 +14,7 @@ use Rattle.control_word.specs.declared.model.view.Pending.{Pending}
 use Rattle.control_word.specs.declared.model.view.Pending.TheVariants.{Idle, Paying}
 use Rattle.control_word.specs.Events.{kind_of}
 use Rattle.control_word.specs.Handles.{handle}
-use Rattle.control_word.specs.Layout.{cell_place, site_place, spot}
+use Rattle.control_word.specs.Layout.{site_place, spot}
 use Rattle.control_word.specs.Packing.{cell_bits}
 use Rattle.control_word.specs.State.{State, kind_of_member}
 use Rattle.control_word.specs.Words.{slot}
@@ -22,7 +22,7 @@ use Rattle.control_word.specs.declared.site.Site.{Site}
 use Rattle.control_word.specs.declared.site.Site.TheVariants.{Free, Member}
 use Rattle.step_table.specs.declared.cell_steps.cell_step.CellStep.{CellStep}
 use Rattle.step_table.specs.declared.cell_steps.cell_step.CellStep.TheVariants.{Look, Bring, GiveBack, Take, Turn}
-use Rattle.step_table.specs.declared.cell_steps.cell_step.CellStep.TheVariants.{Refill, Swap}
+use Rattle.step_table.specs.declared.cell_steps.cell_step.CellStep.TheVariants.{Refill, Swap, Holds}
 use Rattle.step_table.specs.declared.cell_steps.cell_step.CellStep.TheVariants.{CompareSwap, TakeOut}
 use Rattle.step_table.specs.declared.cell_steps.cell_step.Compared.{Compared}
 
@@ -62,6 +62,7 @@ module _ {V : Type 0} where
   -- the event of a step; funds and refills are none
   abbrev pub cell_event : State → CellStep → Option (Event V)
   cell_event s (Look c x y) = Some (looked s c x y)
+  cell_event s (Holds c x b) = Some (event.Same (cell_in s c) (handle_told s c x) b)
   cell_event s (Bring k b p f) = None
   cell_event s (GiveBack k b f) = None
   cell_event s (Take c x y) = Some (looked s c x y)
@@ -76,6 +77,7 @@ module _ {V : Type 0} where
   -- what is half done after it: the funds that are out
   abbrev pub cell_pending : State → CellStep → Pending V
   cell_pending s (Look c x y) = Idle
+  cell_pending s (Holds c x b) = Idle
   cell_pending s (Bring k b p f) = owing_funds s k (Some b) p f 0
   cell_pending s (GiveBack k b f) = Idle
   cell_pending s (Take c x y) = owing_funds s (kind_in_state s c) x.owned x.place 1 1
@@ -88,6 +90,7 @@ module _ {V : Type 0} where
 -- the words after it, in a table of so many blocks
 abbrev pub cell_words : ℕ → List ℕ → CellStep → List ℕ
 cell_words blocks w (Look c x y) = w
+cell_words blocks w (Holds c x b) = w
 cell_words blocks w (Bring k b p f) =
     slice_set w (spot b.0 (slot k)) (slice_index w (spot b.0 (slot k)) + 4294967296 * f)
 cell_words blocks w (GiveBack k b f) =

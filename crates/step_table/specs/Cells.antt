@@ -1,6 +1,6 @@
 -- What a step finds in a cell. All of it is own.
 use Rattle.std.specs.Prelude.{◌≡◌, ℕ, ◌<◌, slice_index, Option}
-use Rattle.control_word.specs.Layout.{IsSite, site_place}
+use Rattle.control_word.specs.Layout.{site_place}
 use Rattle.control_word.specs.declared.packed.cell.CellWord.{CellWord}
 use Rattle.control_word.specs.Events.{InHand, IsOpen, cell_of}
 use Rattle.control_word.specs.declared.place.Block.{Block}

@@ -117,7 +117,15 @@ pub record CanCompare (k : Kind) (slots : Slots) (y : Comparing) : Type 0 where
   pub empty : slot_pointer slots y.other ≡ None
   pub kinds : (is_of k (slot_value slots y.expected) ≡ true) × (is_of k (slot_value slots y.new) ≡ true)
 
+-- the cell holds what a slot's value is: both store the same place, and own or share the same object or none
+-- ([util.smartptr.atomic.shared], [util.smartptr.atomic.weak])
+abbrev pub is_held : State → Site → Slot → Bool
+is_held s c x = equivalent (held_in s c) (named_handle s (kind_in_state s c) x)
+
 -- what steps on a cell tell, by what the cell holds and slots have
+abbrev pub same_of : State → Site → Slot → Event Nothing
+same_of s c x = event.Same (cell_in s c) (named_handle s (kind_in_state s c) x) (is_held s c x)
+
 abbrev pub load_of : State → Site → Event Nothing
 load_of s c = event.Load (cell_in s c) (held_in s c)
 

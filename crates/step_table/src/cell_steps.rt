@@ -4,6 +4,7 @@ pub mod cells;
 pub mod clearing;
 pub mod comparing;
 pub mod funds;
+pub mod holding;
 pub mod loading;
 pub mod refill;
 pub mod swapping;

@@ -6,7 +6,7 @@ use Rattle.std.proofs.lemmas.Bool.{cond-true, cond-false, false≢true}
 use Rattle.std.proofs.lemmas.List.{drop_more}
 use Rattle.step_threads.specs.declared.programs.act.Act.{Act}
 use Rattle.step_threads.specs.declared.programs.act.Act.TheVariants.{Make, Share, Downgrade, Lock, Put, Leave, Clear, Count, Expired, Read, FromThis, Alias}
-use Rattle.step_threads.specs.declared.programs.act.Act.TheVariants.{Move, Ask, Offer, Swap, Exchange, Load, Compare, Drop, OnShelf}
+use Rattle.step_threads.specs.declared.programs.act.Act.TheVariants.{Move, Ask, Offer, Swap, Exchange, Load, Compare, Holds, Drop, OnShelf}
 use Rattle.step_threads.specs.declared.programs.act.Task.{Task}
 use Rattle.step_threads.specs.declared.frame.Frame.{Frame}
 use Rattle.step_threads.specs.declared.ending.Ending.{Ending}
@@ -43,26 +43,7 @@ settled_with slots taken es es' (t ∷ ts) =
 
 idle_taken : (act : Act) → taken_idle act false ≡ false
 idle_taken (Make form) = refl
-idle_taken (Share k) = refl
-idle_taken (Put k) = refl
-idle_taken (Leave k) = refl
-idle_taken (Clear k) = refl
-idle_taken (Count k) = refl
-idle_taken (Downgrade k) = refl
-idle_taken (Lock k must) = refl
-idle_taken (Expired k) = refl
-idle_taken (Read k) = refl
-idle_taken (FromThis k kind) = refl
-idle_taken (Alias k j field) = refl
-idle_taken (Move k) = refl
-idle_taken (Ask q) = refl
-idle_taken (Offer k c) = refl
-idle_taken (Swap c) = refl
-idle_taken (Exchange k c) = refl
-idle_taken (Load c) = refl
-idle_taken (Compare k c weak) = refl
-idle_taken Drop = refl
-idle_taken (OnShelf x) = refl
+idle_taken _ = refl
 
 taken_either : (b : Bool) (x y : FrameView) → x.taken ≡ false → y.taken ≡ false → (cond b x y).taken ≡ false
 taken_either true x y e f = e
@@ -203,6 +184,7 @@ weaker n (Swap c) b = b
 weaker n (Exchange k c) b = (b.0, b.1, refl)
 weaker n (Load c) b = (b.0, refl)
 weaker n (Compare k c weak) b = b
+weaker n (Holds k c) b = b
 weaker n Drop b = refl
 weaker n (OnShelf x) b = tt
 
@@ -227,6 +209,7 @@ ready_more n (Swap c) ts f r = r
 ready_more n (Exchange k c) ts f r = f r
 ready_more n (Load c) ts f r = r
 ready_more n (Compare k c weak) ts f r = r
+ready_more n (Holds k c) ts f r = f r
 ready_more n Drop ts f r = f r
 ready_more n (OnShelf x) ts f r = f r
 
@@ -259,6 +242,7 @@ ready_past (Swap c) slots taken es ts i lt free owes b f r = swap_ready slots ta
 ready_past (Exchange k c) slots taken es ts i lt free owes b f r = absurd (false≢true i)
 ready_past (Load c) slots taken es ts i lt free owes b f r = absurd (false≢true i)
 ready_past (Compare k c weak) slots taken es ts i lt free owes b f r = swap_ready slots taken es ts lt free f (ready_any (other slots) ts r)
+ready_past (Holds k c) slots taken es ts i lt free owes b f r = absurd (false≢true i)
 ready_past Drop slots taken es ts i lt free owes b f r = drop_ready slots taken es ts lt free r
 ready_past (OnShelf x) slots taken es ts i lt free owes b f r = absurd (false≢true i)
 

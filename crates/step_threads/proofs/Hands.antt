@@ -8,7 +8,7 @@ use Rattle.std.proofs.lemmas.List.{drop_all}
 use Rattle.step_threads.specs.declared.programs.act.Act.{Act}
 use Rattle.step_threads.specs.declared.programs.act.Act.TheVariants.{Make, Share, Downgrade, Lock, Put, Leave, Clear, Count, Expired, Read, FromThis, Alias}
 use Rattle.step_threads.specs.declared.programs.act.Act.TheVariants.{Move, Ask}
-use Rattle.step_threads.specs.declared.programs.act.Act.TheVariants.{Offer, Swap, Exchange, Load, Compare, Drop, OnShelf}
+use Rattle.step_threads.specs.declared.programs.act.Act.TheVariants.{Offer, Swap, Exchange, Load, Compare, Holds, Drop, OnShelf}
 use Rattle.step_threads.specs.declared.programs.act.Task.{Task}
 use Rattle.step_threads.specs.declared.frame.Frame.{Frame}
 use Rattle.step_threads.specs.declared.ending.Ending.{Ending}
@@ -70,6 +70,7 @@ module _ (slots : Slots) (x : Slot) where
   idle_hand (Exchange k c) lt b = refl
   idle_hand (Load c) lt b = refl
   idle_hand (Compare k c weak) lt b = refl
+  idle_hand (Holds k c) lt b = refl
   idle_hand Drop lt b = empty_same (other (set slots (hand slots) x)) (other slots) (held_owed lt)
   idle_hand (OnShelf y) lt b = refl
 

@@ -25,6 +25,7 @@ pub mod LookSteps
 pub mod Looks
 pub mod LoadFits
 pub mod Acting
+pub mod HoldSteps
 pub mod LockSteps
 pub mod ThisSteps
 pub mod RefillFits

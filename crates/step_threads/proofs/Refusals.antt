@@ -1,7 +1,7 @@
 -- A thread whose act is on a member of no object.
 use Rattle.std.proofs.Common.{◌≡◌, ◌⊎◌, ◌<◌, ℕ, Bool, true, false, length, refl, sym, subst, ⊎_elim, inl}
 use Rattle.step_threads.specs.declared.programs.act.Act.{Act}
-use Rattle.step_threads.specs.declared.programs.act.Act.TheVariants.{Offer, Exchange, Load}
+use Rattle.step_threads.specs.declared.programs.act.Act.TheVariants.{Offer, Exchange, Holds, Load}
 use Rattle.step_threads.specs.declared.programs.call.CellName.{CellName}
 use Rattle.step_threads.specs.declared.frame.Frame.{Frame}
 use Rattle.step_threads.specs.Frames.{MayComeNext, FrameReady, DropsInTime, IsReady, TasksMayCome, dropping, other, rest, taken_after, task_at}
@@ -9,7 +9,7 @@ use Rattle.step_threads.proofs.Frames.{owed_by, ready_any, ready_head}
 
 -- the first act of a statement on a cell
 abbrev pub IsOn : Act → CellName → Type 0
-IsOn a c = (a ≡ Load c) ⊎ ((k : ℕ) × ((a ≡ Offer k c) ⊎ (a ≡ Exchange k c)))
+IsOn a c = (a ≡ Load c) ⊎ ((k : ℕ) × ((a ≡ Offer k c) ⊎ ((a ≡ Exchange k c) ⊎ (a ≡ Holds k c))))
 
 module _ (c : Frame) (x : CellName) (lt : c.at < length c.tasks.items) (ready : FrameReady c) where
   -- nothing is to be dropped at it, and the rest is ready for what was taken
@@ -23,9 +23,10 @@ module _ (c : Frame) (x : CellName) (lt : c.at < length c.tasks.items) (ready : 
       let none : c.taken ≡ false → TasksMayCome n true (rest c) → TasksMayCome n c.taken (rest c) =
       λ e r. subst (λ (b : Bool). TasksMayCome n b (rest c)) (sym e) (ready_any n (rest c) r) in
       ⊎_elim (λ (e : a ≡ Load x). subst P (sym e) ((λ z. z), (λ b r. none b.1 r)))
-      (λ (q : (k : ℕ) × ((a ≡ Offer k x) ⊎ (a ≡ Exchange k x))).
+      (λ (q : (k : ℕ) × ((a ≡ Offer k x) ⊎ ((a ≡ Exchange k x) ⊎ (a ≡ Holds k x)))).
       ⊎_elim (λ (e : a ≡ Offer q.0 x). subst P (sym e) ((λ z. z), (λ b r. none b.2 r)))
-      (λ (e : a ≡ Exchange q.0 x). subst P (sym e) ((λ z. z), (λ b r. r))) q.1) on
+      (⊎_elim (λ (e : a ≡ Exchange q.0 x). subst P (sym e) ((λ z. z), (λ b r. r)))
+      (λ (e : a ≡ Holds q.0 x). subst P (sym e) ((λ z. z), (λ b r. r)))) q.1) on
 
   -- an act that is refused takes nothing
   pub passed_over : IsOn (task_at c).act x → IsReady c.registers.slots.items c.taken c.endings.list (rest c)

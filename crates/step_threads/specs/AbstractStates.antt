@@ -1,5 +1,5 @@
 -- What the acts of threads make of the history, act by act. All of it is own but the events, which name their sections.
-use Rattle.std.specs.Prelude.{ℕ, Bool, true, false, not, cond, List, [], ◌∷◌, get_or, slice_set, Option, Some}
+use Rattle.std.specs.Prelude.{ℕ, Bool, true, false, not, cond, ◌&&◌, List, [], ◌∷◌, get_or, slice_set, Option, Some}
 use Rattle.std.specs.Prelude.{None}
 use Rattle.control_word.specs.declared.model.handle.Kind.{Kind}
 use Rattle.control_word.specs.declared.model.handle.Kind.TheVariants.{Owner, Weak}
@@ -18,7 +18,7 @@ use Rattle.step_threads.specs.declared.ending.Ending.{Ending}
 use Rattle.step_threads.specs.declared.programs.act.Act.{Act}
 use Rattle.step_threads.specs.declared.programs.act.Act.TheVariants.{Make, Lock, Put, Leave, Clear, Count, Expired}
 use Rattle.step_threads.specs.declared.programs.act.Act.TheVariants.{Read, FromThis, Ask, Swap, Exchange, Load}
-use Rattle.step_threads.specs.declared.programs.act.Act.TheVariants.{Compare, Drop, OnShelf}
+use Rattle.step_threads.specs.declared.programs.act.Act.TheVariants.{Compare, Holds, Drop, OnShelf}
 use Rattle.step_threads.specs.declared.programs.act.Question.{Question}
 use Rattle.step_threads.specs.declared.programs.act.Question.TheVariants as question
 use Rattle.step_threads.specs.declared.programs.act.ShelfAct.TheVariants.{Shelve, Unshelve}
@@ -27,7 +27,7 @@ use Rattle.step_threads.specs.declared.programs.call.CellName.{CellName}
 use Rattle.step_threads.specs.Frames.{FrameView, cell_of_name, hand, other}
 use Rattle.step_threads.specs.Entries.{History, least, is_expected}
 use Rattle.step_threads.specs.Rows.{Reply, Plain, Found, Got, Told, Came, Compared, Left, Row, row}
-use Rattle.step_threads.specs.Rows.{frame_after_act}
+use Rattle.step_threads.specs.Rows.{frame_after_act, may_go}
 use Rattle.step_threads.specs.Unwinding.{Wound, unwound}
 
 -- the history so far, and where each thread is
@@ -78,6 +78,7 @@ reply_in tell s d l (Swap c) = Came (came s l c)
 reply_in tell s d l (Exchange k c) = Came (came s l c)
 reply_in tell s d l (Load c) = Came (came s l c)
 reply_in tell s d l (Compare k c weak) = Compared (is_expected s l k c) (came s l c)
+reply_in tell s d l (Holds k c) = Got (may_go l c k && is_expected s l k c)
 reply_in tell s d l (OnShelf Shelve) = Found (least d s.stores)
 reply_in tell s d l (OnShelf (Unshelve b)) = Got (s.shelved b.0)
 reply_in tell s d l _ = Plain

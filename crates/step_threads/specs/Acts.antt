@@ -15,7 +15,7 @@ use Rattle.step_threads.specs.declared.programs.call.Call.TheVariants.{WeakThis}
 use Rattle.step_threads.specs.declared.programs.call.Call.TheVariants.{Read, Place, Same, Before}
 use Rattle.step_threads.specs.declared.programs.call.Call.TheVariants.{Store, Exchange, Load, Compare, Weak, WeakCopy}
 use Rattle.step_threads.specs.declared.programs.call.Call.TheVariants.{WeakEmpty}
-use Rattle.step_threads.specs.declared.programs.call.Call.TheVariants.{Shelve, Unshelve}
+use Rattle.step_threads.specs.declared.programs.call.Call.TheVariants.{Holds, Shelve, Unshelve}
 use Rattle.step_threads.specs.declared.programs.act.ShelfAct.TheVariants as shelf
 use Rattle.step_threads.specs.declared.programs.call.Call.TheVariants.{WeakReset, Lock, Upgrade, WeakCount, Expired}
 
@@ -53,6 +53,7 @@ acts (Exchange cell name) = act.Exchange name.0 cell ∷ []
 acts (Load target cell) = act.Load cell ∷ act.Put target.0 ∷ []
 acts (Compare cell expected desired weak) =
     act.Offer desired.0 cell ∷ act.Compare expected.0 cell weak ∷ act.Put expected.0 ∷ act.Drop ∷ []
+acts (Holds cell name) = act.Holds name.0 cell ∷ []
 acts (Shelve n) = replicate n (act.OnShelf shelf.Shelve)
 acts (Unshelve block) = act.OnShelf (shelf.Unshelve block) ∷ []
 

@@ -10,7 +10,7 @@ use Rattle.step_table.specs.declared.memory.form.Form.{Form}
 use Rattle.step_threads.specs.declared.programs.act.Act.TheVariants.{Make, Share, Downgrade, Lock, Put, Leave, Clear}
 use Rattle.step_threads.specs.declared.programs.act.Act.TheVariants.{Count}
 use Rattle.step_threads.specs.declared.programs.act.Act.TheVariants.{Expired, Read, FromThis, Alias, Move, Ask, Offer}
-use Rattle.step_threads.specs.declared.programs.act.Act.TheVariants.{Swap, Exchange, Load, Compare, Drop, OnShelf}
+use Rattle.step_threads.specs.declared.programs.act.Act.TheVariants.{Swap, Exchange, Load, Compare, Holds, Drop, OnShelf}
 use Rattle.step_threads.specs.declared.programs.act.Question.{Question}
 use Rattle.step_threads.specs.declared.programs.act.Question.TheVariants as question
 use Rattle.step_threads.specs.declared.programs.act.Task.{Task}
@@ -190,6 +190,7 @@ MayComeNext n taken (Swap c) = IsNamed n c
 MayComeNext n taken (Exchange k c) = (k < n) × IsNamed n c × (taken ≡ false)
 MayComeNext n taken (Load c) = IsNamed n c × (taken ≡ false)
 MayComeNext n taken (Compare k c weak) = (k < n) × IsNamed n c
+MayComeNext n taken (Holds k c) = (k < n) × IsNamed n c
 MayComeNext n taken Drop = taken ≡ false
 MayComeNext n taken (OnShelf x) = Unit {0}
 
@@ -237,6 +238,7 @@ HasCell z (Swap c) = IsIn z c
 HasCell z (Exchange k c) = IsIn z c
 HasCell z (Load c) = IsIn z c
 HasCell z (Compare k c weak) = IsIn z c
+HasCell z (Holds k c) = IsIn z c
 HasCell z _ = Unit {0}
 
 -- an object ends, and what came out of one of its members is in hand

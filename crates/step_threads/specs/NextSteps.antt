@@ -10,7 +10,7 @@ use Rattle.step_threads.specs.declared.programs.act.Act.TheVariants.{Make, Share
 use Rattle.step_threads.specs.declared.programs.act.Act.TheVariants.{Count}
 use Rattle.step_threads.specs.declared.programs.act.Act.TheVariants.{Expired, Read, FromThis, Alias, Move, Ask, Offer}
 use Rattle.step_threads.specs.declared.programs.act.Act.TheVariants.{Swap}
-use Rattle.step_threads.specs.declared.programs.act.Act.TheVariants.{Exchange, Load, Compare, Drop, OnShelf}
+use Rattle.step_threads.specs.declared.programs.act.Act.TheVariants.{Exchange, Load, Compare, Holds, Drop, OnShelf}
 use Rattle.step_threads.specs.declared.programs.act.Task.{Task}
 use Rattle.step_threads.specs.declared.ending.Ending.{Ending}
 use Rattle.step_threads.specs.declared.pending_call.PendingCall.{PendingCall}
@@ -29,7 +29,7 @@ use Rattle.step_table.specs.Contents.{as_word, compared_in, is_spent, same_value
 use Rattle.step_table.specs.AtomicSteps.{downgrade, give, leave, read_atomic_step, share, tell, tell_expired, alias}
 use Rattle.step_table.specs.AtomicSteps.{aliased, on}
 use Rattle.step_table.specs.Registers.{inside, is_full, slot_pointer, owner_slot, place_in, slot_value}
-use Rattle.step_threads.specs.Entries.{least}
+use Rattle.step_threads.specs.Entries.{holds_step, least}
 use Rattle.step_threads.specs.Shelving.{shelf_block, shelf_step}
 use Rattle.step_table.specs.GhostStates.{GhostState, ghost_after_step, event_of, known_words, pending, model_state}
 use Rattle.step_threads.specs.Steps.{Step, step_of_act, begins, looks, tries, asks, step_of_swap, sends, step_of_look}
@@ -75,6 +75,7 @@ first v d w k ts (Load c) =
 first v d w k ts (Compare i c weak) =
     let x = cell_of_name (model_state v) w.slots c in
     step_of_compare v d w k ts (Compare i c weak) x (compared_in w.slots (comparing w.slots i weak)) (seen v x)
+first v d w k ts (Holds i c) = step_of_act v d w k ts (Holds i c) (holds_step (model_state v) w.slots i c) Rest
 first v d w k ts Drop =
     step_of_act v d w k ts Drop (option_map (leave (model_state v)) (slot_pointer w.slots (other w.slots))) Rest
 first v d w k ts (OnShelf x) =

@@ -12,7 +12,7 @@ use Rattle.step_threads.specs.declared.programs.call.Call.TheVariants.{Read, Pla
 use Rattle.step_threads.specs.declared.programs.call.Call.TheVariants.{Store, Exchange, Load, Compare, WeakCopy}
 use Rattle.step_threads.specs.declared.programs.call.Call.TheVariants.{WeakEmpty}
 use Rattle.step_threads.specs.declared.programs.call.Call.TheVariants.{WeakReset, Lock, Upgrade, WeakCount, Expired}
-use Rattle.step_threads.specs.declared.programs.call.Call.TheVariants.{Shelve, Unshelve}
+use Rattle.step_threads.specs.declared.programs.call.Call.TheVariants.{Holds, Shelve, Unshelve}
 use Rattle.step_threads.specs.declared.programs.call.Call.TheVariants as call
 use Rattle.step_threads.specs.declared.programs.call.CellName.{CellName}
 use Rattle.step_threads.specs.declared.programs.call.CellName.TheVariants as cell
@@ -96,6 +96,7 @@ names_of (Store cell source) = as_in cell source ∷ through cell
 names_of (Exchange cell name) = as_in cell name ∷ through cell
 names_of (Load target cell) = as_in cell target ∷ through cell
 names_of (Compare cell expected desired weak) = as_in cell expected ∷ as_in cell desired ∷ through cell
+names_of (Holds cell name) = as_in cell name ∷ through cell
 names_of (Shelve n) = []
 names_of (Unshelve block) = []
 
@@ -105,6 +106,7 @@ cells_of (Store cell source) = cell ∷ []
 cells_of (Exchange cell name) = cell ∷ []
 cells_of (Load target cell) = cell ∷ []
 cells_of (Compare cell expected desired weak) = cell ∷ []
+cells_of (Holds cell name) = cell ∷ []
 cells_of _ = []
 
 -- a shape has the cell, and an object three members

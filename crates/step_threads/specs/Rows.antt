@@ -22,7 +22,7 @@ use Rattle.step_threads.specs.declared.programs.act.Act.TheVariants.{Make, Share
 use Rattle.step_threads.specs.declared.programs.act.Act.TheVariants.{Count}
 use Rattle.step_threads.specs.declared.programs.act.Act.TheVariants.{Expired, Read, FromThis, Alias, Move, Ask, Offer}
 use Rattle.step_threads.specs.declared.programs.act.Act.TheVariants.{Swap}
-use Rattle.step_threads.specs.declared.programs.act.Act.TheVariants.{Exchange, Load, Compare, Drop}
+use Rattle.step_threads.specs.declared.programs.act.Act.TheVariants.{Exchange, Load, Compare, Holds, Drop}
 use Rattle.step_threads.specs.declared.programs.act.Question.{Question}
 use Rattle.step_threads.specs.declared.programs.act.Question.TheVariants as question
 use Rattle.step_threads.specs.declared.programs.act.Task.{Task}
@@ -99,6 +99,11 @@ abbrev pub refusal : Slots → CellName → Option Answer
 refusal slots (Member k m) = cond (is_there slots (Member k m)) None (Some (outside (place_in slots k.0)))
 refusal slots _ = None
 
+-- an act on a cell answers this, where it isn't refused
+abbrev pub unless : Option Answer → Answer → Option Answer
+unless None a = Some a
+unless (Some r) a = Some r
+
 -- what a thread has in its slots after an act, whether something is in hand, the block whose object is to end, if any;
 -- and what the act answers, and tells of an object that ends
 pub record Row : Type 0 where
@@ -168,6 +173,7 @@ row (Swap c) l taken (Came x) = having (cond (may_go l c (hand l)) (slots_swappe
 row (Exchange k c) l taken (Came x) = having (cond (may_go l c k) (slice_set l k x) l, taken) (refusal l c)
 row (Load c) l taken (Came x) = having (cond (is_there l c) (slice_set l (hand l) x, true) (l, taken)) (refusal l c)
 row (Compare k c weak) l taken (Compared swaps x) = having (compared l x swaps) (Some (answer.Compared swaps))
+row (Holds k c) l taken (Got b) = having (l, taken) (unless (refusal l c) (answer.Holds b))
 row _ l taken _ = having (l, taken) None
 
 -- the end of an object begins before the ends that are under way

@@ -28,7 +28,7 @@ use Rattle.step_threads.specs.declared.programs.act.Act.TheVariants.{Make, Share
 use Rattle.step_threads.specs.declared.programs.act.Act.TheVariants.{Count}
 use Rattle.step_threads.specs.declared.programs.act.Act.TheVariants.{Expired, Read, FromThis, Alias, Move, Ask, Offer}
 use Rattle.step_threads.specs.declared.programs.act.Act.TheVariants.{Swap}
-use Rattle.step_threads.specs.declared.programs.act.Act.TheVariants.{Exchange, Load, Compare, Drop, OnShelf}
+use Rattle.step_threads.specs.declared.programs.act.Act.TheVariants.{Exchange, Load, Compare, Holds, Drop, OnShelf}
 use Rattle.step_threads.specs.declared.programs.act.Task.{Task}
 use Rattle.step_threads.specs.declared.programs.call.CellName.{CellName}
 use Rattle.step_threads.specs.declared.ending.Ending.{Ending}
@@ -121,6 +121,12 @@ module _ {V : Type 0} where
       (named_handle s q (slot_value l (hand l))) h swaps weak))
       × (x ≡ slot_of s h)
 
+  -- whether a cell holds the value of slot k
+  abbrev pub IsSameEvent : State → Slots → CellName → ℕ → Bool → Option (Event V) → Type 0
+  IsSameEvent s l c k same e =
+      let y = cell_of_name s l c in
+      e ≡ Some (event.Same (cell_in s y) (named_handle s (kind_in_state s y) (slot_value l k)) same)
+
   -- The act of desk d with this reply, with these slots, in state s, is event e, or none. Whether the reply of an event
   -- is right is asked by the history; of an act that is none it is said here. An object's value is what its form is
   -- worth
@@ -157,6 +163,7 @@ module _ {V : Type 0} where
   IsMakeEvent worth s d l (Exchange k c) (Came x) e = Where (may_go l c k) (IsSwapEvent s l c k x e) (e ≡ None)
   IsMakeEvent worth s d l (Load c) (Came x) e = Where (is_there l c) (IsLoadEvent s l c x e) (e ≡ None)
   IsMakeEvent worth s d l (Compare k c weak) (Compared swaps x) e = IsCompareEvent s l c k weak swaps x e
+  IsMakeEvent worth s d l (Holds k c) (Got b) e = Where (may_go l c k) (IsSameEvent s l c k b e) ((b ≡ false) × (e ≡ None))
   IsMakeEvent worth s d l (OnShelf Shelve) (Found None) e = (stock s d ≡ []) × (e ≡ None)
   IsMakeEvent worth s d l (OnShelf Shelve) (Found (Some b)) e = e ≡ Some (event.Shelve (record { 0 = b }))
   IsMakeEvent worth s d l (OnShelf (Unshelve b)) (Got got) e =

@@ -1,4 +1,5 @@
 //! How a thread goes on step by step within an act.
+pub mod holding;
 pub mod locking;
 pub mod looking;
 pub mod making;

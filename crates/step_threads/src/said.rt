@@ -24,6 +24,8 @@ pub enum Answer {
     Before(bool),
     /// Whether a cell was equivalent to what was expected.
     Compared(bool),
+    /// Whether a cell holds what a name does.
+    Holds(bool),
     /// The statement is refused, and does nothing.
     Refused(Refusal),
 }

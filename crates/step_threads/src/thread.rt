@@ -115,6 +115,7 @@ impl Thread {
             Act::Exchange { name, cell } => self.send(desk, table, name, cell),
             Act::Load { cell } => self.load(desk, table, cell),
             Act::Compare { name, cell, weak } => self.compare(desk, table, name, cell, weak),
+            Act::Holds { name, cell } => self.holds(desk, table, name, cell),
             Act::Drop => self.drop_other(desk, table),
             Act::OnShelf { act } => self.on_shelf(desk, table, act),
         }

@@ -157,6 +157,37 @@ pub(crate) fn exchange<H: Home>(
     }
 }
 
+/// Whether a cell holds what a name does.
+pub(crate) fn holds<H: Home>(
+    table: &mut HandleTable<'_, u64, H>,
+    hand: usize,
+    taken: bool,
+    name: u8,
+    cell: CellName,
+) -> ActResult
+    requires seated { IsSeated (hand + 1) hand table.old }
+    requires name { name < hand }
+    requires named { IsOfName hand cell }
+    requires reached { IsReachable table.old cell }
+    requires kind { HasKind table.old.slots name (kind_at cell) }
+    ensures acts { IsActed hand table.old taken (act.Holds name cell) result table.new }
+    ensures taken { result.taken ≡ taken }
+    ensures same { table.new.slots ≡ table.old.slots }
+{
+    match table.holds(cell_of(cell), usize::from(name)) {
+        Ok(holds) => ActResult {
+            taken,
+            answer: Some(Answer::Holds(holds)),
+            ended: None,
+        },
+        Err(why) => ActResult {
+            taken,
+            answer: Some(Answer::Refused(refusal_of(why))),
+            ended: None,
+        },
+    }
+}
+
 /// What is in hand goes into a cell, and what that held is to be dropped; or what was in hand is, where the cell isn't
 /// there.
 fn swap_taken<H: Home>(table: &mut HandleTable<'_, u64, H>, hand: usize, cell: CellName)

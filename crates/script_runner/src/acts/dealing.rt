@@ -7,7 +7,7 @@ ghost use Rattle.script_runner.specs.Handling.{StaysArranged};
 
 use crate::acts::act_result::ActResult;
 use crate::acts::asking::{ask, count, expire, read};
-use crate::acts::cells::{exchange, load, offer, swap};
+use crate::acts::cells::{exchange, holds, load, offer, swap};
 use crate::acts::leaving::{clear, leave, let_drop, put};
 use crate::acts::making::make_any;
 use crate::acts::taking::{alias, downgrade, from_this, lock, move_out, share, upgrade};
@@ -64,6 +64,7 @@ fn carry_out<H: Home, R: Wait>(
         Act::Ask { question } => ask(table, hand, taken, question),
         Act::Exchange { name, cell } => exchange(table, hand, taken, name, cell),
         Act::Swap { cell } => swap(table, hand, taken, cell),
+        Act::Holds { name, cell } => holds(table, hand, taken, name, cell),
         Act::Compare { .. } => nothing(taken),
         Act::OnShelf { .. } => unreachable!(),
     }

@@ -93,6 +93,10 @@ fn cell_call_of(
         }
         CellKeyword::Compare => compare(names, words, false),
         CellKeyword::CompareWeak => compare(names, words, true),
+        CellKeyword::Holds => {
+            let (cell, name) = cell_and_source(names, words)?;
+            Ok(Call::Holds { cell, name })
+        }
     }
 }
 

@@ -46,6 +46,7 @@ pub(crate) enum CellKeyword {
     Exchange,
     Compare,
     CompareWeak,
+    Holds,
 }
 
 /// A statement on weak names by its first word.
@@ -62,7 +63,7 @@ pub(crate) enum WeakKeyword {
 }
 
 /// Each statement once.
-const KEYWORDS: [Keyword; 28] = [
+const KEYWORDS: [Keyword; 29] = [
     Keyword::Make,
     Keyword::MakeThis,
     Keyword::Null,
@@ -83,6 +84,7 @@ const KEYWORDS: [Keyword; 28] = [
     Keyword::Cell(CellKeyword::Exchange),
     Keyword::Cell(CellKeyword::Compare),
     Keyword::Cell(CellKeyword::CompareWeak),
+    Keyword::Cell(CellKeyword::Holds),
     Keyword::Weak(WeakKeyword::Weak),
     Keyword::Weak(WeakKeyword::Copy),
     Keyword::Weak(WeakKeyword::Empty),
@@ -128,6 +130,7 @@ fn spelling_of(keyword: Keyword) -> Spelling
         Keyword::Cell(CellKeyword::Exchange) => ("exchange", 2, 2),
         Keyword::Cell(CellKeyword::Compare) => ("compare", 3, 3),
         Keyword::Cell(CellKeyword::CompareWeak) => ("compare_weak", 3, 3),
+        Keyword::Cell(CellKeyword::Holds) => ("holds", 2, 2),
         Keyword::Weak(WeakKeyword::Weak) => ("weak", 2, 2),
         Keyword::Weak(WeakKeyword::Copy) => ("wcopy", 2, 2),
         Keyword::Weak(WeakKeyword::Empty) => ("wempty", 1, 1),

@@ -1,21 +1,21 @@
 -- What acts on cells and on the shelf do to the history is what their replies say.
 use Rattle.step_threads.specs.declared.programs.act.ShelfAct.TheVariants.{Shelve, Unshelve}
 use Rattle.step_threads.specs.Shelving.{shelf_step}
-use Rattle.std.proofs.Common.{◌≡◌, ℕ, Bool, true, false, cond, refl}
+use Rattle.std.proofs.Common.{◌≡◌, ◌&&◌, ℕ, Bool, true, false, cond, refl}
 use Rattle.std.specs.Prelude.{Option, Some, None, option_map}
 use Rattle.control_word.specs.declared.model.event.Event.{Event}
 use Rattle.control_word.specs.declared.model.event.Event.TheVariants as event
 use Rattle.control_word.specs.declared.place.Block.{Block}
 use Rattle.control_word.specs.Histories.{leads}
 use Rattle.control_word.specs.State.{Opening, State}
-use Rattle.step_table.specs.Contents.{held_in, load_of, swap_of}
+use Rattle.step_table.specs.Contents.{held_in, load_of, same_of, swap_of}
 use Rattle.step_table.specs.Registers.{Slots, slot_value}
 use Rattle.step_table.specs.GhostStates.{Nothing}
 use Rattle.step_threads.specs.declared.programs.call.CellName.{CellName}
 use Rattle.step_threads.specs.Frames.{cell_of_name, on_going}
-use Rattle.step_threads.specs.TraceLabels.{IsLoadEvent, IsSwapEvent, Where, put_on}
-use Rattle.step_threads.specs.Entries.{History}
-use Rattle.step_core.proofs.Entries.{does, loads, history_swaps}
+use Rattle.step_threads.specs.TraceLabels.{IsLoadEvent, IsSameEvent, IsSwapEvent, Where, put_on}
+use Rattle.step_threads.specs.Entries.{History, is_expected}
+use Rattle.step_core.proofs.Entries.{does, history_asks, loads, history_swaps}
 use Rattle.step_threads.specs.AbstractStates.{came}
 
 module _ (z : Opening) (d : ℕ) (h : History) (l : Slots) where
@@ -44,6 +44,21 @@ module _ (z : Opening) (d : ℕ) (h : History) (l : Slots) where
       → let e = cond b (Some (load_of now (cell_of_name now l c))) None in Where b (IsLoadEvent now l c (came now l c) e) (e ≡ None)
   load_makes c true = (held_in now (cell_of_name now l c), refl, refl)
   load_makes c false = refl
+
+  abbrev pub same_event : CellName → ℕ → Event Nothing
+  same_event c i = same_of now (cell_of_name now l c) (slot_value l i)
+
+  pub same_history : (c : CellName) (i : ℕ) (b : Bool)
+      → cond b (history_asks z d l h i c) h ≡ put_on d (cond b (Some (same_event c i)) None) h
+  same_history c i true = refl
+  same_history c i false = refl
+
+  pub same_makes : (c : CellName) (i : ℕ) (b : Bool)
+      → let e = cond b (Some (same_event c i)) None in
+      let so = b && is_expected now l i c in
+      Where b (IsSameEvent now l c i so e) ((so ≡ false) × (e ≡ None))
+  same_makes c i true = refl
+  same_makes c i false = (refl, refl)
 
   abbrev pub shelving : ℕ → Event Nothing
   shelving b = event.Shelve (record { 0 = b })

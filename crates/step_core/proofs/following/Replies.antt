@@ -19,7 +19,7 @@ use Rattle.step_table.specs.Registers.{inside, owner_slot, place_in, slot_pointe
 use Rattle.step_table.specs.GhostStates.{Nothing, event_added, event_of}
 use Rattle.step_threads.specs.declared.programs.act.Act.{Act}
 use Rattle.step_threads.specs.declared.programs.act.Act.TheVariants.{Make, Share, Downgrade, Lock, Put, Leave, Clear, Count, Expired, Read, FromThis, Alias}
-use Rattle.step_threads.specs.declared.programs.act.Act.TheVariants.{Move, Ask, Offer, Swap, Exchange, Load, Compare, Drop, OnShelf}
+use Rattle.step_threads.specs.declared.programs.act.Act.TheVariants.{Move, Ask, Offer, Swap, Exchange, Load, Compare, Holds, Drop, OnShelf}
 use Rattle.step_threads.specs.declared.programs.act.Task.{Task}
 use Rattle.step_threads.specs.Frames.{FrameView, cell_of_name, hand, is_there, offered, other}
 use Rattle.step_threads.specs.TraceLabels.{IsMakeEvent, copies, copy, put_on}
@@ -30,7 +30,7 @@ use Rattle.step_threads.specs.AbstractStates.{reply_in, row_in, went}
 use Rattle.step_core.specs.Following.{no_worth}
 use Rattle.step_core.proofs.following.Parts.{counting, expiring, gives, leave_makes, leaving_event, left}
 use Rattle.step_core.proofs.following.Parts.{locking, none_stored, on_pointer, read_makes, reading, shared, this_makes}
-use Rattle.step_core.proofs.following.Histories.{load_history, load_makes, shelve_history, shelving, swap_event, swap_history, swap_makes}
+use Rattle.step_core.proofs.following.Histories.{load_history, load_makes, same_event, same_history, same_makes, shelve_history, shelving, swap_event, swap_history, swap_makes}
 use Rattle.step_core.proofs.following.Histories.{unshelve_history}
 
 -- where a thread goes doesn't depend on the number that a count is told
@@ -229,4 +229,11 @@ module _ (tell : Telling) (z : Opening) (d : ℕ) (h : History) (w : FrameView) 
         event = Some (compare_of now y (slot_value w.slots i) (slot_value w.slots (hand w.slots)) weak);
         makes = (held_in now y, refl, refl);
         history = refl;
+      }
+  replied (Holds i c) =
+      let b = may_go w.slots c i in
+      record {
+        event = cond b (Some (same_event z d h w.slots c i)) None;
+        makes = same_makes z d h w.slots c i b;
+        history = same_history z d h w.slots c i b;
       }

@@ -21,7 +21,7 @@ use Rattle.step_table.specs.GhostStates.{GhostState, model_state}
 use Rattle.step_threads.specs.declared.programs.act.Act.{Act}
 use Rattle.step_threads.specs.declared.programs.act.Act.TheVariants.{Make, Share, Downgrade, Lock, Put, Leave, Clear, Count, Expired, Read, FromThis, Alias}
 use Rattle.step_threads.specs.declared.programs.act.Act.TheVariants.{Move, Ask}
-use Rattle.step_threads.specs.declared.programs.act.Act.TheVariants.{Offer, Swap, Exchange, Load, Compare, Drop, OnShelf}
+use Rattle.step_threads.specs.declared.programs.act.Act.TheVariants.{Offer, Swap, Exchange, Load, Compare, Holds, Drop, OnShelf}
 use Rattle.step_threads.specs.declared.programs.act.Task.{Task}
 use Rattle.step_threads.specs.declared.programs.call.CellName.{CellName}
 use Rattle.step_threads.specs.declared.pending_call.PendingCall.TheVariants.{Rest, Giving, Refill, Saw}
@@ -101,6 +101,7 @@ module _ (v : GhostState) (d : ℕ) (w : FrameView) (k : ℕ) (ts : List Task) w
   first_said (Move i) = λ t. absurd (false≢true t)
   first_said (Ask q) = λ t. absurd (false≢true t)
   first_said (Offer i c) = λ t. absurd (false≢true t)
+  first_said (Holds i c) = λ t. absurd (false≢true t)
   first_said Drop = λ t. absurd (false≢true t)
   first_said (OnShelf x) = λ t. absurd (false≢true t)
 

@@ -11,7 +11,7 @@ use Rattle.step_threads.specs.declared.programs.act.Act.{Act}
 use Rattle.step_table.specs.declared.memory.form.Form.{Form}
 use Rattle.step_threads.specs.declared.programs.act.Act.TheVariants.{Make, Share, Downgrade, Lock, Put, Leave, Clear, Count, Expired, Read, FromThis, Alias}
 use Rattle.step_threads.specs.declared.programs.act.Act.TheVariants.{Move, Ask}
-use Rattle.step_threads.specs.declared.programs.act.Act.TheVariants.{Offer, Swap, Exchange, Load, Compare, Drop, OnShelf}
+use Rattle.step_threads.specs.declared.programs.act.Act.TheVariants.{Offer, Swap, Exchange, Load, Compare, Holds, Drop, OnShelf}
 use Rattle.step_threads.specs.declared.programs.act.Task.{Task}
 use Rattle.step_threads.specs.declared.ending.Ending.{Ending}
 use Rattle.step_threads.specs.declared.pending_call.PendingCall.{PendingCall}
@@ -26,7 +26,7 @@ use Rattle.step_threads.specs.Frames.{frame_settled}
 use Rattle.step_table.specs.AtomicSteps.{alias, aliased, downgrade, give, is_enabled, lock, owner_word, read_atomic_step, share, tell, tell_expired, on}
 use Rattle.step_threads.specs.Endings.{EndsAll, IsEndingAtStage}
 use Rattle.step_table.specs.Registers.{HoldsBag, inside, is_full, owner_slot, place_in, slot_pointer}
-use Rattle.step_threads.specs.Entries.{least}
+use Rattle.step_threads.specs.Entries.{holds_step, least}
 use Rattle.step_threads.specs.AbstractStates.{went}
 use Rattle.step_threads.specs.Rows.{holding}
 use Rattle.step_threads.specs.NextSteps.{at_rest, begun, first, given_step, made_on}
@@ -171,6 +171,8 @@ first_less v d k w t ts (Exchange i c) kept seat holds none is same has still ca
 first_less v d k w t ts (Load c) kept seat holds none is same has still calm = load_less v d w kept seat holds k t ts c none is same has calm
 first_less v d k w t ts (Compare i c weak) kept seat holds none is same has still calm =
     compare_less v d w kept seat holds k t ts i c weak none is same has still calm
+first_less v d k w t ts (Holds i c) kept seat holds none is same has still calm =
+    plain_less v d k Rest w t ts (Holds i c) (holds_step (model_state v) w.slots i c) refl refl none is (omega arith) (omega arith)
 first_less v d k w t ts Drop kept seat holds none is same has still calm =
     left_less v d k w (went (model_state v) d w k ts Drop) (slot_pointer w.slots (other w.slots)) (went_less (model_state v) d k w t ts Drop none is)
 first_less v d k w t ts (OnShelf x) kept seat holds none is same has still calm =
@@ -255,6 +257,7 @@ tried_less v d word w t ts (Ask q) (Some x) none is same e full = cc
 tried_less v d word w t ts (Offer i c) (Some x) none is same e full = cc
 tried_less v d word w t ts (Swap c) (Some x) none is same e full = cc
 tried_less v d word w t ts (Exchange i c) (Some x) none is same e full = cc
+tried_less v d word w t ts (Holds i c) (Some x) none is same e full = cc
 tried_less v d word w t ts (Load c) (Some x) none is same e full = cc
 tried_less v d word w t ts (Compare i c weak) (Some x) none is same e full = cc
 tried_less v d word w t ts Drop (Some x) none is same e full = cc

@@ -10,7 +10,7 @@ use Rattle.control_word.specs.Packing.{cell_bits}
 use Rattle.step_threads.specs.declared.programs.act.Act.{Act}
 use Rattle.step_threads.specs.declared.programs.act.Act.TheVariants.{Make, Share, Downgrade, Lock, Put, Leave, Clear, Count, Expired, Read, FromThis, Alias}
 use Rattle.step_threads.specs.declared.programs.act.Act.TheVariants.{Move, Ask}
-use Rattle.step_threads.specs.declared.programs.act.Act.TheVariants.{Offer, Swap, Exchange, Load, Compare, Drop, OnShelf}
+use Rattle.step_threads.specs.declared.programs.act.Act.TheVariants.{Offer, Swap, Exchange, Load, Compare, Holds, Drop, OnShelf}
 use Rattle.step_threads.specs.declared.programs.act.Task.{Task}
 use Rattle.step_threads.specs.declared.programs.call.CellName.{CellName}
 use Rattle.step_threads.specs.declared.pending_call.PendingCall.TheVariants.{Rest, Saw, Matched, Refill}
@@ -118,6 +118,7 @@ module _ (v : GhostState) (d : ℕ) (w : FrameView) (kept : TableInvariant v) (s
   saw_less t ts x (Offer i c) none is same has still held = absurd (subst (λ (b : Act). IsSeenBy w.slots x b) same held)
   saw_less t ts x (Swap c) none is same has still held = absurd (subst (λ (b : Act). IsSeenBy w.slots x b) same held)
   saw_less t ts x (Exchange i c) none is same has still held = absurd (subst (λ (b : Act). IsSeenBy w.slots x b) same held)
+  saw_less t ts x (Holds i c) none is same has still held = absurd (subst (λ (b : Act). IsSeenBy w.slots x b) same held)
   saw_less t ts x Drop none is same has still held = absurd (subst (λ (b : Act). IsSeenBy w.slots x b) same held)
   saw_less t ts x (OnShelf y) none is same has still held = absurd (subst (λ (b : Act). IsSeenBy w.slots x b) same held)
 
@@ -151,6 +152,7 @@ module _ (v : GhostState) (d : ℕ) (w : FrameView) (kept : TableInvariant v) (s
   swap_less t ts x (Offer i c) none is same held = absurd (subst (λ (b : Act). IsMatchedBy w.slots x b) same held)
   swap_less t ts x (Swap c) none is same held = absurd (subst (λ (b : Act). IsMatchedBy w.slots x b) same held)
   swap_less t ts x (Exchange i c) none is same held = absurd (subst (λ (b : Act). IsMatchedBy w.slots x b) same held)
+  swap_less t ts x (Holds i c) none is same held = absurd (subst (λ (b : Act). IsMatchedBy w.slots x b) same held)
   swap_less t ts x Drop none is same held = absurd (subst (λ (b : Act). IsMatchedBy w.slots x b) same held)
   swap_less t ts x (OnShelf y) none is same held = absurd (subst (λ (b : Act). IsMatchedBy w.slots x b) same held)
   swap_less t ts x (Load c) none is same held = absurd (subst (λ (b : Act). IsMatchedBy w.slots x b) same held)

@@ -22,7 +22,7 @@ use Rattle.step_table.specs.GhostStates.{Nothing}
 use Rattle.step_threads.specs.declared.ending.Ending.{Ending}
 use Rattle.step_threads.specs.declared.programs.act.Act.{Act}
 use Rattle.step_threads.specs.declared.programs.act.Act.TheVariants.{Make, Share, Downgrade, Lock, Put, Leave, Clear, Count, Expired, Read, FromThis, Alias}
-use Rattle.step_threads.specs.declared.programs.act.Act.TheVariants.{Move, Ask, Offer, Swap, Exchange, Load, Compare, Drop, OnShelf}
+use Rattle.step_threads.specs.declared.programs.act.Act.TheVariants.{Move, Ask, Offer, Swap, Exchange, Load, Compare, Holds, Drop, OnShelf}
 use Rattle.step_threads.specs.declared.programs.act.Question.{Question}
 use Rattle.step_threads.specs.declared.programs.act.Question.TheVariants as question
 use Rattle.step_threads.specs.declared.programs.act.ShelfAct.TheVariants.{Shelve, Unshelve}
@@ -36,7 +36,7 @@ use Rattle.step_threads.specs.declared.said.Stepped.{Stepped}
 use Rattle.step_threads.specs.declared.said.Stepped.TheVariants as stepped
 use Rattle.step_threads.specs.Frames.{hand, is_there, offered, other}
 use Rattle.step_threads.specs.TraceLabels.{Ahead, Over, AnAct, AnEnd, IsLeaveEvent, IsMakeEvent, On, Where, ahead_of, copies, copy, put_on}
-use Rattle.step_threads.specs.Rows.{Reply, Plain, Found, Got, Told, Came, Compared, Left, may_go, outside, refusal, row}
+use Rattle.step_threads.specs.Rows.{Reply, Plain, Found, Got, Told, Came, Compared, Left, may_go, outside, refusal, row, unless}
 use Rattle.step_core.specs.Following.{no_worth, said_by, spoken_by}
 use Rattle.step_core.specs.Headline.{answer_by, statement_by, step_ended}
 use Rattle.step_core.specs.Totals.{is_last_leave}
@@ -117,6 +117,13 @@ module _ (s : State) (d : ℕ) (l : Slots) (taken : Bool) where
       cond_both (is_there l (cell.Member k m)) None (Some (outside (place_in l k.0))) (λ (a : Option Answer). is_of_lock a ≡ false)
       (λ e. refl) (λ e. plainly (place_in l k.0))
 
+  answers : (c : CellName) (b : Bool) → is_of_lock (unless (refusal l c) (answer.Holds b)) ≡ false
+  answers (cell.Shared n) b = refl
+  answers (cell.Weak n) b = refl
+  answers (cell.Member k m) b =
+      cond_both (is_there l (cell.Member k m)) None (Some (outside (place_in l k.0)))
+      (λ (a : Option Answer). is_of_lock (unless a (answer.Holds b)) ≡ false) (λ e. refl) (λ e. plainly (place_in l k.0))
+
   reads : (k n : ℕ) → is_of_lock (row (Read k) l taken (Told n)).answer ≡ false
   reads k n =
       cond_both (is_full (inside (slot_pointer l k))) (answer.Read n) (outside (place_in l k)) (λ (a : Answer). is_of_lock (Some a) ≡ false)
@@ -177,6 +184,8 @@ module _ (s : State) (d : ℕ) (l : Slots) (taken : Bool) where
   each (Load c) (Came x) e is =
       none (Load c) (Came x) e (chosen e (is_there l c) is (λ q. ap sort_of q.1) (λ q. ap sort_of q)) (refused c) refl
   each (Compare k c weak) (Compared swaps x) e is = none (Compare k c weak) (Compared swaps x) e (ap sort_of is.1) refl refl
+  each (Holds k c) (Got b) e is =
+      none (Holds k c) (Got b) e (chosen e (may_go l c k) is (λ q. ap sort_of q) (λ q. ap sort_of q.1)) (answers c b) refl
   each (OnShelf Shelve) (Found None) e is = none (OnShelf Shelve) (Found None) e (ap sort_of is.1) refl refl
   each (OnShelf Shelve) (Found (Some b)) e is = none (OnShelf Shelve) (Found (Some b)) e (ap sort_of is) refl refl
   each (OnShelf (Unshelve b)) (Got got) e is =

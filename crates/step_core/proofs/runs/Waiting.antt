@@ -5,7 +5,7 @@ use Rattle.std.proofs.lemmas.Bool.{false≢true}
 use Rattle.step_threads.specs.declared.programs.act.Act.{Act}
 use Rattle.step_threads.specs.declared.programs.act.Act.TheVariants.{Make, Share, Downgrade, Lock, Put, Leave, Clear, Count, Expired, Read, FromThis, Alias}
 use Rattle.step_threads.specs.declared.programs.act.Act.TheVariants.{Move, Ask}
-use Rattle.step_threads.specs.declared.programs.act.Act.TheVariants.{Offer, Swap, Exchange, Load, Compare, Drop, OnShelf}
+use Rattle.step_threads.specs.declared.programs.act.Act.TheVariants.{Offer, Swap, Exchange, Load, Compare, Holds, Drop, OnShelf}
 use Rattle.step_threads.specs.declared.programs.act.Task.{Task}
 use Rattle.step_threads.specs.declared.ending.Ending.{Ending}
 use Rattle.step_threads.specs.declared.pending_call.PendingCall.{PendingCall}
@@ -73,6 +73,7 @@ act_quiet v d k w ts (Ask q) e = absurd (false≢true e)
 act_quiet v d k w ts (Offer i c) e = absurd (false≢true e)
 act_quiet v d k w ts (Swap c) e = absurd (false≢true e)
 act_quiet v d k w ts (Exchange i c) e = absurd (false≢true e)
+act_quiet v d k w ts (Holds i c) e = absurd (false≢true e)
 act_quiet v d k w ts Drop e = absurd (false≢true e)
 act_quiet v d k w ts (OnShelf x) e = absurd (false≢true e)
 

@@ -11,6 +11,10 @@ use Rattle.step_threads.specs.declared.pending_call.PendingCall.{PendingCall}
 use Rattle.step_threads.specs.declared.pending_call.PendingCall.TheVariants.{Rest}
 use Rattle.control_word.specs.declared.handle.Handle.{Handle}
 use Rattle.step_threads.specs.declared.said.Answer.{Answer}
+use Rattle.control_word.specs.declared.packed.cell.CellWord.{CellWord}
+use Rattle.control_word.specs.declared.site.Site.{Site}
+use Rattle.step_table.specs.declared.cell_steps.cell_step.CellStep.TheVariants as cell_step
+use Rattle.step_table.specs.declared.memory.ghost_history.AtomicStep.TheVariants as atomic_step
 use Rattle.step_core.specs.Bounds.{frame_steps}
 use Rattle.step_threads.specs.Frames.{FrameView}
 use Rattle.step_threads.specs.AbstractStates.{ended_by, remains_as}
@@ -93,6 +97,18 @@ pub read_one : (v : GhostState) (d k : ℕ) (w x : FrameView) (a : Option Answer
     }))
 read_one v d k w x a le None = record { made = plus_none _; ended = plus_none _; few = omega (arith, le) }
 read_one v d k w x a le (Some y) = record { made = plus_none _; ended = plus_none _; few = omega (arith, le) }
+
+-- a cell is asked, or not
+pub held_one : (v : GhostState) (d k : ℕ) (w x : FrameView) (a : Option Answer) → frame_steps x ≤ frame_steps w → (b : Bool) (c : Site) (y : CellWord)
+    (so : Bool)
+    → IsCounted v d Rest w (Some (record {
+      atomic_step = cond b (Some (atomic_step.OnCell (cell_step.Holds c y so))) None;
+      pending_call = Rest;
+      frame_view = x;
+      said = record { statement = k; answer = a; ended = None };
+    }))
+held_one v d k w x a le true c y so = record { made = plus_none _; ended = plus_none _; few = omega (arith, le) }
+held_one v d k w x a le false c y so = record { made = plus_none _; ended = plus_none _; few = omega (arith, le) }
 
 -- a lock that is done
 pub locked_by : (v : GhostState) (d k : ℕ) (h : PendingCall) (w x : FrameView) (a : Option Answer) (y : Handle) → is_prepared h ≡ false → frame_steps x ≤

@@ -17,7 +17,7 @@ use Rattle.step_table.specs.declared.cell_steps.refill.Stage.TheVariants.{Turnin
 use Rattle.step_threads.specs.declared.programs.act.Act.{Act}
 use Rattle.step_threads.specs.declared.programs.act.Act.TheVariants.{Make, Share, Downgrade, Lock, Put, Leave, Clear, Count, Expired, Read, FromThis, Alias}
 use Rattle.step_threads.specs.declared.programs.act.Act.TheVariants.{Move, Ask}
-use Rattle.step_threads.specs.declared.programs.act.Act.TheVariants.{Offer, Swap, Exchange, Load, Compare, Drop, OnShelf}
+use Rattle.step_threads.specs.declared.programs.act.Act.TheVariants.{Offer, Swap, Exchange, Load, Compare, Holds, Drop, OnShelf}
 use Rattle.step_threads.specs.declared.programs.act.Task.{Task}
 use Rattle.step_threads.specs.declared.programs.call.CellName.{CellName}
 use Rattle.step_threads.specs.declared.pending_call.PendingCall.{PendingCall}
@@ -119,6 +119,7 @@ saw_act v d w k ts P each x (Ask q) = each.none
 saw_act v d w k ts P each x (Offer i c) = each.none
 saw_act v d w k ts P each x (Swap c) = each.none
 saw_act v d w k ts P each x (Exchange i c) = each.none
+saw_act v d w k ts P each x (Holds i c) = each.none
 saw_act v d w k ts P each x Drop = each.none
 saw_act v d w k ts P each x (OnShelf y) = each.none
 
@@ -145,6 +146,7 @@ matched_act v d w k ts P each x (Ask q) = each.none
 matched_act v d w k ts P each x (Offer i c) = each.none
 matched_act v d w k ts P each x (Swap c) = each.none
 matched_act v d w k ts P each x (Exchange i c) = each.none
+matched_act v d w k ts P each x (Holds i c) = each.none
 matched_act v d w k ts P each x Drop = each.none
 matched_act v d w k ts P each x (OnShelf y) = each.none
 

@@ -5,7 +5,7 @@ use Rattle.std.proofs.lemmas.Bool.{cond_both}
 use Rattle.control_word.specs.State.{weak}
 use Rattle.step_threads.specs.declared.programs.act.Act.{Act}
 use Rattle.step_threads.specs.declared.programs.act.Act.TheVariants.{Make, Share, Downgrade, Lock, Put, Leave, Clear, Count, Expired, Read, FromThis, Alias}
-use Rattle.step_threads.specs.declared.programs.act.Act.TheVariants.{Move, Ask, Offer, Swap, Exchange, Load, Compare, Drop, OnShelf}
+use Rattle.step_threads.specs.declared.programs.act.Act.TheVariants.{Move, Ask, Offer, Swap, Exchange, Load, Compare, Holds, Drop, OnShelf}
 use Rattle.step_threads.specs.declared.programs.act.Task.{Task}
 use Rattle.step_threads.specs.declared.pending_call.PendingCall.{PendingCall}
 use Rattle.step_threads.specs.declared.pending_call.PendingCall.TheVariants.{Rest, Making, Locking, Giving, Brought, Saw, Matched, Refill, Returning, Clearing}
@@ -24,6 +24,7 @@ use Rattle.step_table.specs.Registers.{inside, is_full, owner_slot, place_in, sl
 use Rattle.step_threads.specs.Entries.{least}
 use Rattle.step_table.specs.AtomicSteps.{on, give, is_enabled, lock, owner_word, aliased}
 use Rattle.step_threads.specs.AbstractStates.{went}
+use Rattle.step_threads.specs.Rows.{may_go}
 use Rattle.step_threads.specs.NextSteps.{at_rest, begun, emptied, first, given_step, sent, step_at, tried}
 use Rattle.step_threads.specs.Steps.{Step, step_of_act, asks, begins, brings, empties, ends_on, looks, sends, silent, step_of_swap}
 use Rattle.step_threads.specs.Steps.{tries, trying, with_endings, within}
@@ -39,7 +40,7 @@ use Rattle.step_core.proofs.telling.Walking.{went_plain}
 use Rattle.step_core.proofs.telling.Swapping.{swapping, went_swap}
 use Rattle.step_core.proofs.telling.Looking.{compares_one, counted_match, counted_refill, counted_saw, load_one}
 use Rattle.step_core.proofs.telling.AtomicSteps.{IsCounted, aliased_by, downgraded, expired, left, locked_by, plus_none, quiet, read_one, shared, told}
-use Rattle.step_core.proofs.telling.AtomicSteps.{moved_one}
+use Rattle.step_core.proofs.telling.AtomicSteps.{held_one, moved_one}
 use Rattle.step_threads.specs.Shelving.{shelf_block}
 use Rattle.step_core.proofs.telling.Making.{counted_make}
 
@@ -186,6 +187,8 @@ counted_act v d k w t ts (Compare i c weak) none is same =
     compares_one v d k w t ts (Compare i c weak) (cell_of_name (model_state v) w.slots c) (compared_in w.slots (comparing w.slots i weak))
     (seen v (cell_of_name (model_state v) w.slots c))
     none is refl
+counted_act v d k w t ts (Holds i c) none is same =
+    held_one v d k w (went (model_state v) d w k ts (Holds i c)) _ (plain v d k w t ts (Holds i c) none is refl) (may_go w.slots c i) _ _ _
 counted_act v d k w t ts Drop none is same =
     left v d k w (went (model_state v) d w k ts Drop) (slot_pointer w.slots (other w.slots)) (went_less (model_state v) d k w t ts Drop none is)
 counted_act v d k w t ts (OnShelf x) none is same =
@@ -254,6 +257,7 @@ counted_try v d word w t ts (Ask q) (Some y) none is e = cc
 counted_try v d word w t ts (Offer i c) (Some y) none is e = cc
 counted_try v d word w t ts (Swap c) (Some y) none is e = cc
 counted_try v d word w t ts (Exchange i c) (Some y) none is e = cc
+counted_try v d word w t ts (Holds i c) (Some y) none is e = cc
 counted_try v d word w t ts (Load c) (Some y) none is e = cc
 counted_try v d word w t ts (Compare i c weak) (Some y) none is e = cc
 counted_try v d word w t ts Drop (Some y) none is e = cc

@@ -1,5 +1,5 @@
 -- Which objects end in whose hands, after a step.
-use Rattle.step_core.proofs.telling.Still.{done_shelf}
+use Rattle.step_core.proofs.telling.Still.{done_asking, done_shelf}
 use Rattle.step_threads.specs.Shelving.{shelf_block}
 use Rattle.std.proofs.Common.{◌≡◌, ◌≢◌, ℕ, suc, ◌+◌, ◌<◌, ◌==◌, Bool, true, false, cond, List, [], ◌∷◌, get_or, refl, sym, ap}
 use Rattle.std.proofs.Common.{subst, ◌∙◌, ⊎_elim, eq-eqb, ne_eqb, arith}
@@ -17,7 +17,7 @@ use Rattle.step_threads.specs.declared.programs.act.Act.{Act}
 use Rattle.step_table.specs.declared.memory.form.Form.{Form}
 use Rattle.step_threads.specs.declared.programs.act.Act.TheVariants.{Make, Share, Downgrade, Lock, Put, Leave, Clear, Count, Expired, Read, FromThis, Alias}
 use Rattle.step_threads.specs.declared.programs.act.Act.TheVariants.{Move, Ask}
-use Rattle.step_threads.specs.declared.programs.act.Act.TheVariants.{Offer, Swap, Exchange, Load, Compare, Drop, OnShelf}
+use Rattle.step_threads.specs.declared.programs.act.Act.TheVariants.{Offer, Swap, Exchange, Load, Compare, Holds, Drop, OnShelf}
 use Rattle.step_threads.specs.declared.programs.act.Task.{Task}
 use Rattle.step_threads.specs.declared.ending.Ending.{Ending}
 use Rattle.step_threads.specs.declared.pending_call.PendingCall.{PendingCall}
@@ -38,7 +38,7 @@ use Rattle.step_table.specs.Registers.{inside, is_full, owner_slot, place_in, sl
 use Rattle.step_table.specs.Openings.{opening}
 use Rattle.step_threads.specs.Entries.{least}
 use Rattle.step_threads.specs.AbstractStates.{went}
-use Rattle.step_threads.specs.Rows.{ending_as, holding, with_end}
+use Rattle.step_threads.specs.Rows.{ending_as, holding, may_go, with_end}
 use Rattle.step_threads.specs.NextSteps.{at_rest, begun, emptied, first, made_on, step_at, ghost_by}
 use Rattle.step_threads.specs.Steps.{Step, begins, claims, empties, ends_on, prepares, silent, with_endings, within}
 use Rattle.step_table.specs.GhostStates.{TableInvariant, GhostState, ghost_after_step, known_words, object_of_block, pending, model_state}
@@ -139,6 +139,8 @@ acted v d k w ts f at all kept (Exchange i c) = going_in v d k w ts (Exchange i 
 acted v d k w ts f at all kept (Load c) = load_on v d k w ts c f at all
 acted v d k w ts f at all kept (Compare i c weak) =
     compares_on v d k w ts (Compare i c weak) c (compared_in w.slots (comparing w.slots i weak)) (seen v (cell_of_name (model_state v) w.slots c)) f refl at all
+acted v d k w ts f at all kept (Holds i c) =
+    plain v d k w ts (Holds i c) _ Rest f refl (done_asking v d (may_go w.slots c i) _ _ _) at all
 acted v d k w ts f at all kept Drop =
     left v d k w (went (model_state v) d w k ts Drop) _ f at all kept (slot_pointer w.slots (other w.slots)) (act_endings (model_state v) d k w ts Drop)
 acted v d k w ts f at all kept (OnShelf x) =

@@ -10,7 +10,7 @@ use Rattle.control_word.specs.declared.model.event.Cell.TheVariants.{Free, Membe
 use Rattle.control_word.specs.declared.model.event.Entry.{Entry}
 use Rattle.control_word.specs.declared.model.event.Event.{Event}
 use Rattle.control_word.specs.declared.model.event.Event.TheVariants.{ClearMember, Compare, Count, Expired, Finish, Join, Leave, Load, Lock, Make, Read}
-use Rattle.control_word.specs.declared.model.event.Event.TheVariants.{Share, Shelve, Split, Swap, Unshelve, Visit, WeakLeave, WeakShare}
+use Rattle.control_word.specs.declared.model.event.Event.TheVariants.{Same, Share, Shelve, Split, Swap, Unshelve, Visit, WeakLeave, WeakShare}
 use Rattle.control_word.specs.Events.{after}
 use Rattle.control_word.specs.Handles.{object_of}
 use Rattle.control_word.specs.Histories.{IsLegal, ends_by, given, leads}
@@ -25,6 +25,7 @@ made_after s d (Leave h last) = omega arith
 made_after s d (Count h n) = omega arith
 made_after s d (Expired h x) = omega arith
 made_after s d (Read h n) = omega arith
+made_after s d (Same c h x) = omega arith
 made_after s d (WeakShare o p) = omega arith
 made_after s d (WeakLeave h x) = omega arith
 made_after s d (Lock h x) = omega arith
@@ -104,6 +105,7 @@ last_within n (Share h p) range = omega arith
 last_within n (Count h m) range = omega arith
 last_within n (Expired h x) range = omega arith
 last_within n (Read h m) range = omega arith
+last_within n (Same c h x) range = omega arith
 last_within n (WeakShare o p) range = omega arith
 last_within n (WeakLeave h x) range = omega arith
 last_within n (Lock h x) range = omega arith

@@ -77,6 +77,7 @@ call_steps (call.Same t s) few = omega arith
 call_steps (call.Before t s) few = omega arith
 call_steps (call.Store c s) few = omega arith
 call_steps (call.Exchange c n) few = omega arith
+call_steps (call.Holds c n) few = omega arith
 call_steps (call.Load t c) few = omega arith
 call_steps (call.Compare c x y b) few = omega arith
 call_steps (call.Shelve n) few = let m = many_steps n in omega (arith, m, few)

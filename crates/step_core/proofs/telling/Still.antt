@@ -14,11 +14,13 @@ use Rattle.control_word.specs.declared.model.handle.Kind.{Kind}
 use Rattle.control_word.specs.declared.model.handle.Kind.TheVariants.{Owner, Weak}
 use Rattle.control_word.specs.Events.{swaps as event_swaps}
 use Rattle.control_word.specs.State.{Object, State, ending, put}
+use Rattle.control_word.specs.declared.packed.cell.CellWord.{CellWord}
+use Rattle.control_word.specs.declared.site.Site.{Site}
 use Rattle.step_table.specs.CellAtomicSteps.{cell_in, handle_told}
 use Rattle.step_threads.specs.declared.programs.act.Act.{Act}
 use Rattle.step_threads.specs.declared.programs.act.Act.TheVariants.{Make, Share, Downgrade, Lock, Put, Leave, Clear, Count, Expired, Read, FromThis, Alias}
 use Rattle.step_threads.specs.declared.programs.act.Act.TheVariants.{Move, Ask}
-use Rattle.step_threads.specs.declared.programs.act.Act.TheVariants.{Offer, Swap, Exchange, Load, Compare, Drop, OnShelf}
+use Rattle.step_threads.specs.declared.programs.act.Act.TheVariants.{Offer, Swap, Exchange, Load, Compare, Holds, Drop, OnShelf}
 use Rattle.step_threads.specs.declared.programs.act.Task.{Task}
 use Rattle.step_threads.specs.declared.ending.Ending.{Ending}
 use Rattle.step_threads.specs.declared.pending_call.PendingCall.{PendingCall}
@@ -125,6 +127,12 @@ done_shelf v d Shelve (Some b) = refl
 done_shelf v d (Unshelve c) None = refl
 done_shelf v d (Unshelve c) (Some b) = refl
 
+-- a cell is asked, or not
+pub done_asking : (v : GhostState) (d : ℕ) (b : Bool) (c : Site) (y : CellWord) (so : Bool)
+    → (model_state (ghost_after v d (cond b (Some (atomic_step.OnCell (cell_step.Holds c y so))) None))).object ≡ (model_state v).object
+done_asking v d true c y so = refl
+done_asking v d false c y so = refl
+
 pub shared : (v : GhostState) (d : ℕ) (q : Kind) (x : Handle) → (model_state (ghost_after v d (Some (share_as q x)))).object ≡ (model_state v).object
 shared v d Owner x = refl
 shared v d Weak x = refl
@@ -205,6 +213,7 @@ tried_by v d word k w ts (Ask q) f at all (Some y) e = cc
 tried_by v d word k w ts (Offer i c) f at all (Some y) e = cc
 tried_by v d word k w ts (Swap c) f at all (Some y) e = cc
 tried_by v d word k w ts (Exchange i c) f at all (Some y) e = cc
+tried_by v d word k w ts (Holds i c) f at all (Some y) e = cc
 tried_by v d word k w ts (Load c) f at all (Some y) e = cc
 tried_by v d word k w ts (Compare i c weak) f at all (Some y) e = cc
 tried_by v d word k w ts Drop f at all (Some y) e = cc

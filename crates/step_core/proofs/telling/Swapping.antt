@@ -5,7 +5,7 @@ use Rattle.control_word.specs.State.{State}
 use Rattle.step_threads.specs.declared.programs.act.Act.{Act}
 use Rattle.step_threads.specs.declared.programs.act.Act.TheVariants.{Make, Share, Downgrade, Lock, Put, Leave, Clear, Count, Expired, Read, FromThis, Alias}
 use Rattle.step_threads.specs.declared.programs.act.Act.TheVariants.{Move, Ask}
-use Rattle.step_threads.specs.declared.programs.act.Act.TheVariants.{Offer, Swap, Exchange, Load, Compare, Drop, OnShelf}
+use Rattle.step_threads.specs.declared.programs.act.Act.TheVariants.{Offer, Swap, Exchange, Load, Compare, Holds, Drop, OnShelf}
 use Rattle.step_threads.specs.declared.programs.act.Task.{Task}
 use Rattle.step_core.specs.Bounds.{frame_steps, weight}
 use Rattle.step_threads.specs.Frames.{Going, FrameView, going}
@@ -38,6 +38,7 @@ swapping slots (Move k) x e = cc
 swapping slots (Ask q) x e = cc
 swapping slots (Offer k c) x e = cc
 swapping slots (Load c) x e = cc
+swapping slots (Holds k c) x e = cc
 swapping slots (Compare k c weak) x e = cc
 swapping slots Drop x e = cc
 swapping slots (OnShelf y) x e = cc

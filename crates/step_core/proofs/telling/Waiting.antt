@@ -6,7 +6,7 @@ use Rattle.step_table.specs.declared.memory.ghost_history.AtomicStep.TheVariants
 use Rattle.step_threads.specs.declared.programs.act.Act.{Act}
 use Rattle.step_threads.specs.declared.programs.act.Act.TheVariants.{Make, Share, Downgrade, Lock, Put, Leave, Clear, Count, Expired, Read, FromThis, Alias}
 use Rattle.step_threads.specs.declared.programs.act.Act.TheVariants.{Move, Ask}
-use Rattle.step_threads.specs.declared.programs.act.Act.TheVariants.{Offer, Swap, Exchange, Load, Compare, Drop, OnShelf}
+use Rattle.step_threads.specs.declared.programs.act.Act.TheVariants.{Offer, Swap, Exchange, Load, Compare, Holds, Drop, OnShelf}
 use Rattle.step_threads.specs.declared.programs.act.Task.{Task}
 use Rattle.step_threads.specs.declared.ending.Ending.{Ending}
 use Rattle.step_threads.specs.declared.pending_call.PendingCall.{PendingCall}
@@ -75,6 +75,7 @@ act_adds v d k w ts (Ask q) = (refl, refl)
 act_adds v d k w ts (Offer i c) = (refl, refl)
 act_adds v d k w ts (Swap c) = (refl, refl)
 act_adds v d k w ts (Exchange i c) = (refl, refl)
+act_adds v d k w ts (Holds i c) = (refl, refl)
 act_adds v d k w ts Drop = (refl, refl)
 act_adds v d k w ts (OnShelf x) = (refl, refl)
 

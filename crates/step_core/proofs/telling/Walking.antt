@@ -10,7 +10,7 @@ use Rattle.control_word.specs.State.{State}
 use Rattle.step_threads.specs.declared.programs.act.Act.{Act}
 use Rattle.step_threads.specs.declared.programs.act.Act.TheVariants.{Make, Share, Downgrade, Lock, Put, Leave, Clear, Count, Expired, Read, FromThis, Alias}
 use Rattle.step_threads.specs.declared.programs.act.Act.TheVariants.{Move, Ask}
-use Rattle.step_threads.specs.declared.programs.act.Act.TheVariants.{Offer, Swap, Exchange, Load, Compare, Drop, OnShelf}
+use Rattle.step_threads.specs.declared.programs.act.Act.TheVariants.{Offer, Swap, Exchange, Load, Compare, Holds, Drop, OnShelf}
 use Rattle.step_threads.specs.declared.programs.act.Task.{Task}
 use Rattle.step_threads.specs.declared.ending.Ending.{Ending}
 use Rattle.control_word.specs.declared.handle.Handle.{Handle}
@@ -88,6 +88,7 @@ idle_free (Offer k c) slots taken free = free
 idle_free (Swap c) slots true free = placed_free (other slots) slots
 idle_free (Swap c) slots false free = free
 idle_free (Exchange k c) slots taken free = free
+idle_free (Holds k c) slots taken free = free
 idle_free (Load c) slots taken free = free
 idle_free (Compare k c weak) slots true free = placed_free (other slots) slots
 idle_free (Compare k c weak) slots false free = free
@@ -154,6 +155,7 @@ weight_two (Ask q) = omega arith
 weight_two (Offer k c) = omega arith
 weight_two (Swap c) = omega arith
 weight_two (Exchange k c) = omega arith
+weight_two (Holds k c) = omega arith
 weight_two (Load c) = omega arith
 weight_two (Compare k c weak) = omega arith
 weight_two Drop = omega arith

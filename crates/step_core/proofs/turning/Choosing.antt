@@ -15,7 +15,7 @@ use Rattle.step_table.specs.Registers.{inside, owner_slot, slot_pointer, weak_sl
 use Rattle.step_table.specs.GhostStates.{Nothing}
 use Rattle.step_threads.specs.declared.programs.act.Act.{Act}
 use Rattle.step_threads.specs.declared.programs.act.Act.TheVariants.{Make, Share, Downgrade, Lock, Put, Leave, Clear, Count, Expired, Read, FromThis, Alias}
-use Rattle.step_threads.specs.declared.programs.act.Act.TheVariants.{Move, Ask, Offer, Swap, Exchange, Load, Compare, Drop, OnShelf}
+use Rattle.step_threads.specs.declared.programs.act.Act.TheVariants.{Move, Ask, Offer, Swap, Exchange, Load, Compare, Holds, Drop, OnShelf}
 use Rattle.step_threads.specs.declared.programs.act.ShelfAct.TheVariants.{Shelve, Unshelve}
 use Rattle.step_threads.specs.Frames.{FrameView, hand, is_there, offered, other}
 use Rattle.step_threads.specs.TraceLabels.{copies, leaves_as}
@@ -72,5 +72,6 @@ module _ (Exact : NumberedHandle → Type 0) (tell : Telling) (z : Opening) (d :
   chosen told (Offer i c) = of_map _ (offered w.slots i c) (λ x e. of_copies x.kind x.place x)
   chosen told (Swap c) = of_test (may_go w.slots c (hand w.slots)) _ tt
   chosen told (Exchange i c) = of_test (may_go w.slots c i) _ tt
+  chosen told (Holds i c) = of_test (may_go w.slots c i) _ tt
   chosen told (Load c) = of_test (is_there w.slots c) _ tt
   chosen told (Compare i c weak) = refl

@@ -5,7 +5,7 @@ use Rattle.std.proofs.lemmas.Bool.{cond_both, false≢true}
 use Rattle.step_threads.specs.declared.programs.act.Act.{Act}
 use Rattle.step_threads.specs.declared.programs.act.Act.TheVariants.{Make, Share, Downgrade, Lock, Put, Leave, Clear, Count, Expired, Read, FromThis, Alias}
 use Rattle.step_threads.specs.declared.programs.act.Act.TheVariants.{Move, Ask}
-use Rattle.step_threads.specs.declared.programs.act.Act.TheVariants.{Offer, Swap, Exchange, Load, Compare, Drop, OnShelf}
+use Rattle.step_threads.specs.declared.programs.act.Act.TheVariants.{Offer, Swap, Exchange, Load, Compare, Holds, Drop, OnShelf}
 use Rattle.step_threads.specs.declared.programs.act.Task.{Task}
 use Rattle.step_threads.specs.declared.pending_call.PendingCall.TheVariants.{Rest, Giving}
 use Rattle.control_word.specs.declared.handle.Handle.{Handle}
@@ -23,6 +23,7 @@ use Rattle.step_core.specs.Worlds.{WorldState, abstraction, world_state_by}
 use Rattle.step_core.proofs.turning.Ending.{same_frames, abstraction_as}
 use Rattle.step_core.proofs.turning.Saying.{Acts, asks_so, begins_so, does_so, looks_so}
 use Rattle.step_core.proofs.turning.Swapping.{goes_same, goes_so}
+use Rattle.step_core.proofs.turning.Holding.{holds_so}
 use Rattle.step_core.proofs.turning.Looking.{CanLook, compare_first, compare_same, load_first, load_same}
 
 -- each act
@@ -49,6 +50,7 @@ acts_so d u k ts (Exchange i c) can none is = goes_so d u k ts (Exchange i c) (g
     (can.seat, can.kept, can.cell, can.holds) refl refl is
 acts_so d u k ts (Load c) can none is = load_first d u k ts c can none is
 acts_so d u k ts (Compare i c weak) can none is = compare_first d u k ts i c weak can none is
+acts_so d u k ts (Holds i c) can none is = holds_so d u k ts i c can
 acts_so d u k ts Drop can none is = (refl, does_so d u.ghost_state _ _)
 acts_so d u k ts (OnShelf x) can none is = (refl, does_so d u.ghost_state _ _)
 
@@ -105,5 +107,6 @@ first_same d u k ts (Swap c) is = goes_same d u k ts (Swap c) (going (frame_of (
 first_same d u k ts (Exchange i c) is = goes_same d u k ts (Exchange i c) (going (frame_of (abstraction u) d).slots (Exchange i c)) is
 first_same d u k ts (Load c) is = load_same d u k ts c is
 first_same d u k ts (Compare i c weak) is = compare_same d u k ts i c weak is
+first_same d u k ts (Holds i c) is = absurd (false≢true is)
 first_same d u k ts Drop is = absurd (false≢true is)
 first_same d u k ts (OnShelf x) is = absurd (false≢true is)

@@ -20,7 +20,7 @@ use Rattle.step_table.proofs.contained.Telling.{compare_swap_tells, differing_te
 use Rattle.step_threads.specs.declared.programs.act.Act.{Act}
 use Rattle.step_threads.specs.declared.programs.act.Act.TheVariants.{Make, Share, Downgrade, Lock, Put, Leave, Clear, Count, Expired, Read, FromThis, Alias}
 use Rattle.step_threads.specs.declared.programs.act.Act.TheVariants.{Move, Ask}
-use Rattle.step_threads.specs.declared.programs.act.Act.TheVariants.{Offer, Swap, Exchange, Load, Compare, Drop, OnShelf}
+use Rattle.step_threads.specs.declared.programs.act.Act.TheVariants.{Offer, Swap, Exchange, Load, Compare, Holds, Drop, OnShelf}
 use Rattle.step_threads.specs.declared.programs.act.Task.{Task}
 use Rattle.step_threads.specs.declared.programs.call.CellName.{CellName}
 use Rattle.step_threads.specs.declared.pending_call.PendingCall.TheVariants.{Rest, Saw, Refill}
@@ -171,6 +171,7 @@ rest_out d u k ts (Ask q) is can none = absurd (false≢true is)
 rest_out d u k ts (Offer j c) is can none = absurd (false≢true is)
 rest_out d u k ts (Swap c) is can none = absurd (false≢true is)
 rest_out d u k ts (Exchange j c) is can none = absurd (false≢true is)
+rest_out d u k ts (Holds j c) is can none = absurd (false≢true is)
 rest_out d u k ts Drop is can none = absurd (false≢true is)
 rest_out d u k ts (OnShelf y) is can none = absurd (false≢true is)
 
@@ -204,6 +205,7 @@ saw_out d u k ts x (Ask q) is valid can = absurd is
 saw_out d u k ts x (Offer j c) is valid can = absurd is
 saw_out d u k ts x (Swap c) is valid can = absurd is
 saw_out d u k ts x (Exchange j c) is valid can = absurd is
+saw_out d u k ts x (Holds j c) is valid can = absurd is
 saw_out d u k ts x Drop is valid can = absurd is
 saw_out d u k ts x (OnShelf y) is valid can = absurd is
 
@@ -234,5 +236,6 @@ matched_out d u k ts x (Ask q) is valid can = absurd is
 matched_out d u k ts x (Offer j c) is valid can = absurd is
 matched_out d u k ts x (Swap c) is valid can = absurd is
 matched_out d u k ts x (Exchange j c) is valid can = absurd is
+matched_out d u k ts x (Holds j c) is valid can = absurd is
 matched_out d u k ts x Drop is valid can = absurd is
 matched_out d u k ts x (OnShelf y) is valid can = absurd is

@@ -6,7 +6,7 @@ use Rattle.step_threads.specs.declared.programs.act.Act.{Act}
 use Rattle.step_table.specs.declared.memory.form.Form.{Form}
 use Rattle.step_threads.specs.declared.programs.act.Act.TheVariants.{Make, Share, Downgrade, Lock, Put, Leave, Clear, Count, Expired, Read, FromThis, Alias}
 use Rattle.step_threads.specs.declared.programs.act.Act.TheVariants.{Move, Ask}
-use Rattle.step_threads.specs.declared.programs.act.Act.TheVariants.{Offer, Swap, Exchange, Load, Compare, Drop, OnShelf}
+use Rattle.step_threads.specs.declared.programs.act.Act.TheVariants.{Offer, Swap, Exchange, Load, Compare, Holds, Drop, OnShelf}
 use Rattle.step_threads.specs.declared.programs.act.Task.{Task}
 use Rattle.step_threads.specs.declared.ending.Ending.{Ending}
 use Rattle.step_threads.specs.declared.pending_call.PendingCall.TheVariants.{Rest, Locking, Giving}
@@ -107,6 +107,7 @@ lock_so d u k ts (Ask q) x e = cc
 lock_so d u k ts (Offer i c) x e = cc
 lock_so d u k ts (Swap c) x e = cc
 lock_so d u k ts (Exchange i c) x e = cc
+lock_so d u k ts (Holds i c) x e = cc
 lock_so d u k ts (Load cell) x e = cc
 lock_so d u k ts (Compare name cell weak) x e = cc
 lock_so d u k ts Drop x e = cc

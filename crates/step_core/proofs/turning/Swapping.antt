@@ -12,7 +12,7 @@ use Rattle.control_word.specs.State.{Opening}
 use Rattle.step_threads.specs.declared.programs.act.Act.{Act}
 use Rattle.step_threads.specs.declared.programs.act.Act.TheVariants.{Make, Share, Downgrade, Lock, Put, Leave, Clear, Count, Expired, Read, FromThis, Alias}
 use Rattle.step_threads.specs.declared.programs.act.Act.TheVariants.{Move, Ask}
-use Rattle.step_threads.specs.declared.programs.act.Act.TheVariants.{Offer, Swap, Exchange, Load, Compare, Drop, OnShelf}
+use Rattle.step_threads.specs.declared.programs.act.Act.TheVariants.{Offer, Swap, Exchange, Load, Compare, Holds, Drop, OnShelf}
 use Rattle.step_threads.specs.declared.programs.act.Task.{Task}
 use Rattle.step_threads.specs.declared.programs.call.CellName.{CellName}
 use Rattle.step_table.specs.declared.cell_steps.cell_step.CellStep.TheVariants as cell_step
@@ -96,6 +96,7 @@ puts_as tell o d slots h z (Move k) c i e is = cc
 puts_as tell o d slots h z (Ask q) c i e is = cc
 puts_as tell o d slots h z (Offer k x) c i e is = cc
 puts_as tell o d slots h z (Load cell) c i e is = cc
+puts_as tell o d slots h z (Holds k x) c i e is = cc
 puts_as tell o d slots h z (Compare name cell weak) c i e is = cc
 puts_as tell o d slots h z Drop c i e is = cc
 puts_as tell o d slots h z (OnShelf y) c i e is = cc

@@ -15,7 +15,7 @@ use Rattle.control_word.specs.Views.{Fits}
 use Rattle.step_threads.specs.declared.programs.act.Act.{Act}
 use Rattle.step_threads.specs.declared.programs.act.Act.TheVariants.{Make, Share, Downgrade, Lock, Put, Leave, Clear, Count, Expired, Read, FromThis, Alias}
 use Rattle.step_threads.specs.declared.programs.act.Act.TheVariants.{Move, Ask}
-use Rattle.step_threads.specs.declared.programs.act.Act.TheVariants.{Offer, Swap, Exchange, Load, Compare, Drop, OnShelf}
+use Rattle.step_threads.specs.declared.programs.act.Act.TheVariants.{Offer, Swap, Exchange, Load, Compare, Holds, Drop, OnShelf}
 use Rattle.step_threads.specs.declared.programs.act.Task.{Task}
 use Rattle.step_threads.specs.declared.ending.Ending.{Ending}
 use Rattle.step_threads.specs.declared.pending_call.PendingCall.{PendingCall}
@@ -102,6 +102,7 @@ module _ (v : GhostState) (d : ℕ) (w : FrameView) (kept : TableInvariant v) (s
   saw_watch k ts x (Offer i c) valid = tt
   saw_watch k ts x (Swap c) valid = tt
   saw_watch k ts x (Exchange i c) valid = tt
+  saw_watch k ts x (Holds i c) valid = tt
   saw_watch k ts x Drop valid = tt
   saw_watch k ts x (OnShelf y) valid = tt
 
@@ -126,6 +127,7 @@ module _ (v : GhostState) (d : ℕ) (w : FrameView) (kept : TableInvariant v) (s
   matched_watch k ts x (Offer i c) = tt
   matched_watch k ts x (Swap c) = tt
   matched_watch k ts x (Exchange i c) = tt
+  matched_watch k ts x (Holds i c) = tt
   matched_watch k ts x Drop = tt
   matched_watch k ts x (OnShelf y) = tt
 

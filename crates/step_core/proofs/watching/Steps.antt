@@ -4,7 +4,7 @@ use Rattle.step_threads.specs.declared.programs.act.ShelfAct.TheVariants.{Shelve
 use Rattle.step_table.specs.declared.memory.shelf.ShelfStep.TheVariants as shelf
 use Rattle.step_threads.specs.Shelving.{shelf_block, shelf_step}
 use Rattle.step_core.proofs.watching.Cells.{shelf_off}
-use Rattle.std.proofs.Common.{◌≡◌, ℕ, ◌<◌, ◌==◌, Bool, false, cond, List, refl}
+use Rattle.std.proofs.Common.{◌≡◌, ℕ, ◌<◌, ◌==◌, Bool, true, false, cond, List, refl}
 use Rattle.std.proofs.Common.{eqb-true, inl, arith}
 use Rattle.std.specs.Prelude.{Option, Some, None, is_some, option_map}
 use Rattle.std.proofs.lemmas.Bool.{cond_both}
@@ -16,7 +16,7 @@ use Rattle.control_word.specs.State.{weak}
 use Rattle.step_threads.specs.declared.programs.act.Act.{Act}
 use Rattle.step_threads.specs.declared.programs.act.Act.TheVariants.{Make, Share, Downgrade, Lock, Put, Leave, Clear, Count, Expired, Read, FromThis, Alias}
 use Rattle.step_threads.specs.declared.programs.act.Act.TheVariants.{Move, Ask}
-use Rattle.step_threads.specs.declared.programs.act.Act.TheVariants.{Offer, Swap, Exchange, Load, Compare, Drop, OnShelf}
+use Rattle.step_threads.specs.declared.programs.act.Act.TheVariants.{Offer, Swap, Exchange, Load, Compare, Holds, Drop, OnShelf}
 use Rattle.step_threads.specs.declared.programs.act.Task.{Task}
 use Rattle.step_threads.specs.declared.programs.call.CellName.{CellName}
 use Rattle.step_threads.specs.declared.pending_call.PendingCall.{PendingCall}
@@ -36,6 +36,7 @@ use Rattle.step_threads.specs.Frames.{Going, FrameView, cell_of_name, comparing,
 use Rattle.step_table.specs.AtomicSteps.{alias, aliased, downgrade, is_enabled, is_last, leave, lock, owner_word, read_atomic_step, share, tell, tell_expired}
 use Rattle.step_table.specs.AtomicSteps.{on}
 use Rattle.step_threads.specs.Entries.{least}
+use Rattle.step_threads.specs.Rows.{may_go}
 use Rattle.step_table.specs.Registers.{HoldsBag, inside, owner_slot, place_in, slot_pointer, slot_value, weak_slot}
 use Rattle.step_threads.specs.NextSteps.{first}
 use Rattle.step_threads.specs.Steps.{Step, step_of_act, asks, begins, brings, step_of_compare, fetches, gives_back, looks, matches, missed, step_of_look, sends}
@@ -71,6 +72,7 @@ locked_is w (Ask q) x e = cc
 locked_is w (Offer i c) x e = cc
 locked_is w (Swap c) x e = cc
 locked_is w (Exchange i c) x e = cc
+locked_is w (Holds i c) x e = cc
 locked_is w (Load c) x e = cc
 locked_is w (Compare i c weak) x e = cc
 locked_is w Drop x e = cc
@@ -130,6 +132,12 @@ module _ (v : GhostState) (d : ℕ) (w : FrameView) (kept : TableInvariant v) (s
   shelf_watch Shelve (Some b) = λ c is. inl (shelf_off v d shelf.Shelve (record { 0 = b }) c is, omega arith)
   shelf_watch (Unshelve b) None = λ c is. inl (shelf_off v d shelf.Miss b c is, omega arith)
   shelf_watch (Unshelve b) (Some n) = λ c is. inl (shelf_off v d shelf.Unshelve b c is, omega arith)
+
+  -- a cell is asked, or not
+  holds_watch : (b : Bool) (c : Site) (y : CellWord) (so : Bool)
+      → Watches v d Rest (cond b (Some (atomic_step.OnCell (cell_step.Holds c y so))) None) Rest
+  holds_watch true c y so = still v d Rest (Some (atomic_step.OnCell (cell_step.Holds c y so))) Rest (λ p a. refl) (λ n valid. refl)
+  holds_watch false c y so = still v d Rest None Rest (λ p a. refl) (λ n valid. refl)
 
   -- a value goes into a cell
   swaps_watch : (h : PendingCall) (k : ℕ) (ts : List Task) (a : Act) (c : CellName) (i : ℕ) → IsQuiet v h
@@ -250,5 +258,6 @@ module _ (v : GhostState) (d : ℕ) (w : FrameView) (kept : TableInvariant v) (s
   first_watch k ts (Compare i c weak) =
       compares_watch k ts (Compare i c weak) (cell_of_name (model_state v) w.slots c) (compared_in w.slots (comparing w.slots i weak))
       (seen v (cell_of_name (model_state v) w.slots c))
+  first_watch k ts (Holds i c) = holds_watch (may_go w.slots c i) _ _ _
   first_watch k ts Drop = leaves (other w.slots)
   first_watch k ts (OnShelf x) = shelf_watch x (shelf_block (model_state v) d x)

@@ -9,7 +9,7 @@ use Rattle.std.proofs.lemmas.List.{set-get_or}
 use Rattle.step_threads.specs.declared.programs.act.Act.{Act}
 use Rattle.step_threads.specs.declared.programs.act.Act.TheVariants.{Make, Share, Downgrade, Lock, Put, Leave, Clear, Count, Expired, Read, FromThis, Alias}
 use Rattle.step_threads.specs.declared.programs.act.Act.TheVariants.{Move, Ask}
-use Rattle.step_threads.specs.declared.programs.act.Act.TheVariants.{Offer, Swap, Exchange, Load, Compare, Drop, OnShelf}
+use Rattle.step_threads.specs.declared.programs.act.Act.TheVariants.{Offer, Swap, Exchange, Load, Compare, Holds, Drop, OnShelf}
 use Rattle.step_threads.specs.declared.programs.act.Task.{Task}
 use Rattle.step_threads.specs.declared.programs.call.CellName.{CellName}
 use Rattle.step_threads.specs.declared.programs.call.CellName.TheVariants as cell
@@ -130,6 +130,7 @@ module _ (v : GhostState) (l : List PendingCall) (few : length l ≤ 64) (was : 
     act_waits (Offer i c) has still = refl
     act_waits (Swap c) has still = refl
     act_waits (Exchange i c) has still = refl
+    act_waits (Holds i c) has still = refl
     act_waits Drop has still = refl
     act_waits (OnShelf x) has still = refl
 

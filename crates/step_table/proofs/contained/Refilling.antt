@@ -21,7 +21,7 @@ use Rattle.control_word.specs.Words.{slot}
 use Rattle.control_word.specs.declared.site.Site.{Site}
 use Rattle.control_word.specs.declared.site.Site.TheVariants.{Free, Member}
 use Rattle.step_table.specs.declared.cell_steps.cell_step.CellStep.{CellStep}
-use Rattle.step_table.specs.declared.cell_steps.cell_step.CellStep.TheVariants.{Look, Bring, GiveBack, Take, Turn, Refill, Swap, CompareSwap, TakeOut}
+use Rattle.step_table.specs.declared.cell_steps.cell_step.CellStep.TheVariants.{Look, Holds, Bring, GiveBack, Take, Turn, Refill, Swap, CompareSwap, TakeOut}
 use Rattle.step_table.specs.declared.cell_steps.cell_step.Compared.{Compared}
 use Rattle.step_table.specs.declared.memory.ghost_history.AtomicStep.TheVariants.{OnCell}
 use Rattle.step_table.specs.declared.cell_steps.refill.Stage.TheVariants.{Turning, Checking, Lacking, Refilling, Failing}
@@ -36,6 +36,7 @@ use Rattle.step_table.proofs.contained.Told.{kind_stays}
 cell_latest : (v : GhostState) (d : ℕ) (x : CellStep) → (model_state (ghost_after_step v d (OnCell x))).latest ≡ (model_state v).latest
 cell_latest v d (Look c x None) = refl
 cell_latest v d (Look c x (Some y)) = refl
+cell_latest v d (Holds c x b) = refl
 cell_latest v d (Bring k b p f) = refl
 cell_latest v d (GiveBack k b f) = refl
 cell_latest v d (Take c x None) = refl
@@ -68,6 +69,7 @@ owes_after v d x kept lt =
   where
     go : (x : CellStep) → ◌≡◌ {A = Pending Nothing} (cell_pending (model_state v) x) (cell_pending (model_state (ghost_after_step v d (OnCell x))) x)
     go (Look c x y) = refl
+    go (Holds c x b) = refl
     go (Bring k b p f) = refl
     go (GiveBack k b f) = refl
     go (Take c x y) = let w = ghost_after_step v d (OnCell (Take c x y)) in owing_at v w c x.owned x.place 1 1 refl (cell_latest v d (Take c x y))

@@ -13,7 +13,7 @@ use Rattle.control_word.specs.declared.model.event.Entry.{Entry}
 use Rattle.control_word.specs.declared.model.event.Event.{Event}
 use Rattle.control_word.specs.declared.model.event.Event.TheVariants.{Shelve, Unshelve}
 use Rattle.control_word.specs.declared.model.event.Event.TheVariants.{ClearMember, Compare, Count, Expired, Finish, Join, Leave, Load, Lock, Make, Read}
-use Rattle.control_word.specs.declared.model.event.Event.TheVariants.{Share, Split, Swap, Visit, WeakLeave, WeakShare}
+use Rattle.control_word.specs.declared.model.event.Event.TheVariants.{Same, Share, Split, Swap, Visit, WeakLeave, WeakShare}
 use Rattle.control_word.specs.declared.model.handle.NumberedHandle.{NumberedHandle}
 use Rattle.control_word.specs.declared.model.handle.Kind.{Kind}
 use Rattle.control_word.specs.declared.model.handle.Kind.TheVariants.{Owner, Weak}
@@ -206,6 +206,7 @@ shared_led z (e ∷ h) = shared_after (leads z h) e.desk e.event ∙ shared_led 
     shared_after s d (Count h n) = refl
     shared_after s d (Expired h x) = refl
     shared_after s d (Read h n) = refl
+    shared_after s d (Same c h x) = refl
     shared_after s d (WeakShare o p) = refl
     shared_after s d (WeakLeave h x) = refl
     shared_after s d (Lock h x) = refl

@@ -1,10 +1,9 @@
 -- Steps on cells and funds shut no door, and leave what objects are but for their members.
-use Rattle.std.proofs.Common.{◌≡◌, ◌≢◌, ℕ, Bool, ◌≤◌, true, false, List, length, Option, Some, None, refl, sym, ap, ◌∙◌, subst}
+use Rattle.std.proofs.Common.{◌≡◌, ◌≢◌, ℕ, ◌≤◌, true, false, List, length, Option, Some, None, refl, sym, ap, ◌∙◌, subst}
 use Rattle.control_word.proofs.history.Kept.{Same, same_after, still}
 use Rattle.control_word.proofs.lists.Tallies.{put_cases}
 use Rattle.control_word.specs.declared.model.event.Cell.{Cell as Named}
 use Rattle.control_word.specs.declared.model.event.Cell.TheVariants.{Free, Member}
-use Rattle.control_word.specs.declared.model.event.Event.{Event}
 use Rattle.control_word.specs.declared.model.event.Event.TheVariants as event
 use Rattle.control_word.specs.declared.model.handle.NumberedHandle.{NumberedHandle}
 use Rattle.control_word.specs.declared.model.handle.Kind.{Kind}
@@ -13,9 +12,9 @@ use Rattle.control_word.specs.declared.place.Place.{Place}
 use Rattle.control_word.specs.Events.{clears, gets, swaps}
 use Rattle.control_word.specs.State.{Object, State, kind_of_member, put}
 use Rattle.step_table.specs.declared.cell_steps.cell_step.CellStep.{CellStep}
-use Rattle.step_table.specs.declared.cell_steps.cell_step.CellStep.TheVariants.{Look, Bring, GiveBack, Take, Turn, Refill, Swap, CompareSwap, TakeOut}
+use Rattle.step_table.specs.declared.cell_steps.cell_step.CellStep.TheVariants.{Look, Holds, Bring, GiveBack, Take, Turn, Refill, Swap, CompareSwap, TakeOut}
 use Rattle.step_table.specs.declared.memory.ghost_history.AtomicStep.TheVariants.{OnCell}
-use Rattle.step_table.specs.CellAtomicSteps.{cell_event, cell_in, cell_pending, handle_as, handle_told, kind_in_state, owing_funds}
+use Rattle.step_table.specs.CellAtomicSteps.{cell_in, cell_pending, handle_as, handle_told, kind_in_state, owing_funds}
 use Rattle.step_table.specs.GhostStates.{AllWhole, Nothing, ShutsNoDoor, GhostState, ghost_after_step, object_of_block, model_state}
 
 shuts_owing : (s : State) (k : Kind) (o : Option Block) (p : Option Place) (f l : ℕ) → ShutsNoDoor (owing_funds s k o p f l)
@@ -24,6 +23,7 @@ shuts_owing s k (Some b) p f l = tt
 
 pub shuts_cell : (s : State) (x : CellStep) → ShutsNoDoor (cell_pending s x)
 shuts_cell s (Look c x y) = tt
+shuts_cell s (Holds c x b) = tt
 shuts_cell s (Bring k b p f) = tt
 shuts_cell s (GiveBack k b f) = tt
 shuts_cell s (Take c x y) = shuts_owing s (kind_in_state s c) x.owned x.place 1 1
@@ -80,6 +80,7 @@ same_framed s = record { made = refl; allowance = refl; block = λ o. refl; phas
 pub framed : (v : GhostState) (d : ℕ) (x : CellStep) → IsFramed (model_state v) (model_state (ghost_after_step v d (OnCell x)))
 framed v d (Look c x None) = gets_framed d (handle_told (model_state v) c x) (model_state v)
 framed v d (Look c x (Some y)) = gets_framed d (handle_told (model_state v) c x) (model_state v)
+framed v d (Holds c x b) = same_framed (model_state v)
 framed v d (Bring k b p f) = same_framed (model_state v)
 framed v d (GiveBack k b f) = same_framed (model_state v)
 framed v d (Take c x None) = gets_framed d (handle_told (model_state v) c x) (model_state v)
@@ -104,6 +105,7 @@ same_cell v e d (Look c x (Some y)) n =
     same_after {V = Nothing} (model_state v) d e (event.Compare (cell_in (model_state v) c) (handle_told (model_state v) c y.expected)
     (handle_told (model_state v) c y.new)
     (handle_told (model_state v) c x) false y.weak) n (λ z. z)
+same_cell v e d (Holds c x b) n = still (model_state v) d
 same_cell v e d (Bring k b p f) n = still (model_state v) d
 same_cell v e d (GiveBack k b f) n = still (model_state v) d
 same_cell v e d (Take c x None) n =
@@ -123,23 +125,3 @@ same_cell v e d (CompareSwap c x y) n =
     (handle_told (model_state v) c x) true y.weak) n (λ z. z)
 same_cell v e d (TakeOut b m x) n =
     same_after {V = Nothing} (model_state v) d e (event.ClearMember (object_of_block v b) m (handle_as (model_state v) (kind_of_member m) x)) n (λ z. z)
-
--- what is so of the events of such steps
-pub by_event : (P : Option (Event Nothing) → Type 0) → P None → ((c : Named) (h : NumberedHandle) → P (Some (event.Load c h)))
-    → ((c : Named) (e n h : NumberedHandle) (b w : Bool) → P (Some (event.Compare c e n h b w)))
-    → ((c : Named) (n h : NumberedHandle) → P (Some (event.Swap c n h)))
-    → ((o m : ℕ) (h : NumberedHandle) → P (Some (event.ClearMember o m h))) → (s : State) (x : CellStep) → P (cell_event s x)
-by_event P none load compare swap clear s (Look c x None) = load (cell_in s c) (handle_told s c x)
-by_event P none load compare swap clear s (Look c x (Some y)) =
-    compare (cell_in s c) (handle_told s c y.expected) (handle_told s c y.new) (handle_told s c x) false y.weak
-by_event P none load compare swap clear s (Bring k b p f) = none
-by_event P none load compare swap clear s (GiveBack k b f) = none
-by_event P none load compare swap clear s (Take c x None) = load (cell_in s c) (handle_told s c x)
-by_event P none load compare swap clear s (Take c x (Some y)) =
-    compare (cell_in s c) (handle_told s c y.expected) (handle_told s c y.new) (handle_told s c x) false y.weak
-by_event P none load compare swap clear s (Turn k b) = none
-by_event P none load compare swap clear s (Refill c t) = none
-by_event P none load compare swap clear s (Swap c new x) = swap (cell_in s c) (handle_told s c new) (handle_told s c x)
-by_event P none load compare swap clear s (CompareSwap c x y) =
-    compare (cell_in s c) (handle_told s c y.expected) (handle_told s c y.new) (handle_told s c x) true y.weak
-by_event P none load compare swap clear s (TakeOut b m x) = clear (s.latest b.0) m (handle_as s (kind_of_member m) x)

@@ -8,7 +8,7 @@ use Rattle.control_word.specs.declared.model.event.Entry.{Entry}
 use Rattle.control_word.specs.declared.model.event.Event.{Event}
 use Rattle.control_word.specs.declared.model.event.Event.TheVariants.{Shelve, Unshelve}
 use Rattle.control_word.specs.declared.model.event.Event.TheVariants.{Make, Share, Leave, Count, Expired, Read, WeakShare, WeakLeave, Lock, Load, Swap}
-use Rattle.control_word.specs.declared.model.event.Event.TheVariants.{Compare, ClearMember, Finish, Visit, Split, Join}
+use Rattle.control_word.specs.declared.model.event.Event.TheVariants.{Compare, Same, ClearMember, Finish, Visit, Split, Join}
 use Rattle.control_word.specs.declared.model.event.Cell.{Cell}
 use Rattle.control_word.specs.declared.model.event.Cell.TheVariants.{Free, Member}
 use Rattle.control_word.specs.declared.model.handle.NumberedHandle.{NumberedHandle}
@@ -36,6 +36,7 @@ valued_after s d (Leave h last) values has o one le = has o one le
 valued_after s d (Count h c) values has o one le = has o one le
 valued_after s d (Expired h c) values has o one le = has o one le
 valued_after s d (Read h c) values has o one le = has o one le
+valued_after s d (Same c h x) values has o one le = has o one le
 valued_after s d (WeakShare q p) values has o one le = has o one le
 valued_after s d (WeakLeave h c) values has o one le = has o one le
 valued_after s d (Lock h c) values has o one le = has o one le

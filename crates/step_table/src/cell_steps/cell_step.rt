@@ -22,6 +22,12 @@ pub enum CellStep {
         found: CellWord,
         compared: Option<Compared>,
     },
+    /// A cell was looked at, whether it holds this value.
+    Holds {
+        cell: Site,
+        value: CellWord,
+        holds: bool,
+    },
     /// So many funds more on the count of a handle.
     Bring {
         kind: Kind,

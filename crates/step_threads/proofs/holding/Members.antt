@@ -8,7 +8,7 @@ use Rattle.control_word.specs.Events.{moved_to}
 use Rattle.control_word.specs.State.{Object, Phase, State, ending, live, put, unmade}
 use Rattle.control_word.specs.declared.site.Site.TheVariants.{Free, Member}
 use Rattle.step_table.specs.declared.cell_steps.cell_step.CellStep.{CellStep}
-use Rattle.step_table.specs.declared.cell_steps.cell_step.CellStep.TheVariants.{Look, Bring, GiveBack, Take, Turn, Refill, Swap, CompareSwap, TakeOut}
+use Rattle.step_table.specs.declared.cell_steps.cell_step.CellStep.TheVariants.{Look, Holds, Bring, GiveBack, Take, Turn, Refill, Swap, CompareSwap, TakeOut}
 use Rattle.step_table.specs.declared.memory.ghost_history.AtomicStep.{AtomicStep}
 use Rattle.step_table.specs.declared.memory.ghost_history.AtomicStep.TheVariants.{Prepare, Write, Claim, Share, WeakShare, Leave, WeakLeave, Lock, Count}
 use Rattle.step_table.specs.declared.memory.ghost_history.AtomicStep.TheVariants.{Expired, Read}
@@ -40,6 +40,7 @@ cell_member : (v : GhostState) (e d o m : ℕ) (x : CellStep) → e ≢ d → Ta
     → ((model_state (ghost_after_step v e (OnCell x))).object o).member m ≡ ((model_state v).object o).member m
 cell_member v e d o m (Look c x None) n kept kept' end = refl
 cell_member v e d o m (Look c x (Some y)) n kept kept' end = refl
+cell_member v e d o m (Holds c x b) n kept kept' end = refl
 cell_member v e d o m (Bring k b p f) n kept kept' end = refl
 cell_member v e d o m (GiveBack k b f) n kept kept' end = refl
 cell_member v e d o m (Take c x None) n kept kept' end = refl

@@ -18,7 +18,8 @@ impl Thread {
         requires begins { BeginsAct desk self.old table.now }
         requires act { ((task_at self.old.frame).act ≡ Act.Load cell)
             ⊎ ((k : ℕ) × (((task_at self.old.frame).act ≡ Act.Offer k cell)
-            ⊎ ((task_at self.old.frame).act ≡ Act.Exchange k cell))) }
+            ⊎ (((task_at self.old.frame).act ≡ Act.Exchange k cell)
+            ⊎ ((task_at self.old.frame).act ≡ Act.Holds k cell)))) }
         requires there { is_there self.old.frame.registers.slots.items cell ≡ false }
         ensures stepped { HasStepped desk self.old table.now result self.new table.now }
         ensures fits { FitsThread desk self.new table.now }

@@ -100,6 +100,11 @@ pub enum Act {
         cell: CellName,
         weak: bool,
     },
+    /// Tells whether a cell holds what a name does. It is refused as `Exchange` is.
+    Holds {
+        name: u8,
+        cell: CellName,
+    },
     /// Leaves what is to be dropped. It is no act where that is nothing.
     Drop,
     /// Moves a vacant block to the shelf or from it.

@@ -191,6 +191,12 @@ pub enum Call {
         desired: Name,
         weak: bool,
     },
+    /// Whether the cell is equivalent to the name, as `Compare` compares: whether `load` would give what the name is
+    /// ([util.smartptr.atomic.shared], [util.smartptr.atomic.weak]; own).
+    Holds {
+        cell: CellName,
+        name: Name,
+    },
     /// So many vacant blocks of the actor's store go to the shelf, or all where it has fewer, each by an act of its
     /// own. It says nothing, and no statement of the script language asks for it (own).
     Shelve {

@@ -148,6 +148,10 @@ fn parts(call: Call) -> (Act, Tail)
             desired: Name(source),
             weak,
         } => (offer(source, cell), Tail::IntoAs { cell, name, weak }),
+        Call::Holds {
+            cell,
+            name: Name(name),
+        } => (Act::Holds { name, cell }, Tail::Nothing),
     }
 }
 

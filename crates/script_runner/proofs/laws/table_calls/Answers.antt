@@ -112,3 +112,6 @@ returns-clause-cells_not g c = uncelled.cells_not
 
 pub returns-clause-remains : goal.returns-clause-remains
 returns-clause-remains g c = field.remains_in
+
+pub returns-clause-holds : goal.returns-clause-holds
+returns-clause-holds g c = exchanging.holds

@@ -59,6 +59,9 @@ returns-in-Expired c = ap acts c.in-Expired.is
 pub returns-in-Read : goal.returns-in-Read
 returns-in-Read c = ap acts c.in-Read.is
 
+pub returns-in-Holds : goal.returns-in-Holds
+returns-in-Holds c = ap acts c.in-Holds.is
+
 pub returns-in-Move : goal.returns-in-Move
 returns-in-Move c = ap acts c.in-Move.is
 

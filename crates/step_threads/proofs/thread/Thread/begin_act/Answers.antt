@@ -135,6 +135,15 @@ returns-in-Exchange-clause-stepped c = c.send.ensures.stepped
 pub returns-in-Exchange-clause-fits : goal.returns-in-Exchange-clause-fits
 returns-in-Exchange-clause-fits c = c.send.ensures.fits
 
+pub holds-requires-clause-begins : goal.holds-requires-clause-begins
+holds-requires-clause-begins c = c.requires
+
+pub returns-in-Holds-clause-stepped : goal.returns-in-Holds-clause-stepped
+returns-in-Holds-clause-stepped c = c.holds.ensures.stepped
+
+pub returns-in-Holds-clause-fits : goal.returns-in-Holds-clause-fits
+returns-in-Holds-clause-fits c = c.holds.ensures.fits
+
 pub load-requires-clause-begins : goal.load-requires-clause-begins
 load-requires-clause-begins c = c.requires
 

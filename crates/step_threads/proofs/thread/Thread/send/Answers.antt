@@ -1,4 +1,4 @@
-use Rattle.std.proofs.Common.{inr, ◌≡◌, ◌&&◌, ◌∙◌, ℕ, Bool, true, false, cond, set, refl, sym, ap, subst}
+use Rattle.std.proofs.Common.{inl, inr, ◌≡◌, ◌&&◌, ◌∙◌, ℕ, Bool, true, false, cond, set, refl, sym, ap, subst}
 use Rattle.std.specs.Prelude.{None, Option, Some, is_some}
 use Rattle.step_table.specs.Contents.{is_of, owing_for}
 use Rattle.step_table.specs.declared.cell_steps.cell_step.CellStep.TheVariants.{Bring}
@@ -26,7 +26,7 @@ use Rattle.step_threads.proofs.StoreSteps.{step_brings}
 use Rattle.step_threads.proofs.thread.Thread.send.Goals as goal
 
 pub refuse-requires-clause-act : goal.refuse-requires-clause-act
-refuse-requires-clause-act c = inr (c.args.name, inr c.requires.act)
+refuse-requires-clause-act c = inr (c.args.name, inr (inl c.requires.act))
 
 pub returns-then-not-is_there-clause-stepped : goal.returns-then-not-is_there-clause-stepped
 returns-then-not-is_there-clause-stepped c = c.refuse.ensures.stepped

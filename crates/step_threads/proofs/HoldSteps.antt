@@ -1,0 +1,63 @@
+-- A thread that asks whether a cell holds what a name does.
+use Rattle.std.proofs.Common.{◌≡◌, ℕ, Bool, true, false, cond, ◌&&◌, refl, sym, ap, subst, ◌∙◌}
+use Rattle.std.specs.Prelude.{Option, Some, None}
+use Rattle.control_word.specs.declared.packed.cell.CellWord.{CellWord}
+use Rattle.control_word.specs.declared.site.Site.{Site}
+use Rattle.step_table.specs.declared.cell_steps.cell_step.CellStep.TheVariants.{Holds as HoldsStep}
+use Rattle.step_table.specs.declared.memory.ghost_history.AtomicStep.{AtomicStep}
+use Rattle.step_table.specs.declared.memory.ghost_history.AtomicStep.TheVariants.{OnCell}
+use Rattle.step_table.specs.Contents.{as_word, is_of}
+use Rattle.step_table.specs.GhostStates.{TableInvariant, GhostState, ghost_after_step, model_state}
+use Rattle.step_table.specs.Registers.{Slots, slot_value}
+use Rattle.step_threads.specs.declared.frame.Frame.{Frame}
+use Rattle.step_threads.specs.declared.programs.act.Act.TheVariants.{Holds}
+use Rattle.step_threads.specs.declared.programs.call.CellName.{CellName}
+use Rattle.step_threads.specs.declared.said.Answer.{Answer}
+use Rattle.step_threads.specs.declared.said.Answer.TheVariants as answer
+use Rattle.step_threads.specs.declared.thread.Thread.{Thread}
+use Rattle.step_threads.specs.declared.pending_call.PendingCall.TheVariants.{Rest}
+use Rattle.step_threads.specs.Entries.{is_expected}
+use Rattle.step_threads.specs.Frames.{cell_of_name, is_there, rest, task_at, frame_view}
+use Rattle.step_threads.specs.NextSteps.{first}
+use Rattle.step_threads.specs.Passing.{HasGoneOn}
+use Rattle.step_threads.specs.Programs.{kind_at}
+use Rattle.step_threads.specs.Rows.{may_go, refusal, unless}
+use Rattle.step_threads.specs.Steps.{Step, step_of_act}
+use Rattle.step_threads.specs.Threads.{BeginsAct, FitsThread}
+use Rattle.step_threads.proofs.Acting.{Rested, went_on}
+use Rattle.step_threads.proofs.Named.{refusal_none}
+use Rattle.step_threads.proofs.Threads.{own_pending}
+
+-- the cell is there, and the name may go into it or not
+pub goes_or_not : (slots : Slots) (c : CellName) (k : ℕ) (b : Bool) → is_there slots c ≡ true → is_of (kind_at c) (slot_value slots k) ≡ b
+    → may_go slots c k ≡ b
+goes_or_not slots c k b there fit = ap (λ (t : Bool). t && is_of (kind_at c) (slot_value slots k)) there ∙ fit
+
+-- what it answers of a cell that is there
+pub answers_there : (slots : Slots) (c : CellName) (k : ℕ) (b is : Bool) → is_there slots c ≡ true → may_go slots c k ≡ b
+    → ◌≡◌ {A = Option Answer} (unless (refusal slots c) (answer.Holds (may_go slots c k && is))) (Some (answer.Holds (b && is)))
+answers_there slots c k b is there goes =
+    ap (λ (o : Option Answer). unless o (answer.Holds (may_go slots c k && is))) (refusal_none slots c there)
+    ∙ ap (λ (t : Bool). Some (answer.Holds (t && is))) goes
+
+module _ (d : ℕ) (t : Thread) (v : GhostState) where
+  -- the look, or none where the name may not go into the cell
+  abbrev pub looked_at : CellName → ℕ → Bool → Option AtomicStep
+  looked_at c k b =
+      let slots = t.frame.registers.slots.items in
+      cond b (Some (OnCell (HoldsStep (cell_of_name (model_state v) slots c) (as_word (slot_value slots k)) (is_expected (model_state v) slots k c)))) None
+
+  pub asks_so : (c : CellName) (k : ℕ) (b : Bool) → may_go t.frame.registers.slots.items c k ≡ b
+      → first v d (frame_view t.frame) (task_at t.frame).statement (rest t.frame) (Holds k c)
+      ≡ step_of_act v d (frame_view t.frame) (task_at t.frame).statement (rest t.frame) (Holds k c) (looked_at c k b) Rest
+  asks_so c k b goes =
+      ap (λ (x : Bool). step_of_act v d (frame_view t.frame) (task_at t.frame).statement (rest t.frame) (Holds k c) (looked_at c k x) Rest) goes
+
+  -- it fits the table after the look
+  pub held_on : (begins : BeginsAct d t v) (c : Site) (x : CellWord) (b : Bool) (c' : Frame) (w : GhostState) → TableInvariant v
+      → w ≡ ghost_after_step v d (OnCell (HoldsStep c x b)) → HasGoneOn d t.frame c' w → FitsThread d (Rested t c') w
+  held_on begins c x b c' w kept is on =
+      let u = ghost_after_step v d (OnCell (HoldsStep c x b)) in
+      subst (λ (z : GhostState). FitsThread d (Rested t c') z) (sym is)
+      (went_on d t v begins u c' refl refl (own_pending v d (OnCell (HoldsStep c x b)) kept begins.fits.seat)
+      (subst (λ (z : GhostState). HasGoneOn d t.frame c' z) is on))
