@@ -1,6 +1,6 @@
 -- A text that was taken, and then a flush.
 use Rattle.std.proofs.Common.{◌≡◌, ℕ, Bool, List, [], Option, Result, Ok, Err, sym}
-use Rattle.std.proofs.Common.{subst}
+use Rattle.std.proofs.Common.{◌∙◌, ap, refl, subst}
 use Rattle.std.specs.Prelude.{IfErr}
 use Rattle.std.specs.Io.KnownBytes.{Appends, Keeps}
 use Rattle.std.proofs.lemmas.List.{append-nil}
@@ -11,9 +11,14 @@ use Rattle.script_stepper.specs.Sinks.{AppendsBeginning}
 use Rattle.script_stepper.proofs.Writing.{Appends-kept, Appends-then}
 use Rattle.leak_report.specs.Left.{IsLeftText}
 use Rattle.leak_report.proofs.Telling.{forgotten as left_forgotten}
+use Rattle.script_orders.specs.declared.orders.Answer.{Answer}
+use Rattle.script_orders.specs.declared.orders.Answer.TheVariants as orders
+use Rattle.script_orders.specs.Orders.{TellsOrders}
 use Rattle.script_picture.proofs.Pictures.{forgotten as picture_forgotten}
 use Rattle.script_picture.specs.Pictures.{IsPictureText}
 use Rattle.script_picture.specs.declared.part.Part.{Part}
+use Rattle.sptr.specs.Outcomes.{orders_answer, orders_outcome}
+use Rattle.sptr.specs.declared.answers.Outcome.{Outcome}
 
 kept_after : (a b c : Option (List ℕ)) (text : List ℕ) → Appends a b text → Keeps b c
     → Appends a c text
@@ -51,6 +56,31 @@ pub left_unflushed : (draws : Bool) (bytes list : List ℕ) (leaks : Bool) (faul
 left_unflushed draws bytes list leaks fault a b c =
     unflushed (λ answer. TellsRun (IsLeftText draws answer) bytes list) leaks fault a b c
     (λ text h. left_forgotten draws leaks Output bytes list text h)
+
+-- what comes of an answer on orders is of that answer
+answer_back : (answer : Answer) → orders_answer (Ok (orders_outcome answer)) ≡ Ok answer
+answer_back orders.Told = refl
+answer_back orders.Found = refl
+answer_back orders.TooMany = refl
+
+module _ (line : Option (List ℕ)) (bytes : List ℕ) (answer : Answer) (a b c : Option (List ℕ))
+    (h : (text : List ℕ) × TellsOrders line (Ok answer) bytes (Ok text) × Appends a b text)
+    (k : Keeps b c) where
+  pub orders_flushed : (outcome : Outcome) → outcome ≡ orders_outcome answer
+      → Delivers {A = Outcome} (TellsOrders line (orders_answer (Ok outcome)) bytes) (Ok outcome) a c
+  orders_flushed outcome is = (
+    h.0,
+    subst (λ (r : Result Answer Fault). TellsOrders line r bytes (Ok h.0))
+        (sym (ap (λ (o : Outcome). orders_answer (Ok o)) is ∙ answer_back answer)) h.1,
+    kept_after a b c h.0 h.2 k,
+  )
+
+  pub orders_unflushed : (fault : Fault) → fault ≡ Output
+      → Delivers {A = Outcome} (TellsOrders line (orders_answer (Err fault)) bytes) (Err fault) a c
+  orders_unflushed fault e =
+      subst (λ (f : Fault).
+      Delivers {A = Outcome} (TellsOrders line (orders_answer (Err f)) bytes) (Err f) a c) (sym e)
+      (h.0, (answer, h.1), all_of a c h.0 (kept_after a b c h.0 h.2 k))
 
 pub picture_unflushed : (is_fine : Bool) (part : Part) (bytes list : List ℕ) (more : Bool)
     (fault : Fault) (a b c : Option (List ℕ))

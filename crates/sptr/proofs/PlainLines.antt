@@ -1,16 +1,18 @@
 -- Lines in the manner of the program's page ask for what they say, and have no fault.
 use Rattle.std.proofs.Common.{◌≡◌, ◌∙◌, ℕ, Bool, true, false, refl, sym, List, [], ◌∷◌, ◌++◌, None}
-use Rattle.std.proofs.Common.{codes, subst}
+use Rattle.std.proofs.Common.{Some, codes, subst}
 use Rattle.std.specs.Str.{bytes_eq}
 use Rattle.clap.specs.Words.{Text, fault_of}
 use Rattle.clap.specs.Lexer.{long_of, short_of}
 use Rattle.clap.specs.declared.error.kind.ErrorKind.TheVariants as kind
 use Rattle.sptr.proofs.OnLiterals.{sptr_on_literals}
 use Rattle.sptr.specs.CommandLine.{AsksFor, AsksPlainly, IsLine, dot_words, draws_given}
-use Rattle.sptr.specs.CommandLine.{names_list, names_text, program, turns_given}
+use Rattle.sptr.specs.CommandLine.{IsOrdersLine, finds_given, most_given, names_list, names_text}
+use Rattle.sptr.specs.CommandLine.{program, turns_given}
+use Rattle.sptr.specs.Parts.{most_states}
 use Rattle.sptr.specs.declared.command.Asked.{Asked}
-use Rattle.sptr.specs.declared.command.Asked.TheVariants.{Check, Convert, Draw, Fine, Left, Owners}
-use Rattle.sptr.specs.declared.command.Asked.TheVariants.{Run, Step}
+use Rattle.sptr.specs.declared.command.Asked.TheVariants.{Check, Convert, Draw, Fine, Left, Orders}
+use Rattle.sptr.specs.declared.command.Asked.TheVariants.{Owners, Run, Step}
 use Rattle.sptr.proofs.PlainDraws.{draw_asked}
 use Rattle.sptr.proofs.PlainTurns.{IsFor, with_turns}
 
@@ -134,6 +136,31 @@ owners_asked : (draws : Bool) (name : Text) (words : List Text)
 owners_asked false name words is = subst (IsForOwners false) (sym is) (owners_alone name)
 owners_asked true name words is = subst (IsForOwners true) (sym is) (owners_drawn name)
 
+-- the line has no fault, and asks for orders, or for a line of them
+record IsForOrders (finds : Bool) (line : Text) (words : List Text) : Type 0 where
+  plain : IsFor (codes "orders") line words
+  finds_is : finds_given words ≡ finds
+  most_is : most_given words ≡ Some most_states
+
+orders_alone : (name : Text) → IsForOrders false [] (name ∷ codes "orders" ∷ [])
+unfolding sptr_on_literals
+orders_alone name =
+    record { plain = (refl, refl, refl, (refl, refl)); finds_is = refl; most_is = refl }
+
+orders_joined : (name line : Text)
+    → IsForOrders true line (name ∷ codes "orders" ∷ (codes "--find=" ++ line) ∷ [])
+unfolding sptr_on_literals
+orders_joined name line =
+    record { plain = (refl, refl, refl, (refl, refl)); finds_is = refl; most_is = refl }
+
+orders_asked : (finds : Bool) (name line : Text) (words : List Text)
+    → IsOrdersLine finds name line words → IsForOrders finds line words
+orders_asked false name line words h =
+    subst (λ l. IsForOrders false l words) (sym h.1)
+    (subst (IsForOrders false []) (sym h.0) (orders_alone name))
+orders_asked true name line words is =
+    subst (IsForOrders true line) (sym is) (orders_joined name line)
+
 pub help_asked : (name : Text) → fault_of program (name ∷ codes "--help" ∷ [])
     ≡ kind.DisplayHelp ∷ []
 unfolding sptr_on_literals
@@ -214,3 +241,7 @@ plainly_asks words (Owners draws) list h =
     let found = owners_asked draws h.0 words h.1 in
     plain_for words (codes "owners") (Owners draws) list
     (subst (λ l. IsFor (codes "owners") l words) (sym h.2) found.0) (found.0.1, sym found.1)
+plainly_asks words (Orders finds most) list h =
+    let found = orders_asked finds h.0 list words h.1 in
+    plain_for words (codes "orders") (Orders finds most) list found.plain
+    (found.plain.1, sym found.finds_is, h.2 ∙ sym found.most_is)

@@ -10,15 +10,15 @@ use Rattle.script_text.specs.declared.fault.Fault.TheVariants.{Memory}
 use Rattle.script_stepper.specs.Runs.{Delivers}
 use Rattle.sptr.specs.CommandLine.{AsksFor, AsksHelp, AsksPlainly, AsksVersion, NamesNoCommand}
 use Rattle.sptr.specs.CommandLine.{command_named, draws_given, fine_given, names_list, names_text}
-use Rattle.sptr.specs.CommandLine.{part_given, program, turns_given}
+use Rattle.sptr.specs.CommandLine.{finds_given, most_given, part_given, program, turns_given}
 use Rattle.sptr.specs.Serving.{AnswersCommand, IsAnswered, IsMistaken, IsReason, IsShownText}
 use Rattle.sptr.specs.Serving.{IsReported, IsSilent, IsTurnedAway, Report, Serves}
 use Rattle.script_text.specs.Faults.{fault_line}
 use Rattle.sptr.specs.Sources.{OfBytes, known_unless}
 use Rattle.sptr.specs.declared.answers.Outcome.{Outcome}
 use Rattle.sptr.specs.declared.command.Asked.{Asked}
-use Rattle.sptr.specs.declared.command.Asked.TheVariants.{Check, Convert, Draw, Fine, Left, Owners}
-use Rattle.sptr.specs.declared.command.Asked.TheVariants.{Run, Step}
+use Rattle.sptr.specs.declared.command.Asked.TheVariants.{Check, Convert, Draw, Fine, Left, Orders}
+use Rattle.sptr.specs.declared.command.Asked.TheVariants.{Owners, Run, Step}
 use Rattle.std.proofs.lemmas.Option.{same_Some}
 use Rattle.sptr.proofs.PlainLines.{help_asked, no_command, plainly_asks, version_asked}
 
@@ -48,7 +48,8 @@ asked_as name words =
     (pick (bytes_eq name (codes "run")) Run
     (pick (bytes_eq name (codes "left")) (Left (draws_given words))
     (pick (bytes_eq name (codes "draw")) (Draw (fine_given words) (part_given words))
-    (Owners (draws_given words))))))))
+    (pick (bytes_eq name (codes "owners")) (Owners (draws_given words))
+    (Orders (finds_given words) (most_given words)))))))))
 
 -- what words ask for goes by the name of their command
 name_of : Asked → Text
@@ -60,6 +61,7 @@ name_of Run = codes "run"
 name_of (Left draws) = codes "left"
 name_of (Draw is_fine part) = codes "draw"
 name_of (Owners draws) = codes "owners"
+name_of (Orders finds most) = codes "orders"
 
 named : (words : List Text) (a : Asked) → AsksFor words a → command_named words ≡ Some (name_of a)
 unfolding name_of
@@ -71,6 +73,7 @@ named words Run x = x
 named words (Left draws) x = x.0
 named words (Draw is_fine part) x = x.0
 named words (Owners draws) x = x.0
+named words (Orders finds most) x = x.0
 
 by_name : (words : List Text) (a : Asked) → AsksFor words a → a ≡ asked_as (name_of a) words
 unfolding asked_as pick name_of
@@ -82,6 +85,7 @@ by_name words Run x = refl
 by_name words (Left draws) x = ap Left x.1
 by_name words (Draw is_fine part) x = ap₂ Draw x.1 x.2
 by_name words (Owners draws) x = ap Owners x.1
+by_name words (Orders finds most) x = ap₂ Orders x.1 x.2
 
 -- words ask for one thing
 same_asked : (words : List Text) (a b : Asked) → AsksFor words a → AsksFor words b → a ≡ b

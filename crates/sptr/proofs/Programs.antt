@@ -1,7 +1,7 @@
 -- The program's command line is one of which `clap` tells the matches.
-use Rattle.std.proofs.Common.{◌≡◌, ◌≢◌, ◌∙◌, true, refl, sym, ap, ap₂, List, [], ◌∷◌, Option}
+use Rattle.std.proofs.Common.{◌≡◌, ◌≢◌, ◌∙◌, ℕ, true, refl, sym, ap, ap₂, List, [], ◌∷◌, Option}
 use Rattle.std.proofs.Common.{Some, None, codes, inl, inr, option_map}
-use Rattle.std.specs.Prelude.{Bool, Box, is_some, nat_lt, option_and_then, unwrap_or}
+use Rattle.std.specs.Prelude.{Bool, Box, is_some, nat_lt, option_and_then}
 use Rattle.std.specs.Borrow.{Bor}
 use Rattle.std.specs.Box.{box_value}
 use Rattle.std.proofs.lemmas.Option.{same_Some}
@@ -17,12 +17,13 @@ use Rattle.sptr.proofs.OnLiterals.{lines, sptr_on_literals}
 use Rattle.sptr.proofs.Walks.{enters_own}
 use Rattle.script_picture.specs.declared.part.Part.{Part}
 use Rattle.sptr.specs.CommandLine.{AsksFor, IsAskedBy, command_named, count_in, draw_line}
-use Rattle.sptr.specs.CommandLine.{left_line, owners_line, part_given, program, script_line}
+use Rattle.sptr.specs.CommandLine.{finds_given, left_line, list_or_line, most_given, orders_line}
+use Rattle.sptr.specs.CommandLine.{owners_line, part_given, program, script_line}
 use Rattle.sptr.specs.CommandLine.{turns_in, turns_line, word_in}
-use Rattle.sptr.specs.Parts.{part_named}
+use Rattle.sptr.specs.Parts.{most_named, part_named}
 use Rattle.sptr.specs.declared.command.Asked.{Asked}
-use Rattle.sptr.specs.declared.command.Asked.TheVariants.{Check, Convert, Draw, Fine, Left, Owners}
-use Rattle.sptr.specs.declared.command.Asked.TheVariants.{Run, Step}
+use Rattle.sptr.specs.declared.command.Asked.TheVariants.{Check, Convert, Draw, Fine, Left, Orders}
+use Rattle.sptr.specs.declared.command.Asked.TheVariants.{Owners, Run, Step}
 
 pub program_is_simple : is_simple program ≡ true
 unfolding sptr_on_literals
@@ -40,14 +41,15 @@ pub only_check : (words : List Text) → fault_of program words ≡ []
     → command_named words ≢ Some (codes "convert") → command_named words ≢ Some (codes "step")
     → command_named words ≢ Some (codes "fine") → command_named words ≢ Some (codes "run")
     → command_named words ≢ Some (codes "left") → command_named words ≢ Some (codes "draw")
-    → command_named words ≢ Some (codes "owners") → command_named words ≡ Some (codes "check")
+    → command_named words ≢ Some (codes "owners") → command_named words ≢ Some (codes "orders")
+    → command_named words ≡ Some (codes "check")
 unfolding program lines
-only_check words e not_convert not_step not_fine not_run not_left not_draw not_owners =
+only_check words e not_convert not_step not_fine not_run not_left not_draw not_owners not_orders =
     let found = enters_own (built program) (argument_words program words)
     (built_line (script_line (codes "check")) ∷ built_line (script_line (codes "convert"))
     ∷ built_line (turns_line (codes "step")) ∷ built_line (turns_line (codes "fine"))
     ∷ built_line (script_line (codes "run")) ∷ built_line left_line ∷ built_line draw_line
-    ∷ built_line owners_line ∷ [])
+    ∷ built_line owners_line ∷ built_line orders_line ∷ [])
     (built_leaf help_shape) refl refl refl refl refl e in
     elim found.2 [
       | inl is ↦ found.1 ∙ ap Some is
@@ -65,7 +67,10 @@ only_check words e not_convert not_step not_fine not_run not_left not_draw not_o
                   | inl is ↦ absurd (not_draw (found.1 ∙ ap Some is))
                   | inr seventh ↦ elim seventh [
                     | inl is ↦ absurd (not_owners (found.1 ∙ ap Some is))
-                    | inr none ↦ absurd none
+                    | inr eighth ↦ elim eighth [
+                      | inl is ↦ absurd (not_orders (found.1 ∙ ap Some is))
+                      | inr none ↦ absurd none
+                    ]
                   ]
                 ]
               ]
@@ -123,10 +128,20 @@ module _ (words : List Text) (m : ArgMatches) (name : Text) (rows : List Row)
       given ∙ sym (ap (λ (o : Option (Text × List Row)).
       part_named (word_in (codes "from") o) (word_in (codes "to") o)) found)
 
+  finds_found : (finds : Bool) → finds ≡ is_some (first_of (codes "find") rows)
+      → finds ≡ finds_given words
+  finds_found finds given =
+      given ∙ sym (ap (λ (o : Option (Text × List Row)). is_some (word_in (codes "find") o)) found)
+
+  most_found : (most : Option ℕ) → most ≡ most_named (first_of (codes "most") rows)
+      → most ≡ most_given words
+  most_found most given =
+      given ∙ sym (ap (λ (o : Option (Text × List Row)). most_named (word_in (codes "most") o)) found)
+
   pub asks_by_name : (a : Asked) → IsAskedBy name rows a → AsksFor words a
   asks_by_name Check h =
       only_check words faultless (not_named _ h.0) (not_named _ h.1) (not_named _ h.2)
-      (not_named _ h.3) (not_named _ h.4) (not_named _ h.5) (not_named _ h.6)
+      (not_named _ h.3) (not_named _ h.4) (not_named _ h.5) (not_named _ h.6) (not_named _ h.7)
   asks_by_name Convert h = named_as _ h
   asks_by_name Step h = named_as _ h
   asks_by_name Fine h = named_as _ h
@@ -135,6 +150,8 @@ module _ (words : List Text) (m : ArgMatches) (name : Text) (rows : List Row)
   asks_by_name (Draw is_fine part) h =
       (named_as _ h.0, flag_found (codes "fine") is_fine h.1, part_found part h.2)
   asks_by_name (Owners draws) h = (named_as _ h.0, flag_found (codes "dot") draws h.1)
+  asks_by_name (Orders finds most) h =
+      (named_as _ h.0, finds_found finds h.1, most_found most h.2)
 
 -- where none was met the words would name none
 pub asks_without : (words : List Text) (m : ArgMatches)
@@ -142,6 +159,7 @@ pub asks_without : (words : List Text) (m : ArgMatches)
     → None ≡ subcommand_name_of m → AsksFor words Check
 asks_without words m is faultless n =
     only_check words faultless (none _) (none _) (none _) (none _) (none _) (none _) (none _)
+    (none _)
   where
     none : (command : Text) → command_named words ≢ Some command
     none command e =
@@ -170,9 +188,10 @@ module _ (m : ArgMatches) (rows : List Row)
       → has ≡ is_some (word_in id (subcommand_rows_of m))
   is_given_in id has e = e ∙ ap is_some (given_in id)
 
-  pub turns_given_in : (list : Text) → list ≡ unwrap_or (first_of (codes "turns") rows) []
+  pub turns_given_in : (list : Text)
+      → list ≡ list_or_line (first_of (codes "turns") rows) (first_of (codes "find") rows)
       → list ≡ turns_in (subcommand_rows_of m)
-  turns_given_in list e = e ∙ ap (λ (o : Option Text). unwrap_or o []) (given_in (codes "turns"))
+  turns_given_in list e = e ∙ ap₂ list_or_line (given_in (codes "turns")) (given_in (codes "find"))
 
 -- where none was met none was given anything
 pub none_given : (m : ArgMatches) → None ≡ subcommand_name_of m → (id : Text)

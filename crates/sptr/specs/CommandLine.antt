@@ -11,10 +11,10 @@ use Rattle.std.specs.declared.alloc.AllocError.{AllocError}
 use Rattle.clap.specs.declared.builder.action.ArgAction.TheVariants.{Count}
 use Rattle.clap.specs.Simple.{new_shape}
 use Rattle.script_picture.specs.declared.part.Part.{Part}
-use Rattle.sptr.specs.Parts.{IsPart, all_acts, part_named}
+use Rattle.sptr.specs.Parts.{IsPart, all_acts, most_named, most_states, part_named}
 use Rattle.sptr.specs.declared.command.Asked.{Asked}
-use Rattle.sptr.specs.declared.command.Asked.TheVariants.{Check, Convert, Draw, Fine, Left, Owners}
-use Rattle.sptr.specs.declared.command.Asked.TheVariants.{Run, Step}
+use Rattle.sptr.specs.declared.command.Asked.TheVariants.{Check, Convert, Draw, Fine, Left, Orders}
+use Rattle.sptr.specs.declared.command.Asked.TheVariants.{Owners, Run, Step}
 
 -- `FILE`, the script
 unfoldable pub file_word : Rule
@@ -58,6 +58,12 @@ owners_line = record (new_shape (codes "owners")) {
   rules = file_word ∷ flag_rule (codes "dot") ∷ [];
 }
 
+-- `orders`, which takes a script, the line that is to be found, and how many states are seen
+unfoldable pub orders_line : Shape
+orders_line = record (new_shape (codes "orders")) {
+  rules = file_word ∷ option_rule (codes "find") ∷ option_rule (codes "most") ∷ [];
+}
+
 -- the program's name
 unfoldable pub bare : App
 bare = record {
@@ -65,7 +71,7 @@ bare = record {
   subs = [];
 }
 
--- the program's name, and then one of the eight
+-- the program's name, and then one of the nine
 unfoldable pub program : App
 program = record {
   top = record (new_shape (codes "sptr")) {
@@ -75,7 +81,7 @@ program = record {
   };
   subs = script_line (codes "check") ∷ script_line (codes "convert") ∷ turns_line (codes "step")
       ∷ turns_line (codes "fine") ∷ script_line (codes "run") ∷ left_line ∷ draw_line ∷ owners_line
-      ∷ [];
+      ∷ orders_line ∷ [];
 }
 
 -- `new` is `old` with this command too, the last
@@ -93,9 +99,14 @@ command_named words = option_map (λ found. found.0) (subcommand_of program word
 abbrev pub word_in : Text → Option (Text × List Row) → Option Text
 word_in id found = option_and_then (λ (command : Text × List Row). first_of id command.1) found
 
--- the list that `--turns` gives a command, or none
+-- a list of turns, or else a line that is to be found, or no text
+abbrev pub list_or_line : Option Text → Option Text → Text
+list_or_line (Some list) line = list
+list_or_line None line = unwrap_or line []
+
+-- the list that `--turns` gives a command, or the line that `--find` does, or no text
 abbrev pub turns_in : Option (Text × List Row) → Text
-turns_in found = unwrap_or (word_in (codes "turns") found) []
+turns_in found = list_or_line (word_in (codes "turns") found) (word_in (codes "find") found)
 
 -- the same of the command that the words name
 abbrev pub word_given : Text → List Text → Option Text
@@ -124,6 +135,14 @@ fine_given words = nat_lt 0 (count_in (codes "fine") (subcommand_of program word
 abbrev pub part_given : List Text → Option Part
 part_given words = part_named (word_given (codes "from") words) (word_given (codes "to") words)
 
+-- whether `--find` gives a line
+abbrev pub finds_given : List Text → Bool
+finds_given words = is_some (word_given (codes "find") words)
+
+-- how many states are seen at most
+abbrev pub most_given : List Text → Option ℕ
+most_given words = most_named (word_given (codes "most") words)
+
 -- whether `--dot` is there, so that what is left, or the graph, is drawn
 abbrev pub draws_given : List Text → Bool
 draws_given words = nat_lt 0 (count_in (codes "dot") (subcommand_of program words))
@@ -142,6 +161,9 @@ AsksFor words (Draw is_fine part) =
     × (part ≡ part_given words)
 AsksFor words (Owners draws) =
     (command_named words ≡ Some (codes "owners")) × (draws ≡ draws_given words)
+AsksFor words (Orders finds most) =
+    (command_named words ≡ Some (codes "orders")) × (finds ≡ finds_given words)
+    × (most ≡ most_given words)
 
 -- the words are the program's name, this command and these options, and then no list, or
 -- `--turns=LIST`
@@ -177,11 +199,17 @@ IsDrawLine is_fine (Some part) name list words =
     ⊎ (IsPart part
     × IsJoinedLine (codes "draw") (fine_words is_fine ++ part_words part) name list words)
 
+-- the words ask for a script's orders, or for the first one that tells a line
+abbrev pub IsOrdersLine : Bool → Text → Text → List Text → Type 0
+IsOrdersLine false name line words = (words ≡ name ∷ codes "orders" ∷ []) × (line ≡ [])
+IsOrdersLine true name line words =
+    words ≡ name ∷ codes "orders" ∷ (codes "--find=" ++ line) ∷ []
+
 -- a command of this name, which was given this, asks for this
 abbrev pub IsAskedBy : Text → List Row → Asked → Type 0
 IsAskedBy name rows Check = (name ≢ codes "convert") × (name ≢ codes "step") × (name ≢ codes "fine")
     × (name ≢ codes "run") × (name ≢ codes "left") × (name ≢ codes "draw")
-    × (name ≢ codes "owners")
+    × (name ≢ codes "owners") × (name ≢ codes "orders")
 IsAskedBy name rows Convert = name ≡ codes "convert"
 IsAskedBy name rows Step = name ≡ codes "step"
 IsAskedBy name rows Fine = name ≡ codes "fine"
@@ -193,6 +221,9 @@ IsAskedBy name rows (Draw is_fine part) =
     × (part ≡ part_named (first_of (codes "from") rows) (first_of (codes "to") rows))
 IsAskedBy name rows (Owners draws) =
     (name ≡ codes "owners") × (draws ≡ nat_lt 0 (count_of (codes "dot") rows))
+IsAskedBy name rows (Orders finds most) =
+    (name ≡ codes "orders") × (finds ≡ is_some (first_of (codes "find") rows))
+    × (most ≡ most_named (first_of (codes "most") rows))
 
 -- the words ask for this, with this list of turns, in the manner of the program's page
 abbrev pub AsksPlainly : List Text → Asked → List ℕ → Type 0
@@ -207,6 +238,8 @@ AsksPlainly words (Draw is_fine part) list =
     (name : Text) × IsDrawLine is_fine part name list words
 AsksPlainly words (Owners draws) list =
     (name : Text) × (words ≡ name ∷ codes "owners" ∷ dot_words draws) × (list ≡ [])
+AsksPlainly words (Orders finds most) list =
+    (name : Text) × IsOrdersLine finds name list words × (most ≡ Some most_states)
 
 -- the words are the program's name and `--help`
 abbrev pub AsksHelp : List Text → Type 0

@@ -5,6 +5,10 @@ abbrev pub ok_line : ℕ → ℕ → List ℕ
 ok_line threads statements = codes "ok threads " ++ decimal threads ++ codes " statements "
     ++ decimal statements ++ 10 ∷ []
 
+-- the line where no orders are told
+abbrev pub limit_line : List ℕ
+limit_line = codes "refused 4: limit: 1000000 states are seen at most, or N with --most N\n"
+
 -- the line where no picture is drawn
 abbrev pub picture_line : List ℕ
 picture_line =

@@ -1,4 +1,4 @@
--- The part of a run that a command line names (own).
+-- The part of a run, and the number of states, that a command line names (own).
 use Rattle.std.specs.Prelude.{◌^◌, ◌<◌, ◌≤◌, ◌&&◌, ℕ, Option, Some, None, if◌then◌else◌, nat_le}
 use Rattle.std.specs.Prelude.{nat_lt}
 use Rattle.std.specs.Str.Parse.{digits_value, without_leading_plus}
@@ -16,6 +16,14 @@ number_in digits =
 abbrev pub number_given : ℕ → Option Text → Option ℕ
 number_given other None = Some other
 number_given other (Some word) = number_in (without_leading_plus word)
+
+-- how many states of a script a search sees at most, where no word says it
+abbrev pub most_states : ℕ
+most_states = 1_000_000
+
+-- the number that `--most` says, if it is one
+abbrev pub most_named : Option Text → Option ℕ
+most_named most = number_given most_states most
 
 -- from a number to one that is no less
 abbrev pub part_between : Option ℕ → Option ℕ → Option Part

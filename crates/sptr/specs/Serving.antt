@@ -24,14 +24,16 @@ use Rattle.script_text.specs.Canonical.{canonical}
 use Rattle.sptr.specs.CommandLine.{AsksFor, names_list, names_text, program, turns_given}
 use Rattle.script_picture.specs.Pictures.{IsPictureText}
 use Rattle.script_picture.specs.declared.part.Part.{Part}
-use Rattle.sptr.specs.Lines.{ok_line, picture_line}
-use Rattle.sptr.specs.Outcomes.{FindsAsAsked, exit_status, is_found}
+use Rattle.script_orders.specs.Orders.{TellsOrders}
+use Rattle.sptr.specs.Lines.{limit_line, ok_line, picture_line}
+use Rattle.sptr.specs.Outcomes.{FindsAsAsked, exit_status, is_found, line_found, orders_answer}
 use Rattle.sptr.specs.Sources.{OfBytes, OfList, known_unless}
 use Rattle.sptr.specs.declared.answers.Outcome.{Outcome}
-use Rattle.sptr.specs.declared.answers.Outcome.TheVariants.{Done, Leaks, NoGraph, NoPicture}
+use Rattle.sptr.specs.declared.answers.Outcome.TheVariants.{Done, Found, Leaks, NoGraph, NoOrders}
+use Rattle.sptr.specs.declared.answers.Outcome.TheVariants.{NoPicture}
 use Rattle.sptr.specs.declared.command.Asked.{Asked}
-use Rattle.sptr.specs.declared.command.Asked.TheVariants.{Check, Convert, Draw, Fine, Left, Owners}
-use Rattle.sptr.specs.declared.command.Asked.TheVariants.{Run, Step}
+use Rattle.sptr.specs.declared.command.Asked.TheVariants.{Check, Convert, Draw, Fine, Left, Orders}
+use Rattle.sptr.specs.declared.command.Asked.TheVariants.{Owners, Run, Step}
 
 -- the line that counts the script which the text reads as, or the refusal that the text has
 abbrev pub CountsScript : List ℕ → Result (List ℕ) Fault → Type 0
@@ -69,6 +71,13 @@ TellsPart is_fine (Some part) answer bytes list =
     TellsRun (IsPictureText is_fine part answer) bytes list
 TellsPart is_fine None answer bytes list = TellsNone answer
 
+-- what is told of a script's orders, or nothing where no number says how many states are seen
+abbrev pub TellsMost : Bool → Option ℕ → Result Outcome Fault → List ℕ → List ℕ
+    → Result (List ℕ) Fault → Type 0
+TellsMost finds (Some most) answer bytes line =
+    TellsOrders (line_found finds line) (orders_answer answer) bytes
+TellsMost finds None answer bytes line = TellsNone (is_found answer)
+
 -- what is told of the graph that the bytes spell, or nothing where a line of theirs is faulty; and
 -- what comes of it
 abbrev pub IsGraphText : Bool → List ℕ → Result Outcome Fault → List ℕ → Type 0
@@ -77,6 +86,8 @@ IsGraphText draws bytes (Ok Leaks) text = IsOwnersText draws bytes true text
 IsGraphText draws bytes (Ok NoPicture) text = ⊥
 IsGraphText draws bytes (Ok (NoGraph line cause)) text =
     graph.Refuses (line_fault.Syntax line cause) bytes × (text ≡ [])
+IsGraphText draws bytes (Ok Found) text = ⊥
+IsGraphText draws bytes (Ok NoOrders) text = ⊥
 IsGraphText draws bytes (Err fault) text = (leaks : Bool) × IsOwnersText draws bytes leaks text
 
 abbrev pub TellsGraph : Bool → List ℕ → Result Outcome Fault → Result (List ℕ) Fault → Type 0
@@ -100,6 +111,8 @@ AnswersCommand (Left draws) list answer bytes =
 AnswersCommand (Draw is_fine part) list answer bytes =
     UnlessInput (TellsPart is_fine part (is_found answer) bytes list)
 AnswersCommand (Owners draws) list answer bytes = UnlessInput (TellsGraph draws bytes answer)
+AnswersCommand (Orders finds most) list answer bytes =
+    UnlessInput (TellsMost finds most answer bytes list)
 
 -- the exit status of a command that tells of no script
 abbrev pub status_of : {A : Type 0} → Result A Fault → ℕ
@@ -146,6 +159,8 @@ ReportsOutcome (Ok Done) r = IsUntouched r
 ReportsOutcome (Ok Leaks) r = IsUntouched r
 ReportsOutcome (Ok NoPicture) r = IsReported picture_line r
 ReportsOutcome (Ok (NoGraph line cause)) r = IsReported (faulty_line line (cause_words cause)) r
+ReportsOutcome (Ok Found) r = IsUntouched r
+ReportsOutcome (Ok NoOrders) r = IsReported limit_line r
 ReportsOutcome (Err fault) r = IsReported (fault_line fault) r
 
 -- a command's answer to this list of turns and these bytes of a script or a graph, where it is known

@@ -40,6 +40,11 @@ pub(crate) enum Outcome {
     NoPicture,
     /// Nothing was told of a graph: this line of it is faulty.
     NoGraph { line: usize, cause: Cause },
+    /// The turns were told by which a line is told.
+    Found,
+    /// Nothing was told of a script's orders: there are more states than are to be seen, or it isn't
+    /// said by a number how many.
+    NoOrders,
 }
 
 /// All that an input has.
@@ -99,7 +104,7 @@ fn converted(alloc: Global, text: &[u8]) -> Result<String, Fault>
 }
 
 /// Makes sure that all that was written has gone out.
-fn flushed<O: Write>(output: &mut Output<O>) -> Result<(), Fault>
+pub(crate) fn flushed<O: Write>(output: &mut Output<O>) -> Result<(), Fault>
     ensures kept { Keeps (O.contents output.old.writer) (O.contents output.new.writer) }
     ensures err { IfErr result (λ fault. fault ≡ Fault.Output) }
     ensures failed { output.new.has_failed ≡ (output.old.has_failed || is_output result) }

@@ -1,15 +1,16 @@
 //! What a command line asks for, as `clap` reads it.
 
-ghost use Rattle.std.specs.Prelude.{◌≡◌, IfOk, List, [], codes, is_some, map, nat_lt, unwrap_or};
+ghost use Rattle.std.specs.Prelude.{◌≡◌, IfOk, List, [], codes, is_some, map, nat_lt};
 ghost use Rattle.std.specs.Str.Parse.{without_leading_plus};
 ghost use Rattle.clap.specs.Words.{FailsBy, Text, count_of, fault_of, first_of, found_of, rows_of};
 ghost use Rattle.clap.specs.Words.{subcommand_of, subcommand_rows_of};
 ghost use Rattle.sptr.specs.CommandLine.{AsksFor, IsAskedBy, program, turns_given, turns_in};
-ghost use Rattle.sptr.specs.CommandLine.{names_list, names_text, word_in};
-ghost use Rattle.sptr.specs.Parts.{number_given, number_in, part_named};
+ghost use Rattle.sptr.specs.CommandLine.{list_or_line, names_list, names_text, word_in};
+ghost use Rattle.sptr.specs.Parts.{most_named, number_given, number_in, part_named};
 
 use crate::commands::command;
 use clap::{ArgMatches, Error};
+use script_orders::MOST_STATES;
 use script_picture::Part;
 use std::alloc::Global;
 use std::convert::AsStr;
@@ -34,10 +35,14 @@ pub(crate) enum Asked {
     Draw { is_fine: bool, part: Option<Part> },
     /// What leaks of a graph of owners, as text or drawn.
     Owners { draws: bool },
+    /// The outcomes of all orders of a script, or the turns by which a line is told, with so many
+    /// states at most; no such number where that is faulty.
+    Orders { finds: bool, most: Option<u32> },
 }
 
-/// What a command line asks for, with its list of turns, which is empty where it gives none; and
-/// the files that it names: one of the script or the graph, and one of the list.
+/// What a command line asks for, with its list of turns, or the line that is to be found, which is
+/// empty where it gives none; and the files that it names: one of the script or the graph, and one
+/// of the list.
 #[derive(Clone, Copy)]
 pub(crate) struct Line<'a> {
     pub asked: Asked,
@@ -55,11 +60,15 @@ fn matches_of<'a, S: AsStr>(alloc: Global, words: &'a [S]) -> Result<ArgMatches<
     command.try_get_matches_from(words)
 }
 
-/// The list that a run was given, empty where none was.
+/// The list that a run was given, or the line that is to be found; empty where none was.
 fn turns_of<'a>(given: &ArgMatches<'a>) -> &'a [u8]
-    ensures { result.now ≡ unwrap_or (first_of (codes "turns") (rows_of (found_of given.now))) [] }
+    ensures { let rows = rows_of (found_of given.now) in
+        result.now ≡ list_or_line (first_of (codes "turns") rows) (first_of (codes "find") rows) }
 {
-    given.get_str("turns").unwrap_or("").as_bytes()
+    match given.get_str("turns") {
+        Some(list) => list.as_bytes(),
+        None => given.get_str("find").unwrap_or("").as_bytes(),
+    }
 }
 
 /// Whether a flag was given.
@@ -104,6 +113,13 @@ fn part_of(given: &ArgMatches<'_>) -> Option<Part>
     }
 }
 
+/// How many states a search was asked to see at most.
+fn most_of(given: &ArgMatches<'_>) -> Option<u32>
+    ensures { result ≡ most_named (first_of (codes "most") (rows_of (found_of given.now))) }
+{
+    number_or(given, "most", MOST_STATES)
+}
+
 /// Whether a word was given for this, and which.
 fn word_of<'a>(given: &ArgMatches<'a>, id: &str) -> Option<&'a str>
     ensures { is_some result ≡ is_some (first_of id.now (rows_of (found_of given.now))) }
@@ -127,6 +143,10 @@ fn asked_by_name(name: &str, given: &ArgMatches<'_>) -> Asked
         },
         "owners" => Asked::Owners {
             draws: has_flag(given, "dot"),
+        },
+        "orders" => Asked::Orders {
+            finds: word_of(given, "find").is_some(),
+            most: most_of(given),
         },
         "convert" => Asked::Convert,
         "run" => Asked::Run,

@@ -4,14 +4,14 @@ ghost use Rattle.std.specs.Prelude.{◌≡◌, IfOk, codes, false};
 ghost use Rattle.clap.specs.Words.{app_of, rule_of, shape_of};
 ghost use Rattle.clap.specs.declared.builder.command.Command.TheViews.{out-Command};
 ghost use Rattle.sptr.specs.CommandLine.{AddsCommand, bare, draw_line, file_word, flag_rule};
-ghost use Rattle.sptr.specs.CommandLine.{left_line, option_rule, owners_line, program, script_line};
-ghost use Rattle.sptr.specs.CommandLine.{turns_line};
+ghost use Rattle.sptr.specs.CommandLine.{left_line, option_rule, orders_line, owners_line, program};
+ghost use Rattle.sptr.specs.CommandLine.{script_line, turns_line};
 
 use clap::{Arg, ArgAction, Command};
 use std::alloc::{AllocError, Global};
 
 /// What `--version` tells.
-const VERSION: &str = "1.1.0";
+const VERSION: &str = "1.2.0";
 
 /// `FILE`.
 fn file_argument<'a>(alloc: Global, help: &'a str) -> Arg<'a>
@@ -105,6 +105,17 @@ fn owners_command<'a>(alloc: Global) -> Result<Command<'a>, AllocError>
         .arg(flag(alloc, "dot", "As a graph for Graphviz"))
 }
 
+fn orders_command<'a>(alloc: Global) -> Result<Command<'a>, AllocError>
+    ensures shape { IfOk result (λ c. shape_of c ≡ orders_line) }
+    ensures local { IfOk result (λ c. (out-Command c).has_globals ≡ false) }
+{
+    let about = "Runs a script in every order of its threads, and tells each outcome once";
+    let find = "A line: only the turns are told by which it is told, or never";
+    script_command(alloc, "orders", about)?
+        .arg(option(alloc, "find", "LINE", find))?
+        .arg(option(alloc, "most", "N", "How many states are seen at most"))
+}
+
 /// The program with this command too.
 fn with_command<'a>(
     program: Result<Command<'a>, AllocError>,
@@ -148,5 +159,6 @@ pub(crate) fn command<'a>(alloc: Global) -> Result<Command<'a>, AllocError>
     let program = with_command(program, script_command(alloc, "run", run));
     let program = with_command(program, left_command(alloc));
     let program = with_command(program, draw_command(alloc));
-    with_command(program, owners_command(alloc))
+    let program = with_command(program, owners_command(alloc));
+    with_command(program, orders_command(alloc))
 }

@@ -5,6 +5,7 @@
 mod answers;
 mod command;
 mod commands;
+mod orders;
 mod process;
 mod serve;
 mod sources;

@@ -7,7 +7,7 @@ ghost use Rattle.sptr.specs.CommandLine.{AsksHelp, AsksPlainly, AsksVersion, Nam
 ghost use Rattle.sptr.specs.Serving.{IsAnswered, IsMistaken, IsReported, IsShownText, IsTurnedAway};
 ghost use Rattle.sptr.specs.Serving.{ReportsOutcome, Serves, report};
 ghost use Rattle.sptr.specs.Sources.{known_unless};
-ghost use Rattle.sptr.specs.Lines.{picture_line};
+ghost use Rattle.sptr.specs.Lines.{limit_line, picture_line};
 ghost use Rattle.sptr.specs.Outcomes.{exit_status};
 ghost use Rattle.owner_text.specs.Faults.{cause_words};
 ghost use Rattle.script_text.specs.Faults.{fault_line, faulty_line};
@@ -119,6 +119,23 @@ fn refuse_picture<F: Write>(faults: &mut Output<F>) -> u8
     1
 }
 
+/// Writes the line of orders that aren't told, and answers the exit status 1.
+fn refuse_orders<F: Write>(faults: &mut Output<F>) -> u8
+    ensures status { result ≡ 1 }
+    ensures line { IsReported limit_line
+        (report (F.contents faults.old.writer) faults.old.has_failed
+        (F.contents faults.new.writer) faults.new.has_failed) }
+{
+    if faults.failed() {
+        return 1;
+    }
+    let _ = write_all(
+        faults,
+        b"refused 4: limit: 1000000 states are seen at most, or N with --most N\n",
+    );
+    1
+}
+
 /// Writes the line that tells of a faulty line of a graph, and answers the exit status 1.
 fn refuse_graph<F: Write>(line: usize, cause: Cause, faults: &mut Output<F>) -> u8
     ensures status { result ≡ 1 }
@@ -131,7 +148,7 @@ fn refuse_graph<F: Write>(line: usize, cause: Cause, faults: &mut Output<F>) -> 
 }
 
 /// Answers the exit status of a command that was carried out, and writes the line of a picture that
-/// isn't drawn, or of a graph that has no answer.
+/// isn't drawn, of a graph that has no answer, or of orders that aren't told.
 fn conclude<F: Write>(outcome: Outcome, faults: &mut Output<F>) -> u8
     ensures status { result ≡ exit_status (Ok outcome) }
     ensures line { ReportsOutcome (Ok outcome)
@@ -144,6 +161,8 @@ fn conclude<F: Write>(outcome: Outcome, faults: &mut Output<F>) -> u8
         Outcome::Leaks => 3,
         Outcome::NoPicture => refuse_picture(faults),
         Outcome::NoGraph { line, cause } => refuse_graph(line, cause, faults),
+        Outcome::Found => 3,
+        Outcome::NoOrders => refuse_orders(faults),
     }
 }
 
@@ -176,7 +195,8 @@ fn carry_out<R: rt::Files + Threads + Wait + Sync, I: Read, O: Write, F: Write>(
 /// owners, from `input`, or from the file that the words name, and writes the answer on `output`,
 /// which hasn't failed before. Answers the exit status: 0; 1 for a refusal, with its line on
 /// `faults`; 2 for a fault of the command line, with the text of `clap` on `faults`; 3 where it was
-/// asked what is left, or what leaks of a graph, and something is leaked.
+/// asked what is left, or what leaks of a graph, and something is leaked, or for a line of a
+/// script's orders, and some order tells it.
 ///
 /// The words are looked at first; then come a failed input, or a file that can't be read (13), a
 /// fault of the script or the graph (10) and one of the turns (11), each with nothing on `output`,

@@ -1,14 +1,16 @@
 //! Answers to scripts, graphs and lists of turns, wherever these lie.
 
-ghost use Rattle.std.specs.Prelude.{◌≡◌, ◌⊎◌, IfErr, IfOk, IfSome, false, is_some};
+ghost use Rattle.std.specs.Prelude.{◌≡◌, ◌⊎◌, IfErr, IfOk, IfSome, false, is_some, option_copied};
 ghost use Rattle.script_stepper.specs.Runs.{Delivers, is_output};
 ghost use Rattle.script_text.specs.declared.fault.Fault.TheVariants.{Input, Memory};
-ghost use Rattle.sptr.specs.Outcomes.{FindsAsAsked, found_as, none_found};
+ghost use Rattle.sptr.specs.Outcomes.{FindsAsAsked, found_as, line_found, none_found};
 ghost use Rattle.sptr.specs.Serving.{AnswersCommand};
 ghost use Rattle.sptr.specs.Sources.{OfBytes, OfList, known_unless, without_line_end};
 
 use crate::answers::{Outcome, bytes_of, check, convert, draw, fine, left, owners, run, step};
 use crate::command::{Asked, Line};
+use crate::orders::orders;
+use script_orders::Query;
 use script_picture::Order;
 use script_stepper::Output;
 use script_text::Fault;
@@ -40,7 +42,15 @@ fn done_or(outcome: Outcome, found: Result<bool, Fault>) -> Result<Outcome, Faul
     }
 }
 
-/// The answer to what a command line asks for, of a script or a graph. Nothing is drawn of no part.
+/// A line that is to be found, if one is.
+fn line_if(finds: bool, line: &[u8]) -> Option<&[u8]>
+    ensures { option_copied result ≡ line_found finds line.now }
+{
+    if finds { Some(line) } else { None }
+}
+
+/// The answer to what a command line asks for, of a script or a graph. Nothing is drawn of no part,
+/// and nothing told of orders with no number of states.
 fn answer_bytes<R: Threads + Wait + Sync, O: Write>(
     rt: &R,
     alloc: Global,
@@ -77,6 +87,17 @@ fn answer_bytes<R: Threads + Wait + Sync, O: Write>(
             None => Ok(Outcome::NoPicture),
         },
         Asked::Owners { draws } => owners(alloc, draws, text, output),
+        Asked::Orders { finds, most } => match most {
+            Some(most) => {
+                let query = Query {
+                    script: text,
+                    line: line_if(finds, turns),
+                    most,
+                };
+                orders(alloc, query, output)
+            }
+            None => Ok(Outcome::NoOrders),
+        },
     }
 }
 

@@ -1,6 +1,6 @@
-use Rattle.std.proofs.Common.{ap, sym}
-use Rattle.std.specs.Prelude.{Option, [], is_some, unwrap_or}
-use Rattle.clap.specs.Words.{Text}
+use Rattle.std.proofs.Common.{ap, ap₂, codes, sym}
+use Rattle.std.specs.Prelude.{is_some}
+use Rattle.sptr.specs.CommandLine.{list_or_line}
 use Rattle.sptr.proofs.Programs.{asks_by_name, asks_without, is_given_in, none_given, turns_given_in}
 use Rattle.sptr.proofs.command.line_by.Goals as goal
 
@@ -29,8 +29,8 @@ returns-in-None-clause-asks c words is faultless =
 
 pub returns-in-None-clause-turns : goal.returns-in-None-clause-turns
 returns-in-None-clause-turns c =
-    sym (ap (λ (o : Option Text). unwrap_or o [])
-    (none_given c.args.matches.now c.in-None.ensures.name _))
+    let none = none_given c.args.matches.now c.in-None.ensures.name in
+    sym (ap₂ list_or_line (none (codes "turns")) (none (codes "find")))
 
 pub returns-in-None-clause-text : goal.returns-in-None-clause-text
 returns-in-None-clause-text c =

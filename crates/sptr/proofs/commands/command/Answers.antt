@@ -1,7 +1,7 @@
 use Rattle.std.proofs.Common.{Ok, codes}
 use Rattle.clap.specs.Words.{App, with_subcommand}
 use Rattle.sptr.proofs.Lines.{next_added}
-use Rattle.sptr.specs.CommandLine.{bare, draw_line, left_line, owners_line, program}
+use Rattle.sptr.specs.CommandLine.{bare, draw_line, left_line, orders_line, owners_line, program}
 use Rattle.sptr.specs.CommandLine.{script_line, turns_line}
 use Rattle.sptr.proofs.commands.command.Goals as goal
 
@@ -20,6 +20,7 @@ returns c =
     let five : App = with_subcommand four run in
     let six : App = with_subcommand five left_line in
     let seven : App = with_subcommand six draw_line in
+    let eight : App = with_subcommand seven owners_line in
     let a =
     next_added (Ok c.bare_program.result) c.script_command.result c.with_command-program.result
     bare check c.bare_program.ensures
@@ -51,6 +52,10 @@ returns c =
     next_added c.with_command-program-6.result c.draw_command.result
     c.with_command-program-7.result six draw_line g
     c.draw_command.ensures.shape c.draw_command.ensures.local c.with_command-program-7.ensures in
-    next_added c.with_command-program-7.result c.owners_command.result c.with_command.result seven
-    owners_line h
-    c.owners_command.ensures.shape c.owners_command.ensures.local c.with_command.ensures
+    let i =
+    next_added c.with_command-program-7.result c.owners_command.result
+    c.with_command-program-8.result seven owners_line h
+    c.owners_command.ensures.shape c.owners_command.ensures.local c.with_command-program-8.ensures in
+    next_added c.with_command-program-8.result c.orders_command.result c.with_command.result eight
+    orders_line i
+    c.orders_command.ensures.shape c.orders_command.ensures.local c.with_command.ensures

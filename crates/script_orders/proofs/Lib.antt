@@ -1,0 +1,4 @@
+pub mod Adding
+pub mod Cutting
+pub mod Distinct
+pub mod Numbering

@@ -1,0 +1,17 @@
+use Rattle.std.proofs.Common.{ℕ, List, Option, IfOk, ap, subst, sym}
+use Rattle.std.specs.Borrow.{Bor}
+use Rattle.std.specs.Prelude.{option_copied}
+use Rattle.script_orders.specs.Orders.{IsAnswerText}
+use Rattle.script_orders.proofs.orders.reply_to.Goals as goal
+
+pub returns-in-Some-clause-is : goal.returns-in-Some-clause-is
+returns-in-Some-clause-is c =
+    subst (λ (o : Option (List ℕ)).
+    IfOk c.turns_to.result (λ r. IsAnswerText o r.answer c.args.query.script.now r.text.items))
+    (sym (ap (λ (o : Option (Bor (List ℕ))). option_copied o) c.in-Some.is)) c.turns_to.ensures.is
+
+pub returns-clause-is : goal.returns-clause-is
+returns-clause-is c =
+    subst (λ (o : Option (List ℕ)).
+    IfOk c.all_outcomes.result (λ r. IsAnswerText o r.answer c.args.query.script.now r.text.items))
+    (sym (ap (λ (o : Option (Bor (List ℕ))). option_copied o) c.in-None.is)) c.all_outcomes.ensures.is
