@@ -37,6 +37,9 @@ def say(line: str):
     print(line, file=sys.stderr, flush=True)
 
 
+NEVER_FREED = []  # what takes as long to free as to read, and is needed to the end
+
+
 class Reports:
     """Tells each record once, and keeps what is asked for."""
 
@@ -73,6 +76,7 @@ class Reports:
         if self.asked.children and not record.blocks:
             return None
         findings = verdicts.findings_of(record, self.suppressed)
+        NEVER_FREED.append(findings)
         if self.asked.proved:
             findings.compared = proved.difference(findings.graph, findings.answer) or "the same"
         leaks = bool(findings.alarming or self.asked.strict and findings.undecided)
@@ -184,7 +188,7 @@ def run_and_tell(asked: Namespace, path: str, suppressed: list) -> int:
 
 
 def main() -> int:
-    gc.disable()  # all that is read is needed to the end
+    gc.disable()
     asked = options.parse(sys.argv[1:])
     if asked.flags:
         try:

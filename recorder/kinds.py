@@ -84,14 +84,16 @@ def is_storage(handle: Handle) -> bool:
 
 def drop_from_storage(record: Record, counts: list[Counts], leaked: set[int]) -> bool:
     """Where more owners are found than a block counts, those that lie in mere bytes of leaked objects are old
-    ones. What leaks is the same without them. Returns whether there were some."""
+    ones. What leaks is the same without them. Where the true owner may lie in memory that was not looked at,
+    all of them may be old. Returns whether there were some."""
     dropped = False
     for it in counts:
-        if it.owners_missing >= 0:
+        excess = len(it.handles) if record.mapped_bytes else -it.owners_missing
+        if excess <= 0:
             continue
         old = [owner for owner in it.handles if owner.kind == "owner" and is_storage(owner)]
         old = [owner for owner in old if owner.spot.kind == "object" and owner.object in leaked]
-        for owner in old[: -it.owners_missing]:
+        for owner in old[:excess]:
             owner.kind = "old"
             dropped = True
         it.forget_old()
@@ -129,7 +131,7 @@ def decided_at_once(record: Record) -> list[bool]:
     for it in record.handles:
         if it.kind == "either" and is_met[it.block]:
             it.kind = "owner" if owners[it.block] else "weak"
-    return is_met
+    return [False] * len(is_met) if record.mapped_bytes else is_met  # (what is met may be so by chance)
 
 
 def decide_kinds(record: Record) -> list[Counts]:

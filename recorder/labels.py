@@ -99,15 +99,21 @@ def is_raw(declared: str) -> bool:
     return not owns and bool(re.search(r"\*( const)?[,>]", declared))
 
 
-def is_beyond(making: Making, offset: int, answers: Answers) -> bool:
-    return making.in_pool and making.kind != "array" and offset >= (answers.size(making) or making.size)
-
-
 def drop_beyond(record: Record, answers: Answers):
-    """In a pool an object is as large as its type: what lies beyond is somebody else's."""
+    """In a pool an object is as large as its type, or at most as the least of the same type that another
+    follows: what lies beyond is somebody else's."""
+    least = {}
+    for it in record.makings:
+        if it.in_pool and it.size:
+            least[it.control_type] = min(it.size, least.get(it.control_type, it.size))
+
+    def is_beyond(making: Making, offset: int) -> bool:
+        size = answers.size(making) or least.get(making.control_type, making.size)
+        return making.in_pool and making.kind != "array" and offset >= size
+
     for it in record.spots:
-        if it.kind == "object" and it.inner < 0 and is_beyond(it.making, it.offset, answers):
+        if it.kind == "object" and it.inner < 0 and is_beyond(it.making, it.offset):
             it.kind, it.making, it.offset = "heap", None, 0
     record.raw_pointers = [
-        it for it in record.raw_pointers if not is_beyond(record.blocks[it.to].making, it.to_byte, answers)
+        it for it in record.raw_pointers if not is_beyond(record.blocks[it.to].making, it.to_byte)
     ]

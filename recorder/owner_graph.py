@@ -73,15 +73,13 @@ def ask(graph: Graph) -> Answer:
         {it for it in numbers if verdicts[it] == "leaked"},
         {it for it in numbers if lost and verdicts[it] == "kept" and it not in kept},
     )
-    known = {}  # by shape: it, and what mends it
+    shapes, weakens = {}, {}  # each once, and by shape what mends it
     for objects, ties, is_owned in owner_search.knots(verdicts, graph.owners):
         shape = owner_search.shape_of(objects, ties)
-        knot = Knot(objects, ties, is_owned, shape)
-        if not is_owned:
-            if shape not in known:
-                known[shape] = shape, owner_search.weakens(len(objects), shape)
-            knot.shape, knot.weakens = known[shape]
-        answer.knots.append(knot)
+        shape = shapes.setdefault(shape, shape)
+        if not is_owned and id(shape) not in weakens:
+            weakens[id(shape)] = owner_search.weakens(len(objects), shape)
+        answer.knots.append(Knot(objects, ties, is_owned, shape, [] if is_owned else weakens[id(shape)]))
     return answer
 
 

@@ -119,9 +119,9 @@ class Record:
     lost: int = 0
     unread: int = 0  # threads whose registers were not read
     closed: list = field(default_factory=list)  # (how many control blocks, of which closed library)
-    # Of what lies in memory that the program mapped itself: (how many, the kind of control block, its type).
-    mapped: list = field(default_factory=list)
-    mapped_bytes: int = 0  # of such memory that was not looked at
+    # Where objects aren't looked at: (the kind of memory, how many, the kind of control block, its type).
+    unseen: list = field(default_factory=list)
+    mapped_bytes: int = 0  # of memory that the program mapped itself and that was not looked at
 
 
 HANDLES = "owner", "weak", "either"
@@ -191,9 +191,9 @@ def read(path: Path) -> Record:
             elif kind == "module":
                 base, file = rest.split(" ", 1)
                 record.modules.append((int(base, 16), file))
-            elif kind == "mapped":
-                count, *block = rest.split()
-                record.mapped.append((int(count), *block))
+            elif kind == "unseen":
+                where, count, *block = rest.split()
+                record.unseen.append((where, int(count), *block))
             elif kind == "recorded":
                 record.how, record.when = rest.split()
             elif kind == "refused":

@@ -5,12 +5,14 @@ import shutil
 from collections.abc import Iterator
 
 from recorder import owner_graph, verdicts
-from recorder.owner_graph import Knot
 from recorder.type_names import declared_type, short
 from recorder.verdicts import Findings
 
 MOST_PAIRS = 6
 MOST_CHANGES = 3
+# Types whose members have no names of their own, or that debug information calls otherwise.
+UNNAMED = re.compile(r"^std::|lambda|\$_\d")
+UNSEEN = {"static": "static memory", "shared": "memory that is shared with other processes"}
 
 
 def counted(counter):
@@ -117,20 +119,10 @@ def weaken_lines(findings, knot):
     return lines or ["weaken more than two members: no single one suffices, and no two"]
 
 
-def knots_of_a_kind(findings) -> list[list[Knot]]:
-    """The knots that are told, those together that are tied alike, of the same types, by the same members."""
-    found, changes = collections.defaultdict(list), findings.graph.changes
-    for knot in findings.alarming_knots():
-        types = tuple(findings.blocks[it - 1].making for it in knot.objects)
-        changed = tuple(changes.get(tie) for tie in knot.ties) if changes else ()
-        found[types, knot.shape, knot.is_owned, changed].append(knot)
-    return list(found.values())
-
-
 def knot_texts(findings):
     """The lines of each knot, equal ones once, with how many there are."""
     texts = collections.Counter()
-    for alike in knots_of_a_kind(findings):
+    for alike in findings.alarming_knots:
         knot = alike[0]
         types = collections.Counter(findings.kind(it)[0] for it in knot.objects)
         ties = ", ".join(f"{label} {count}" for label, count in owner_graph.tied_by(knot).most_common())
@@ -158,11 +150,12 @@ def missing_tools(findings):
 
 
 def advice_lines(findings):
-    knots = [it for it, *_ in knots_of_a_kind(findings) if not it.is_owned]
+    knots = [it for it, *_ in findings.alarming_knots if not it.is_owned]
     if any(len(it.weakens) > 1 for it in knots):
         yield "record: each weaken line mends its knot by itself; take the first"
     yield from missing_tools(findings)
-    if shutil.which("gdb") and any(" at byte " in label for it in knots for label in owner_graph.tied_by(it)):
+    labels = {label for it in knots for label in owner_graph.tied_by(it)}
+    if shutil.which("gdb") and any(" at byte " in it and not UNNAMED.search(it) for it in labels):
         yield "record: members are told by their names where the program is compiled with -g"
 
 
@@ -213,9 +206,9 @@ def doubt_lines(findings):
         yield f"record: {record.untyped} control blocks tell no type and are left out, {why}"
     for count, path in record.closed:
         yield f"record: not looked at: {blocks(count)} of {path}, which was closed"
-    for count, kind, control in record.mapped:
+    for where, count, kind, control in record.unseen:
         name = short(declared_type(kind, record.plain[control]))
-        yield f"record: not looked at: {count} {name} in memory that the program mapped itself"
+        yield f"record: not looked at: {count} {name} in {UNSEEN[where]}"
     if record.mapped_bytes:
         size = record.mapped_bytes >> 20
         yield f"record: not looked at: {size} MB of memory that the program mapped itself"

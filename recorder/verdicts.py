@@ -47,8 +47,18 @@ class Findings:
         """An object's type and the place of its making."""
         return kind_of(self.blocks[number - 1].making)
 
-    def alarming_knots(self) -> list[Knot]:
-        return [it for it in self.answer.knots if it.objects[0] in self.alarming]
+    @functools.cached_property
+    def alarming_knots(self) -> list[list[Knot]]:
+        """The knots that are told, those together that are tied alike, of the same types, by the same
+        members."""
+        makings, changes = [it.making for it in self.blocks], self.graph.changes
+        found, alarming = collections.defaultdict(list), self.alarming
+        for knot in self.answer.knots:
+            if knot.objects[0] in alarming:
+                types = tuple([makings[number - 1] for number in knot.objects])
+                changed = tuple([changes.get(tie) for tie in knot.ties]) if changes else ()
+                found[types, id(knot.shape), knot.is_owned, changed].append(knot)
+        return list(found.values())
 
 
 def findings_of(record: Record, suppressed: Iterable[Suppression] = ()) -> Findings:

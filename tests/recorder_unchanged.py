@@ -4,6 +4,7 @@ import os
 import signal
 import subprocess
 import tempfile
+import time
 from pathlib import Path
 
 ROOT = Path(__file__).resolve().parent.parent
@@ -12,6 +13,7 @@ LEAKED, REFUSED = 3, 125
 RUNS = 10  # of programs whose threads race
 OTHER_MALLOC = "its library libother_malloc.so has a malloc of its own"
 CONFINED = "it confines itself by seccomp, and its memory can't be read after that"
+DAEMON = "it goes on as a daemon: a process of its own, whose end nobody waits for"
 
 
 def built(folder, name, *flags):
@@ -96,6 +98,11 @@ def confined():
         return "".join(difference(program, how, **refused(CONFINED)) for how in ("strict", "filter", "call"))
 
 
+def a_daemon():
+    with tempfile.TemporaryDirectory() as folder:
+        return difference(built(folder, "daemon"), **refused(DAEMON))
+
+
 def probing():
     with tempfile.TemporaryDirectory() as folder:
         return difference(built(folder, "probing"), status=LEAKED, says="leaked 1 Node, made at")
@@ -154,6 +161,25 @@ def signal_is_the_programs(number):
     return "" if right else f"{name} {process.returncode} {said}"
 
 
+def a_signal_within_malloc():
+    """Where SIGTERM comes within the recorder's own code, the program is told of all the same."""
+    wrong = []
+    with tempfile.TemporaryDirectory() as folder:
+        program = built(folder, "busy")
+        for run in range(RUNS):
+            words = [ROOT / "record", program]
+            with subprocess.Popen(
+                words, stdout=subprocess.PIPE, stderr=subprocess.PIPE, text=True
+            ) as process:
+                process.stdout.readline()
+                time.sleep(0.01 + 0.0017 * run)
+                process.send_signal(signal.SIGTERM)
+                said = process.communicate(timeout=60)[1]
+            right = "leaked 1 Node, made at" in said and process.returncode == LEAKED
+            wrong += [] if right else [f"{process.returncode} {said}"]
+    return "\n".join(wrong)
+
+
 def a_reader_that_leaves():
     """A program that writes to nobody ends by SIGPIPE, as it does natively."""
     with tempfile.TemporaryDirectory() as folder:
@@ -176,10 +202,12 @@ CHECKS = [
     limits,
     limits_that_leave_nothing,
     confined,
+    a_daemon,
     probing,
     moved_away,
     other_malloc_is_refused,
     other_malloc_runs,
     signals_are_the_programs,
+    a_signal_within_malloc,
     a_reader_that_leaves,
 ]

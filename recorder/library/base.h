@@ -21,22 +21,29 @@ inline __attribute__((always_inline)) Word stack_here() {
 // A variable of each thread, without a constructor.
 #define RECORDER_THREAD __thread __attribute__((tls_model("initial-exec")))
 
+// A variable of the recorder's units alone, which is found without a table.
+#define OF_ALL_UNITS extern __attribute__((visibility("hidden")))
+
 #define ALWAYS_INLINE inline __attribute__((always_inline))
 
-extern std::atomic<bool> hooked;  // a hook of the program's headers has been called
+OF_ALL_UNITS std::atomic<bool> hooked;  // a hook of the program's headers has been called
 
 // What sets the process apart from one whose threads note what they take; 0 where nothing does.
 namespace process_state {
 constexpr int NOT_RECORDED = 1;  // nobody asked about it, or it is refused
 constexpr int STOPPING = 2;      // all threads but one have to stand still
+constexpr int ENDING = 4;        // it ends as soon as a thread leaves the recorder's code
 }  // namespace process_state
-extern std::atomic<int> unusual_process;
+OF_ALL_UNITS std::atomic<int> unusual_process;
 
 inline bool is_recording() {
   return !(unusual_process.load(std::memory_order_relaxed) & process_state::NOT_RECORDED);
 }
 inline bool is_stopping() {
   return unusual_process.load(std::memory_order_relaxed) & process_state::STOPPING;
+}
+inline bool is_interrupted() {
+  return unusual_process.load(std::memory_order_relaxed) & (process_state::STOPPING | process_state::ENDING);
 }
 inline void stop_noting() { unusual_process |= process_state::NOT_RECORDED; }
 
@@ -53,17 +60,18 @@ extern RECORDER_THREAD int unusual_thread;
 class Inside {
 public:
   Inside() {
-    if (!is() && is_stopping()) stand_still();
+    if (!is() && is_interrupted()) be_interrupted();
     unusual_thread += thread_state::INSIDE;
   }
   ~Inside() {
     unusual_thread -= thread_state::INSIDE;
-    if (!is() && is_stopping()) stand_still();
+    if (!is() && is_interrupted()) be_interrupted();
   }
   Inside(const Inside&) = delete;
   static bool is() { return unusual_thread >= thread_state::INSIDE; }
 
 private:
+  static void be_interrupted();
   static void stand_still();
 };
 

@@ -80,6 +80,7 @@ void Snapshot::find_blocks() {
       const VirtualTable& table = tables.of(word);
       int uses = 0, weaks = 0;
       if (!table.is_control_block && !table.is_untyped) return;
+      if (chunks[chunk].holder.kind == Holder::AREA && !outside_blocks.count(at)) return;
       if (!has_counts(at, uses, weaks)) return;
       bool is_hooked = births.of(at).find(at) != nullptr;
       if (table.is_control_block || is_hooked)

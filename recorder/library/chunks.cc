@@ -5,7 +5,7 @@
 namespace recorder {
 
 NoteTree chunks;
-RECORDER_THREAD Numbers numbers_of_thread{0, 0};
+RECORDER_THREAD LastUsed last_used{};
 
 namespace {
 
@@ -15,8 +15,9 @@ Tables<std::size_t> alignments;
 
 void Numbers::take_more() {
   static std::atomic<std::uint64_t> given{0};
-  last = given.fetch_add(16, std::memory_order_relaxed);
-  end = last + 16;
+  constexpr int AT_ONCE = 100;
+  last = given.fetch_add(AT_ONCE, std::memory_order_relaxed);
+  end = last + AT_ONCE;
 }
 
 Notes* NoteTree::make(Word address) {

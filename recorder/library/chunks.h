@@ -6,7 +6,8 @@
 namespace recorder {
 
 struct Note {
-  std::uint64_t number : 38;  // in the order of the calls, from 1; 0 where there is no chunk
+  static constexpr int BITS_OF_NUMBER = 38;
+  std::uint64_t number : BITS_OF_NUMBER;  // in the order of the calls, from 1; 0 where there is no chunk
   std::uint64_t trace : 24;
   std::uint64_t is_aligned : 1;  // to what was asked for
   std::uint64_t is_sample : 1;   // when it is given back it shows what is made at its place
@@ -62,9 +63,9 @@ private:
   std::atomic<Branch*> branches[MOST];
 };
 
-extern NoteTree chunks;
+OF_ALL_UNITS NoteTree chunks;
 
-// Threads take numbers by the sixteen: within one they tell the order exactly, between two about.
+// Threads take numbers by the hundred: within one they tell the order exactly, between two about.
 struct Numbers {
   std::uint64_t last, end;
 
@@ -76,28 +77,69 @@ struct Numbers {
 private:
   void take_more();
 };
-extern RECORDER_THREAD Numbers numbers_of_thread;
+
+// What a thread used last: its numbers, and the notes of 4 MB of addresses, which begin there.
+struct LastUsed {
+  Numbers numbers;
+  Word begin;  // by the upper bits of the address; 0 where there are no notes yet
+  Notes* notes;
+
+  ALWAYS_INLINE Notes* find(Word address) const {
+    if (begin != address >> Notes::BITS) return nullptr;
+    if (!notes) __builtin_unreachable();
+    return notes;
+  }
+};
+extern RECORDER_THREAD LastUsed last_used;
 
 // Of those about which something is known, every so many are looked at once more.
 constexpr std::uint64_t SAMPLES_APART = 256;
 
-// Returns false where no memory is left.
-ALWAYS_INLINE bool note_chunk(Word chunk, TraceNumber trace, bool is_sample) {
-  Notes* notes = chunks.find(chunk);
-  if (__builtin_expect(!notes, false) && !(notes = chunks.make(chunk))) return false;
+// (written as one word, as long as so many numbers aren't used up)
+ALWAYS_INLINE void note_chunk_in(Notes& notes, Word chunk, TraceNumber trace, std::uint64_t number, bool is_sample) {
   std::size_t place = Notes::place_of(chunk);
-  std::uint64_t number = numbers_of_thread.next();
-  notes->is_used[place / Notes::OF_A_PAGE] = true;
-  notes->at[place] = {number, trace, false, is_sample || number % SAMPLES_APART == 0};
+  notes.is_used[place / Notes::OF_A_PAGE] = true;
+  std::uint64_t word = number | std::uint64_t(trace) << Note::BITS_OF_NUMBER | std::uint64_t(is_sample) << 63;
+  __builtin_memcpy(&notes.at[place], &word, sizeof word);
+}
+
+// Returns false where no memory is left.
+inline bool note_chunk(Word chunk, TraceNumber trace, bool is_sample) {
+  Notes* notes = chunks.find(chunk);
+  if (!notes && !(notes = chunks.make(chunk))) return false;
+  note_chunk_in(*notes, chunk, trace, last_used.numbers.next(), is_sample);
+  last_used.begin = chunk >> Notes::BITS;
+  last_used.notes = notes;
   return true;
 }
 
-ALWAYS_INLINE Note forget_chunk(Word chunk) {
+// The same where the thread has all that it takes; else false.
+ALWAYS_INLINE bool note_chunk_at_once(Word chunk, TraceNumber trace) {
+  Notes* notes = last_used.find(chunk);
+  if (!notes || last_used.numbers.last == last_used.numbers.end) return false;
+  note_chunk_in(*notes, chunk, trace, ++last_used.numbers.last, false);
+  return true;
+}
+
+inline Note forget_chunk(Word chunk) {
   Notes* notes = chunks.find(chunk);
   if (!notes) return {};
   Note& note = notes->at[Notes::place_of(chunk)], before = note;
   note = {};
+  before.is_sample |= before.number && before.number % SAMPLES_APART == 0;
   return before;
+}
+
+// The same of one that is neither a sample nor aligned, where the thread has its notes; else false.
+ALWAYS_INLINE bool forget_chunk_at_once(Word chunk) {
+  Notes* notes = last_used.find(chunk);
+  if (!notes) return false;
+  std::uint64_t word;
+  auto place = &notes->at[Notes::place_of(chunk)];
+  __builtin_memcpy(&word, place, sizeof word);
+  if (word >> 62 || word % SAMPLES_APART == 0) return false;
+  *place = {};
+  return true;
 }
 
 // Alignments that were asked for; 0 where none was.

@@ -52,12 +52,12 @@ Lock one_at_a_time;
 void answer_question() {
   pid_t thread = static_cast<pid_t>(syscall(SYS_gettid));
   OwnRegion region;
-  Word end = question.from_frame ? end_of_stack(thread, question.from_frame) : 0;
+  LivingStack own = question.from_frame ? living_stack(thread, question.from_frame) : LivingStack{};
   Modules modules;
   Outside outside(modules);
   AllStandStill still;
   auto stacks = still.stacks();
-  if (question.from_frame) stacks.push_back({thread, question.from_frame, end});
+  if (question.from_frame) stacks.push_back(own);
   Snapshot all(modules, outside, stacks);
   all.unread_threads = still.without_registers();
   write_record(question.snapshot, all, question.when);
@@ -141,11 +141,16 @@ void answer_signal(int number) {
   sigaction(number, &action, nullptr);
 }
 
-// Where nothing else takes a signal that ends servers, the process is read and then ends by it.
+std::atomic<int> ending_signal{0};
+
+// Where nothing else takes a signal that ends servers, the process is read and then ends by it: at once, or as soon as
+// this thread has left the recorder's code.
 void read_and_end(int number) {
-  if (!Inside::is()) read_at_end(number == SIGTERM ? "SIGTERM" : "SIGINT", stack_here());
-  std::signal(number, SIG_DFL);
-  kill(getpid(), number);
+  ending_signal = number;
+  if (Inside::is())
+    unusual_process |= process_state::ENDING;
+  else
+    end_by_signal();
 }
 
 void end_by_signals() {
@@ -158,6 +163,19 @@ void end_by_signals() {
   }
 }
 
+}  // namespace
+
+void end_by_signal() {
+  unusual_process &= ~process_state::ENDING;
+  int number = ending_signal.exchange(0);
+  if (!number) return;
+  read_at_end(number == SIGTERM ? "SIGTERM" : "SIGINT", stack_here());
+  std::signal(number, SIG_DFL);
+  kill(getpid(), number);
+}
+
+namespace {
+
 int number_of(const char* variable) {
   const char* text = std::getenv(variable);
   return text ? std::atoi(text) : 0;
@@ -166,8 +184,16 @@ int number_of(const char* variable) {
 void lock_tables() { lock_chunks(), births.lock_all(), holdings.lock_all(), lock_traces(); }
 void unlock_tables() { unlock_traces(), holdings.unlock_all(), births.unlock_all(), unlock_chunks(); }
 
+bool is_becoming_daemon = false;
+
+void unlock_in_parent() {
+  unlock_tables();
+  if (is_becoming_daemon) refuse_now("it goes on as a daemon: a process of its own, whose end nobody waits for");
+}
+
 void unlock_in_child() {
   unlock_tables();
+  is_becoming_daemon = false;
   if (with_children) {
     open_way_out();
     keep_threads_folder();
@@ -194,7 +220,7 @@ __attribute__((constructor(101))) void begin() {
   if (refusal) return read_at_end("exit", 0);
   know_program();
   frames_wanted = number_of("RECORDER_FRAMES");
-  pthread_atfork(lock_tables, unlock_tables, unlock_in_child);
+  pthread_atfork(lock_tables, unlock_in_parent, unlock_in_child);
   abi::__cxa_atexit(at_the_end, nullptr, nullptr);
   at_quick_exit(at_quick_exit_end);
   end_by_signals();
@@ -226,3 +252,12 @@ PUBLIC void _exit(int status) {
 }
 
 PUBLIC void _Exit(int status) { _exit(status); }
+
+// (the process that asks for it ends within)
+PUBLIC int daemon(int stays, int keeps_streams) {
+  static auto next = reinterpret_cast<int (*)(int, int)>(dlsym(RTLD_NEXT, "daemon"));
+  is_becoming_daemon = true;
+  int failed = next(stays, keeps_streams);
+  is_becoming_daemon = false;
+  return failed;
+}

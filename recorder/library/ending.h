@@ -10,4 +10,7 @@ void read_at_end(const char* when, Word stack);
 // Tells now that nothing will be told, and why.
 void refuse_now(const char* why);
 
+// By the signal that came, if it wasn't done yet.
+void end_by_signal();
+
 }  // namespace recorder

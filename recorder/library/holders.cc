@@ -8,9 +8,6 @@
 
 namespace recorder {
 
-// A pointer without what a program may keep in its upper sixteen bits.
-Word without_tag(Word word) { return word & ((Word(1) << 48) - 1); }
-
 // Memory of one holder, from which pointers lead on.
 struct Region {
   Word from, to;
@@ -120,6 +117,10 @@ void Spreading::add_first() {
     auto& chunk = all.chunks[all.chunk_of(block.object)];
     if (!chunk.is_pool) chunk.holder = holder;
   }
+  for (std::size_t number = 0; number < all.chunks.size(); number++) {
+    auto& it = all.chunks[number];
+    if (it.holder.kind == Holder::AREA) found.push_back({it.from, it.to, it.holder, static_cast<int>(number)});
+  }
 }
 
 void Spreading::spread(Round round, From from) {
@@ -127,7 +128,7 @@ void Spreading::spread(Round round, From from) {
     if (kind_of(found[at]) != from) continue;
     Region region = found[at];
     each_plain_word(region, [&](Word where, Word word) {
-      int chunk = all.chunk_of(round == ANY ? without_tag(word) : word);
+      int chunk = round == ANY ? all.pointed_chunk(word) : all.chunk_of(word);
       if (chunk < 0 || all.chunks[chunk].holder.kind != Holder::NOBODY) return;
       bool is_contained = leads(CONTAINERS, region, where, word, all.chunks[chunk]);
       if (is_contained || leads(round, region, where, word, all.chunks[chunk]))
@@ -324,7 +325,7 @@ template <typename Visit>
 void Spreading::each_link(Visit visit) const {
   each_region([&](const Region& region) {
     each_plain_word(region, [&](Word at, Word word) {
-      int chunk = all.chunk_of(without_tag(word));
+      int chunk = all.pointed_chunk(word);
       if (chunk >= 0 && all.chunks[chunk].memory >= 0 && chunk != region.chunk) visit(region, at, chunk);
     });
   });

@@ -18,7 +18,7 @@ struct Holding {
   bool is_weak;
 };
 
-extern Tables<Birth> births;      // by control block
-extern Tables<Holding> holdings;  // by handle; those on a thread's own stack are left out
+OF_ALL_UNITS Tables<Birth> births;      // by control block
+OF_ALL_UNITS Tables<Holding> holdings;  // by handle; those on a thread's own stack are left out
 
 }  // namespace recorder

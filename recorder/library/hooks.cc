@@ -28,7 +28,7 @@ PUBLIC void sptr_recorder_born(void* block) noexcept {
   Inside inside;
   hooked.store(true, std::memory_order_relaxed);
   if (unusual_thread & thread_state::NEW) note_this_thread();
-  births.put(as_word(block), {numbers_of_thread.next(), trace_of_block(CALLER_FRAME), 0, 0, nullptr});
+  births.put(as_word(block), {last_used.numbers.next(), trace_of_block(CALLER_FRAME), 0, 0, nullptr});
 }
 
 PUBLIC void sptr_recorder_object(void* block, const volatile void* object, unsigned long size,

@@ -29,14 +29,21 @@ ALWAYS_INLINE bool is_noted() { return __builtin_expect(is_usual(), true) || (!I
 
 Word as_word(const void* memory) { return reinterpret_cast<Word>(memory); }
 
-// (the first and the last bytes may overlap)
-ALWAYS_INLINE void empty(void* memory, std::size_t size) {
+constexpr std::size_t SMALL = 88;
+
+// (of what malloc gives: 24 bytes, 40, and so on up to 88; the last store overlaps the others)
+ALWAYS_INLINE void empty_small(void* memory, std::size_t size) {
   using Two = Word __attribute__((vector_size(2 * WORD), aligned(WORD), may_alias));
-  if (size > 96) return static_cast<void>(std::memset(memory, 0, size));
-  auto bytes = static_cast<char*>(memory);
-  for (std::size_t at = 0; at + 2 * WORD < size; at += 2 * WORD)
-    *reinterpret_cast<volatile Two*>(bytes + at) = Two{0, 0};
-  *reinterpret_cast<volatile Two*>(bytes + size - 2 * WORD) = Two{0, 0};
+  auto empty = [&](std::size_t at) { *reinterpret_cast<volatile Two*>(static_cast<char*>(memory) + at) = Two{0, 0}; };
+  empty(0);
+  empty(size - 2 * WORD);
+  if (size <= 24) return;
+  empty(16);
+  if (size <= 40) return;
+  empty(32);
+  if (size <= 56) return;
+  empty(48);
+  if (size > 72) empty(64);
 }
 
 // Memory that the kernel gave for this chunk alone is empty already.
@@ -48,40 +55,59 @@ std::size_t usable_size(void* memory) {
                           : (static_cast<std::size_t*>(memory)[-1] & ~std::size_t(7)) - WORD;
 }
 
-ALWAYS_INLINE void note_as(void* memory, TraceNumber trace, bool is_sample) {
+void note_as(void* memory, TraceNumber trace, bool is_sample) {
   if (!note_chunk(as_word(memory), trace, is_sample)) stop_recording("no memory was left for its records");
 }
 
-__attribute__((noinline)) void note_with_trace(void* memory, Frame frame) {
+void note_with_trace(void* memory, Frame frame) {
   Inside inside;
   Taken taken = trace_of_memory(frame);
   note_as(memory, taken.trace, taken.unknown != nullptr);
   if (taken.unknown) add_sample(*taken.unknown, as_word(memory));
 }
 
-ALWAYS_INLINE void note(void* memory, Frame frame) {
-  TraceNumber trace = frames_wanted ? known_trace_of_memory(frame.code, frame.stack, frame.base) : 0;
-  if (__builtin_expect(trace || !frames_wanted, true))
+__attribute__((noinline)) void* noted_slowly(void* memory, Word code, Word stack, Word base) {
+  TraceNumber trace = frames_wanted ? known_trace_of_memory(code, stack, base) : 0;
+  if (trace || !frames_wanted)
     note_as(memory, trace, false);
   else
-    note_with_trace(memory, frame);
+    note_with_trace(memory, {code, stack, base});
+  return memory;
 }
 
-__attribute__((noinline)) void learn_before_its_end(void* memory, const Note& note) {
+// (this and what calls it does with the registers that a call may change: it is asked at each allocation)
+ALWAYS_INLINE void* noted(void* memory, Word code, Word stack, Word base) {
+  TraceNumber trace = plain_trace_of_memory(code, stack);
+  if (__builtin_expect(trace && note_chunk_at_once(as_word(memory), trace), true)) return memory;
+  return noted_slowly(memory, code, stack, base);
+}
+
+__attribute__((noinline)) void* taken_large(void* memory, Word code, Word stack, Word base) {
+  if (!is_fresh(memory)) std::memset(memory, 0, usable_size(memory));
+  return noted(memory, code, stack, base);
+}
+
+// What malloc gave, emptied.
+__attribute__((noinline)) void* taken(void* memory, Word code, Word stack, Word base) {
+  std::size_t head = static_cast<std::size_t*>(memory)[-1];  // (what is fresh is large)
+  if (__builtin_expect(head >= SMALL + 3 * WORD, false)) return taken_large(memory, code, stack, base);
+  empty_small(memory, (head & ~std::size_t(7)) - WORD);
+  return noted(memory, code, stack, base);
+}
+
+void* taken(void* memory, Frame frame) { return taken(memory, frame.code, frame.stack, frame.base); }
+void note(void* memory, Frame frame) { noted(memory, frame.code, frame.stack, frame.base); }
+
+__attribute__((noinline)) void forget_slowly(void* memory) {
+  Note note = forget_chunk(as_word(memory));
+  if (!note.is_sample && !note.is_aligned) return;
   Inside inside;
   if (note.is_sample) learn_from(note.trace, static_cast<Word*>(memory), usable_size(memory));
   if (note.is_aligned) forget_alignment(as_word(memory));
 }
 
 ALWAYS_INLINE void forget(void* memory) {
-  Note before = forget_chunk(as_word(memory));
-  if (__builtin_expect(before.is_sample || before.is_aligned, false)) learn_before_its_end(memory, before);
-}
-
-ALWAYS_INLINE void* taken(void* memory, Frame frame) {
-  if (!is_fresh(memory)) empty(memory, usable_size(memory));
-  note(memory, frame);
-  return memory;
+  if (__builtin_expect(!forget_chunk_at_once(as_word(memory)), false)) forget_slowly(memory);
 }
 
 void* aligned(std::size_t alignment, std::size_t size, Frame frame) {
@@ -127,10 +153,10 @@ using namespace recorder;
 
 namespace {
 
-__attribute__((noinline)) void* unusually_taken(std::size_t size, Frame frame) {
+__attribute__((noinline)) void* unusually_taken(std::size_t size, Word code, Word stack, Word base) {
   if (OwnRegion::is_used()) return OwnRegion::take(size, 16);
   void* memory = next_malloc.malloc(size);
-  return memory && is_noted() ? taken(memory, frame) : memory;
+  return memory && is_noted() ? taken(memory, code, stack, base) : memory;
 }
 
 __attribute__((noinline)) void unusually_freed(void* memory) {
@@ -142,9 +168,13 @@ __attribute__((noinline)) void unusually_freed(void* memory) {
 }  // namespace
 
 PUBLIC void* malloc(std::size_t size) {
-  if (__builtin_expect(!is_usual(), false)) return unusually_taken(size, CALLER_FRAME);
+  if (__builtin_expect(!is_usual(), false)) {
+    Frame frame = CALLER_FRAME;
+    return unusually_taken(size, frame.code, frame.stack, frame.base);
+  }
   void* memory = next_malloc.malloc(size);
-  return __builtin_expect(memory != nullptr, true) ? taken(memory, CALLER_FRAME) : nullptr;
+  Frame frame = CALLER_FRAME;
+  return __builtin_expect(memory != nullptr, true) ? taken(memory, frame.code, frame.stack, frame.base) : nullptr;
 }
 
 PUBLIC void free(void* memory) {

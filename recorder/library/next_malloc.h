@@ -14,7 +14,7 @@ struct NextMalloc {
 };
 
 // Found at the first call, which ends the recording where it isn't the C library's: its chunks alone are known.
-extern NextMalloc next_malloc;
+OF_ALL_UNITS NextMalloc next_malloc;
 
 // Ends the recording where the program doesn't even come here, as it has one itself.
 void refuse_own_malloc();

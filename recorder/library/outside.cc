@@ -1,6 +1,7 @@
 #include "outside.h"
 
 #include <dirent.h>
+#include <dlfcn.h>
 #include <fcntl.h>
 #include <sys/syscall.h>
 #include <unistd.h>
@@ -9,6 +10,7 @@
 #include <cstdio>
 #include <cstdlib>
 #include <cstring>
+#include <iterator>
 #include <string>
 
 #include "own_memory.h"
@@ -68,7 +70,70 @@ void find_timers(std::vector<Word>& to) {
   });
 }
 
-// The parts of a range without another.
+// Whether it is room that the C library mapped for a thread's malloc: it begins with the address of its arena and, third,
+// its size.
+bool is_room_of_malloc(const Range& range) {
+  constexpr Word ROOM = Word(64) << 20, PAGE = 4096;
+  if (range.from % ROOM) return false;
+  auto words = reinterpret_cast<const Word*>(range.from);
+  return words[0] && words[0] % (2 * WORD) == 0 && words[2] && words[2] % PAGE == 0 && words[2] <= ROOM;
+}
+
+// Whether a mapping with this name is memory, and no file or device.
+bool is_memory(unsigned long inode, const char* name) {
+  static const char* const BEGINNINGS[] = {"[anon", "/dev/zero", "/memfd:", "/dev/shm/", "/SYSV"};
+  auto begins = [&](auto it) { return !std::strncmp(name, it, std::strlen(it)); };
+  return (!inode && !*name) || std::any_of(std::begin(BEGINNINGS), std::end(BEGINNINGS), begins);
+}
+
+// Memory that may be written and is no library's, without the room of malloc's threads.
+std::vector<Range> writable() {
+  std::vector<Range> found;
+  each_line(contents("/proc/self/maps"), [&](const char* line) {
+    char rights[8], name[16] = "";
+    unsigned long inode = 0;
+    Range it{};
+    if (std::sscanf(line, "%lx-%lx %7s %*s %*s %lu %15s", &it.from, &it.to, rights, &inode, name) < 4) return;
+    it.is_shared = rights[3] == 's';
+    if (!std::strncmp(rights, "rw", 2) && is_memory(inode, name) && (it.is_shared || !is_room_of_malloc(it)))
+      found.push_back(it);
+  });
+  return found;
+}
+
+// The parts of a large range that were ever written to, with small gaps: programs reserve more than they use.
+void add_used(const Range& range, std::vector<Range>& to) {
+  constexpr Word PAGE = 4096, SMALL = Word(1) << 20, LARGE = Word(64) << 30, GAP = 64 * PAGE;
+  constexpr std::uint64_t IN_USE = std::uint64_t(3) << 62;  // in memory, or swapped
+  int file = range.to - range.from > SMALL && range.to - range.from <= LARGE && !range.is_shared
+                 ? open("/proc/self/pagemap", O_RDONLY | O_CLOEXEC)
+                 : -1;
+  if (file < 0) return to.push_back(range);
+  std::uint64_t pages[512];
+  std::size_t first = to.size();
+  for (Word at = range.from; at < range.to;) {
+    std::size_t wanted = std::min<std::size_t>(std::size(pages), (range.to - at) / PAGE) * sizeof *pages;
+    if (pread(file, pages, wanted, static_cast<off_t>(at / PAGE * sizeof *pages)) != static_cast<ssize_t>(wanted)) {
+      to.resize(first);
+      to.push_back(range);
+      break;
+    }
+    for (std::size_t page = 0; page < wanted / sizeof *pages; page++, at += PAGE) {
+      if (!(pages[page] & IN_USE)) continue;
+      bool is_near = to.size() > first && at - to.back().to <= GAP;
+      if (is_near) to.back().to = at + PAGE;
+      else to.push_back({at, at + PAGE, false});
+    }
+  }
+  close(file);
+}
+
+// What the program took by sbrk lies amid the room of malloc.
+Range broken[256];
+std::atomic<std::size_t> broken_count{0};
+
+}  // namespace
+
 void take_out(std::vector<Range>& ranges, Word from, Word to) {
   std::vector<Range> left;
   for (auto& it : ranges) {
@@ -76,39 +141,16 @@ void take_out(std::vector<Range>& ranges, Word from, Word to) {
       left.push_back(it);
       continue;
     }
-    if (it.from < from) left.push_back({it.from, from});
-    if (to < it.to) left.push_back({to, it.to});
+    if (it.from < from) left.push_back({it.from, from, it.is_shared});
+    if (to < it.to) left.push_back({to, it.to, it.is_shared});
   }
   ranges = left;
 }
 
-constexpr Word ARENA = Word(64) << 20;  // as the C library maps room for a thread's malloc
-
-// Anonymous memory that may be written, without stacks, which lie behind a page that nobody may touch, and without the
-// room of malloc.
-std::vector<Range> anonymous() {
-  std::vector<Range> found;
-  Word end_of_guard = 0;
-  each_line(contents("/proc/self/maps"), [&](const char* line) {
-    char rights[8], path[8] = "";
-    Word from = 0, to = 0;
-    unsigned long inode = 0;
-    if (std::sscanf(line, "%lx-%lx %7s %*s %*s %lu %7s", &from, &to, rights, &inode, path) < 4) return;
-    bool is_anonymous = !inode && (!path[0] || !std::strncmp(path, "[anon:", 6));
-    bool is_stack = end_of_guard == from;
-    if (is_anonymous && !is_stack && !std::strncmp(rights, "rw", 2) && rights[3] == 'p' && from % ARENA)
-      found.push_back({from, to});
-    if (!std::strncmp(rights, "---", 3)) end_of_guard = to;
-  });
-  return found;
-}
-
-}  // namespace
-
 Outside::Outside(const Modules& modules) {
   find_epolls(kernel);
   find_timers(kernel);
-  mapped = anonymous();
+  mapped = writable();
   for (auto& it : modules.segments) take_out(mapped, it.from, it.to);
   take_out(mapped, modules.own_from, modules.own_to);
   take_out(mapped, modules.thread_from, modules.thread_to);
@@ -118,6 +160,25 @@ Outside::Outside(const Modules& modules) {
   each_known_stack(take_out_stack, &mapped);
   for (std::size_t place = 0; place < own_ranges(); place++)
     take_out(mapped, own_range(place).first, own_range(place).second);
+  std::vector<Range> all;
+  all.swap(mapped);
+  for (auto& it : all) add_used(it, mapped);
+  for (std::size_t place = 0; place < std::min<std::size_t>(broken_count, std::size(broken)); place++)
+    mapped.push_back(broken[place]);
+  std::sort(mapped.begin(), mapped.end(), [](auto& a, auto& b) { return a.from < b.from; });
 }
 
 }  // namespace recorder
+
+using namespace recorder;
+
+// (malloc asks the C library's own function, so that this is the program's doing)
+extern "C" __attribute__((visibility("default"))) void* sbrk(std::intptr_t bytes) {
+  static auto next = reinterpret_cast<void* (*)(std::intptr_t)>(dlsym(RTLD_NEXT, "sbrk"));
+  void* before = next(bytes);
+  Word from = reinterpret_cast<Word>(before);
+  if (bytes <= 0 || !(from + 1)) return before;
+  std::size_t place = broken_count++;
+  if (place < std::size(broken)) broken[place] = {from, from + static_cast<Word>(bytes), false};
+  return before;
+}

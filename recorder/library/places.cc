@@ -14,6 +14,7 @@ namespace recorder {
 Entrance entrance{};
 std::atomic<PlaceTable*> place_table{nullptr};
 std::atomic<std::uint32_t> module_closings{0};
+PlainPlaces plain_places;
 
 namespace {
 
@@ -97,5 +98,6 @@ extern "C" __attribute__((visibility("default"))) int dlclose(void* module) {
   if (!failed && library.to) recorder::note_closed(library);
   entrance.code = 0;
   module_closings++;
+  plain_places.forget_all();
   return failed;
 }

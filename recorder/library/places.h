@@ -12,6 +12,9 @@ struct Samples {
 
 struct KnownWalks;
 
+// A trace's number from 1; 0 for none.
+using TraceNumber = std::uint32_t;
+
 struct alignas(64) Place {
   enum Role : unsigned char {
     UNKNOWN,
@@ -51,9 +54,9 @@ struct Entrance {
   std::atomic<Word> code, caller_stack;
 };
 
-extern Entrance entrance;
-extern std::atomic<PlaceTable*> place_table;
-extern std::atomic<std::uint32_t> module_closings;
+OF_ALL_UNITS Entrance entrance;
+OF_ALL_UNITS std::atomic<PlaceTable*> place_table;
+OF_ALL_UNITS std::atomic<std::uint32_t> module_closings;
 
 // Adds a place, or what is known of it now; null where no memory is left.
 Place* add_place(Word code);
@@ -72,6 +75,28 @@ inline Place* place_of(Word code) {
   Place* found = known_place(code);
   return found ? found : add_place(code);
 }
+
+// The places of which was known last that no control blocks are made there, each with its trace in one word.
+class PlainPlaces {
+public:
+  ALWAYS_INLINE TraceNumber trace_of(Word code) const {
+    Word word = last[code % COUNT].load(std::memory_order_relaxed);
+    return word >> BITS_OF_TRACE == code / PAGE ? static_cast<TraceNumber>(word & MOST_TRACES) : 0;
+  }
+  void add(Word code, TraceNumber trace) {
+    if (trace <= MOST_TRACES) last[code % COUNT].store(code / PAGE << BITS_OF_TRACE | trace, std::memory_order_relaxed);
+  }
+  void forget_all() {
+    for (auto& it : last) it.store(0, std::memory_order_relaxed);
+  }
+
+private:
+  static constexpr int BITS_OF_TRACE = 24;
+  static constexpr Word PAGE = 4096, COUNT = 4 * PAGE, MOST_TRACES = (1 << BITS_OF_TRACE) - 1;
+
+  std::atomic<Word> last[COUNT];
+};
+OF_ALL_UNITS PlainPlaces plain_places;
 
 // Round a fork.
 void lock_places();

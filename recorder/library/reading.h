@@ -5,7 +5,7 @@
 namespace recorder {
 
 // Why nothing will be told of this process; null as long as there is no reason.
-extern std::atomic<const char*> refusal;
+OF_ALL_UNITS std::atomic<const char*> refusal;
 
 // From now on nothing is noted, and the end tells this reason. It has to last.
 void stop_recording(const char* why);

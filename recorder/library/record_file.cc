@@ -229,9 +229,9 @@ void write_record(int number, const Snapshot& all, const char* when) {
     if (all.closed_blocks[place]) out.say("closed %zu %s\n", all.closed_blocks[place], closed_library(place).path);
   out.say("untyped %zu\nlost %zu\n", all.untyped_blocks, all.lost_handles);
   out.say("unread %zu\n", all.unread_threads);
-  for (auto& it : all.mapped_blocks) {
-    out.say("mapped %zu %s ", it.second, name_of(kind_of(it.first)));
-    out.say_text(it.first);
+  for (auto& [where, count] : all.unseen_blocks) {
+    out.say("unseen %s %zu %s ", where.first == Area::STATIC ? "static" : "shared", count, name_of(kind_of(where.second)));
+    out.say_text(where.second);
     out.say_text("\n");
   }
   out.say("mapped_bytes %zu\nend\n", all.mapped_bytes);

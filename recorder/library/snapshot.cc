@@ -10,15 +10,19 @@
 namespace recorder {
 namespace {
 
-// A stack's words, which may vanish while they are read.
-std::vector<Word> copied(Word from, Word to) {
+// Words that may vanish while they are read, as far as they are there.
+std::vector<Word> copied_by_kernel(Word from, Word to) {
   std::vector<Word> words((to - from) / WORD);
   iovec local{words.data(), words.size() * WORD}, remote{reinterpret_cast<void*>(from), local.iov_len};
   ssize_t got = process_vm_readv(getpid(), &local, 1, &remote, 1, 0);
-  if (got < 0)
-    words.assign(reinterpret_cast<Word*>(from), reinterpret_cast<Word*>(from) + words.size());
-  else
-    words.resize(got / WORD);
+  words.resize(got < 0 ? 0 : got / WORD);
+  return words;
+}
+
+// A stack's words, also where the kernel may not be asked.
+std::vector<Word> copied(Word from, Word to) {
+  std::vector<Word> words = copied_by_kernel(from, to);
+  if (words.empty()) words.assign(reinterpret_cast<Word*>(from), reinterpret_cast<Word*>(from) + (to - from) / WORD);
   return words;
 }
 
@@ -48,8 +52,9 @@ Snapshot::Snapshot(const Modules& modules, const Outside& outside, const std::ve
     Word to = from + next_malloc.usable_size(reinterpret_cast<void*>(from));
     chunks.push_back({from, to, to, it.number, trace_of(it.trace), alignment_of(from, it), {}});
   });
+  add_outside(outside, stacks);
+  find_blocks_in_areas();
   for (auto& it : chunks) chunk_index.add(it.from, it.to);
-  add_outside(outside);
   count_closed();
   find_blocks();
   if (blocks.empty()) return;
@@ -59,32 +64,106 @@ Snapshot::Snapshot(const Modules& modules, const Outside& outside, const std::ve
   find_raw_pointers();
 }
 
-// What the kernel keeps, and what the program mapped itself, where malloc has nothing there and it isn't very large.
-void Snapshot::add_outside(const Outside& outside) {
-  if (!outside.kernel.empty())
-    areas.push_back({Area::KERNEL, 0, WORD, WORD * (outside.kernel.size() + 1), outside.kernel, false});
-  std::size_t left = std::size_t(256) << 20;
-  for (auto& it : outside.mapped) {
-    auto after = std::lower_bound(chunks.begin(), chunks.end(), it.from,
-                                  [](const LiveChunk& chunk, Word word) { return chunk.to <= word; });
-    if (after != chunks.end() && after->from < it.to) continue;
-    if (it.to - it.from > left) {
-      mapped_bytes += it.to - it.from;
-      continue;
-    }
-    left -= it.to - it.from;
-    areas.push_back({Area::MAPPED, 0, it.from, it.to, {}, false});
-    each_word(it.from, it.to - WORD, [&](Word at, Word word) {
+// Control blocks outside of malloc, to which a word points: an optimizer leaves their first words on stacks, too. What the
+// program mapped itself becomes a pool where there are some; elsewhere they are counted.
+void Snapshot::find_blocks_in_areas() {
+  std::map<Word, std::pair<const char*, std::size_t>> found;  // type and area, by the address
+  for (std::size_t number = 0; number < areas.size(); number++) {
+    auto& area = areas[number];
+    if (area.kind != Area::STATIC && area.kind != Area::MAPPED) continue;
+    const char* type = nullptr;  // that the word before tells
+    each_word(area, [&](Word at, Word word) {
+      if (type && static_cast<int>(word) > 0 && word >> 32) found[at - WORD] = {type, number};
+      type = nullptr;
+      if (!modules.has(word)) return;
       auto& table = tables.of(word);
-      if (table.is_control_block && reinterpret_cast<const int*>(at)[2] > 0) mapped_blocks[table.type]++;
+      if (table.is_control_block) type = table.type;
     });
   }
+  if (found.empty()) return;
+  auto look = [&](Word, Word word) {
+    auto it = found.find(word & ~Word(1));
+    if (it != found.end()) outside_blocks[it->first] = areas[it->second.second].kind;
+  };
+  for (auto& it : chunks) each_word(it.from, it.to, look);
+  for (auto& it : areas) each_word(it, look);
+  for (auto& [at, _] : outside_blocks) {
+    auto& [type, number] = found[at];
+    if (areas[number].kind == Area::MAPPED && areas[number].copy.empty())
+      make_pool(static_cast<int>(number));
+    else if (areas[number].to > areas[number].from)
+      unseen_blocks[{areas[number].kind, type}]++;
+  }
+  std::sort(chunks.begin(), chunks.end(), [](auto& a, auto& b) { return a.from < b.from; });
+}
+
+// Makes a chunk of an area, whose words keep what they point to.
+void Snapshot::make_pool(int number) {
+  auto& area = areas[number];
+  if (area.from == area.to) return;
+  chunks.push_back({area.from, area.to, area.to, 0, nullptr, 0, {Holder::AREA, number}});
+  chunks.back().origin = area.from;
+  chunks.back().is_pool = true;
+  area.to = area.from;
+}
+
+namespace {
+
+// Ranges without what malloc mapped for a chunk, which may lie beside what the program mapped; and none where malloc has
+// room for many chunks.
+std::vector<Range> without_malloc(const std::vector<Range>& ranges, const std::vector<LiveChunk>& chunks) {
+  constexpr Word PAGE = 4096;
+  std::vector<Range> left;
+  for (auto& range : ranges) {
+    std::vector<Range> parts{range};
+    auto it = std::lower_bound(chunks.begin(), chunks.end(), range.from,
+                               [](const LiveChunk& chunk, Word word) { return chunk.to <= word; });
+    for (; it != chunks.end() && it->from < range.to && !parts.empty(); ++it) {
+      bool is_mapped = reinterpret_cast<const Word*>(it->from)[-1] & 2;
+      if (is_mapped) take_out(parts, it->from & ~(PAGE - 1), it->to);
+      else parts.clear();
+    }
+    left.insert(left.end(), parts.begin(), parts.end());
+  }
+  return left;
+}
+
+}  // namespace
+
+// What the kernel keeps, and what the program mapped itself, where it isn't very large.
+void Snapshot::add_outside(const Outside& outside, const std::vector<LivingStack>& stacks) {
+  if (!outside.kernel.empty())
+    areas.push_back({Area::KERNEL, 0, WORD, WORD * (outside.kernel.size() + 1), outside.kernel, false});
+  std::vector<Range> mapped = outside.mapped;
+  for (auto& it : stacks) take_out(mapped, it.lowest, it.to);
+  std::size_t left = std::size_t(256) << 20;
+  for (auto& it : without_malloc(mapped, chunks)) {
+    std::size_t bytes = it.to - it.from;
+    if (bytes <= left && add_mapped(it))
+      left -= bytes;
+    else
+      mapped_bytes += bytes;
+  }
+}
+
+// Returns false where it can't be read.
+bool Snapshot::add_mapped(const Range& range) {
+  Area area{Area::MAPPED, 0, range.from, range.to, {}, false};
+  if (range.is_shared && (area.copy = copied_by_kernel(range.from, range.to)).empty()) return false;
+  areas.push_back(std::move(area));
+  return true;
 }
 
 int Snapshot::chunk_of(Word address) const {
   if (chunks.empty() || address < chunks.front().from || address >= chunks.back().to) return -1;
   int place = chunk_index.last_up_to(address);
   return place >= 0 && address < chunks[place].to ? place : -1;
+}
+
+int Snapshot::pointed_chunk(Word word) const {
+  Word address = without_tag(word);
+  int chunk = chunk_of(address);
+  return chunk >= 0 ? chunk : chunk_of(address - 1);
 }
 
 int Snapshot::object_of(Word address) const {

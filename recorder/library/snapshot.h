@@ -103,6 +103,9 @@ struct Link {
 // By the name of a control block's type.
 ControlBlock::Kind kind_of(const char* type);
 
+// A pointer without what a program may keep in its upper sixteen bits.
+inline Word without_tag(Word word) { return word & ((Word(1) << 48) - 1); }
+
 class Snapshot {
 public:
   Snapshot(const Modules& modules, const Outside& outside, const std::vector<LivingStack>& stacks);
@@ -110,6 +113,7 @@ public:
   int chunk_of(Word address) const;   // -1 where none has it
   int object_of(Word address) const;  // a block's number; -1 where no object has the address
   int area_of(Word address) const;
+  int pointed_chunk(Word word) const;  // by a pointer that may have marks, or be past the end
   bool is_pointer(Word word) const { return chunk_of(word) >= 0 || modules.has(word); }
   Holder holder_of(Word address) const;
   Maker maker_of(int chunk) const;
@@ -122,8 +126,8 @@ public:
   std::vector<Link> links;
   std::size_t untyped_blocks = 0;
   std::vector<std::size_t> closed_blocks;  // of each library that was closed
-  std::map<const char*, std::size_t> mapped_blocks;  // by type, that lie in memory which the program mapped itself
-  std::size_t mapped_bytes = 0;   // of such memory, where it wasn't looked at
+  std::map<std::pair<Area::Kind, const char*>, std::size_t> unseen_blocks;  // where objects aren't looked at, by type
+  std::size_t mapped_bytes = 0;  // of memory that the program mapped itself, where it wasn't looked at
   std::size_t unread_threads = 0;  // whose registers may hold what nothing else does
   std::size_t lost_handles = 0;  // that hooks told of, and that aren't there any more
 
@@ -134,7 +138,10 @@ private:
 
   mutable VirtualTables tables;
 
-  void add_outside(const Outside& outside);
+  void find_blocks_in_areas();
+  void make_pool(int area);
+  void add_outside(const Outside& outside, const std::vector<LivingStack>& stacks);
+  bool add_mapped(const Range& range);
   void count_closed();
   void find_blocks();
   void find_untyped(const std::map<Word, int>& counted);
@@ -152,6 +159,7 @@ private:
   ChunkIndex chunk_index;
   BlockIndex block_index;
   std::vector<std::pair<Word, int>> objects;  // by address
+  std::map<Word, Area::Kind> outside_blocks;  // control blocks that aren't in memory of malloc
   std::map<Word, bool> handle_at;             // (only where hooks tell of handles)
 };
 

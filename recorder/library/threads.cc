@@ -15,6 +15,7 @@
 #include <cstring>
 #include <string>
 
+#include "ending.h"
 #include "kept_file.h"
 #include "reading.h"
 #include "table.h"
@@ -71,6 +72,12 @@ void answer_if_asked() {
 }
 
 }  // namespace
+
+void Inside::be_interrupted() {
+  if (is_stopping()) return stand_still();
+  __builtin_unwind_init();
+  end_by_signal();
+}
 
 void Inside::stand_still() {
   int before = errno;
@@ -166,11 +173,13 @@ void note_this_thread() {
 
 void keep_threads_folder() { threads_folder.keep(open_threads_folder()); }
 
-Word end_of_stack(pid_t thread, Word address) {
+// (a thread that noted its stack and isn't on it may be on one of many in one piece of memory)
+LivingStack living_stack(pid_t thread, Word address) {
   Bounds* bounds = known_stacks.of(thread).find(thread);
-  if (bounds && address >= bounds->from && address < bounds->to) return bounds->to;
+  if (bounds && address >= bounds->from && address < bounds->to) return {thread, address, bounds->to, address};
   int file = open("/proc/self/maps", O_RDONLY | O_CLOEXEC);
-  if (file < 0) return address + MOST_OF_A_STACK;  // (reading it ends with the mapping)
+  // (reading it ends with the mapping)
+  if (file < 0) return {thread, address, address + MOST_OF_A_STACK, address};
   std::string text(1 << 20, 0);
   for (std::size_t size = 0; (size = contents(dup(file), &text[0], text.size())) + 1 == text.size();) {
     text.resize(2 * text.size());
@@ -180,16 +189,16 @@ Word end_of_stack(pid_t thread, Word address) {
   for (const char* line = text.c_str(); line && *line; line = std::strchr(line, '\n'), line += line != nullptr) {
     char* dash = nullptr;
     Word from = std::strtoul(line, &dash, 16), to = std::strtoul(dash + 1, nullptr, 16);
-    if (from <= address && address < to) return to;
+    if (from <= address && address < to) return {thread, address, to, bounds ? address : from};
   }
-  return address;
+  return {thread, address, address, address};
 }
 
 // The stack of a thread is taken whole where it is too small for a signal, which leaves the thread running.
 bool AllStandStill::has_small_stack(pid_t thread) {
   Bounds* bounds = known_stacks.of(thread).find(thread);
   if (!bounds || bounds->to - bounds->from >= SMALL_STACK) return false;
-  found.push_back({thread, bounds->from, bounds->to});
+  found.push_back({thread, bounds->from, bounds->to, bounds->from});
   unread++;
   return true;
 }
@@ -201,7 +210,7 @@ void AllStandStill::stop_others() {
   int asked = 0;
   for (pid_t thread : other_threads(folder)) {
     if (Word stack = stack_in_a_call(folder, thread))
-      found.push_back({thread, stack, end_of_stack(thread, stack)}), unread++;
+      found.push_back(living_stack(thread, stack)), unread++;
     else if (!has_small_stack(thread) && !syscall(SYS_tgkill, getpid(), thread, signal_to_stop()))
       asked++;
   }
@@ -223,7 +232,7 @@ AllStandStill::AllStandStill() {
   stop_others();
   for (int place = 0; place < places && place < 4096; place++) {
     auto [thread, stack] = standing[place];
-    found.push_back({thread, stack, end_of_stack(thread, stack)});
+    found.push_back(living_stack(thread, stack));
   }
 }
 

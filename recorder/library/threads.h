@@ -11,6 +11,7 @@ namespace recorder {
 struct LivingStack {
   pid_t thread;
   Word from, to;  // from its newest frame up
+  Word lowest;    // below it no other memory lies that may hold anything
 };
 
 struct Bounds {
@@ -33,8 +34,8 @@ inline std::size_t room_on_stack() {
 
 void keep_threads_folder();  // before main, and in a process that is new
 
-// Where the stack ends that `address` lies in, for a thread that noted it; else the end of the mapping.
-Word end_of_stack(pid_t thread, Word address);
+// The stack that `address` lies in, up to the end that the thread noted; else to the end of the mapping.
+LivingStack living_stack(pid_t thread, Word address);
 
 // Visits where each stack lies that a thread has noted, ended ones too, whose stacks are kept for the next.
 void each_known_stack(void (*visit)(Word from, Word to, void* with), void* with);

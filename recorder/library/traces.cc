@@ -164,7 +164,12 @@ TraceNumber known_trace_of_memory(Word code, Word stack, Word base) {
     place = step(frame, place->rule) ? known_place(frame.code) : nullptr;
   if (!place) return 0;
   auto role = place->role.load(std::memory_order_relaxed);
-  if (role == Place::PLAIN) return place->trace.load(std::memory_order_relaxed);
+  if (role == Place::PLAIN) {
+    TraceNumber trace = place->trace.load(std::memory_order_relaxed);
+    plain_places.add(place->code, trace);
+    if (!known_place(place->code)) plain_places.forget_all();  // (a library was closed meanwhile)
+    return trace;
+  }
   KnownWalks* walks = role == Place::BLOCKS ? place->walks.load(std::memory_order_acquire) : nullptr;
   return walks ? walks->trace_from(frame.stack, frame.base) : 0;
 }

@@ -13,10 +13,8 @@ struct Trace {
 
 constexpr int MOST_FRAMES = 64;
 
-extern int frames_wanted;  // how many are taken of each making; 0 for none
+OF_ALL_UNITS int frames_wanted;  // how many are taken of each making; 0 for none
 
-// A trace's number from 1; 0 for none.
-using TraceNumber = std::uint32_t;
 const Trace* trace_of(TraceNumber number);
 
 struct Taken {
@@ -28,8 +26,15 @@ struct Taken {
 // place, that alone is its trace: what strings and containers take costs next to nothing.
 Taken trace_of_memory(Frame frame);
 
-// The same without a lock, where it is known already; else 0. (In registers: it is asked at each allocation.)
+// The same without a lock, where it is known already; else 0.
 TraceNumber known_trace_of_memory(Word code, Word stack, Word base);
+
+// The same of a place that takes no control blocks, of its own or by operator new.
+ALWAYS_INLINE TraceNumber plain_trace_of_memory(Word code, Word stack) {
+  if (code == entrance.code.load(std::memory_order_acquire))
+    code = reinterpret_cast<const Word*>(stack + entrance.caller_stack.load(std::memory_order_relaxed))[-1];
+  return plain_places.trace_of(code);
+}
 
 // The trace of a control block that hooks tell of.
 TraceNumber trace_of_block(Frame frame);

@@ -1,4 +1,4 @@
-// Memory that the program mapped itself: an owner there keeps, and an object there isn't told.
+// Memory that the program mapped itself: an owner there keeps, and an object there is told without its place.
 #include <sys/mman.h>
 
 #include <memory>
