@@ -29,17 +29,22 @@ OF_STATEMENTS = {
     8: "the object was not made by `makethis`, so that it gives no pointers to itself",
 }
 
+INPUT, OUTPUT = "refused 13: input", "refused 12: output"
 # What a refusal without a place means.
 OF_REFUSALS = {
     "refused 1: memory": ["the system gave less memory than the run takes; a script takes 128 bytes a block"],
-    "refused 12: output": ["what reads the output took no more of it"],
+    "refused 4: limit: 1000000 states are seen at most, or N with --most N": [
+        "threads that tell other lines in other orders have many states: ask with fewer statements, "
+        "or by a greater N"
+    ],
 }
 
 
 @dataclass
 class Asked:
-    """What the program was asked: the script's name and bytes, the list of turns, the words after `--from`
-    and `--to`, why it could not be read, and what finds the faults of its lines, by their causes."""
+    """What the program was asked: the script's name and bytes, the list of turns, the words after `--from`,
+    `--to` and `--most`, why its input or output failed, and what finds the faults of its lines, by their
+    causes."""
 
     name: str = "standard input"
     script: bytes = b""
@@ -67,9 +72,11 @@ def explanation(refusal: str, asked: Asked) -> list[str]:
     turn = re.fullmatch(r"refused 11: turn (\d+)", refusal)
     if turn:
         return of_turn(int(turn[1]), asked)
-    if refusal.startswith("refused 4: limit: a picture has "):
-        return of_part(asked)
-    if refusal == "refused 13: input":
+    if refusal.startswith("refused 4: limit: "):
+        return of_part(asked) or OF_REFUSALS.get(refusal, [])
+    if refusal == OUTPUT:
+        return [f'standard output: {asked.reason or "what reads it took no more"}']
+    if refusal == INPUT:
         return [f'{asked.name}: {asked.reason or "it could not be read"}']
     return OF_REFUSALS.get(refusal, [])
 
@@ -159,11 +166,14 @@ def unknown_statement(text, _before):
             word.start, len(word), "a header stands in the first line that is neither empty nor a comment"
         )
     why = f"`{word.text}` begins no statement"
-    return Fault(word.start, len(word), why, near(word.text, [*SHAPES, "thread", "version"]))
+    more = comment(word.text) or near(word.text, [*SHAPES, "thread", "version"])
+    return Fault(word.start, len(word), why, more)
 
 
 def comment(word):
-    return ["a comment stands in a line of its own"] if word.startswith("#") else []
+    if word.startswith("#"):
+        return ["a comment stands in a line of its own"]
+    return ["a comment begins with `#`, in a line of its own"] if re.match("//|--|;|/[*]", word) else []
 
 
 def wrong_number(text, _before):

@@ -38,6 +38,7 @@ SHAPES = {
     "exchange": [["C", "X"]],
     "compare": [["C", "X", "X2"]],
     "compare_weak": [["C", "X", "X2"]],
+    "holds": [["C", "X"]],
 }
 
 

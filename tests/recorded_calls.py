@@ -35,7 +35,8 @@ class Ending:
 
 class Reader:
     """Reads lines into `calls`. An object is `plain` where it ends as one of a script does: nothing is called
-    meanwhile but that handles leave, at most two of them owners, and each object that ends by this is plain."""
+    meanwhile but that handles leave, at most two of them owners, and each object that ends by this is plain.
+    """
 
     def __init__(self):
         self.calls, self.plain, self.made = [], set(), 0
@@ -46,18 +47,18 @@ class Reader:
     def read(self, line):
         word, *numbers = line.split()
         handle, other, answer = map(int, numbers)
-        if word in ('ends', 'ended'):
+        if word in ("ends", "ended"):
             self.end(word, self.objects[handle])
-        elif word in ('reset', 'wreset'):
+        elif word in ("reset", "wreset"):
             self.leave(word, handle)
-        elif word == 'wmove':
-            self.leave('wreset', handle)
-            self.swap('wswap', handle, other)
-        elif word in ('swap', 'wswap'):
+        elif word == "wmove":
+            self.leave("wreset", handle)
+            self.swap("wswap", handle, other)
+        elif word in ("swap", "wswap"):
             self.swap(word, handle, other)
-        elif word in ('count', 'wcount', 'expired'):
+        elif word in ("count", "wcount", "expired"):
             self.add(Call(word, given=self.held.get(handle), answer=answer))
-        elif word == 'make':
+        elif word == "make":
             self.made += 1
             self.objects[other] = self.made
             self.add(Call(word, after=self.hold(handle, Holding(self.made, False))))
@@ -77,9 +78,9 @@ class Reader:
     def take(self, word, handle, other, answer):
         """A handle gets hold of what the other holds."""
         given, before = self.held.get(other), self.held.pop(handle, None)
-        is_lock = word in ('lock', 'upgrade')
+        is_lock = word in ("lock", "upgrade")
         is_taken = given and (answer or not is_lock)
-        after = self.hold(handle, Holding(given.object, word in ('weak', 'wcopy')) if is_taken else None)
+        after = self.hold(handle, Holding(given.object, word in ("weak", "wcopy")) if is_taken else None)
         if before or given or is_lock:
             self.add(Call(word, before, after, given, answer=answer))
 
@@ -99,13 +100,13 @@ class Reader:
 
     def end(self, word, number):
         self.calls.append(Call(word, answer=number))
-        if word == 'ends':
+        if word == "ends":
             self.endings.append(Ending(number))
             return
         it = self.endings.pop()
         if it.is_plain and len(it.owners) <= 2:
             self.plain.add(number)
-            for holding, member in [*zip(it.owners, ('first', 'next')), *zip(it.weaks[-1:], ('up',))]:
+            for holding, member in [*zip(it.owners, ("first", "next")), *zip(it.weaks[-1:], ("up",))]:
                 holding.home = number, member
         else:
             for outer in self.endings:

@@ -16,19 +16,13 @@ NO_MEMORY = {
         "memory::four_blocks_are_opened_and_closed": "desks::shelves::spare_blocks_go_to_the_shelf_and_come_back",
     },
     "table_tests": {
-        "memory::a_worker_makes_no_call": """
-            cells::compares::a_compare_goes_by_place_and_object cells::compares::a_weak_cell_is_compared
-            cells::loads::a_thousand_loads_tell_three_owners cells::loads::a_weak_cell_watches
-            cells::members::objects_end_member_by_member handles::telling::handles_tell_by_rows""",
+        "memory::a_worker_makes_no_call": "cells::members::objects_end_member_by_member",
         "memory::two_blocks_are_opened_and_closed": "handles::looks::handles_tell_of_each_other",
         "memory::three_blocks_are_opened_and_closed": """
             cells::compares::a_compare_swaps_or_tells_what_is_there handles::limits::every_limit_is_told""",
         "memory::four_blocks_are_opened_and_closed": """
             handles::calls::each_call_works cells::both_kinds::cells_of_both_kinds
-            handles::pointers::pointers_to_an_object_itself handles::slots::every_slot_is_looked_at""",
-        "structures::observers::no_call_is_made": "structures::observers::a_node_goes_when_its_subject_has_ended",
-        "structures::stacks::no_call_is_made": "structures::stacks::the_last_comes_first",
-        "structures::trees::no_call_is_made": "structures::trees::a_tree_gains_and_loses_children",
+            handles::slots::every_slot_is_looked_at""",
     },
 }
 
@@ -56,12 +50,7 @@ REFUSED = {
         "memory::four_blocks_are_opened_and_closed=0",
         "memory::a_worker_makes_no_call=0",
         "memory::a_first_table_is_refused=0",
-        "memory::a_leader_is_told_that_its_team_was_refused=0",
         "memory::growths::a_refused_split_changes_nothing=1",
-        "memory::growths::a_refused_stack_changes_nothing=1",
-        "memory::growths::refused_observers_change_nothing=1",
-        "memory::growths::a_refused_scene_changes_nothing=1",
-        "memory::growths::a_refused_teardown_changes_nothing=1",
         "--",
         *as_opened("table_tests"),
     ],

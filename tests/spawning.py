@@ -1,5 +1,5 @@
-"""Runs of built programs, cheap ones, as there are many: what a program reads and writes lies in memory, where the next
-run of the same process puts its own."""
+"""Runs of built programs, cheap ones, as there are many: what a program reads and writes lies in memory,
+where the next run of the same process puts its own."""
 import functools
 import multiprocessing
 import os
@@ -21,7 +21,8 @@ def built(programs):
     for it in programs:
         if not os.access(it, os.X_OK):
             name = pathlib.Path(sys.argv[0]).name
-            sys.exit(f'{name}: there is no program {it}; ./sptr --prove builds one, ./sptr --build one without a proof')
+            ways = "./sptr --prove builds one, ./sptr --build one without a proof"
+            sys.exit(f"{name}: there is no program {it}; {ways}")
     return [os.path.abspath(it) for it in programs]
 
 
@@ -34,7 +35,7 @@ class Run(NamedTuple):
 @functools.cache
 def ends(process):
     """Where a process has its programs read, write and tell of faults."""
-    return [os.memfd_create(f'{name} of {process}') for name in ('input', 'output', 'faults')]
+    return [os.memfd_create(f"{name} of {process}") for name in ("input", "output", "faults")]
 
 
 def late(*_):

@@ -14,6 +14,8 @@ from pathlib import Path
 
 # Beside a library that `rt ci` built, the sum of the sources that it was built of, as `./check` writes it.
 SOURCES = "sources"
+# The folders of a crate that a check reads.
+PARTS = "src", "specs", "proofs"
 
 
 class Toolchain:
@@ -26,11 +28,15 @@ class Toolchain:
         loader.exec_module(self.rt)
         # (its first call sets a signal's handler, which only the main thread may)
         self.guard = self.rt.rtlib.guarded()
-        self.root = root
+        self.root, self.identity = root, Path(self.rt.KIT, "KIT-ID").read_text()
         self.rt.Crate.allowed = self.rt.handles_of(str(root))
         self.rt.rtlib.Crate = self.rt.Crate
         found = self.rt.rtlib.crates_below(str(root))
         self.crates = {crate.name: crate for crate in found}
+
+    def keeps_what_it_proved(self) -> bool:
+        """Whether a second `rt ci` on this machine takes over what an earlier one proved; older kits don't."""
+        return hasattr(self.rt, "stamp_of")
 
     def command(self, crate: str, *words: str) -> list[str]:
         """A check of a crate, from a folder that has its src, specs and proofs, over the libraries below as
@@ -41,9 +47,9 @@ class Toolchain:
     def own_sum(self, crate: str, folder: Path) -> str:
         """The sum of the toolchain, HANDLES, the crate's line of crates.txt, and its sources as a folder has
         them."""
-        copy = self.rt.copy.copy(self.crates[crate])
-        copy.folder = str(folder)
-        return self.rt.own_sum(copy)
+        files = [path for part in PARTS for path in sorted((folder / part).rglob("*")) if path.is_file()]
+        texts = [(str(path.relative_to(folder)), path.read_bytes()) for path in files]
+        return sum_of_texts(self.identity, self.rt.Crate.allowed, self.crates[crate].said, texts)
 
     def library_sums(self, crate: str) -> list[tuple[str, str]]:
         """The libraries below a crate as they were built (a library's format holds the sum of its files)."""
@@ -53,7 +59,11 @@ class Toolchain:
     def sources(self, crate: str, seen: dict[str, str] | None = None) -> str:
         """The sum of all that a crate stands on: its own sources and those below. `seen` has sums that are
         known."""
-        return self.rt.stamp_of(self.crates[crate], {} if seen is None else seen)
+        seen = {} if seen is None else seen
+        if crate not in seen:
+            below = [self.sources(library.name, seen) for library in self.crates[crate].deps]
+            seen[crate] = sum_of_texts(self.own_sum(crate, Path(self.crates[crate].folder)), below)
+        return seen[crate]
 
     @contextlib.contextmanager
     def own_libraries(self) -> Iterator[dict[str, str]]:

@@ -208,6 +208,11 @@ struct Machine {
       x = cell.exchange(std::move(x));
       return;
     }
+    if (s[0] == "holds") {
+      P same = x;
+      tell(std::atomic<P>(cell.load()).compare_exchange_strong(same, x) ? "holds yes" : "holds no");
+      return;
+    }
     P desired = t.name(s[3]).*value, held = cell.load(), expected = x;
     ++acts; // (the copy, then the compare)
     bool yes = s[0] == "compare" ? cell.compare_exchange_strong(expected, desired)
@@ -261,7 +266,7 @@ struct Machine {
   void statement(Thread &t, const vector<string> &s) {
     const string &w = s[0];
     acts = 1;
-    if (w == "load" || w == "store" || w == "exchange" || w == "compare" || w == "compare_weak")
+    if (w == "load" || w == "store" || w == "exchange" || w == "compare" || w == "compare_weak" || w == "holds")
       return cell_statement(t, s);
     if (w == "make" || w == "makethis")
       return make(t, s, w == "makethis");

@@ -1,0 +1,40 @@
+"""The acts of a run, by the threads that make them: how many each thread has, and which turns find it done.
+
+The script is run once more by `draw`, whose picture has a row for each act, in the order of the run.
+"""
+
+import re
+import subprocess
+
+# A picture has at most so many rows, so a longer run is drawn in parts.
+MOST = 2000
+ROW = re.compile(rb'<text class="statement"[^>]*>(\d+)\.')
+
+
+def order(program: str, turns: list[str], script: bytes) -> list[int]:
+    """The thread of each act; none where the script or the list of turns is refused."""
+    threads, drawn = [], MOST
+    while drawn == MOST:
+        part = [f"--from={len(threads) + 1}", f"--to={len(threads) + MOST}"]
+        ran = subprocess.run([program, "draw", *turns, *part], input=script, capture_output=True)
+        rows = [int(it) for it in ROW.findall(ran.stdout)]
+        threads, drawn = threads + rows, len(rows)
+    return threads
+
+
+def counted(program: str, script: bytes) -> str:
+    """How many acts each thread has in the run that goes by itself."""
+    threads = order(program, [], script)
+    most = 1 + sum(line.split() == [b"thread"] for line in script.split(b"\n"))
+    return " ".join(["acts", *(str(threads.count(it)) for it in range(1, most + 1))])
+
+
+def too_late(program: str, turns: list[str], numbers: list[int], script: bytes) -> list[str]:
+    """A line for each thread that is done when some of its turns come; `numbers` are those of `turns`."""
+    threads, made, late = order(program, turns, script), 0, {}
+    for position, thread in enumerate(numbers, 1):
+        if threads[made : made + 1] == [thread]:
+            made += 1
+        else:
+            late.setdefault(thread, []).append(str(position))
+    return [f"thread {it} is done before turn {', '.join(late[it])} of the list" for it in sorted(late)]
