@@ -9,6 +9,7 @@
 #include <time.h>
 #include <unistd.h>
 
+#include <algorithm>
 #include <cerrno>
 #include <cstdio>
 #include <cstdlib>
@@ -29,7 +30,8 @@ struct Standing {
   pid_t thread;
   Word stack;
 };
-Standing standing[4096];
+constexpr int MOST_STANDING = 4096;
+Standing standing[MOST_STANDING];
 std::atomic<int> places{0}, answered{0};
 RECORDER_THREAD volatile bool is_asked = false, is_standing = false;
 
@@ -38,6 +40,9 @@ KeptFile threads_folder;
 // A signal's frame takes some 4 KB, which a thread with a smaller stack may not have left.
 constexpr Word SMALL_STACK = 64 << 10;
 constexpr Word MOST_OF_A_STACK = 8 << 20;
+
+// On a busy machine a thread may not run for seconds.
+constexpr int MOST_PAUSES = 50'000;
 
 pid_t this_thread() { return static_cast<pid_t>(syscall(SYS_gettid)); }
 
@@ -65,6 +70,17 @@ void Lock::wait() {
 
 namespace {
 
+// (its signal's frame would not fit)
+bool has_small_stack(pid_t thread) {
+  Bounds* bounds = known_stacks.of(thread).find(thread);
+  return bounds && bounds->to - bounds->from < SMALL_STACK;
+}
+
+bool stands(pid_t thread) {
+  int count = std::min<int>(places, MOST_STANDING);
+  return std::any_of(standing, standing + count, [&](const Standing& it) { return it.thread == thread; });
+}
+
 void answer_if_asked() {
   if (!is_asked) return;
   is_asked = false;
@@ -85,7 +101,7 @@ void Inside::stand_still() {
   is_standing = true;
   int place = places++;
   __builtin_unwind_init();  // (all that its registers hold lies on the stack now)
-  if (place < 4096) standing[place] = {this_thread(), stack_here()};
+  if (place < MOST_STANDING) standing[place] = {this_thread(), stack_here()};
   answer_if_asked();
   while (is_stopping()) pause_shortly();
   is_standing = false;
@@ -136,6 +152,15 @@ Word stack_in_a_call(int folder, pid_t thread) {
   return count >= 3 ? words[count - 2] : 0;
 }
 
+// Whether a thread has blocked the signal, so that it goes on.
+bool is_deaf(int folder, pid_t thread) {
+  char path[32], text[4096];
+  std::snprintf(path, sizeof path, "%d/status", thread);
+  contents(openat(folder, path, O_RDONLY | O_CLOEXEC), text, sizeof text);
+  const char* blocked = std::strstr(text, "\nSigBlk:");
+  return blocked && std::strtoul(blocked + 8, nullptr, 16) >> (signal_to_stop() - 1) & 1;
+}
+
 // The folder of this process's threads; -1 where there is none.
 int open_threads_folder() { return open("/proc/self/task", O_RDONLY | O_DIRECTORY | O_CLOEXEC); }
 
@@ -173,13 +198,12 @@ void note_this_thread() {
 
 void keep_threads_folder() { threads_folder.keep(open_threads_folder()); }
 
-// (a thread that noted its stack and isn't on it may be on one of many in one piece of memory)
-LivingStack living_stack(pid_t thread, Word address) {
-  Bounds* bounds = known_stacks.of(thread).find(thread);
-  if (bounds && address >= bounds->from && address < bounds->to) return {thread, address, bounds->to, address};
+namespace {
+
+// The mapping that an address lies in: none where there is none, and all memory where that can't be told.
+Bounds mapping_of(Word address) {
   int file = open("/proc/self/maps", O_RDONLY | O_CLOEXEC);
-  // (reading it ends with the mapping)
-  if (file < 0) return {thread, address, address + MOST_OF_A_STACK, address};
+  if (file < 0) return {0, ~Word(0)};
   std::string text(1 << 20, 0);
   for (std::size_t size = 0; (size = contents(dup(file), &text[0], text.size())) + 1 == text.size();) {
     text.resize(2 * text.size());
@@ -189,33 +213,55 @@ LivingStack living_stack(pid_t thread, Word address) {
   for (const char* line = text.c_str(); line && *line; line = std::strchr(line, '\n'), line += line != nullptr) {
     char* dash = nullptr;
     Word from = std::strtoul(line, &dash, 16), to = std::strtoul(dash + 1, nullptr, 16);
-    if (from <= address && address < to) return {thread, address, to, bounds ? address : from};
+    if (from <= address && address < to) return {from, to};
   }
-  return {thread, address, address, address};
+  return {address, address};
 }
 
-// The stack of a thread is taken whole where it is too small for a signal, which leaves the thread running.
-bool AllStandStill::has_small_stack(pid_t thread) {
+}  // namespace
+
+// (a thread that noted its stack and isn't on it may be on one of many in one piece of memory)
+LivingStack living_stack(pid_t thread, Word address) {
   Bounds* bounds = known_stacks.of(thread).find(thread);
-  if (!bounds || bounds->to - bounds->from >= SMALL_STACK) return false;
-  found.push_back({thread, bounds->from, bounds->to, bounds->from});
+  if (bounds && bounds->has(address)) return {thread, address, bounds->to, address};
+  Bounds mapped = mapping_of(address);
+  // (reading it ends with the mapping)
+  if (!mapped.from) return {thread, address, address + MOST_OF_A_STACK, address};
+  return {thread, address, mapped.to, bounds ? address : mapped.from};
+}
+
+// A stack is taken whole, where it is known, of a thread that goes on.
+void AllStandStill::take_whole(pid_t thread) {
   unread++;
-  return true;
+  Bounds* bounds = known_stacks.of(thread).find(thread);
+  if (!bounds) return;
+  Word from = std::max(bounds->from, mapping_of(bounds->to - 1).from);
+  found.push_back({thread, from, bounds->to, from});
 }
 
 void AllStandStill::stop_others() {
   int kept = threads_folder.number();
   int folder = kept >= 0 ? kept : open_threads_folder();
   if (folder < 0 && __libc_single_threaded) return;
-  int asked = 0;
+  std::vector<pid_t> asked;
   for (pid_t thread : other_threads(folder)) {
     if (Word stack = stack_in_a_call(folder, thread))
       found.push_back(living_stack(thread, stack)), unread++;
-    else if (!has_small_stack(thread) && !syscall(SYS_tgkill, getpid(), thread, signal_to_stop()))
-      asked++;
+    else if (has_small_stack(thread) || is_deaf(folder, thread))
+      take_whole(thread);
+    else if (!syscall(SYS_tgkill, getpid(), thread, signal_to_stop()))
+      asked.push_back(thread);
   }
+  auto will_stand = [folder](pid_t it) {
+    return !stands(it) && !syscall(SYS_tgkill, getpid(), it, 0) && !is_deaf(folder, it);
+  };
+  for (int pauses = 1; answered < int(asked.size()) && pauses < MOST_PAUSES; pauses++) {
+    pause_shortly();
+    if (pauses % 500 == 0 && std::none_of(asked.begin(), asked.end(), will_stand)) break;
+  }
+  for (pid_t thread : asked)
+    if (!stands(thread)) take_whole(thread);
   if (folder != kept) close(folder);
-  for (int tries = 0; answered < asked && tries < 5000; tries++) pause_shortly();
 }
 
 void each_known_stack(void (*visit)(Word from, Word to, void* with), void* with) {
@@ -230,7 +276,7 @@ AllStandStill::AllStandStill() {
   sigaction(signal_to_stop(), &action, nullptr);
   unusual_process |= process_state::STOPPING;
   stop_others();
-  for (int place = 0; place < places && place < 4096; place++) {
+  for (int place = 0; place < places && place < MOST_STANDING; place++) {
     auto [thread, stack] = standing[place];
     found.push_back(living_stack(thread, stack));
   }

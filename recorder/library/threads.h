@@ -41,7 +41,7 @@ LivingStack living_stack(pid_t thread, Word address);
 void each_known_stack(void (*visit)(Word from, Word to, void* with), void* with);
 
 // While one lives, all other threads stand still: those in system calls where they are, the others in a
-// signal's handler.
+// signal's handler. Those that a signal doesn't reach go on.
 class AllStandStill {
 public:
   AllStandStill();
@@ -55,7 +55,7 @@ public:
 
 private:
   void stop_others();
-  bool has_small_stack(pid_t thread);
+  void take_whole(pid_t thread);
 
   std::vector<LivingStack> found;
   std::size_t unread = 0;
