@@ -100,6 +100,8 @@ def held_signals():
     try:
         yield before
     finally:
+        while signal.sigtimedwait(HELD, 0):
+            pass  # (what came too late for the program doesn't end the report)
         signal.pthread_sigmask(signal.SIG_SETMASK, before)
 
 

@@ -6,6 +6,8 @@ import subprocess
 import tempfile
 from pathlib import Path
 
+from tests.recorder_programs import HUNG
+
 # How a member of some kind is declared and filled.
 KINDS = {
     "plain": ("std::shared_ptr<{t}> {m};", "{a}->{m} = {b};"),
@@ -123,7 +125,7 @@ def difference(wanted, record, built):
     """What `record` tells otherwise; '' where nothing."""
     with tempfile.TemporaryDirectory() as folder:
         to = Path(folder, "report")
-        ran = subprocess.run([record, "--json", to, built], capture_output=True, text=True, timeout=120)
+        ran = subprocess.run([record, "--json", to, built], capture_output=True, text=True, timeout=HUNG)
         told = json.loads(to.read_text())["reports"][0]
     types = {it["number"]: it["type"] for it in told["objects"]}
     leaked = collections.Counter(it["type"] for it in told["objects"] if it["verdict"] == "leaked")

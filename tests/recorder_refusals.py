@@ -4,9 +4,7 @@ import tempfile
 from pathlib import Path
 
 from recorder import hook_headers
-
-ROOT = Path(__file__).resolve().parent.parent
-PROGRAMS = ROOT / "tests/recorder"
+from tests.recorder_programs import HUNG, PROGRAMS, ROOT
 
 REFUSED = 125
 OWN_MALLOC = """
@@ -27,7 +25,7 @@ int main() { auto a = std::make_shared<Node>(); a->next = a; }
 
 def record(program, *options):
     command = [ROOT / "record", *options, program]
-    return subprocess.run(command, capture_output=True, text=True, cwd=PROGRAMS, timeout=120)
+    return subprocess.run(command, capture_output=True, text=True, cwd=PROGRAMS, timeout=HUNG)
 
 
 def built(folder, *flags, text=None, compiler="g++"):

@@ -26,15 +26,25 @@ from tests import (
     recorder_proved,
     recorder_random,
     recorder_refusals,
+    recorder_signals,
+    recorder_surroundings,
     recorder_unchanged,
 )
+from tests.recorder_programs import HUNG, PROGRAMS, ROOT
 
-ROOT = Path(__file__).resolve().parent.parent
-PROGRAMS = ROOT / "tests/recorder"
 RECORD = str(ROOT / "record")
 MET = re.compile(r"record: the pointers found explain the counts of (\d+) of (\d+) control blocks; .*")
 ADVICE = "record: each weaken line mends its knot by itself; take the first"
 RANDOM_PROGRAMS = 6
+MODULES = [
+    recorder_lint,
+    recorder_options,
+    recorder_proved,
+    recorder_refusals,
+    recorder_signals,
+    recorder_surroundings,
+    recorder_unchanged,
+]
 
 
 @dataclass(frozen=True)
@@ -118,7 +128,7 @@ def build_program(name, folder, way):
 
 def report_of(program):
     """The lines of a report, the last one shortened, and the exit status."""
-    ran = run([RECORD, program], cwd=PROGRAMS, timeout=120)
+    ran = run([RECORD, program], cwd=PROGRAMS, timeout=HUNG)
     found = [MET.sub(r"met \1 of \2", line) for line in ran.stderr.splitlines()]
     return [*without_advice(found), f"status {ran.returncode}"]
 
@@ -174,8 +184,7 @@ def tests(names, every):
     if not names:
         for seed in range(1, (10 * RANDOM_PROGRAMS if every else RANDOM_PROGRAMS) + 1):
             yield f"random program {seed}", lambda seed=seed: check_random(seed)
-        modules = recorder_lint, recorder_options, recorder_proved, recorder_refusals, recorder_unchanged
-        for module in modules:
+        for module in MODULES:
             for check in module.CHECKS:
                 yield f"{check.__name__}", check
 
