@@ -1,0 +1,65 @@
+// Links between memory of which it isn't certain whose it is.
+#include <algorithm>
+#include <set>
+#include <tuple>
+
+#include "spreading.h"
+
+namespace recorder {
+
+// Pointers to memory of which it isn't certain whose it is, as far as handles lie there or behind it.
+void Spreading::find_links() {
+  auto is_uncertain = [&](const Handle& it) { return uncertain_memory(it) >= 0; };
+  if (std::none_of(all.handles.begin(), all.handles.end(), is_uncertain)) return;
+  divide();
+  std::vector<Link> links;
+  std::set<std::tuple<Holder, int, int>> seen;
+  each_link([&](const Region& region, Word at, int chunk) {
+    int to = all.chunks[chunk].memory, from = region.chunk < 0 ? -1 : all.chunks[region.chunk].memory;
+    if (from == to) return;
+    if (seen.insert({from < 0 ? region.holder : Holder{}, from, to}).second) links.push_back({at, from, to});
+  });
+  auto is_useful = useful_memory(links);
+  for (auto& it : links)
+    if (is_useful[it.to]) all.links.push_back(it);
+}
+
+// The uncertain memory that a handle lies in; -1 where it lies in none.
+int Spreading::uncertain_memory(const Handle& it) const {
+  int chunk = all.object_of(it.at) < 0 ? all.chunk_of(it.at) : -1;
+  return chunk >= 0 ? all.chunks[chunk].memory : -1;
+}
+
+// Memory from which links lead to handles.
+std::vector<bool> Spreading::useful_memory(const std::vector<Link>& links) const {
+  std::vector<bool> is_useful(all.chunks.size());
+  std::vector<int> todo;
+  auto add = [&](int memory) {
+    if (memory >= 0 && !is_useful[memory]) is_useful[memory] = true, todo.push_back(memory);
+  };
+  for (auto& it : all.handles) add(uncertain_memory(it));
+  std::vector<std::vector<int>> before(all.chunks.size());
+  for (auto& it : links)
+    if (it.from >= 0) before[it.to].push_back(it.from);
+  while (!todo.empty()) {
+    int memory = todo.back();
+    todo.pop_back();
+    for (int it : before[memory]) add(it);
+  }
+  return is_useful;
+}
+
+// Divides the memory behind an uncertain pointer where another pointer leads into its midst.
+void Spreading::divide() {
+  std::vector<bool> is_apart(all.chunks.size());
+  each_link([&](const Region& region, Word, int chunk) {
+    int from = region.chunk < 0 ? -1 : all.chunks[region.chunk].memory;
+    if (from != all.chunks[chunk].memory) is_apart[chunk] = true;
+  });
+  for (auto& region : found) {
+    if (region.chunk < 0 || region.holder.kind != Holder::OBJECT) continue;
+    all.chunks[region.chunk].memory = memory_of(region.chunk, is_apart[region.chunk]);
+  }
+}
+
+}  // namespace recorder
