@@ -3,7 +3,7 @@ import json
 
 from recorder import verdicts
 from recorder.options import VERSION
-from recorder.report import change_text
+from recorder.report import change_text, doubt_lines
 from recorder.type_names import short
 from recorder.verdicts import Findings
 
@@ -67,6 +67,7 @@ def as_json(findings: Findings) -> dict:
         "leaked_bytes": sum(findings.blocks[it - 1].making.size for it in findings.alarming),
         "undecided": len(findings.undecided),
         "counts": {"blocks": len(findings.record.blocks), "met": findings.met},
+        "notes": [it.removeprefix("record: ") for it in doubt_lines(findings)],
         "objects": objects_as_json(findings),
         "owners": handles_as_json(findings.graph.owners),
         "weak": handles_as_json(findings.graph.weaks),

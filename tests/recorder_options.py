@@ -5,6 +5,7 @@ import subprocess
 import tempfile
 from pathlib import Path
 
+from recorder import options
 from tests.recorder_programs import HUNG, PROGRAMS, ROOT, built, differences
 
 
@@ -17,7 +18,8 @@ def record(*words, **how):
 def json_tells_all():
     with tempfile.TemporaryDirectory() as folder:
         ran = record("--json", f"{folder}/report", built(folder, "raw_pointer"))
-        (report,) = json.loads(Path(folder, "report").read_text())["reports"]
+        whole = json.loads(Path(folder, "report").read_text())
+    (report,) = whole["reports"]
     verdicts = [(it["type"], it["verdict"], it["reached_from"]) for it in report["objects"]]
     nodes = [("Node", "reached", "last_seen")] * 2 + [("Node", "reached", "never_freed")]
     knots = [(it["objects"], it["weaken"], it["reached"]) for it in report["knots"]]
@@ -28,6 +30,8 @@ def json_tells_all():
         verdicts=(verdicts, nodes),
         knots=(knots, wanted),
         counts=(counts, (3, 0, {"blocks": 3, "met": 3})),
+        version=(whole["version"], options.VERSION),
+        stacks=([bool(it["stack"] and it["bytes"]) for it in report["objects"]], [True] * 3),
     )
 
 

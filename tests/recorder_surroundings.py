@@ -33,24 +33,56 @@ def in_another_folder():
     )
 
 
+PLUG_IN = """
+#include <memory>
+struct Node { std::shared_ptr<Node> next; };
+extern "C" void leak() { auto node = std::make_shared<Node>(); node->next = node; }
+"""
+CLOSING = """
+#include <dlfcn.h>
+int main(int count, char** words) {
+  for (int at = 1; at < count; at++) {
+    void* part = dlopen(words[at], RTLD_NOW);
+    reinterpret_cast<void (*)()>(dlsym(part, "leak"))();
+    if (dlclose(part)) return 1;
+  }
+}
+"""
+
+
+def report_on_closed(folder: str, *names: str) -> subprocess.CompletedProcess:
+    """Of a program that opens and closes plug-ins of these names in turn."""
+    source = Path(folder, "part.cc")
+    source.write_text(PLUG_IN)
+    for name in names:
+        command = ["g++", "-g", "-fPIC", "-shared", "-fno-gnu-unique", source.name, "-o", name]
+        subprocess.run(command, check=True, cwd=folder)
+    program = built(folder, "closing", CLOSING)
+    return record("--json", f"{folder}/report", program, *(Path(folder, it) for it in names))
+
+
 def a_closed_plug_in():
-    """Its objects can't be told any more, and that is said."""
-    part = "#include <memory>\nstruct Node { std::shared_ptr<Node> next; };\n"
-    part += 'extern "C" void leak() { auto node = std::make_shared<Node>(); node->next = node; }\n'
-    text = "#include <dlfcn.h>\nint main(int, char** words) {\n  void* part = dlopen(words[1], RTLD_NOW);\n"
-    text += '  reinterpret_cast<void (*)()>(dlsym(part, "leak"))();\n  return dlclose(part);\n}\n'
+    """What it left is told, with its members, as if it were open."""
     with tempfile.TemporaryDirectory() as folder:
-        library, source = Path(folder, "plug-in.so"), Path(folder, "part.cc")
-        source.write_text(part)
-        subprocess.run(
-            ["g++", "-g", "-fPIC", "-shared", "-fno-gnu-unique", source, "-o", library], check=True
-        )
-        lines = record(built(folder, "closing", text), library).stderr.splitlines()
+        ran = report_on_closed(folder, "plug-in.so")
     wanted = [
-        "record: 0 objects that shared pointers own are left, 0 leaked",
-        f"record: not looked at: 1 control block of {library}, which was closed",
+        "record: 1 object that shared pointers own is left, 1 leaked",
+        f"leaked 1 Node, made at {folder}/part.cc:4 in leak",
+        "knot 1 Node, tied by Node::next 1",
+        "weaken Node::next",
     ]
-    return differences(lines=(lines[:2], wanted))
+    return differences(lines=(ran.stderr.splitlines()[:4], wanted), status=(ran.returncode, 3))
+
+
+def plug_ins_that_lay_at_one_place():
+    """Whose types can't be told apart any more, and that is said."""
+    with tempfile.TemporaryDirectory() as folder:
+        ran = report_on_closed(folder, "plug-in.so", "another.so")
+        first = Path(folder, "plug-in.so")
+        (report,) = json.loads(Path(folder, "report").read_text())["reports"]
+    note = f"not looked at: 2 control blocks of {first} or another library, which was closed"
+    wanted = ["record: 0 objects that shared pointers own are left, 0 leaked", f"record: {note}"]
+    return differences(lines=(ran.stderr.splitlines()[:2], wanted), notes=(report["notes"], [note]))
 
 
 def without_tools():
@@ -130,6 +162,7 @@ CHECKS = [
     units_of_both_kinds,
     in_another_folder,
     a_closed_plug_in,
+    plug_ins_that_lay_at_one_place,
     without_tools,
     children_are_told,
 ]

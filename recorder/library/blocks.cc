@@ -58,18 +58,16 @@ void Snapshot::add_block(Word at, int chunk, const VirtualTable& table) {
   blocks.push_back(block);
 }
 
-// Control blocks whose virtual functions lay in a library that was closed.
+// Control blocks whose virtual functions lay in a library that was closed, and whose types aren't known.
 void Snapshot::count_closed() {
   closed_blocks.resize(closed_libraries());
   for (auto& it : chunks) {
-    if (closed_blocks.empty() || it.to - it.from < 3 * WORD || modules.has(*reinterpret_cast<const Word*>(it.from)))
-      continue;
+    if (closed_blocks.empty() || it.to - it.from < 3 * WORD) continue;
     Word word = *reinterpret_cast<const Word*>(it.from);
+    std::size_t place = closed_place(word);
     int uses = 0, weaks = 0;
-    for (std::size_t place = 0; place < closed_blocks.size(); place++) {
-      auto& library = closed_library(place);
-      closed_blocks[place] += word >= library.from && word < library.to && has_counts(it.from, uses, weaks) && uses;
-    }
+    if (place < closed_blocks.size() && !tables.of(word).type && has_counts(it.from, uses, weaks) && uses)
+      closed_blocks[place]++;
   }
 }
 

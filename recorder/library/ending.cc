@@ -14,6 +14,7 @@
 #include <cstring>
 #include <initializer_list>
 
+#include "closed.h"
 #include "ending.h"
 #include "hook_tables.h"
 #include "next_malloc.h"
@@ -181,8 +182,10 @@ int number_of(const char* variable) {
   return text ? std::atoi(text) : 0;
 }
 
-void lock_tables() { lock_chunks(), births.lock_all(), holdings.lock_all(), lock_traces(); }
-void unlock_tables() { unlock_traces(), holdings.unlock_all(), births.unlock_all(), unlock_chunks(); }
+void lock_tables() { lock_closed(), lock_chunks(), births.lock_all(), holdings.lock_all(), lock_traces(); }
+void unlock_tables() {
+  unlock_traces(), holdings.unlock_all(), births.unlock_all(), unlock_chunks(), unlock_closed();
+}
 
 bool is_becoming_daemon = false;
 

@@ -7,6 +7,7 @@
 #include <algorithm>
 #include <cstring>
 
+#include "closed.h"
 #include "control_blocks.h"
 
 namespace recorder {
@@ -90,8 +91,12 @@ const Segment* Modules::segment_of(Word address) const {
   return nullptr;
 }
 
+bool Modules::meets(Word from, Word to) const {
+  return std::any_of(segments.begin(), segments.end(), [&](auto& it) { return it.from < to && from < it.to; });
+}
+
 const VirtualTable& VirtualTables::of(Word word) {
-  if (word % WORD || !modules.has(word)) return none;
+  if (word % WORD || (!modules.has(word) && !closed_table(word))) return none;
   auto found = seen.find(word);
   if (found == seen.end()) found = seen.emplace(word, read(word)).first;
   return found->second;
@@ -100,6 +105,8 @@ const VirtualTable& VirtualTables::of(Word word) {
 VirtualTable VirtualTables::read(Word word) const {
   VirtualTable table;
   const Segment* segment = modules.segment_of(word);
+  if (auto closed = segment ? nullptr : closed_table(word))
+    return {closed->type, closed->to_top, is_control_block_type(closed->type), false};
   if (!segment || word - 2 * WORD < segment->from) return table;
   auto words = reinterpret_cast<const Word*>(word);
   table.to_top = static_cast<std::ptrdiff_t>(words[-2]);

@@ -29,6 +29,7 @@ public:
 
   const Segment* segment_of(Word address) const;
   bool has(Word address) const { return segment_of(address) != nullptr; }
+  bool meets(Word from, Word to) const;  // whether any lies between these
 
   std::vector<Module> modules;
   std::vector<Segment> segments;  // in the order of their addresses

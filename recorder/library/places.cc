@@ -93,6 +93,7 @@ using namespace recorder;
 // (what is known of a module's code is asked for anew)
 extern "C" __attribute__((visibility("default"))) int dlclose(void* module) {
   static auto next = reinterpret_cast<int (*)(void*)>(dlsym(RTLD_NEXT, "dlclose"));
+  if (!is_recording()) return next(module);
   recorder::ClosedLibrary library = recorder::library_of(module);
   int failed = next(module);
   if (!failed && library.to) recorder::note_closed(library);

@@ -201,6 +201,12 @@ void write_pointers(Output& out, const Snapshot& all, Spots& spots) {
   write_rows(out, "links", links);
 }
 
+void write_module(Output& out, Word base, const char* path) {
+  out.say("module %zx ", base);
+  out.say_text(path);
+  out.say_text("\n");
+}
+
 }  // namespace
 
 bool know_way_out(const char* socket, const char* path) {
@@ -217,16 +223,20 @@ void close_way_out() { way_out.close(); }
 void write_record(int number, const Snapshot& all, const char* when) {
   Output out(number);
   out.say("recorded %s %s\n", hooked ? "hooks" : "scan", when);
-  for (auto& it : all.modules.modules) {
-    out.say("module %zx ", it.base);
-    out.say_text(it.path.c_str());
-    out.say_text("\n");
+  for (auto& it : all.modules.modules) write_module(out, it.base, it.path.c_str());
+  for (std::size_t place = 0; place < closed_libraries(); place++) {
+    auto& it = closed_library(place);
+    if (lay_alone(place) && !all.modules.meets(it.from, it.to)) write_module(out, it.base, it.path);
   }
   Spots spots(all);
   write_blocks(out, all, spots);
   write_pointers(out, all, spots);
   for (std::size_t place = 0; place < all.closed_blocks.size(); place++)
-    if (all.closed_blocks[place]) out.say("closed %zu %s\n", all.closed_blocks[place], closed_library(place).path);
+    if (std::size_t count = all.closed_blocks[place]) {
+      out.say("closed %zu ", count);
+      out.say_text(closed_library(place).path);
+      out.say_text(lay_alone(place) ? "\n" : " or another library\n");
+    }
   out.say("untyped %zu\nlost %zu\n", all.untyped_blocks, all.lost_handles);
   out.say("unread %zu\n", all.unread_threads);
   for (auto& [where, count] : all.unseen_blocks) {

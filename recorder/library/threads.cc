@@ -152,13 +152,18 @@ Word stack_in_a_call(int folder, pid_t thread) {
   return count >= 3 ? words[count - 2] : 0;
 }
 
-// Whether a thread has blocked the signal, so that it goes on.
-bool is_deaf(int folder, pid_t thread) {
+enum class Hearing { HEARS, DEAF, ENDED };
+
+// Whether a thread has blocked the signal, so that it goes on; or has ended, as main's may have before the others.
+Hearing hearing_of(int folder, pid_t thread) {
   char path[32], text[4096];
   std::snprintf(path, sizeof path, "%d/status", thread);
   contents(openat(folder, path, O_RDONLY | O_CLOEXEC), text, sizeof text);
+  const char* state = std::strstr(text, "\nState:\t");
   const char* blocked = std::strstr(text, "\nSigBlk:");
-  return blocked && std::strtoul(blocked + 8, nullptr, 16) >> (signal_to_stop() - 1) & 1;
+  if (!state || !blocked) return syscall(SYS_tgkill, getpid(), thread, 0) ? Hearing::ENDED : Hearing::HEARS;
+  if (state[8] == 'Z' || state[8] == 'X') return Hearing::ENDED;
+  return std::strtoul(blocked + 8, nullptr, 16) >> (signal_to_stop() - 1) & 1 ? Hearing::DEAF : Hearing::HEARS;
 }
 
 // The folder of this process's threads; -1 where there is none.
@@ -245,22 +250,22 @@ void AllStandStill::stop_others() {
   if (folder < 0 && __libc_single_threaded) return;
   std::vector<pid_t> asked;
   for (pid_t thread : other_threads(folder)) {
+    Hearing hearing = hearing_of(folder, thread);
+    if (hearing == Hearing::ENDED) continue;
     if (Word stack = stack_in_a_call(folder, thread))
       found.push_back(living_stack(thread, stack)), unread++;
-    else if (has_small_stack(thread) || is_deaf(folder, thread))
+    else if (has_small_stack(thread) || hearing == Hearing::DEAF)
       take_whole(thread);
     else if (!syscall(SYS_tgkill, getpid(), thread, signal_to_stop()))
       asked.push_back(thread);
   }
-  auto will_stand = [folder](pid_t it) {
-    return !stands(it) && !syscall(SYS_tgkill, getpid(), it, 0) && !is_deaf(folder, it);
-  };
+  auto will_stand = [folder](pid_t it) { return !stands(it) && hearing_of(folder, it) == Hearing::HEARS; };
   for (int pauses = 1; answered < int(asked.size()) && pauses < MOST_PAUSES; pauses++) {
     pause_shortly();
     if (pauses % 500 == 0 && std::none_of(asked.begin(), asked.end(), will_stand)) break;
   }
   for (pid_t thread : asked)
-    if (!stands(thread)) take_whole(thread);
+    if (!stands(thread) && hearing_of(folder, thread) != Hearing::ENDED) take_whole(thread);
   if (folder != kept) close(folder);
 }
 
