@@ -1,19 +1,10 @@
 // What a caller waits for shared_ptr, weak_ptr and atomic shared_ptr of libstdc++ and of Boost, by thread count.
 // Prints lines "test|peer|threads|nanoseconds|share", so many of each as the argument says, as the program `measure` of
 // crates/ and arc.rs do.
-#include <algorithm>
-#include <array>
-#include <atomic>
-#include <chrono>
-#include <cstdint>
-#include <cstdio>
 #include <cstdlib>
-#include <ctime>
-#include <memory>
-#include <mutex>
-#include <thread>
 #include <utility>
-#include <vector>
+
+#include "readers.h"
 
 #if __has_include(<boost/smart_ptr/make_shared.hpp>)
 #include <boost/smart_ptr/atomic_shared_ptr.hpp>
@@ -22,103 +13,12 @@
 #define WITH_BOOST
 #endif
 
-using Clock = std::chrono::steady_clock;
-
-constexpr auto span = std::chrono::milliseconds(3);
-constexpr std::uint64_t chunk = 2000;
-// Fewer where threads wait for each other, so that they end together.
-constexpr std::uint64_t short_chunk = 100;
-constexpr int most_threads = 4;
-constexpr int most_observers = 1000;
-constexpr int chain_length = 4095;
-
-template <class T> void keep(T const &value) { asm volatile("" : : "r,m"(value) : "memory"); }
-
-struct Object {
-    std::uint64_t fields[4] = {1, 2, 3, 4};
-};
-
-// An object with a value of 4 KiB, on which a thread works behind a door.
-struct PageObject {
-    std::uint64_t fields[4] = {1, 2, 3, 4};
-    std::array<std::uint64_t, 512> page;
-    std::mutex door;
-    PageObject() { page.fill(1); }
-};
-
-template <class T> struct alignas(128) Apart {
-    T value;
-};
-
-struct Spent {
-    double wall, processor, operations;
-};
-
-double processor_time() {
-    timespec t;
-    clock_gettime(CLOCK_THREAD_CPUTIME_ID, &t);
-    return t.tv_sec * 1e9 + t.tv_nsec;
-}
-
-// The threads meet, and work in chunks until a common moment.
-template <class Work> std::vector<Spent> run(int threads, std::uint64_t count, Work work) {
-    std::atomic<int> ready{0};
-    std::atomic<std::int64_t> end{0};
-    std::vector<Spent> spent(threads);
-    std::vector<std::thread> workers;
-    for (int thread = 0; thread < threads; thread++) {
-        workers.emplace_back([&, thread] {
-            if (++ready == threads) end = (Clock::now() + span).time_since_epoch().count();
-            while (end == 0) __builtin_ia32_pause();
-            auto start = Clock::now();
-            double before = processor_time(), operations = 0;
-            do {
-                work(thread, count);
-                operations += count;
-            } while (Clock::now().time_since_epoch().count() < end);
-            double wall = std::chrono::duration<double, std::nano>(Clock::now() - start).count();
-            spent[thread] = {wall, processor_time() - before, operations};
-        });
-    }
-    for (auto &worker : workers) worker.join();
-    return spent;
-}
-
-// The least part of its time, of 100, that a thread had a processor, or that it shared with the others.
-double share_of(std::vector<Spent> const &spent) {
-    double share = 1, least = 1e18, most = 0;
-    for (auto const &s : spent) {
-        share = std::min(share, s.processor / s.wall);
-        least = std::min(least, s.wall), most = std::max(most, s.wall);
-    }
-    return 100 * std::min(share, least / most);
-}
-
-// A line: the time of some of the threads by their operations.
-void tell(char const *test, char const *peer, std::vector<Spent> const &spent, int from, int to) {
-    double wall = 0, operations = 0;
-    for (int t = from; t < to; t++) wall += spent[t].wall, operations += spent[t].operations;
-    std::printf("%s|%s|%d|%.2f|%.0f\n", test, peer, int(spent.size()), wall / operations, share_of(spent));
-}
-
-template <class Work>
-void time_row(char const *test, char const *peer, int threads, Work work, std::uint64_t count = chunk) {
-    tell(test, peer, run(threads, count, work), 0, threads);
-}
-
-// A row in which the first thread does something else than the others, and a line for each.
-template <class First, class Others>
-void time_beside(char const *test, char const *others_test, char const *peer, int threads, First first, Others others) {
-    auto spent = run(threads, short_chunk, [&](int t, std::uint64_t n) { t == 0 ? first(t, n) : others(t, n); });
-    tell(test, peer, spent, 0, 1);
-    if (threads > 1) tell(others_test, peer, spent, 1, threads);
-}
-
-template <class Shared, class Weak, class Cell, Shared (*make)()> struct Peer {
+template <class Shared, class Weak, class Cell, class WeakCell, Shared (*make)()> struct Peer {
     Apart<Shared> own[most_threads];
     Apart<Weak> weak[most_threads];
     Apart<Cell> cell[most_threads];
     Apart<Cell> common;
+    Apart<Cell> vacant;
     // Of the observers each fourth has ended.
     std::vector<Weak> observers;
     std::vector<Shared> living;
@@ -160,8 +60,17 @@ template <class Shared, class Weak, class Cell, Shared (*make)()> struct Peer {
                 keep(copy);
             }
         });
+        time_row("share + release of a weak pointer, own object", peer, threads, [this](int t, std::uint64_t n) {
+            while (n--) {
+                Weak copy = weak[t].value;
+                keep(copy);
+            }
+        });
         time_row("use_count, own object", peer, threads, [this](int t, std::uint64_t n) {
             while (n--) keep(own[t].value.use_count());
+        });
+        time_row("read of a field, own object", peer, threads, [this](int t, std::uint64_t n) {
+            while (n--) keep(own[t].value->fields[0]);
         });
         time_row("lock + release, own object", peer, threads, [this](int t, std::uint64_t n) {
             while (n--) keep(weak[t].value.lock().get());
@@ -185,9 +94,15 @@ template <class Shared, class Weak, class Cell, Shared (*make)()> struct Peer {
         time_row("cell load + release, own cell", peer, threads, [this](int t, std::uint64_t n) {
             while (n--) keep(cell[t].value.load().get());
         });
-        time_row("cell load + release, one cell", peer, threads, [this](int, std::uint64_t n) {
-            while (n--) keep(common.value.load().get());
+        time_row("load of an empty cell, one cell", peer, threads, [this](int, std::uint64_t n) {
+            while (n--) keep(vacant.value.load().get());
         }, short_chunk);
+        weak_cell_row<WeakCell>(peer, threads, weak);
+        read_rows(peer, threads, short_chunk, [this] { common.value.store(make()); },
+                  [this](int, std::uint64_t n) {
+                      while (n--) keep(common.value.load().get());
+                  });
+        common.value.store(own[0].value);
         time_row("cell store of a copy, own cell", peer, threads, [this](int t, std::uint64_t n) {
             while (n--) cell[t].value.store(own[t].value);
         });
@@ -208,6 +123,17 @@ template <class Shared, class Weak, class Cell, Shared (*make)()> struct Peer {
             [this](int, std::uint64_t n) {
                 while (n--) keep(common.value.load().get());
             });
+        time_row("update of a counter, one cell", peer, threads, [this](int, std::uint64_t n) {
+            while (n--) update();
+        }, short_chunk);
+    }
+
+    void update() {
+        Shared old = common.value.load(), next;
+        do {
+            next = make();
+            next->fields[0] = old->fields[0] + 1;
+        } while (!common.value.compare_exchange_weak(old, next));
     }
 };
 
@@ -294,10 +220,11 @@ boost::shared_ptr<Node<boost::shared_ptr>> make_boost_node() { return boost::mak
 
 int main(int count, char **words) {
     int rounds = count > 1 ? std::atoi(words[1]) : 1;
-    Peer<std::shared_ptr<Object>, std::weak_ptr<Object>, std::atomic<std::shared_ptr<Object>>, make_std> standard;
+    Peer<std::shared_ptr<Object>, std::weak_ptr<Object>, std::atomic<std::shared_ptr<Object>>,
+         std::atomic<std::weak_ptr<Object>>, make_std> standard;
     Nodes<std::shared_ptr, std::atomic<std::shared_ptr<Node<std::shared_ptr>>>, make_std_node> standard_nodes;
 #ifdef WITH_BOOST
-    Peer<boost::shared_ptr<Object>, boost::weak_ptr<Object>, boost::atomic_shared_ptr<Object>, make_boost> boosted;
+    Peer<boost::shared_ptr<Object>, boost::weak_ptr<Object>, boost::atomic_shared_ptr<Object>, void, make_boost> boosted;
     Nodes<boost::shared_ptr, boost::atomic_shared_ptr<Node<boost::shared_ptr>>, make_boost_node> boosted_nodes;
 #endif
     for (int round = 0; round < rounds; round++) {
@@ -308,6 +235,8 @@ int main(int count, char **words) {
         for (int threads : {1, 2, 4}) {
             standard.rows("libstdc++ shared_ptr", threads);
             standard_nodes.rows("libstdc++ shared_ptr", threads);
+            version_rows(threads);
+            map_rows(threads);
 #ifdef WITH_BOOST
             boosted.rows("Boost shared_ptr", threads);
             boosted_nodes.rows("Boost shared_ptr", threads);

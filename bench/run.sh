@@ -1,32 +1,54 @@
 #!/usr/bin/env bash
-# Builds the program `measure` (proved first, where it isn't) and the peers, and prints the tables of README.md. The
-# programs run in turn, so that what else the machine does falls on all; a turn takes some 13 seconds, and the first
-# argument says how many (20).
+# Prints the tables of README.md: what calls cost by the program `measure` (proved first, where it isn't) and by peers.
+#
+# usage: bench/run.sh [TURNS [FOLDER [MEASURE]]]
+#
+# The programs run in turn, so that what else the machine does falls on all; a turn takes some 20 seconds, and there
+# are 20 where no number is given. With a folder, what is built there stays, is not built again, and what each turn
+# printed stays too. With a third word that program is taken for `measure`, as one of bench/unproved.
 set -euo pipefail
+turns=${1:-20} folder=${2:-} measure=${3:-}
+[ -z "$folder" ] || { mkdir -p "$folder"; folder=$(realpath "$folder"); }
+[ -z "$measure" ] || measure=$(realpath "$measure")
 cd "$(dirname "${BASH_SOURCE[0]}")"
-build=$(mktemp -d)
-trap 'rm -rf "$build"' EXIT
-(cd ../crates/measure && rt run -- 0) > "$build/proof" 2>&1 || { cat "$build/proof"; exit 1; }
-cp ../crates/measure/out/measure "$build/measure"
-g++ -std=c++20 -O2 -Wall -Wextra -o "$build/peers" peers.cpp -lpthread
-g++ -std=c++20 -O2 -Wall -Wextra -o "$build/steps" steps.cpp -lpthread
-g++ -std=c++20 -O2 -Wall -Wextra -o "$build/gaps" gaps.cpp
-arc_swap=()
-for source in /usr/share/cargo/registry/arc-swap-*/src/lib.rs; do
-  [ -f "$source" ] || continue
-  rustc --edition 2018 -O --cap-lints allow --crate-type rlib --crate-name arc_swap \
-    -o "$build/libarc_swap.rlib" "$source"
-  arc_swap=(--cfg arc_swap --extern "arc_swap=$build/libarc_swap.rlib")
-done
-rustc --edition 2024 -O --check-cfg 'cfg(arc_swap)' "${arc_swap[@]}" -o "$build/arc" arc.rs
-for turn in $(seq "${1:-20}"); do
-  "$build/measure" 3 > "$build/measure.$turn"
-  "$build/peers" 5 > "$build/peers.$turn"
-  "$build/arc" 5 > "$build/arc.$turn"
+if [ -z "$folder" ]; then
+  folder=$(mktemp -d)
+  trap 'rm -rf "$folder"' EXIT
+fi
+
+# The proved program, or the one that was given.
+build_measure() {
+  if [ -z "$measure" ]; then
+    (cd ../crates/measure && rt run -- 0) > "$folder/proof" 2>&1 || { cat "$folder/proof"; exit 1; }
+    measure=../crates/measure/out/measure
+  fi
+  cp "$measure" "$folder/measure"
+}
+
+build_arc() {
+  local arc_swap=() source
+  for source in /usr/share/cargo/registry/arc-swap-*/src/lib.rs; do
+    [ -f "$source" ] || continue
+    rustc --edition 2018 -O --cap-lints allow --crate-type rlib --crate-name arc_swap \
+      -o "$folder/libarc_swap.rlib" "$source"
+    arc_swap=(--cfg arc_swap --extern "arc_swap=$folder/libarc_swap.rlib")
+  done
+  rustc --edition 2024 -O --check-cfg 'cfg(arc_swap)' "${arc_swap[@]}" -o "$folder/arc" arc.rs
+}
+
+[ -f "$folder/measure" ] || build_measure
+[ -f "$folder/peers" ] || g++ -std=c++20 -O2 -Wall -Wextra -o "$folder/peers" peers.cpp -lpthread
+[ -f "$folder/steps" ] || g++ -std=c++20 -O2 -Wall -Wextra -o "$folder/steps" steps.cpp -lpthread
+[ -f "$folder/gaps" ] || g++ -std=c++20 -O2 -Wall -Wextra -o "$folder/gaps" gaps.cpp
+[ -f "$folder/arc" ] || build_arc
+for turn in $(seq "$turns"); do
+  "$folder/measure" 3 > "$folder/measure.$turn"
+  "$folder/peers" 5 > "$folder/peers.$turn"
+  "$folder/arc" 5 > "$folder/arc.$turn"
 done
 model=$(grep -m1 'model name' /proc/cpuinfo | cut -d: -f2 | xargs)
 load=$(uptime | sed 's/.*average//')
 echo "$(uname -n), $model, $(nproc) processors, $(date -u +%F), load$load"
-python3 table.py "$build"/measure.* "$build"/peers.* "$build"/arc.*
-"$build/steps"
-"$build/gaps"
+python3 table.py "$folder"/measure.* "$folder"/peers.* "$folder"/arc.*
+"$folder/steps"
+"$folder/gaps"

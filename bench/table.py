@@ -26,7 +26,9 @@ def cell(test, peer, threads):
     ns, base = number((test, peer, threads)), number((test, BASE, threads))
     if ns is None:
         return "-"
-    return f"{ns:.1f} ({ns / base:.2f})" if base else f"{ns:.1f}"
+    if base is None:
+        return f"{ns:.1f}"
+    return f"{ns:.1f} ({ns / base:{'.2f' if ns / base >= 0.1 else '.4f'}})"
 
 
 tests = list(dict.fromkeys(test for test, _, _ in samples))

@@ -41,7 +41,7 @@ impl<'t, D: Domain<Value = ()>> Chain<'t, D> {
 struct DropChain;
 
 impl<'t, D: Domain<Value = ()>> Row<Chain<'t, D>> for DropChain {
-    fn once<R: Wait>(&self, _rt: &R, chain: &mut Chain<'t, D>) -> bool {
+    fn once<R: Clock + Wait>(&self, _rt: &R, chain: &mut Chain<'t, D>) -> bool {
         chain.head.take().is_some()
     }
 
@@ -86,7 +86,7 @@ impl<'t, D: Domain<Value = ()>> Subject<'t, D> {
 struct Notify;
 
 impl<'t, D: Domain<Value = ()>> Row<Subject<'t, D>> for Notify {
-    fn once<R: Wait>(&self, rt: &R, subject: &mut Subject<'t, D>) -> bool {
+    fn once<R: Clock + Wait>(&self, rt: &R, subject: &mut Subject<'t, D>) -> bool {
         let mut living = 0usize;
         for observer in &subject.observers {
             match observer.lock(rt) {

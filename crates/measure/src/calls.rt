@@ -4,6 +4,7 @@ use crate::rows::Row;
 use pointer_structures::Stack;
 use pointers::{Domain, Fault};
 use std::hint::black_box;
+use std::rt::Clock;
 use std::sync::Wait;
 
 /// How many exchanges are a turn.
@@ -15,7 +16,7 @@ pub(crate) struct Make;
 
 impl<'t, D: Domain<Value = ()>> Row<Own<'t, D>> for Make {
     #[inline(always)]
-    fn once<R: Wait>(&self, _rt: &R, own: &mut Own<'t, D>) -> bool {
+    fn once<R: Clock + Wait>(&self, _rt: &R, own: &mut Own<'t, D>) -> bool {
         own.desk.make(FIELDS, ()).is_ok()
     }
 }
@@ -26,7 +27,7 @@ pub(crate) struct Share;
 
 impl<'t, D: Domain<Value = ()>> Row<Own<'t, D>> for Share {
     #[inline(always)]
-    fn once<R: Wait>(&self, _rt: &R, own: &mut Own<'t, D>) -> bool {
+    fn once<R: Clock + Wait>(&self, _rt: &R, own: &mut Own<'t, D>) -> bool {
         own.shared.share().is_ok()
     }
 }
@@ -37,7 +38,7 @@ pub(crate) struct Downgrade;
 
 impl<'t, D: Domain<Value = ()>> Row<Own<'t, D>> for Downgrade {
     #[inline(always)]
-    fn once<R: Wait>(&self, _rt: &R, own: &mut Own<'t, D>) -> bool {
+    fn once<R: Clock + Wait>(&self, _rt: &R, own: &mut Own<'t, D>) -> bool {
         own.shared.downgrade().is_ok()
     }
 }
@@ -48,7 +49,7 @@ pub(crate) struct Count;
 
 impl<'t, D: Domain<Value = ()>> Row<Own<'t, D>> for Count {
     #[inline(always)]
-    fn once<R: Wait>(&self, _rt: &R, own: &mut Own<'t, D>) -> bool {
+    fn once<R: Clock + Wait>(&self, _rt: &R, own: &mut Own<'t, D>) -> bool {
         black_box(own.shared.use_count()).is_ok()
     }
 }
@@ -59,7 +60,7 @@ pub(crate) struct Lock;
 
 impl<'t, D: Domain<Value = ()>> Row<Own<'t, D>> for Lock {
     #[inline(always)]
-    fn once<R: Wait>(&self, rt: &R, own: &mut Own<'t, D>) -> bool {
+    fn once<R: Clock + Wait>(&self, rt: &R, own: &mut Own<'t, D>) -> bool {
         matches!(own.weak.lock(rt), Ok(Some(_)))
     }
 }
@@ -70,7 +71,7 @@ pub(crate) struct Load;
 
 impl<'t, D: Domain<Value = ()>> Row<Own<'t, D>> for Load {
     #[inline(always)]
-    fn once<R: Wait>(&self, rt: &R, own: &mut Own<'t, D>) -> bool {
+    fn once<R: Clock + Wait>(&self, rt: &R, own: &mut Own<'t, D>) -> bool {
         matches!(own.desk.load(rt, own.cell), Ok(Some(_)))
     }
 }
@@ -81,7 +82,7 @@ pub(crate) struct Store;
 
 impl<'t, D: Domain<Value = ()>> Row<Own<'t, D>> for Store {
     #[inline(always)]
-    fn once<R: Wait>(&self, _rt: &R, own: &mut Own<'t, D>) -> bool {
+    fn once<R: Clock + Wait>(&self, _rt: &R, own: &mut Own<'t, D>) -> bool {
         match own.shared.share() {
             Ok(copy) => copy.store(own.cell).is_ok(),
             Err(_) => false,
@@ -94,7 +95,7 @@ impl<'t, D: Domain<Value = ()>> Row<Own<'t, D>> for Store {
 pub(crate) struct Exchange;
 
 impl<'t, D: Domain<Value = ()>> Row<Own<'t, D>> for Exchange {
-    fn once<R: Wait>(&self, _rt: &R, own: &mut Own<'t, D>) -> bool {
+    fn once<R: Clock + Wait>(&self, _rt: &R, own: &mut Own<'t, D>) -> bool {
         exchange_all(own).is_ok()
     }
 }
@@ -115,7 +116,7 @@ pub(crate) struct Compare;
 
 impl<'t, D: Domain<Value = ()>> Row<Own<'t, D>> for Compare {
     #[inline]
-    fn once<R: Wait>(&self, rt: &R, own: &mut Own<'t, D>) -> bool {
+    fn once<R: Clock + Wait>(&self, rt: &R, own: &mut Own<'t, D>) -> bool {
         let Ok(copy) = own.shared.share() else {
             return false;
         };
@@ -133,7 +134,7 @@ pub(crate) struct PushPop;
 
 impl<'t, D: Domain<Value = ()>> Row<Own<'t, D>> for PushPop {
     #[inline]
-    fn once<R: Wait>(&self, rt: &R, own: &mut Own<'t, D>) -> bool {
+    fn once<R: Clock + Wait>(&self, rt: &R, own: &mut Own<'t, D>) -> bool {
         push_and_pop(rt, own).is_ok()
     }
 }

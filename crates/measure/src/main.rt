@@ -2,14 +2,20 @@
 //! "test|peer|threads|nanoseconds|share", as the peers' programs do, and nothing without an argument. Where a call
 //! was refused, the share is 0: then the time is no measure of the work. `measure PASSES SECONDS` then tells how many
 //! makes are done and how many refused beside threads that end what is made, in so many seconds.
+//!
+//! `measure row NUMBER CHUNKS` makes the calls of one row by one thread, so many chunks of turns, and tells how many
+//! turns these are, so that their instructions can be counted.
 #![tactic(auto)]
 
 mod alone;
 mod calls;
+mod maps;
 mod own;
 mod pages;
 mod parts;
 mod race;
+mod reads;
+mod roles;
 mod rows;
 mod shelf;
 mod start;
@@ -31,6 +37,7 @@ fn measure<R: Clock + CpuClock + Threads + Wait + Sync + Print>(
 ) -> io::Result<()> {
     for _ in 0..passes {
         race::measure(rt, alloc)?;
+        maps::measure(rt, alloc)?;
         alone::measure(rt, alloc)?;
         pages::measure(rt, alloc)?;
     }
@@ -67,11 +74,38 @@ fn all_rows<R: Clock + CpuClock + Threads + Wait + Sync + Print>(
     }
 }
 
+/// The next word as a number.
+fn number_in(words: &mut env::Args<Global>) -> io::Result<u32> {
+    let Some(word) = words.next() else {
+        return Err(io::Error::from(io::ErrorKind::InvalidInput));
+    };
+    match word.parse::<u32>() {
+        Ok(number) => Ok(number),
+        Err(_) => Err(io::Error::from(io::ErrorKind::InvalidInput)),
+    }
+}
+
+/// One row by one thread.
+fn one_row<R: Clock + CpuClock + Threads + Wait + Sync + Print>(
+    rt: &R,
+    alloc: Global,
+    words: env::Args<Global>,
+) -> io::Result<()> {
+    let mut words = words;
+    let number = number_in(&mut words)?;
+    let chunks = number_in(&mut words)?;
+    race::repeat(rt, alloc, number as usize, chunks)
+}
+
 fn main(rt: HostRuntime) -> io::Result<ExitCode> {
     let mut words = env::args(&rt)?;
     let Some(passes) = words.nth(1) else {
         return Ok(ExitCode::from(0));
     };
-    all_rows(&rt, rt.alloc(), passes.as_str(), words)?;
+    if passes.as_str() == "row" {
+        one_row(&rt, rt.alloc(), words)?;
+    } else {
+        all_rows(&rt, rt.alloc(), passes.as_str(), words)?;
+    }
     Ok(ExitCode::from(0))
 }

@@ -39,7 +39,7 @@ fn make_and_end<D: Domain<Value = Page>>(desk: &Desk<D>) -> bool {
 struct Make;
 
 impl<'t, D: Domain<Value = Page>> Row<Pages<'t, D>> for Make {
-    fn once<R: Wait>(&self, _rt: &R, pages: &mut Pages<'t, D>) -> bool {
+    fn once<R: Clock + Wait>(&self, _rt: &R, pages: &mut Pages<'t, D>) -> bool {
         make_and_end(pages.desk)
     }
 }
@@ -50,7 +50,7 @@ struct Visit;
 
 impl<'t, D: Domain<Value = Page>> Row<Pages<'t, D>> for Visit {
     #[inline(always)]
-    fn once<R: Wait>(&self, rt: &R, pages: &mut Pages<'t, D>) -> bool {
+    fn once<R: Clock + Wait>(&self, rt: &R, pages: &mut Pages<'t, D>) -> bool {
         pages
             .page
             .visit(rt, |page| page[7] = page[7].wrapping_add(1))

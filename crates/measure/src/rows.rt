@@ -1,17 +1,20 @@
 //! What is measured, and how it is told.
 use crate::timing::Spent;
 use std::io;
+use std::rt::Clock;
 use std::sync::Wait;
 
-/// How this runtime's rows are called: by pointers, and by the structures on them.
+/// How this runtime's rows are called: by pointers, by cached reads of a cell, and by the structures on them.
 pub(crate) const POINTERS: &str = "this runtime";
+
+pub(crate) const CACHED: &str = "this runtime, cached";
 
 pub(crate) const STRUCTURES: &str = "this runtime, structures";
 
 /// What is done over and over, on a `T`.
 pub(crate) trait Row<T> {
     /// A turn: whether no call was refused.
-    fn once<R: Wait>(&self, rt: &R, on: &mut T) -> bool;
+    fn once<R: Clock + Wait>(&self, rt: &R, on: &mut T) -> bool;
 
     /// Whether something is to be made before a turn.
     fn prepares(&self) -> bool {

@@ -43,6 +43,8 @@ pub(crate) enum Until<'a> {
     Spent,
     /// At a moment.
     Moment(&'a Start, u64),
+    /// After so many chunks.
+    Chunks(u32),
 }
 
 /// What a thread has spent, and since when it spends.
@@ -84,6 +86,7 @@ impl Stopwatch {
                 Ok(self.spent.wall.saturating_add(since) >= SPAN)
             }
             Until::Moment(start, end) => Ok(start.now(rt)? >= end),
+            Until::Chunks(count) => Ok(self.spent.chunks >= count),
         }
     }
 }
@@ -104,7 +107,7 @@ fn prepare<T, W: Row<T>, R: Clock + CpuClock + Wait>(
 }
 
 /// So many turns, or until a call is refused: whether none was.
-fn repeat<T, W: Row<T>, R: Wait>(rt: &R, row: &W, on: &mut T, turns: u32) -> bool {
+fn repeat<T, W: Row<T>, R: Clock + Wait>(rt: &R, row: &W, on: &mut T, turns: u32) -> bool {
     for _ in 0..turns {
         if !row.once(rt, on) {
             return false;

@@ -1,0 +1,110 @@
+// Rows of a cell that is read, and of a cache by keys.
+#pragma once
+
+#include <type_traits>
+#include <unordered_map>
+
+#include "timing.h"
+
+// A row of readers beside a first thread that stores, at once again or after a pause. Only the readers are told.
+template <class Store, class Read>
+void time_readers(char const *test, char const *peer, int threads, bool pauses, Store store, Read read) {
+    if (threads == 1) return;
+    auto spent = run(threads, short_chunk, [&](int t, std::uint64_t n) {
+        if (t > 0) return read(t, n);
+        auto next = Clock::now() + pause_between;
+        for (std::uint64_t stores = pauses ? 1 : n; stores > 0; stores--) store();
+        while (pauses && Clock::now() < next) __builtin_ia32_pause();
+    });
+    tell(test, peer, spent, 1, threads);
+}
+
+// The rows of a cell that is read, by the writer beside the readers.
+template <class Store, class Read>
+void read_rows(char const *peer, int threads, std::uint64_t count, Store store, Read read) {
+    time_row("read of one cell, no writer", peer, threads, read, count);
+    time_readers("read of one cell, a new object each 10 us", peer, threads, true, store, read);
+    time_readers("read of one cell, new objects all the time", peer, threads, false, store, read);
+}
+
+// What C++ programs write by hand: a reader keeps a copy, and takes another where the version is a new one.
+struct Versioned {
+    std::atomic<std::uint64_t> version{1};
+    std::mutex door;
+    std::shared_ptr<Object> current = std::make_shared<Object>();
+
+    void store(std::shared_ptr<Object> next) {
+        std::lock_guard<std::mutex> guard(door);
+        current.swap(next);
+        version.fetch_add(1);
+    }
+};
+
+struct Reader {
+    std::uint64_t seen = 0;
+    std::shared_ptr<Object> copy;
+
+    Object *get(Versioned &of) {
+        if (std::uint64_t version = of.version.load(); version != seen) {
+            std::lock_guard<std::mutex> guard(of.door);
+            copy = of.current;
+            seen = of.version.load();
+        }
+        return copy.get();
+    }
+};
+
+void version_rows(int threads) {
+    Apart<Versioned> cell;
+    Apart<Reader> readers[most_threads];
+    read_rows("libstdc++, by a version", threads, chunk, [&] { cell.value.store(std::make_shared<Object>()); },
+              [&](int t, std::uint64_t n) {
+                  while (n--) keep(readers[t].value.get(cell.value));
+              });
+}
+
+// A cache as C++ programs have it: weak pointers by keys, behind a mutex.
+struct Cache {
+    std::mutex door;
+    std::unordered_map<std::uint64_t, std::weak_ptr<Object>> entries;
+
+    std::shared_ptr<Object> lock(std::uint64_t key) {
+        std::lock_guard<std::mutex> guard(door);
+        auto found = entries.find(key);
+        return found == entries.end() ? nullptr : found->second.lock();
+    }
+
+    void insert(std::uint64_t key, std::weak_ptr<Object> value) {
+        std::lock_guard<std::mutex> guard(door);
+        entries[key].swap(value);
+    }
+};
+
+void map_rows(int threads) {
+    Cache cache;
+    std::vector<std::shared_ptr<Object>> living;
+    for (std::uint64_t key = 0; key < keys; key++) {
+        living.push_back(std::make_shared<Object>());
+        cache.insert(key, living.back());
+    }
+    Apart<std::uint64_t> at[most_threads] = {{0}, {2'500}, {5'000}, {7'500}};
+    auto next = [&at](int t) { return at[t].value = (at[t].value + 7'919) % keys; };
+    time_row("map of 10,000 keys, lock + release", "libstdc++ shared_ptr", threads, [&](int t, std::uint64_t n) {
+        while (n--) keep(cache.lock(next(t)).get());
+    }, short_chunk);
+    time_row("map of 10,000 keys, insert of a weak pointer", "libstdc++ shared_ptr", threads,
+             [&](int t, std::uint64_t n) {
+                 while (n--) cache.insert(next(t), living[t]);
+             }, short_chunk);
+}
+
+// The row of a cell for weak pointers, where there is one.
+template <class Cell, class Weak> void weak_cell_row(char const *peer, int threads, Apart<Weak> const *weak) {
+    if constexpr (!std::is_void_v<Cell>) {
+        Apart<Cell> cell[most_threads];
+        for (int i = 0; i < most_threads; i++) cell[i].value.store(weak[i].value);
+        time_row("weak cell load + release, own cell", peer, threads, [&](int t, std::uint64_t n) {
+            while (n--) keep(cell[t].value.load());
+        });
+    }
+}
