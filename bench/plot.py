@@ -4,7 +4,7 @@
 
 usage: bench/plot.py TEXT > bench/ratios.svg
 
-TEXT is a file with what bench/run.sh printed, or bench/README.md. The day is the last before the table."""
+TEXT is a file with what bench/run.sh printed, or bench/rows.md. The day is the last before the table."""
 import math
 import re
 import sys
@@ -18,12 +18,14 @@ DAY = re.compile(r"\d{4}-\d\d-\d\d")
 # By the peer's name: its class in the style, and its mark.
 MARKS = {
     "this runtime": ("own", "disc"),
-    "this runtime, handles in memory": ("own", "ring"),
-    "this runtime, handle table": ("own", "plus"),
-    "this runtime, scene_structures": ("own", "cross"),
+    "this runtime, cached": ("own", "ring"),
+    "this runtime, structures": ("own", "cross"),
+    "libstdc++, by a version": ("version", "plus"),
     "Boost shared_ptr": ("boost", "square"),
     "Rust Arc": ("arc", "triangle"),
     "Rust arc-swap": ("swap", "diamond"),
+    "Rust arc-swap, guard": ("swap", "ring"),
+    "Rust arc-swap, Cache": ("swap", "cross"),
 }
 SHAPES = {
     "disc": '<circle r="4.5"/>',
@@ -43,6 +45,7 @@ text { font: 12px sans-serif; fill: #1f2328; }
 .grid { stroke: #d1d9e0; }
 .base { stroke: #59636e; stroke-width: 1.5; }
 .own { fill: #d55e00; stroke: #d55e00; }
+.version { fill: #59636e; stroke: #59636e; }
 .boost { fill: #0072b2; stroke: #0072b2; }
 .arc { fill: #009e73; stroke: #009e73; }
 .swap { fill: #a0569b; stroke: #a0569b; }
@@ -55,13 +58,14 @@ text { font: 12px sans-serif; fill: #1f2328; }
   .grid { stroke: #3d444d; }
   .base { stroke: #9198a1; }
   .own { fill: #ff8a3d; stroke: #ff8a3d; }
+  .version { fill: #9198a1; stroke: #9198a1; }
   .boost { fill: #58b0ec; stroke: #58b0ec; }
   .arc { fill: #3fc79a; stroke: #3fc79a; }
   .swap { fill: #d896d3; stroke: #d896d3; }
   .line { fill: none; }
 }
 """
-LEFT, PANEL, GAP, STEP, TOP = 290, 270, 44, 24, 116
+LEFT, PANEL, GAP, STEP, TOP = 310, 270, 44, 24, 130
 TICKS = [0.125, 0.25, 0.5, 1, 2, 4, 8]
 
 
@@ -101,10 +105,10 @@ def scale(panel, title, bottom):
 
 
 def legend(peers):
-    places = [(LEFT + 156 * (at % 4), 34 + 18 * (at // 4)) for at in range(len(peers))]
+    places = [(LEFT + 190 * (at % 3), 34 + 18 * (at // 3)) for at in range(len(peers))]
     for peer, (x, y) in zip(peers, places):
         yield mark(peer, x, y - 4)
-        yield words(x + 10, y, peer.replace("this runtime, ", "its "))
+        yield words(x + 10, y, peer)
 
 
 def row_of(at):
@@ -136,9 +140,10 @@ def width():
 def note(found):
     """What is said of the ratios that the scale hasn't."""
     every = [it for peers in found.values() for both in peers.values() for it in both if it]
-    beyond = [it for it in every if it > TICKS[-1]]
-    listed = ", ".join(f"{it:.0f}" for it in sorted(beyond))
-    return f"At the right end stand ratios beyond the scale: {listed}." if beyond else ""
+    below, beyond = [it for it in every if it < TICKS[0]], [it for it in every if it > TICKS[-1]]
+    said = [f"at its left end stand {len(below)}, down to {min(below):.4f}"] if below else []
+    said += [f"at its right end stand {len(beyond)}, up to {max(beyond):.0f}"] if beyond else []
+    return f"Beyond the scale: {'; '.join(said)}." if said else ""
 
 
 def picture(text):
