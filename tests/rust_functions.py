@@ -3,6 +3,7 @@
 import re
 from collections import Counter
 from dataclasses import dataclass
+from itertools import accumulate
 from pathlib import Path
 
 LITERAL = re.compile(r"""//[^\n]*|/\*.*?\*/|b?"(?:\\.|[^"\\])*"|b?'(?:\\.[^']*|[^'\\\n])'""", re.S)
@@ -76,14 +77,29 @@ def last_word(text: str) -> str:
 
 
 def argument_of(header: str) -> str:
-    """What the trait of an impl with this header takes first, without its own arguments; empty where nothing."""
+    """What the trait of an impl with this header takes first, without its own arguments; empty where
+    nothing."""
     trait, _, of_type = header.partition(" for ")
-    found = TRAIT_ARGUMENT.search(re.sub(r"^\s*impl\s*(?:<(?:[^<>]|<[^<>]*>)*>)?", "", trait)) if of_type else None
+    found = (
+        TRAIT_ARGUMENT.search(re.sub(r"^\s*impl\s*(?:<(?:[^<>]|<[^<>]*>)*>)?", "", trait))
+        if of_type
+        else None
+    )
     return found[1] if found else ""
+
+
+def is_of_one_type(header: str) -> bool:
+    """Whether this impl's type has an argument that is no parameter of the impl, as
+    `FreeCells<SharedCell>`."""
+    depths = list(accumulate((sign == "<") - (sign == ">") for sign in header))
+    end = depths.index(0, header.index("<")) if re.match(r"\s*impl\s*<", header) else 0
+    of_type = re.split(r"\bwhere\b", header[end:])[0].partition("<")[2]
+    return any(word not in re.findall(r"\w+", header[:end]) for word in re.findall(r"(?<!')\b\w+", of_type))
 
 
 def owner_pattern(header: str, argument: str = r"\w*") -> str:
     """The pattern of the name that a check gives an impl or a trait with this header."""
+    plus = r"(?:\+\w+)+" if is_of_one_type(header) else ""
     while TYPE_ARGUMENTS.search(header):
         header = TYPE_ARGUMENTS.sub("", header)
     words = re.split(r"\bwhere\b", header)[0].strip()
@@ -91,7 +107,8 @@ def owner_pattern(header: str, argument: str = r"\w*") -> str:
         return re.escape(re.findall(r"\w+", words)[1])
     words = words.removeprefix("impl")
     if " for " not in words:
-        return last_word(words)
+        # (a check has such an argument behind the type's name, as `FreeCells+SharedCell`)
+        return last_word(words) + plus
     trait, _, of_type = words.partition(" for ")
     both = rf"{last_word(of_type)}\w*{last_word(trait)}{argument}"
     # (an impl of Drop has the type's name alone)
@@ -99,8 +116,8 @@ def owner_pattern(header: str, argument: str = r"\w*") -> str:
 
 
 def owner_patterns(headers: list[str]) -> list[str]:
-    """The patterns of the names of a file's impls and traits. Impls of one trait for one type are told apart by
-    what the trait takes first, which a check's name then has, as `FaultFromRefused`."""
+    """The patterns of the names of a file's impls and traits. Impls of one trait for one type are told apart
+    by what the trait takes first, which a check's name then has, as `FaultFromRefused`."""
     alike = Counter(owner_pattern(header) for header in headers)
     return [
         owner_pattern(header, argument_of(header)) if alike[pattern] > 1 else pattern
