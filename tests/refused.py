@@ -1,7 +1,8 @@
-"""Which tests are run with each allocation refused in turn, and what tests/refuse_allocations is told of them."""
+"""Which tests are run with each allocation refused in turn, and what tests/refuse_allocations is told of
+them."""
 
-# Tests of calls that take no memory, by crate and by the test that only opens and closes such a domain, or has a worker
-# that makes no call.
+# Tests of calls that take no memory, by crate and by the test that only opens and closes such a domain, or
+# has a worker that makes no call.
 NO_MEMORY = {
     "handle_tests": {
         "foundations::ledger::a_refused_opening_leaves_nothing": """
@@ -13,7 +14,8 @@ NO_MEMORY = {
             ending::forgotten::forgotten_handles_stand_in_the_census
             ending::forgotten::a_value_of_an_unfinished_end_is_dropped_with_the_census
             ending::this::an_enabled_object_gives_itself""",
-        "memory::four_blocks_are_opened_and_closed": "desks::shelves::spare_blocks_go_to_the_shelf_and_come_back",
+        "memory::four_blocks_are_opened_and_closed": """
+            desks::shelves::spare_blocks_go_to_the_shelf_and_come_back""",
     },
     "table_tests": {
         "memory::a_worker_makes_no_call": "cells::members::objects_end_member_by_member",
@@ -29,12 +31,14 @@ NO_MEMORY = {
 
 def as_opened(crate):
     """Pairs of a crate's tests, each of which takes no more memory than the one after it."""
-    return [name for plain, tests in NO_MEMORY[crate].items() for test in tests.split() for name in (test, plain)]
+    return [
+        name for plain, tests in NO_MEMORY[crate].items() for test in tests.split() for name in (test, plain)
+    ]
 
 
 # A crate, a module or a test of one, whose tests are run with each allocation refused in turn, and what
-# tests/refuse_allocations is told of them: those that may not fail, each with the most allocations that it makes of its
-# own (the others may say that memory was wanted), and pairs that take as many allocations.
+# tests/refuse_allocations is told of them: those that may not fail, each with the most allocations that it
+# makes of its own (the others may say that memory was wanted), and pairs that take as many allocations.
 REFUSED = {
     "handle_tests::foundations::ledger": ["foundations::ledger::a_refused_opening_leaves_nothing=0"],
     "handle_tests::foundations::arena": ["foundations::arena::an_arena_may_be_refused=0"],

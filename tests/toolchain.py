@@ -35,7 +35,8 @@ class Toolchain:
         self.crates = {crate.name: crate for crate in found}
 
     def keeps_what_it_proved(self) -> bool:
-        """Whether a second `rt ci` on this machine takes over what an earlier one proved; older kits don't."""
+        """Whether a second `rt ci` on this machine takes over what an earlier one proved; older kits
+        don't."""
         return hasattr(self.rt, "stamp_of")
 
     def command(self, crate: str, *words: str) -> list[str]:
