@@ -1,3 +1,4 @@
+pub mod Prelude
 pub mod packing
 pub mod lists
 pub mod history

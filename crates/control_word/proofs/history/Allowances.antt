@@ -1,25 +1,19 @@
 -- The allowances of desks are the whole together, and no desk holds more than its own.
-use Rattle.std.proofs.Common.{◌≡◌, ◌≢◌, ℕ, suc, ◌+◌, ◌-◌, ◌<◌, ◌≤◌, true, false, ◌==◌, List, [], ◌∷◌, length}
-use Rattle.std.proofs.Common.{Some, refl, sym, ap, subst, ◌∙◌, ⊎_elim, eq-eqb, arith}
-use Rattle.std.proofs.lemmas.Bool.{cases_eq, cases_lt, cond_both}
-use Rattle.control_word.proofs.history.BagSizes.{bag_others, bags_all, gets_others, join_bag, loses_others, split_bag, swaps_others}
+use Rattle.std.proofs.Common.{◌≡◌, ℕ, suc, ◌+◌, ◌-◌, ◌<◌, ◌≤◌, true, false, ◌≢◌, List, [], ◌∷◌}
+use Rattle.std.proofs.Common.{length, ◌==◌, Some, sym, refl, ap, ◌∙◌, subst, ⊎_elim, arith, eq-eqb}
+use Rattle.control_word.proofs.Prelude
+use Prelude.{after, Asks, bag_size, Block, cases_eq, cases_lt, ClearMember, Compare, cond_both}
+use Prelude.{Count, Entry, Event, Expired, Finish, Free, handle, Has, HasAll, HasRoom, Held, held}
+use Prelude.{IsActing, IsLegal, IsOpening, Join, joins_up, leads, Leave, Load, Lock, Make, Member}
+use Prelude.{NumberedHandle, Object, Opening, origin, Owner, put, Read, Same, same_held, Share}
+use Prelude.{Shelve, Split, splits_off, State, Stored, Swap, Unshelve, Visit, Weak, WeakLeave}
+use Prelude.{WeakShare}
+use Rattle.control_word.proofs.history.BagSizes.{bag_others, bags_all, gets_others, join_bag}
+use Rattle.control_word.proofs.history.BagSizes.{loses_others, split_bag, swaps_others}
 use Rattle.control_word.proofs.history.Soundness.{Allowed}
 use Rattle.control_word.proofs.lists.Sums.{num_fewer, sum_le, sum_put}
 use Rattle.control_word.proofs.lists.Tallies.{num, num_has, put_cases, put_other, put_same}
-use Rattle.control_word.specs.Events.{Asks, after, joins_up, origin, splits_off}
-use Rattle.control_word.specs.Handles.{handle}
-use Rattle.control_word.specs.Histories.{IsLegal, leads}
 use Rattle.control_word.specs.Laws.{AllowancesAddUp}
-use Rattle.control_word.specs.State.{Has, HasAll, HasRoom, Held, IsActing, IsOpening, Object, Opening, State, Stored, bag_size, held, put, same_held}
-use Rattle.control_word.specs.declared.model.event.Cell.TheVariants.{Free, Member}
-use Rattle.control_word.specs.declared.model.event.Entry.{Entry}
-use Rattle.control_word.specs.declared.model.event.Event.{Event}
-use Rattle.control_word.specs.declared.model.event.Event.TheVariants.{ClearMember, Compare, Count, Expired, Finish, Join, Leave, Load, Lock, Make, Read}
-use Rattle.control_word.specs.declared.model.event.Event.TheVariants.{Share, Split, Swap, Visit, WeakLeave, WeakShare}
-use Rattle.control_word.specs.declared.model.event.Event.TheVariants.{Same, Shelve, Unshelve}
-use Rattle.control_word.specs.declared.model.handle.NumberedHandle.{NumberedHandle}
-use Rattle.control_word.specs.declared.model.handle.Kind.TheVariants.{Owner, Weak}
-use Rattle.control_word.specs.declared.place.Block.{Block}
 
 -- where only d's bag grows, within its allowance, all stays allowed
 allowed_still : (z : Opening) (s : State) (d : ℕ) (l : List Held) (r : List Stored) (n : ℕ)

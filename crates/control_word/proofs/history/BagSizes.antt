@@ -1,16 +1,14 @@
 -- How many handles a desk has, as events change it.
-use Rattle.std.proofs.Common.{◌≡◌, ◌≢◌, ℕ, zero, suc, ◌+◌, ◌<◌, ◌≤◌, Bool, true, false, ◌==◌, List, [], ◌∷◌, map, length}
-use Rattle.std.proofs.Common.{refl, sym, ap, ◌∙◌, inl, inr, ⊎_elim, eq-eqb, ne_eqb, arith}
-use Rattle.std.specs.List.{filter}
-use Rattle.std.proofs.lemmas.Bool.{eqb-true, cases_eq, cond_both, cond-true, cond-false}
-use Rattle.control_word.proofs.lists.Sums.{num_fewer, num_le, num_length, num_none, num_passes, sum_plus, sum_zero}
+use Rattle.std.proofs.Common.{◌≡◌, ℕ, zero, suc, ◌+◌, ◌<◌, ◌≤◌, Bool, true, false, ◌≢◌, List, []}
+use Rattle.std.proofs.Common.{◌∷◌, map, length, ◌==◌, sym, refl, ap, ◌∙◌, inl, inr, ⊎_elim, arith}
+use Rattle.std.proofs.Common.{eq-eqb, ne_eqb, eqb-true}
+use Rattle.control_word.proofs.Prelude.{bag_size, cases_eq, Cell, cond-false, cond-true, cond_both}
+use Rattle.control_word.proofs.Prelude.{filter, Free, gets, Has, has_object, HasAll, Held, held}
+use Rattle.control_word.proofs.Prelude.{loses, Member, NumberedHandle, passed, renamed, same_held}
+use Rattle.control_word.proofs.Prelude.{State, sum_below, swaps, without}
+use Rattle.control_word.proofs.lists.Sums.{num_fewer, num_le, num_length, num_none, num_passes}
+use Rattle.control_word.proofs.lists.Sums.{sum_plus, sum_zero}
 use Rattle.control_word.proofs.lists.Tallies.{held_self, held_true, num, num_cons, num_map}
-use Rattle.control_word.specs.Events.{gets, loses, renamed, swaps}
-use Rattle.control_word.specs.Handles.{has_object}
-use Rattle.control_word.specs.State.{Has, HasAll, Held, State, bag_size, held, passed, same_held, sum_below, without}
-use Rattle.control_word.specs.declared.model.event.Cell.{Cell}
-use Rattle.control_word.specs.declared.model.event.Cell.TheVariants.{Free, Member}
-use Rattle.control_word.specs.declared.model.handle.NumberedHandle.{NumberedHandle}
 
 pub bag_others : (q d : ℕ) (h : NumberedHandle) (l : List Held) → q ≢ d
     → num (λ x. x.desk == q) (held d h ∷ l) ≡ num (λ x. x.desk == q) l

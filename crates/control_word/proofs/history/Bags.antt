@@ -1,12 +1,11 @@
 -- What one desk has, where another gets or loses something.
-use Rattle.std.proofs.Common.{◌≡◌, ◌≢◌, ℕ, Bool, ◌==◌, List, ◌∷◌, map, refl, sym, ap, ◌∙◌, ne_eqb}
-use Rattle.std.proofs.lemmas.Bool.{cond_both, cond-false}
+use Rattle.std.proofs.Common.{◌≡◌, ℕ, Bool, ◌≢◌, List, ◌∷◌, map, ◌==◌, sym, refl, ap, ◌∙◌, ne_eqb}
+use Rattle.control_word.proofs.Prelude.{bag, cond-false, cond_both, gets, has_object, Held, held}
+use Rattle.control_word.proofs.Prelude.{loses, NumberedHandle, renamed, same_held, State, stock}
+use Rattle.control_word.proofs.Prelude.{Stored, stored, without}
 use Rattle.control_word.proofs.lists.Parts.{part, part_map, part_other, part_without}
 use Rattle.control_word.proofs.lists.Tallies.{held_true}
-use Rattle.control_word.specs.Events.{gets, loses, renamed, vacates}
-use Rattle.control_word.specs.Handles.{has_object}
-use Rattle.control_word.specs.State.{Held, State, Stored, bag, held, same_held, stock, stored, without}
-use Rattle.control_word.specs.declared.model.handle.NumberedHandle.{NumberedHandle}
+use Rattle.control_word.specs.Events.{vacates}
 
 abbrev pub desk_of : Held → ℕ
 desk_of x = x.desk

@@ -1,13 +1,13 @@
 -- Objects that live or end lie each in a block of its own, so they are no more than the blocks.
-use Rattle.std.proofs.Common.{◌≡◌, ℕ, zero, suc, ◌-◌, ◌<◌, ◌≤◌, cond, nat_lt, ap, ◌∙◌, ⊎_elim, arith}
-use Rattle.std.proofs.Common.{lt-ltb, le-ltb}
-use Rattle.std.proofs.lemmas.Bool.{cases_lt, cond_both, cond-true, cond-false}
+use Rattle.std.proofs.Common.{◌≡◌, ℕ, zero, suc, ◌-◌, ◌<◌, ◌≤◌, cond, nat_lt, ap, ◌∙◌, ⊎_elim}
+use Rattle.std.proofs.Common.{arith, le-ltb, lt-ltb}
+use Rattle.control_word.proofs.Prelude.{cases_lt, common, cond-false, cond-true, cond_both, ending}
+use Rattle.control_word.proofs.Prelude.{gone, leads, live, Opening, Phase, State, sum_below}
+use Rattle.control_word.proofs.Prelude.{unmade}
 use Rattle.control_word.proofs.history.Legal.{sound}
 use Rattle.control_word.proofs.history.Soundness.{Sound}
 use Rattle.control_word.proofs.lists.Sums.{sum_le, sum_more, sum_ones}
-use Rattle.control_word.specs.Histories.{leads}
 use Rattle.control_word.specs.Laws.{FewAtOnce}
-use Rattle.control_word.specs.State.{Opening, Phase, State, common, ending, gone, live, sum_below, unmade}
 
 common_once : (p : Phase) → common p ≤ 1
 common_once unmade = omega arith

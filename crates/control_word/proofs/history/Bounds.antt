@@ -1,18 +1,14 @@
 -- How many handles are in cells: at most one object a block is there, with two owner members and a weak one.
-use Rattle.std.proofs.Common.{◌≡◌, ◌≢◌, ℕ, zero, suc, ◌+◌, ◌*◌, ◌<◌, ◌≤◌, ◌⊎◌, List, [], ◌∷◌, length}
-use Rattle.std.proofs.Common.{refl, sym, ap, ◌∙◌, inl, inr, ⊎_elim, arith}
-use Rattle.std.proofs.lemmas.Bool.{cases_eq, cases_lt}
+use Rattle.std.proofs.Common.{◌≡◌, ℕ, zero, suc, ◌+◌, ◌*◌, ◌<◌, ◌≤◌, ◌≢◌, ◌⊎◌, List, [], ◌∷◌}
+use Rattle.std.proofs.Common.{length, sym, refl, ap, ◌∙◌, inl, inr, ⊎_elim, arith}
+use Rattle.control_word.proofs.Prelude.{cases_eq, cases_lt, common, empty, ending, gone, handle}
+use Rattle.control_word.proofs.Prelude.{in_cells, is_on, Kind, kind_of_member, live, members, more}
+use Rattle.control_word.proofs.Prelude.{NumberedHandle, Object, Opening, Owner, Phase, State}
+use Rattle.control_word.proofs.Prelude.{sum_below, tally, unmade, upto, Weak}
 use Rattle.control_word.proofs.history.Making.{empty_counts}
 use Rattle.control_word.proofs.history.Soundness.{Formed, IsBusy, Sound}
 use Rattle.control_word.proofs.lists.Sums.{num_length, sum_zero}
 use Rattle.control_word.proofs.lists.Tallies.{tally_append, tally_cons}
-use Rattle.control_word.specs.Handles.{empty, handle, is_on}
-use Rattle.control_word.specs.State.{Object, Opening, Phase, State, common, ending, gone, in_cells, kind_of_member, live, members, sum_below, tally}
-use Rattle.control_word.specs.State.{unmade, upto}
-use Rattle.control_word.specs.Views.{more}
-use Rattle.control_word.specs.declared.model.handle.NumberedHandle.{NumberedHandle}
-use Rattle.control_word.specs.declared.model.handle.Kind.{Kind}
-use Rattle.control_word.specs.declared.model.handle.Kind.TheVariants.{Owner, Weak}
 
 -- where g is f, and at most one more at a single place
 sum_one_more : (n p : ℕ) (f g : ℕ → ℕ) → ((i : ℕ) → i ≢ p → g i ≤ f i) → ((i : ℕ) → g i ≤ f i + 1)

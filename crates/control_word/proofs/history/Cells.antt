@@ -1,22 +1,18 @@
 -- Handles in cells, and what a change of a cell does to the counts.
-use Rattle.std.proofs.Common.{◌≡◌, ◌≢◌, ℕ, zero, suc, ◌+◌, ◌<◌, ◌≤◌, false, List, [], ◌∷◌, ◌++◌, map, Option, Some}
-use Rattle.std.proofs.Common.{None, refl, sym, ap, subst}
-use Rattle.std.proofs.Common.{◌∙◌, ⊎_elim, arith}
-use Rattle.std.proofs.lemmas.Bool.{cases_eq, cond_both}
+use Rattle.std.proofs.Common.{◌≡◌, ℕ, zero, suc, ◌+◌, ◌<◌, ◌≤◌, false, ◌≢◌, List, [], ◌∷◌, ◌++◌}
+use Rattle.std.proofs.Common.{map, Some, None, Option, sym, refl, ap, ◌∙◌, subst, ⊎_elim, arith}
+use Rattle.control_word.proofs.Prelude
+use Prelude.{cases_eq, Cell, cell_of, common, cond_both, empty, fills, Free, gets, handle, handles}
+use Prelude.{Has, has_object, Held, held, in_cells, InHand, IsOpen, Kind, kind_of, kind_of_member}
+use Prelude.{live, loses, Member, members, NumberedHandle, Object, object_of, Opening, Owner}
+use Prelude.{Place, put, same_held, State, swaps, tally, unmade, upto, Weak, without}
 use Rattle.control_word.proofs.history.Clearing.{gets_tally, no_object, was_made}
-use Rattle.control_word.proofs.history.Moving.{counted_live, fits_same, owner_counted, sound_moves, sound_owner, sound_weak}
+use Rattle.control_word.proofs.history.Moving.{counted_live, fits_same, owner_counted, sound_moves}
+use Rattle.control_word.proofs.history.Moving.{sound_owner, sound_weak}
 use Rattle.control_word.proofs.history.Soundness.{OwnersFit, Sound}
-use Rattle.control_word.proofs.lists.Tallies.{put_cases, put_other, put_same, tally_append, tally_cons, tally_here, tally_without, upto_same}
-use Rattle.control_word.specs.Events.{InHand, IsOpen, cell_of, fills, gets, kind_of, loses, swaps}
-use Rattle.control_word.specs.Handles.{empty, handle, has_object, object_of}
-use Rattle.control_word.specs.State.{Has, Held, Object, Opening, State, common, count, handles, held, in_cells, kind_of_member, live, members, put}
-use Rattle.control_word.specs.State.{same_held, tally, unmade, upto, weak, without}
-use Rattle.control_word.specs.declared.model.event.Cell.{Cell}
-use Rattle.control_word.specs.declared.model.event.Cell.TheVariants.{Free, Member}
-use Rattle.control_word.specs.declared.model.handle.NumberedHandle.{NumberedHandle}
-use Rattle.control_word.specs.declared.model.handle.Kind.{Kind}
-use Rattle.control_word.specs.declared.model.handle.Kind.TheVariants.{Owner, Weak}
-use Rattle.control_word.specs.declared.place.Place.{Place}
+use Rattle.control_word.proofs.lists.Tallies.{put_cases, put_other, put_same, tally_append}
+use Rattle.control_word.proofs.lists.Tallies.{tally_cons, tally_here, tally_without, upto_same}
+use Rattle.control_word.specs.State.{count, weak}
 
 -- the handles in cells are counted, so their objects were made
 pub member_counted : (k : Kind) (r : ℕ) (x : Object) (m : ℕ) → m < 3 → tally k r (x.member m ∷ []) ≤ tally k r (members x)

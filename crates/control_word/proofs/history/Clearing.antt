@@ -1,20 +1,16 @@
 -- A member goes out of an ending object.
-use Rattle.std.proofs.Common.{◌≡◌, ◌≢◌, ℕ, zero, suc, ◌+◌, ◌<◌, false, cond, List, [], ◌∷◌, ◌++◌, map, Option, Some, None, refl}
-use Rattle.std.proofs.Common.{sym, ap, subst, ◌∙◌}
-use Rattle.std.proofs.Common.{⊎_elim, arith}
-use Rattle.std.proofs.lemmas.Bool.{cases_eq, cases_lt, cond_both}
+use Rattle.std.proofs.Common.{◌≡◌, ℕ, zero, suc, ◌+◌, ◌<◌, false, cond, ◌≢◌, List, [], ◌∷◌, ◌++◌}
+use Rattle.std.proofs.Common.{map, Some, None, Option, sym, refl, ap, ◌∙◌, subst, ⊎_elim, arith}
+use Rattle.control_word.proofs.Prelude
+use Prelude.{cases_eq, cases_lt, changes, clears, common, cond_both, empty, ending, gets, handle}
+use Prelude.{handles, has_object, Held, held, Kind, kind_of_member, members, NumberedHandle}
+use Prelude.{Object, Opening, Owner, Place, put, State, tally, unmade, upto, Weak}
 use Rattle.control_word.proofs.history.Making.{empty_counts}
 use Rattle.control_word.proofs.history.Moving.{fits_same, sound_moves}
 use Rattle.control_word.proofs.history.Soundness.{OwnersFit, Sound}
-use Rattle.control_word.proofs.lists.Tallies.{put_cases, put_other, put_same, tally_append, tally_cons, upto_same}
-use Rattle.control_word.specs.Events.{changes, clears, gets}
-use Rattle.control_word.specs.Handles.{empty, handle, has_object}
-use Rattle.control_word.specs.State.{Held, Object, Opening, State, common, count, ending, handles, held, kind_of_member, members, put, tally, unmade}
-use Rattle.control_word.specs.State.{upto, weak}
-use Rattle.control_word.specs.declared.model.handle.NumberedHandle.{NumberedHandle}
-use Rattle.control_word.specs.declared.model.handle.Kind.{Kind}
-use Rattle.control_word.specs.declared.model.handle.Kind.TheVariants.{Owner, Weak}
-use Rattle.control_word.specs.declared.place.Place.{Place}
+use Rattle.control_word.proofs.lists.Tallies.{put_cases, put_other, put_same, tally_append}
+use Rattle.control_word.proofs.lists.Tallies.{tally_cons, upto_same}
+use Rattle.control_word.specs.State.{count, weak}
 
 -- counting over all objects after one of them changed
 tally_put : (k : Kind) (q n o : ℕ) (f : ℕ → Object) (x : Object) → o < n

@@ -1,7 +1,13 @@
 -- An object that ends is in the hands of a desk that isn't joined, and stays there whatever the others do.
-use Rattle.std.proofs.Common.{◌≡◌, ◌≢◌, ℕ, suc, ◌<◌, ◌≤◌, true, false, cond, ◌==◌, List, [], ◌∷◌, ◌++◌}
-use Rattle.std.proofs.Common.{refl, sym, ap, subst, ◌∙◌, inl, inr, ⊎_elim, ne_eqb, arith}
-use Rattle.std.proofs.lemmas.Bool.{cond_both, cond-false, eqb-false}
+use Rattle.std.proofs.Common.{◌≡◌, ℕ, suc, ◌<◌, ◌≤◌, true, false, cond, ◌≢◌, List, [], ◌∷◌, ◌++◌}
+use Rattle.std.proofs.Common.{◌==◌, sym, refl, ap, ◌∙◌, subst, inl, inr, ⊎_elim, arith, ne_eqb}
+use Rattle.control_word.proofs.Prelude
+use Prelude.{after, Asks, ClearMember, common, Compare, cond-false, cond_both, Count, empty}
+use Prelude.{ending, Entry, eqb-false, Event, Expired, Finish, Free, gone, handed, IsActing}
+use Prelude.{IsLegal, Join, kind_of_member, leads, Leave, live, Load, Lock, Make, Member, moved_to}
+use Prelude.{Names, new_object, NoneBy, NumberedHandle, Object, object_of, Opening, Owner, Phase}
+use Prelude.{put, Read, renamed, Same, Share, Shelve, Split, State, Swap, unmade, Unshelve, Visit}
+use Prelude.{WeakLeave, WeakShare}
 use Rattle.control_word.proofs.history.Allowances.{allowed}
 use Rattle.control_word.proofs.history.Clearing.{emptied, was_made}
 use Rattle.control_word.proofs.history.Given.{legal_seen, names_an_object}
@@ -10,22 +16,7 @@ use Rattle.control_word.proofs.history.Legal.{sound, written}
 use Rattle.control_word.proofs.history.Moving.{counted_live, owner_counted}
 use Rattle.control_word.proofs.history.Soundness.{Sound}
 use Rattle.control_word.proofs.lists.Tallies.{put_cases, put_other}
-use Rattle.control_word.specs.Events.{Asks, after, handed, moved_to, new_object, renamed}
-use Rattle.control_word.specs.Handles.{empty, object_of}
-use Rattle.control_word.specs.Histories.{IsLegal, leads}
 use Rattle.control_word.specs.Laws.{EndsInHands, EndsStill, IsInHands, StaysTheLatest}
-use Rattle.control_word.specs.State.{IsActing, Object, Opening, Phase, State, common, ending, gone, kind_of_member}
-use Rattle.control_word.specs.State.{live, put, unmade}
-use Rattle.control_word.specs.Views.{Names, NoneBy}
-use Rattle.control_word.specs.declared.model.event.Cell.TheVariants.{Free, Member}
-use Rattle.control_word.specs.declared.model.event.Entry.{Entry}
-use Rattle.control_word.specs.declared.model.event.Event.{Event}
-use Rattle.control_word.specs.declared.model.event.Event.TheVariants.{ClearMember, Compare, Count, Expired, Finish, Join}
-use Rattle.control_word.specs.declared.model.event.Event.TheVariants.{Leave, Load, Lock, Make, Read}
-use Rattle.control_word.specs.declared.model.event.Event.TheVariants.{Share, Split, Swap, Visit, WeakLeave, WeakShare}
-use Rattle.control_word.specs.declared.model.event.Event.TheVariants.{Same, Shelve, Unshelve}
-use Rattle.control_word.specs.declared.model.handle.NumberedHandle.{NumberedHandle}
-use Rattle.control_word.specs.declared.model.handle.Kind.TheVariants.{Owner}
 
 ends_same : (d e : ℕ) → ending d ≡ ending e → d ≡ e
 ends_same d e q = cc

@@ -1,30 +1,22 @@
 -- Handles in bags and in cells are well formed, and those in cells are of the cells' kinds.
-use Rattle.std.proofs.Common.{◌≡◌, ℕ, suc, ◌≤◌, Bool, true, false, List, [], ◌∷◌, map}
-use Rattle.std.proofs.Common.{◌⊎◌, cond, Option, Some, refl, sym, ap, subst, ◌∙◌, inl, inr, ⊎_elim, arith}
-use Rattle.std.proofs.lemmas.Bool.{cond_both}
+use Rattle.std.proofs.Common.{◌≡◌, ℕ, suc, ◌≤◌, Bool, true, false, cond, ◌⊎◌, List, [], ◌∷◌, map}
+use Rattle.std.proofs.Common.{Some, Option, sym, refl, ap, ◌∙◌, subst, inl, inr, ⊎_elim, arith}
+use Rattle.control_word.proofs.Prelude
+use Prelude.{after, Asks, Cell, cell_of, ClearMember, common, Compare, cond_both, Count, empty}
+use Prelude.{ending, Entry, Event, Expired, Finish, Free, gets, gone, handed, handle, Has}
+use Prelude.{has_object, HasAll, Held, held, Holds, InHand, IsFormed, IsLegal, IsOpen, IsPointer}
+use Prelude.{Join, Kind, kind_of, kind_of_free, kind_of_member, leads, Leave, Load, Lock, loses}
+use Prelude.{Make, Member, moved_to, new_object, NumberedHandle, Object, object_of, Opening}
+use Prelude.{origin, Owner, passed, Place, put, Read, renamed, Same, same_held, Share, Shelve}
+use Prelude.{Split, State, Stored, Swap, swaps, Unshelve, Visit, Weak, WeakLeave, WeakShare}
+use Prelude.{without}
 use Rattle.control_word.proofs.history.Allowances.{opened}
 use Rattle.control_word.proofs.history.Legal.{held_busy, sound, written}
 use Rattle.control_word.proofs.history.Making.{made_state}
 use Rattle.control_word.proofs.history.Soundness.{Formed, IsBusy, Sound}
 use Rattle.control_word.proofs.lists.Tallies.{has_before, held_self, held_true, put_cases}
-use Rattle.control_word.specs.Events.{Asks, Holds, InHand, IsOpen, after, cell_of, gets, handed, kind_of, loses, moved_to, new_object, origin, place_at}
-use Rattle.control_word.specs.Events.{renamed, swaps}
-use Rattle.control_word.specs.Handles.{IsFormed, IsPointer, empty, handle, has_object, object_of}
-use Rattle.control_word.specs.Histories.{IsLegal, leads}
+use Rattle.control_word.specs.Events.{place_at}
 use Rattle.control_word.specs.Laws.{AreFormed}
-use Rattle.control_word.specs.State.{Has, HasAll, Held, Object, Opening, State, Stored, common, ending, gone, held, kind_of_free, kind_of_member}
-use Rattle.control_word.specs.State.{passed, put, same_held, without}
-use Rattle.control_word.specs.declared.model.event.Cell.{Cell}
-use Rattle.control_word.specs.declared.model.event.Cell.TheVariants.{Free, Member}
-use Rattle.control_word.specs.declared.model.event.Entry.{Entry}
-use Rattle.control_word.specs.declared.model.event.Event.{Event}
-use Rattle.control_word.specs.declared.model.event.Event.TheVariants.{ClearMember, Compare, Count, Expired, Finish, Join, Leave, Load, Lock, Make, Read}
-use Rattle.control_word.specs.declared.model.event.Event.TheVariants.{Share, Split, Swap, Visit, WeakLeave, WeakShare}
-use Rattle.control_word.specs.declared.model.event.Event.TheVariants.{Same, Shelve, Unshelve}
-use Rattle.control_word.specs.declared.model.handle.NumberedHandle.{NumberedHandle}
-use Rattle.control_word.specs.declared.model.handle.Kind.{Kind}
-use Rattle.control_word.specs.declared.model.handle.Kind.TheVariants.{Owner, Weak}
-use Rattle.control_word.specs.declared.place.Place.{Place}
 
 -- the handle is well formed, and has an object
 abbrev IsGood : NumberedHandle → Type 0

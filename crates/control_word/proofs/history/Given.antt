@@ -1,24 +1,20 @@
 -- An object's last owner leaves once, and what is held names an object.
-use Rattle.std.proofs.Common.{List, ◌≡◌, ◌≢◌, ℕ, suc, ◌+◌, ◌<◌, true, false, cond, ◌==◌, [], ◌∷◌, refl, sym, ap, ◌∙◌}
-use Rattle.std.proofs.Common.{eq-eqb, ne_eqb, arith, ◌++◌, ◌≤◌}
-use Rattle.std.proofs.lemmas.Bool.{cond-true, cond-false}
+use Rattle.std.proofs.Common.{◌≡◌, ℕ, suc, ◌+◌, ◌<◌, ◌≤◌, true, false, cond, ◌≢◌, List, [], ◌∷◌}
+use Rattle.std.proofs.Common.{◌++◌, ◌==◌, sym, refl, ap, ◌∙◌, arith, eq-eqb, ne_eqb}
+use Rattle.control_word.proofs.Prelude
+use Prelude.{after, Asks, ClearMember, Compare, cond-false, cond-true, Count, ending, Entry, Event}
+use Prelude.{Expired, Finish, Free, gone, handed, IsLegal, Join, leads, Leave, live, Load, Lock}
+use Prelude.{Make, Member, moved_to, new_object, Object, object_of, Opening, Owner, Phase, put}
+use Prelude.{Read, Same, Share, Shelve, Split, State, Swap, unmade, Unshelve, Visit, Weak}
+use Prelude.{weak_number, WeakLeave, WeakShare}
 use Rattle.control_word.proofs.history.Clearing.{emptied, was_made}
 use Rattle.control_word.proofs.history.Legal.{held_busy, sound, written}
 use Rattle.control_word.proofs.history.Moving.{counted_live, owner_counted}
 use Rattle.control_word.proofs.history.Soundness.{OwnersFit, Sound}
 use Rattle.control_word.proofs.lists.Tallies.{put_cases}
-use Rattle.control_word.specs.Events.{Asks, after, handed, moved_to, new_object}
-use Rattle.control_word.specs.Handles.{object_of}
-use Rattle.control_word.specs.Histories.{IsLegal, ends_by, given, leads}
+use Rattle.control_word.specs.Histories.{ends_by, given}
 use Rattle.control_word.specs.Laws.{LiveWhileOwned, NamesAnObject, StaysExpired}
-use Rattle.control_word.specs.State.{Object, Opening, Phase, State, count, ending, gone, live, put, unmade, weak_number}
-use Rattle.control_word.specs.declared.model.event.Cell.TheVariants.{Free, Member}
-use Rattle.control_word.specs.declared.model.event.Entry.{Entry}
-use Rattle.control_word.specs.declared.model.event.Event.{Event}
-use Rattle.control_word.specs.declared.model.event.Event.TheVariants.{ClearMember, Compare, Count, Expired, Finish, Join, Leave, Load, Lock, Make, Read}
-use Rattle.control_word.specs.declared.model.event.Event.TheVariants.{Share, Split, Swap, Visit, WeakLeave, WeakShare}
-use Rattle.control_word.specs.declared.model.event.Event.TheVariants.{Same, Shelve, Unshelve}
-use Rattle.control_word.specs.declared.model.handle.Kind.TheVariants.{Owner, Weak}
+use Rattle.control_word.specs.State.{count}
 
 -- the object's last owner has left
 abbrev pub over : Phase → ℕ

@@ -1,33 +1,28 @@
 -- What keeps vacant blocks in stores.
-use Rattle.std.proofs.Common.{◌≡◌, ◌≢◌, ℕ, suc, ◌+◌, ◌<◌, ◌≤◌, ◌⊎◌, Bool, true, false, cond, ◌&&◌, ◌==◌, List, []}
-use Rattle.std.proofs.Common.{◌∷◌, map, length}
-use Rattle.std.proofs.Common.{Option, Some, None, refl, sym, ap, ◌∙◌, inl, inr, ⊎_elim, eq-eqb, ne_eqb, arith}
-use Rattle.std.specs.List.{filter}
-use Rattle.std.proofs.lemmas.Bool.{eqb-false, and_from, cases_eq, cond_both, cond-true, cond-false}
+use Rattle.std.proofs.Common.{◌≡◌, ℕ, suc, ◌+◌, ◌<◌, ◌≤◌, Bool, true, false, cond, ◌&&◌, ◌≢◌, ◌⊎◌}
+use Rattle.std.proofs.Common.{List, [], ◌∷◌, map, length, ◌==◌, Some, None, Option, sym, refl, ap}
+use Rattle.std.proofs.Common.{◌∙◌, inl, inr, ⊎_elim, arith, eq-eqb, ne_eqb}
+use Rattle.control_word.proofs.Prelude
+use Prelude.{and_from, Block, cases_eq, Cell, cell_of, changes, clears, common, cond-false}
+use Prelude.{cond-true, cond_both, empty, ending, eqb-false, filter, finishes, Free, gets, gone}
+use Prelude.{handle, Has, HasAll, Held, held, how_often, in_cells, InHand, InShape, is_gone, is_on}
+use Prelude.{IsVacant, joins_up, Kind, kind_of, kind_of_member, leaves, live, Member, members}
+use Prelude.{more, moved_to, new_object, NumberedHandle, Object, object_of, on_shelf, Opening}
+use Prelude.{Owner, Phase, Place, put, renamed, same_held, same_stored, splits_off, State, Stored}
+use Prelude.{stored, swaps, tally, times_kept, unmade, Weak, weak_leaves, weak_number, without}
 use Rattle.control_word.proofs.history.Cells.{InState, swap_weak}
 use Rattle.control_word.proofs.history.Clearing.{gets_tally}
 use Rattle.control_word.proofs.history.Making.{made_state, made_weak}
-use Rattle.control_word.proofs.history.Moving.{counted_live, less_owners, less_weaks, owner_counted, weak_same}
+use Rattle.control_word.proofs.history.Moving.{counted_live, less_owners, less_weaks}
+use Rattle.control_word.proofs.history.Moving.{owner_counted, weak_same}
 use Rattle.control_word.proofs.history.Passing.{handed_common}
 use Rattle.control_word.proofs.history.Soundness.{Sound}
 use Rattle.control_word.proofs.lists.Sums.{num_passes}
-use Rattle.control_word.proofs.lists.Tallies.{held_self, held_true, num, num_map, num_without, put_cases, put_other, put_same, stored_self, stored_true}
-use Rattle.control_word.proofs.lists.Tallies.{tally_append}
-use Rattle.control_word.specs.Events.{InHand, cell_of, changes, clears, finishes, gets, is_gone, joins_up, kind_of, leaves, moved_to, new_object}
-use Rattle.control_word.specs.Events.{renamed, splits_off, swaps, weak_leaves}
-use Rattle.control_word.specs.Handles.{IsBare, empty, handle, is_on, object_of}
-use Rattle.control_word.specs.Laws.{how_often, times_kept}
-use Rattle.control_word.specs.State.{Has, HasAll, Held, InShape, IsVacant, Object, Opening, Phase, State, Stored, common, ending, gone, held, in_cells}
-use Rattle.control_word.specs.State.{kind_of_member, live, members, put, same_held, same_stored, stored, tally, unmade, weak, weak_number, without}
-use Rattle.control_word.specs.Views.{more}
-use Rattle.control_word.specs.declared.model.event.Cell.{Cell}
-use Rattle.control_word.specs.declared.model.event.Cell.TheVariants.{Free, Member}
-use Rattle.control_word.specs.declared.model.handle.NumberedHandle.{NumberedHandle}
-use Rattle.control_word.specs.declared.model.handle.Kind.{Kind}
-use Rattle.control_word.specs.declared.model.handle.Kind.TheVariants.{Owner, Weak}
-use Rattle.control_word.specs.declared.place.Block.{Block}
-use Rattle.control_word.specs.declared.place.Place.{Place}
-use Rattle.control_word.specs.State.{on_shelf}
+use Rattle.control_word.proofs.lists.Tallies.{held_self, held_true, num, num_map, num_without}
+use Rattle.control_word.proofs.lists.Tallies.{put_cases, put_other, put_same, stored_self}
+use Rattle.control_word.proofs.lists.Tallies.{stored_true, tally_append}
+use Rattle.control_word.specs.Handles.{IsBare}
+use Rattle.control_word.specs.State.{weak}
 
 -- each vacant block is in a store or on the shelf
 abbrev pub Kept : Opening → State → Type 0

@@ -1,31 +1,20 @@
 -- What an event leaves to the desks that it isn't of and doesn't name.
-use Rattle.std.proofs.Common.{◌≡◌, ◌≢◌, ℕ, suc, ◌+◌, ◌-◌, ◌≤◌, true, false, List, [], ◌∷◌, ◌++◌, Some, refl, sym, Bool}
-use Rattle.std.proofs.Common.{ap, subst, ◌∙◌, arith}
-use Rattle.control_word.proofs.history.Bags.{bag_gets, bag_loses, bag_renamed, desk_of, keeper, stock_renamed}
-use Rattle.control_word.proofs.history.Bags.{stock_vacates}
-use Rattle.control_word.proofs.lists.Parts.{has_part, part, part_has, part_other, part_passed, part_without}
+use Rattle.std.proofs.Common.{◌≡◌, ℕ, suc, ◌+◌, ◌-◌, ◌≤◌, Bool, true, false, ◌≢◌, List, [], ◌∷◌}
+use Rattle.std.proofs.Common.{◌++◌, Some, sym, refl, ap, ◌∙◌, subst, arith}
+use Rattle.control_word.proofs.Prelude
+use Prelude.{after, bag, Block, Cell, ClearMember, Compare, Count, empty, ending, Entry, Event}
+use Prelude.{Expired, Finish, Free, gone, handed, handle, Has, Held, held, IsActing, Join}
+use Prelude.{joins_up, kind_of_member, leads, Leave, Load, Lock, loses, Make, Member, moved_to}
+use Prelude.{Names, new_object, NoneBy, NumberedHandle, Object, object_of, Opening, origin, Owner}
+use Prelude.{Phase, put, Read, same_held, same_stored, Share, Shelve, Split, splits_off, State}
+use Prelude.{stock, Stored, stored, Swap, swaps, Unshelve, Visit, Weak, WeakLeave, WeakShare}
+use Rattle.control_word.proofs.history.Bags.{bag_gets, bag_loses, bag_renamed, desk_of, keeper}
+use Rattle.control_word.proofs.history.Bags.{stock_renamed, stock_vacates}
+use Rattle.control_word.proofs.lists.Parts.{has_part, part, part_has, part_other, part_passed}
+use Rattle.control_word.proofs.lists.Parts.{part_without}
 use Rattle.control_word.proofs.lists.Tallies.{held_true, put_cases, put_other, stored_true}
-use Rattle.control_word.specs.Events.{after, handed, joins_up, loses, moved_to, new_object, origin, splits_off}
-use Rattle.control_word.specs.Events.{swaps}
-use Rattle.control_word.specs.Handles.{empty, handle, object_of}
-use Rattle.control_word.specs.Histories.{leads}
 use Rattle.control_word.specs.Laws.{StaysAsMade}
-use Rattle.control_word.specs.State.{Has, Held, IsActing, Object, Opening, Phase, State, bag, ending, gone, held, put, Stored}
-use Rattle.control_word.specs.State.{kind_of_member}
-use Rattle.control_word.specs.State.{same_held, same_stored, stock, stored}
-use Rattle.control_word.specs.Views.{Names, NoneBy}
-use Rattle.control_word.specs.declared.model.event.Cell.{Cell}
-use Rattle.control_word.specs.declared.model.event.Cell.TheVariants.{Free, Member}
-use Rattle.control_word.specs.declared.model.event.Entry.{Entry}
-use Rattle.control_word.specs.declared.model.event.Event.{Event}
-use Rattle.control_word.specs.declared.model.event.Event.TheVariants.{ClearMember, Compare, Count, Expired, Finish, Join}
-use Rattle.control_word.specs.declared.model.event.Event.TheVariants.{Leave, Load, Lock, Make, Read}
-use Rattle.control_word.specs.declared.model.event.Event.TheVariants.{Share, Split, Swap, Visit, WeakLeave, WeakShare}
-use Rattle.control_word.specs.declared.model.event.Event.TheVariants.{Shelve, Unshelve}
 use Rattle.control_word.specs.declared.model.event.Event.TheVariants as event
-use Rattle.control_word.specs.declared.model.handle.NumberedHandle.{NumberedHandle}
-use Rattle.control_word.specs.declared.model.handle.Kind.TheVariants.{Owner, Weak}
-use Rattle.control_word.specs.declared.place.Block.{Block}
 
 -- the desk has the same in both states
 pub record Same (s t : State) (d : ℕ) : Type 0 where

@@ -1,18 +1,18 @@
 -- Handles leave, and objects end.
-use Rattle.std.proofs.Common.{◌≡◌, ◌≢◌, ℕ, zero, suc, ◌+◌, ◌<◌, Bool, true, false, ◌&&◌, ◌==◌, List, Option, Some, refl, sym, ap}
-use Rattle.std.proofs.Common.{subst, ◌∙◌, ⊎_elim, arith}
-use Rattle.std.proofs.lemmas.Bool.{eqb-true, eqb-false, and_parts, cases_eq}
-use Rattle.control_word.proofs.history.Moving.{count_same, counted_live, fits_from_live, fits_same, less_owners, less_weaks, live_busy, owner_counted}
+use Rattle.std.proofs.Common.{◌≡◌, ℕ, zero, suc, ◌+◌, ◌<◌, Bool, true, false, ◌&&◌, ◌≢◌, List}
+use Rattle.std.proofs.Common.{◌==◌, Some, Option, sym, refl, ap, ◌∙◌, subst, ⊎_elim, arith}
+use Rattle.std.proofs.Common.{eqb-true}
+use Rattle.control_word.proofs.Prelude
+use Prelude.{and_parts, cases_eq, changes, common, empty, ending, eqb-false, finishes, gone}
+use Prelude.{handle, Has, Held, held, is_gone, IsVacant, kind_of_member, leaves, live, loses}
+use Prelude.{members, moved_to, Object, Opening, Owner, Phase, Place, put, same_held, State}
+use Prelude.{times_kept, unmade, Weak, weak_leaves, weak_number, without}
+use Rattle.control_word.proofs.history.Moving.{count_same, counted_live, fits_from_live, fits_same}
+use Rattle.control_word.proofs.history.Moving.{less_owners, less_weaks, live_busy, owner_counted}
 use Rattle.control_word.proofs.history.Moving.{sound_hands, sound_moves, sound_vacates, weak_same}
 use Rattle.control_word.proofs.history.Soundness.{IsBusy, OwnersFit, Sound, kept_vacant}
 use Rattle.control_word.proofs.lists.Tallies.{put_again, put_cases}
-use Rattle.control_word.specs.Events.{changes, finishes, is_gone, leaves, loses, moved_to, weak_leaves}
-use Rattle.control_word.specs.Handles.{empty, handle}
-use Rattle.control_word.specs.Laws.{times_kept}
-use Rattle.control_word.specs.State.{Has, Held, IsVacant, Object, Opening, Phase, State, common, count, ending, gone, held, kind_of_member, live}
-use Rattle.control_word.specs.State.{members, put, same_held, unmade, weak, weak_number, without}
-use Rattle.control_word.specs.declared.model.handle.Kind.TheVariants.{Owner, Weak}
-use Rattle.control_word.specs.declared.place.Place.{Place}
+use Rattle.control_word.specs.State.{count, weak}
 
 -- o was busy and is not, and so its block is vacant
 pub becomes_vacant : (z : Opening) (s s' : State) (o : ℕ) → Sound z s → IsBusy s o → weak_number s' o ≡ 0

@@ -1,33 +1,26 @@
 -- Every state that a legal history leads to is sound.
-use Rattle.std.proofs.Common.{◌≡◌, ◌≢◌, ℕ, zero, suc, ◌<◌, ◌≤◌, true, false, ◌==◌, List, [], ◌∷◌, length, Option, Some, refl}
-use Rattle.std.proofs.Common.{sym, ap, subst, ◌∙◌}
-use Rattle.std.proofs.Common.{⊎_elim, arith}
-use Rattle.std.specs.List.{filter}
-use Rattle.std.proofs.lemmas.Bool.{eqb-true, eqb-false, cond_both, not-true}
+use Rattle.std.proofs.Common.{◌≡◌, ℕ, zero, suc, ◌<◌, ◌≤◌, true, false, ◌≢◌, List, [], ◌∷◌, length}
+use Rattle.std.proofs.Common.{◌==◌, Some, Option, sym, refl, ap, ◌∙◌, subst, ⊎_elim, arith}
+use Rattle.std.proofs.Common.{eqb-true}
+use Rattle.control_word.proofs.Prelude
+use Prelude.{after, all_stored, Asks, ClearMember, clears, common, Compare, cond_both, Count}
+use Prelude.{empty, Entry, eqb-false, Event, Expired, filter, Finish, gets, handle, handles, Has}
+use Prelude.{Held, held, how_often, IsLegal, Join, Kind, kind_of_free, leads, Leave, leaves, Load}
+use Prelude.{Lock, Make, members, nobody, NumberedHandle, object_of, Opening, Owner, Place, Read}
+use Prelude.{Same, Share, Shelve, Split, start, State, Stored, stored, Swap, swaps, tally}
+use Prelude.{Unshelve, upto, Visit, Weak, weak_leaves, WeakLeave, WeakShare}
+use Rattle.std.proofs.lemmas.Bool.{not-true}
 use Rattle.control_word.proofs.history.Cells.{sound_load, sound_swap}
 use Rattle.control_word.proofs.history.Clearing.{sound_clear}
 use Rattle.control_word.proofs.history.Leaving.{sound_finish, sound_leave, sound_weak_leave}
 use Rattle.control_word.proofs.history.Making.{empty_counts, sound_make}
-use Rattle.control_word.proofs.history.Moving.{counted_live, live_busy, owner_counted, sound_owner, sound_weak, weak_counted}
+use Rattle.control_word.proofs.history.Moving.{counted_live, live_busy, owner_counted, sound_owner}
+use Rattle.control_word.proofs.history.Moving.{sound_weak, weak_counted}
 use Rattle.control_word.proofs.history.Passing.{sound_join, sound_split}
 use Rattle.control_word.proofs.history.Shelving.{sound_shelved, sound_unshelved}
 use Rattle.control_word.proofs.history.Soundness.{IsBusy, Sound}
 use Rattle.control_word.proofs.lists.Tallies.{tally_append, tally_upto_empty}
-use Rattle.control_word.specs.Events.{Asks, after, clears, gets, leaves, swaps, weak_leaves}
-use Rattle.control_word.specs.Handles.{empty, handle, object_of}
-use Rattle.control_word.specs.Histories.{IsLegal, leads}
-use Rattle.control_word.specs.Laws.{how_often}
-use Rattle.control_word.specs.State.{Has, Held, Opening, State, Stored, all_stored, common, count, handles, held, kind_of_free, members, nobody, start}
-use Rattle.control_word.specs.State.{stored, tally, upto, weak}
-use Rattle.control_word.specs.declared.model.event.Entry.{Entry}
-use Rattle.control_word.specs.declared.model.event.Event.{Event}
-use Rattle.control_word.specs.declared.model.event.Event.TheVariants.{ClearMember, Compare, Count, Expired, Finish, Join, Leave, Load, Lock, Make, Read}
-use Rattle.control_word.specs.declared.model.event.Event.TheVariants.{Share, Split, Swap, Visit, WeakLeave, WeakShare}
-use Rattle.control_word.specs.declared.model.event.Event.TheVariants.{Same, Shelve, Unshelve}
-use Rattle.control_word.specs.declared.model.handle.NumberedHandle.{NumberedHandle}
-use Rattle.control_word.specs.declared.model.handle.Kind.{Kind}
-use Rattle.control_word.specs.declared.model.handle.Kind.TheVariants.{Owner, Weak}
-use Rattle.control_word.specs.declared.place.Place.{Place}
+use Rattle.control_word.specs.State.{count, weak}
 
 -- a handle that is held, written out
 pub written : (l : List Held) (d : ℕ) (k : Kind) (h : NumberedHandle) → Has (held d h) l → h.kind ≡ k → h.object ≡ Some (object_of h)

@@ -1,21 +1,15 @@
 -- Objects that were made stay made, and each one's value comes out once.
-use Rattle.std.proofs.Common.{List, ◌≡◌, ◌≢◌, ℕ, suc, ◌<◌, true, false, [], ◌∷◌, refl, sym, ap, arith, ◌≤◌, ◌⊎◌, ◌↔◌}
-use Rattle.std.proofs.Common.{subst, inl, inr, ⊎_elim}
-use Rattle.std.proofs.lemmas.Bool.{cases_eq}
+use Rattle.std.proofs.Common.{◌≡◌, ℕ, suc, ◌<◌, ◌≤◌, true, false, ◌≢◌, ◌⊎◌, ◌↔◌, List, [], ◌∷◌}
+use Rattle.std.proofs.Common.{sym, refl, ap, subst, inl, inr, ⊎_elim, arith}
+use Rattle.control_word.proofs.Prelude
+use Prelude.{after, cases_eq, ClearMember, Compare, Count, ending, Entry, Event, Expired, Finish}
+use Prelude.{Free, gone, handed, Join, leads, Leave, live, Load, Lock, Make, Member, moved_to}
+use Prelude.{new_object, Object, object_of, Opening, Phase, put, Read, Same, Share, Shelve, Split}
+use Prelude.{State, Swap, unmade, Unshelve, Visit, WeakLeave, WeakShare}
 use Rattle.control_word.proofs.history.Clearing.{emptied}
 use Rattle.control_word.proofs.history.Given.{given_over, over}
 use Rattle.control_word.proofs.lists.Tallies.{put_cases, put_same}
-use Rattle.control_word.specs.Events.{after, handed, moved_to, new_object}
-use Rattle.control_word.specs.Handles.{object_of}
-use Rattle.control_word.specs.Histories.{leads}
 use Rattle.control_word.specs.Laws.{GivesOnce}
-use Rattle.control_word.specs.State.{Object, Opening, Phase, State, ending, gone, live, put, unmade}
-use Rattle.control_word.specs.declared.model.event.Cell.TheVariants.{Free, Member}
-use Rattle.control_word.specs.declared.model.event.Entry.{Entry}
-use Rattle.control_word.specs.declared.model.event.Event.{Event}
-use Rattle.control_word.specs.declared.model.event.Event.TheVariants.{ClearMember, Compare, Count, Expired, Finish, Join, Leave, Load, Lock, Make, Read}
-use Rattle.control_word.specs.declared.model.event.Event.TheVariants.{Share, Split, Swap, Visit, WeakLeave, WeakShare}
-use Rattle.control_word.specs.declared.model.event.Event.TheVariants.{Same, Shelve, Unshelve}
 
 -- an object that was made stays so
 abbrev is_made : Phase → ℕ

@@ -1,18 +1,17 @@
 -- A new object comes into a vacant block.
-use Rattle.std.proofs.Common.{◌≡◌, ◌≢◌, ℕ, suc, ◌+◌, ◌<◌, ◌≤◌, Bool, true, ◌==◌, List, [], ◌∷◌, ◌++◌, map, Some}
-use Rattle.std.proofs.Common.{refl, cond}
-use Rattle.std.proofs.Common.{sym, ap, subst, ◌∙◌, inl, eq-eqb, arith}
+use Rattle.std.proofs.Common.{◌≡◌, ℕ, suc, ◌+◌, ◌<◌, ◌≤◌, Bool, true, cond, ◌≢◌, List, [], ◌∷◌}
+use Rattle.std.proofs.Common.{◌++◌, map, ◌==◌, Some, sym, refl, ap, ◌∙◌, subst, inl, arith, eq-eqb}
+use Rattle.control_word.proofs.Prelude.{common, empty, handle, handles, Has, held, InShape, Kind}
+use Rattle.control_word.proofs.Prelude.{kind_of_member, members, new_object, NumberedHandle}
+use Rattle.control_word.proofs.Prelude.{Object, on_shelf, Opening, origin, Owner, put, same_stored}
+use Rattle.control_word.proofs.Prelude.{State, Stored, stored, tally, unmade, upto, Weak, without}
 use Rattle.control_word.proofs.history.Moving.{fits_same}
 use Rattle.control_word.proofs.history.Soundness.{IsBusy, OwnersFit, Sound}
-use Rattle.control_word.proofs.lists.Tallies.{has_before, num_has, num_without, put_cases, put_other, put_same, stored_self, stored_true, tally_append}
-use Rattle.control_word.proofs.lists.Tallies.{tally_cons, tally_here, tally_other, upto_same}
-use Rattle.control_word.specs.Events.{new_object, origin}
-use Rattle.control_word.specs.Handles.{empty, handle}
-use Rattle.control_word.specs.State.{Has, InShape, Object, Opening, State, Stored, common, count, handles, held, kind_of_member, members, put}
-use Rattle.control_word.specs.State.{same_stored, stored, tally, unmade, upto, weak, without, on_shelf}
-use Rattle.control_word.specs.declared.model.handle.NumberedHandle.{NumberedHandle}
-use Rattle.control_word.specs.declared.model.handle.Kind.{Kind}
-use Rattle.control_word.specs.declared.model.handle.Kind.TheVariants.{Owner, Weak}
+use Rattle.control_word.proofs.lists.Tallies.{has_before, num_has, num_without, put_cases}
+use Rattle.control_word.proofs.lists.Tallies.{put_other, put_same, stored_self, stored_true}
+use Rattle.control_word.proofs.lists.Tallies.{tally_append, tally_cons, tally_here, tally_other}
+use Rattle.control_word.proofs.lists.Tallies.{upto_same}
+use Rattle.control_word.specs.State.{count, weak}
 
 pub empty_counts : (k m : Kind) (o : ℕ) (l : List NumberedHandle) → tally k o (empty m ∷ l) ≡ tally k o l
 empty_counts Owner Owner o l = refl

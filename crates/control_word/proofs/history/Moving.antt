@@ -1,19 +1,16 @@
 -- A change of hands and objects, in their blocks, keeps a state sound.
-use Rattle.std.proofs.Common.{◌≡◌, ◌≢◌, ℕ, zero, suc, ◌<◌, ◌≤◌, ◌==◌, List, [], ◌∷◌, ◌++◌, map, length, Option, Some}
-use Rattle.std.proofs.Common.{◌+◌}
-use Rattle.std.proofs.Common.{refl, sym, ap, subst, ◌∙◌, ⊎_elim, arith}
-use Rattle.std.specs.List.{filter}
-use Rattle.std.proofs.lemmas.Bool.{eqb-true, cases_eq, cond_both}
+use Rattle.std.proofs.Common.{◌≡◌, ℕ, zero, suc, ◌+◌, ◌<◌, ◌≤◌, ◌≢◌, List, [], ◌∷◌, ◌++◌, map}
+use Rattle.std.proofs.Common.{length, ◌==◌, Some, Option, sym, refl, ap, ◌∙◌, subst, ⊎_elim, arith}
+use Rattle.std.proofs.Common.{eqb-true}
+use Rattle.control_word.proofs.Prelude
+use Prelude.{cases_eq, common, cond_both, empty, ending, filter, gone, handle, handles, Has, Held}
+use Prelude.{held, in_cells, InShape, IsVacant, kind_of_member, live, members, NumberedHandle}
+use Prelude.{Object, on_shelf, Opening, Owner, Phase, Place, same_held, State, Stored, stored}
+use Prelude.{tally, times_kept, unmade, upto, Weak, weak_number, without}
 use Rattle.control_word.proofs.history.Soundness.{IsBusy, OwnersFit, Sound}
-use Rattle.control_word.proofs.lists.Tallies.{tally_has, tally_here, tally_other, tally_without, upto_same}
-use Rattle.control_word.specs.Handles.{empty, handle}
-use Rattle.control_word.specs.Laws.{times_kept}
-use Rattle.control_word.specs.State.{Has, Held, InShape, IsVacant, Object, Opening, Phase, State, Stored, common, count, ending, gone, handles, held}
-use Rattle.control_word.specs.State.{in_cells, kind_of_member, live, members, same_held, stored, tally, unmade, upto, weak, weak_number, without}
-use Rattle.control_word.specs.declared.model.handle.NumberedHandle.{NumberedHandle}
-use Rattle.control_word.specs.declared.model.handle.Kind.TheVariants.{Owner, Weak}
-use Rattle.control_word.specs.declared.place.Place.{Place}
-use Rattle.control_word.specs.State.{on_shelf}
+use Rattle.control_word.proofs.lists.Tallies.{tally_has, tally_here, tally_other, tally_without}
+use Rattle.control_word.proofs.lists.Tallies.{upto_same}
+use Rattle.control_word.specs.State.{count, weak}
 
 -- a change of the hands and of objects, in their blocks
 pub record Moves (s : State) (hs : List Held) (f : ℕ → Object) (g : ℕ → NumberedHandle) : Type 0 where

@@ -1,18 +1,12 @@
 -- Which names desks have.
-use Rattle.std.proofs.Common.{◌≡◌, ℕ, ◌<◌, ◌≤◌, true, false, List, [], ◌∷◌, ◌++◌, refl, subst, ◌∙◌, arith}
+use Rattle.std.proofs.Common.{◌≡◌, ℕ, ◌<◌, ◌≤◌, true, false, List, [], ◌∷◌, ◌++◌, refl, ◌∙◌, subst}
+use Rattle.std.proofs.Common.{arith}
+use Rattle.control_word.proofs.Prelude
+use Prelude.{after, Asks, ClearMember, Compare, Count, Entry, Event, Expired, Finish, Free}
+use Prelude.{IsLegal, Join, leads, Leave, Load, Lock, Make, Member, Names, Opening, Read, Same}
+use Prelude.{Share, Shelve, Split, State, Swap, Unshelve, Visit, WeakLeave, WeakShare}
 use Rattle.control_word.proofs.history.Kept.{same_after, same_kept}
-use Rattle.control_word.specs.Events.{Asks, after}
-use Rattle.control_word.specs.Histories.{IsLegal, leads}
 use Rattle.control_word.specs.Laws.{JoinedIsQuiet, UnnamedIsQuiet}
-use Rattle.control_word.specs.State.{Opening, State}
-use Rattle.control_word.specs.Views.{Names}
-use Rattle.control_word.specs.declared.model.event.Cell.TheVariants.{Free, Member}
-use Rattle.control_word.specs.declared.model.event.Entry.{Entry}
-use Rattle.control_word.specs.declared.model.event.Event.{Event}
-use Rattle.control_word.specs.declared.model.event.Event.TheVariants.{ClearMember, Compare, Count, Expired, Finish, Join}
-use Rattle.control_word.specs.declared.model.event.Event.TheVariants.{Leave, Load, Lock, Make, Read}
-use Rattle.control_word.specs.declared.model.event.Event.TheVariants.{Share, Split, Swap, Visit, WeakLeave, WeakShare}
-use Rattle.control_word.specs.declared.model.event.Event.TheVariants.{Same, Shelve, Unshelve}
 
 module _ {V : Type 0} where
   -- a desk that an event names is one of those that there are then

@@ -1,21 +1,16 @@
 -- The numbers of owners and of weak handles have bounds.
 use Rattle.std.proofs.Common.{◌≡◌, ℕ, ◌+◌, ◌≤◌, true, List, [], ◌∷◌, map, length, refl, ◌∙◌, arith}
+use Rattle.control_word.proofs.Prelude.{after, Compare, Entry, Event, Free, handles, Held}
+use Rattle.control_word.proofs.Prelude.{in_cells, Kind, leads, Member, Opening, Owner, State, Swap}
+use Rattle.control_word.proofs.Prelude.{tally, Weak}
 use Rattle.std.proofs.lemmas.List.{length-map}
 use Rattle.control_word.proofs.history.Allowances.{hands_few, opened}
 use Rattle.control_word.proofs.history.Bounds.{common_one, in_cells_few, tally_length}
 use Rattle.control_word.proofs.history.Formation.{formed}
 use Rattle.control_word.proofs.history.Legal.{sound}
 use Rattle.control_word.proofs.lists.Tallies.{tally_append}
-use Rattle.control_word.specs.Events.{after}
-use Rattle.control_word.specs.Histories.{leads}
 use Rattle.control_word.specs.Laws.{NumbersFit}
-use Rattle.control_word.specs.State.{Held, Opening, State, count, handles, in_cells, tally, weak}
-use Rattle.control_word.specs.declared.model.event.Cell.TheVariants.{Free, Member}
-use Rattle.control_word.specs.declared.model.event.Entry.{Entry}
-use Rattle.control_word.specs.declared.model.event.Event.{Event}
-use Rattle.control_word.specs.declared.model.event.Event.TheVariants.{Compare, Swap}
-use Rattle.control_word.specs.declared.model.handle.Kind.{Kind}
-use Rattle.control_word.specs.declared.model.handle.Kind.TheVariants.{Owner, Weak}
+use Rattle.control_word.specs.State.{count, weak}
 
 module _ {V : Type 0} where
   cells_after : (s : State) (d : ℕ) (a : Event V) → (after s d a).cells ≡ s.cells

@@ -1,18 +1,13 @@
 -- Owner order and the equivalence of handles.
-use Rattle.std.proofs.Common.{◌≡◌, ℕ, ◌≤◌, Bool, true, false, nat_lt, List, Some, None}
-use Rattle.std.proofs.Common.{refl, sym, ap, subst, ◌∙◌, inl, inr, ⊎_elim, arith}
-use Rattle.std.proofs.lemmas.Bool.{and_parts, ltb-true, lt-ltb, cases_lt}
+use Rattle.std.proofs.Common.{◌≡◌, ℕ, ◌≤◌, Bool, true, false, List, nat_lt, Some, None, sym, refl}
+use Rattle.std.proofs.Common.{ap, ◌∙◌, subst, inl, inr, ⊎_elim, arith, ltb-true, lt-ltb}
+use Rattle.control_word.proofs.Prelude.{and_parts, blocks_of, cases_lt, Entry, equivalent, handle}
+use Rattle.control_word.proofs.Prelude.{Holds, InHand, IsLegal, Kind, leads, NumberedHandle}
+use Rattle.control_word.proofs.Prelude.{object_of, Opening, same_kind, same_number, same_place}
 use Rattle.control_word.proofs.history.Given.{names_an_object}
 use Rattle.control_word.proofs.lists.Tallies.{handle_self, same_number_true, same_place_true}
-use Rattle.control_word.specs.Events.{Holds, InHand}
-use Rattle.control_word.specs.Handles.{equivalent, handle, object_of, rank, same_kind, same_number, same_place}
-use Rattle.control_word.specs.Histories.{IsLegal, leads}
+use Rattle.control_word.specs.Handles.{rank}
 use Rattle.control_word.specs.Laws.{IsEquivalence, IsStrictWeakOrder, OrdersByOwner}
-use Rattle.control_word.specs.State.{Opening}
-use Rattle.control_word.specs.Words.{blocks_of}
-use Rattle.control_word.specs.declared.model.event.Entry.{Entry}
-use Rattle.control_word.specs.declared.model.handle.NumberedHandle.{NumberedHandle}
-use Rattle.control_word.specs.declared.model.handle.Kind.{Kind}
 
 -- the test says false exactly where its numbers are the other way round
 below_false : (a b : ℕ) → b ≤ a → nat_lt a b ≡ false

@@ -1,29 +1,17 @@
 -- What a desk's half-done call knows, where another desk's event comes.
-use Rattle.std.proofs.Common.{◌≡◌, ◌≢◌, ℕ, suc, ◌+◌, ◌-◌, ◌<◌, ◌≤◌, Bool, true, false, List, get_or, Option, Some, refl, sym}
-use Rattle.std.proofs.Common.{ap, ◌∙◌, arith}
+use Rattle.std.proofs.Common.{◌≡◌, ℕ, suc, ◌+◌, ◌-◌, ◌<◌, ◌≤◌, Bool, true, false, ◌≢◌, List}
+use Rattle.std.proofs.Common.{get_or, Some, Option, sym, refl, ap, ◌∙◌, arith}
+use Rattle.control_word.proofs.Prelude
+use Prelude.{after, Asks, blocks_of, ClearMember, Compare, Count, counts_at, Event, Expired}
+use Prelude.{Finish, Fits, Free, handle, Has, held, Idle, IsActing, Join, Kind, Leave, Load, Lock}
+use Prelude.{Make, Making, me, Member, Merging, Names, object_of, Opening, Owner, Parting, Paying}
+use Prelude.{Pending, Place, put, Read, Same, Share, Shelve, slot, Split, spot, State, stored}
+use Prelude.{Swap, Unshelve, valued, Values, Visit, Visiting, WeakLeave, WeakShare, word}
 use Rattle.control_word.proofs.history.Clearing.{was_made}
 use Rattle.control_word.proofs.history.Kept.{block_after, has_same, same_after, stored_same}
 use Rattle.control_word.proofs.history.Legal.{held_busy, sound}
 use Rattle.control_word.proofs.history.Soundness.{Sound}
 use Rattle.control_word.proofs.lists.Tallies.{put_other, put_same}
-use Rattle.control_word.specs.Events.{Asks, after}
-use Rattle.control_word.specs.Handles.{handle, object_of}
-use Rattle.control_word.specs.Histories.{Values, valued}
-use Rattle.control_word.specs.Layout.{spot}
-use Rattle.control_word.specs.State.{Has, IsActing, Opening, State, held, put, stored}
-use Rattle.control_word.specs.Steps.{me, word}
-use Rattle.control_word.specs.Views.{Fits, Names}
-use Rattle.control_word.specs.Words.{blocks_of, counts_at, slot}
-use Rattle.control_word.specs.declared.model.event.Cell.TheVariants.{Free, Member}
-use Rattle.control_word.specs.declared.model.event.Event.{Event}
-use Rattle.control_word.specs.declared.model.event.Event.TheVariants.{ClearMember, Compare, Count, Expired, Finish, Join, Leave, Load, Lock, Make, Read}
-use Rattle.control_word.specs.declared.model.event.Event.TheVariants.{Share, Split, Swap, Visit, WeakLeave, WeakShare}
-use Rattle.control_word.specs.declared.model.event.Event.TheVariants.{Same, Shelve, Unshelve}
-use Rattle.control_word.specs.declared.model.handle.Kind.{Kind}
-use Rattle.control_word.specs.declared.model.handle.Kind.TheVariants.{Owner}
-use Rattle.control_word.specs.declared.place.Place.{Place}
-use Rattle.control_word.specs.declared.model.view.Pending.{Pending}
-use Rattle.control_word.specs.declared.model.view.Pending.TheVariants.{Idle, Making, Merging, Parting, Paying, Visiting}
 
 -- what is held names an object that was made
 pub held_made : (z : Opening) (s : State) (d o : ℕ) (k : Kind) (p : Option Place) → Sound z s

@@ -1,20 +1,18 @@
 -- Handing things from desk to desk keeps the counts.
-use Rattle.std.proofs.Common.{◌≡◌, ℕ, suc, ◌-◌, Bool, true, cond, ◌==◌, List, [], ◌∷◌, ◌++◌, map, length, refl, sym, ap}
-use Rattle.std.proofs.Common.{◌∙◌, ◌+◌}
-use Rattle.std.proofs.Common.{eq-eqb, arith}
-use Rattle.control_word.proofs.history.Moving.{count_same, fits_same, sound_hands, sound_moves, weak_same}
+use Rattle.std.proofs.Common.{◌≡◌, ℕ, suc, ◌+◌, ◌-◌, Bool, true, cond, List, [], ◌∷◌, ◌++◌, map}
+use Rattle.std.proofs.Common.{length, ◌==◌, sym, refl, ap, ◌∙◌, arith, eq-eqb}
+use Rattle.control_word.proofs.Prelude.{Block, common, ending, gone, handed, HasAll, Held, held}
+use Rattle.control_word.proofs.Prelude.{how_often, in_cells, is_on, joins_up, Kind, live, moved_to}
+use Rattle.control_word.proofs.Prelude.{NumberedHandle, Opening, Owner, passed, Phase, put}
+use Rattle.control_word.proofs.Prelude.{renamed, same_held, same_stored, splits_off, State, Stored}
+use Rattle.control_word.proofs.Prelude.{stored, tally, times_kept, unmade, Weak, without}
+use Rattle.control_word.proofs.history.Moving.{count_same, fits_same, sound_hands, sound_moves}
+use Rattle.control_word.proofs.history.Moving.{weak_same}
 use Rattle.control_word.proofs.history.Soundness.{OwnersFit, Sound, kept_vacant}
-use Rattle.control_word.proofs.lists.Tallies.{held_self, held_true, num, num_cons, num_has, num_map, num_without, one_cond, stored_self}
+use Rattle.control_word.proofs.lists.Tallies.{held_self, held_true, num, num_cons, num_has}
+use Rattle.control_word.proofs.lists.Tallies.{num_map, num_without, one_cond, stored_self}
 use Rattle.control_word.proofs.lists.Tallies.{stored_true, tally_append}
-use Rattle.control_word.specs.Events.{handed, joins_up, moved_to, renamed, splits_off}
-use Rattle.control_word.specs.Handles.{is_on}
-use Rattle.control_word.specs.Laws.{how_often, times_kept}
-use Rattle.control_word.specs.State.{HasAll, Held, Opening, Phase, State, Stored, common, count, ending, gone, held, in_cells, live, passed, put}
-use Rattle.control_word.specs.State.{same_held, same_stored, stored, tally, unmade, weak, without}
-use Rattle.control_word.specs.declared.model.handle.NumberedHandle.{NumberedHandle}
-use Rattle.control_word.specs.declared.model.handle.Kind.{Kind}
-use Rattle.control_word.specs.declared.model.handle.Kind.TheVariants.{Owner, Weak}
-use Rattle.control_word.specs.declared.place.Block.{Block}
+use Rattle.control_word.specs.State.{count, weak}
 
 num_one : {A : Type 0} (p : A → Bool) (x y : A) → p x ≡ p y → num p (x ∷ []) ≡ num p (y ∷ [])
 num_one p x y e = one_cond (p x) x y ∙ ap (λ b. length (cond b (y ∷ []) [])) e

@@ -1,13 +1,15 @@
 -- A block that goes to the shelf, or from it to a store, is in one place before and after.
-use Rattle.std.proofs.Common.{◌≡◌, ◌≢◌, ℕ, Bool, true, false, cond, [], ◌∷◌, List, refl, ap, ◌∙◌, ⊎_elim, arith, ◌==◌}
-use Rattle.std.proofs.lemmas.Bool.{cases_eq}
+use Rattle.std.proofs.Common.{◌≡◌, ℕ, Bool, true, false, cond, ◌≢◌, List, [], ◌∷◌, ◌==◌, refl, ap}
+use Rattle.std.proofs.Common.{◌∙◌, ⊎_elim, arith}
+use Rattle.control_word.proofs.Prelude.{cases_eq, Has, how_often, on_shelf, Opening, same_stored}
+use Rattle.control_word.proofs.Prelude.{State, Stored, stored, times_kept}
 use Rattle.control_word.proofs.history.Keeping.{Kept, kept_still, stored_else, stored_here}
 use Rattle.control_word.proofs.history.Passing.{sound_stores}
 use Rattle.control_word.proofs.history.Soundness.{Sound}
-use Rattle.control_word.proofs.lists.Tallies.{num_without, put_other, put_same, stored_self, stored_true}
+use Rattle.control_word.proofs.lists.Tallies.{num_without, put_other, put_same, stored_self}
+use Rattle.control_word.proofs.lists.Tallies.{stored_true}
 use Rattle.control_word.specs.Events.{shelves, unshelves}
-use Rattle.control_word.specs.Laws.{how_often, times_kept}
-use Rattle.control_word.specs.State.{Has, Opening, State, Stored, on_shelf, same_stored, stored, weak}
+use Rattle.control_word.specs.State.{weak}
 
 abbrev bit : Bool → ℕ
 bit x = cond x 1 0

@@ -1,12 +1,11 @@
 -- A desk that has the whole allowance is the only one that acts, so what comes after all that it has seen is its own.
-use Rattle.std.proofs.Common.{◌≡◌, ◌≢◌, ℕ, ◌<◌, List, [], ◌∷◌, ◌++◌, refl, ap, subst, ⊎_elim, arith}
-use Rattle.std.proofs.lemmas.Bool.{cases_eq, cases_lt}
+use Rattle.std.proofs.Common.{◌≡◌, ℕ, ◌<◌, ◌≢◌, List, [], ◌∷◌, ◌++◌, refl, ap, subst, ⊎_elim}
+use Rattle.std.proofs.Common.{arith}
+use Rattle.control_word.proofs.Prelude.{cases_eq, cases_lt, Entry, IsActing, IsLegal, leads}
+use Rattle.control_word.proofs.Prelude.{Opening}
 use Rattle.control_word.proofs.history.Allowances.{allowed}
 use Rattle.control_word.proofs.lists.Sums.{sum_at, sum_two}
-use Rattle.control_word.specs.Histories.{IsLegal, leads}
 use Rattle.control_word.specs.Laws.{NothingUnseen}
-use Rattle.control_word.specs.State.{IsActing, Opening}
-use Rattle.control_word.specs.declared.model.event.Entry.{Entry}
 
 module _ {V : Type 0} where
   pub alone : (z : Opening) (h : List (Entry V)) → IsLegal z h → (d e : ℕ) → (leads z h).allowance d ≡ z.allowance

@@ -1,11 +1,11 @@
 -- What holds of every state that a legal history leads to.
-use Rattle.std.proofs.Common.{◌≡◌, ◌≢◌, ℕ, ◌<◌, ◌≤◌, Bool, true, false, cond, refl, ⊎_elim, arith}
-use Rattle.std.proofs.lemmas.Bool.{cases_lt}
+use Rattle.std.proofs.Common.{◌≡◌, ℕ, ◌<◌, ◌≤◌, Bool, true, false, cond, ◌≢◌, refl, ⊎_elim, arith}
+use Rattle.control_word.proofs.Prelude.{bag_size, cases_lt, common, empty, ending, gone, Has}
+use Rattle.control_word.proofs.Prelude.{has_object, Held, how_often, InShape, IsFormed, IsVacant}
+use Rattle.control_word.proofs.Prelude.{kind_of_free, kind_of_member, live, Opening, Phase, State}
+use Rattle.control_word.proofs.Prelude.{stored, sum_below, times_kept, unmade, weak_number}
 use Rattle.control_word.proofs.lists.Tallies.{store_found}
-use Rattle.control_word.specs.Handles.{IsFormed, empty, has_object}
-use Rattle.control_word.specs.Laws.{how_often, times_kept}
-use Rattle.control_word.specs.State.{Has, Held, InShape, IsVacant, Opening, Phase, State, bag_size, common, count, ending, gone, kind_of_free}
-use Rattle.control_word.specs.State.{kind_of_member, live, stored, sum_below, unmade, weak_number}
+use Rattle.control_word.specs.State.{count}
 
 -- a live object has an owner, and no other has one
 abbrev pub OwnersFit : Phase → ℕ → Type 0

@@ -1,26 +1,23 @@
 -- A vacant block is in just one store or on the shelf, and no other block is in any.
-use Rattle.std.proofs.Common.{◌≡◌, ◌≢◌, ℕ, zero, suc, ◌<◌, ◌≤◌, true, false, List, [], ◌∷◌}
-use Rattle.std.proofs.Common.{sym, ap, subst, ⊎_elim, arith}
-use Rattle.std.proofs.lemmas.Bool.{cases_eq, cond_both}
+use Rattle.std.proofs.Common.{◌≡◌, ℕ, zero, suc, ◌<◌, ◌≤◌, true, false, ◌≢◌, List, [], ◌∷◌, sym}
+use Rattle.std.proofs.Common.{ap, subst, ⊎_elim, arith}
+use Rattle.control_word.proofs.Prelude.{after, all_stored, Asks, cases_eq, ClearMember, clears}
+use Rattle.control_word.proofs.Prelude.{Compare, cond_both, Count, Entry, Event, Expired, Finish}
+use Rattle.control_word.proofs.Prelude.{handle, held, how_often, IsLegal, Join, leads, Leave}
+use Rattle.control_word.proofs.Prelude.{leaves, Load, Lock, Make, object_of, Opening, Owner, Read}
+use Rattle.control_word.proofs.Prelude.{Same, Share, Shelve, Split, State, Swap, swaps, times_kept}
+use Rattle.control_word.proofs.Prelude.{Unshelve, Visit, Weak, weak_leaves, WeakLeave, WeakShare}
 use Rattle.control_word.proofs.history.Cells.{open_in}
 use Rattle.control_word.proofs.history.Clearing.{was_made}
-use Rattle.control_word.proofs.history.Keeping.{Kept, kept_clear, kept_finish, kept_hands, kept_join, kept_leave, kept_load, kept_make, kept_split}
-use Rattle.control_word.proofs.history.Keeping.{kept_swap, kept_weak_leave, stored_else, stored_here, written_out}
+use Rattle.control_word.proofs.history.Keeping.{Kept, kept_clear, kept_finish, kept_hands}
+use Rattle.control_word.proofs.history.Keeping.{kept_join, kept_leave, kept_load, kept_make}
+use Rattle.control_word.proofs.history.Keeping.{kept_split, kept_swap, kept_weak_leave}
+use Rattle.control_word.proofs.history.Keeping.{stored_else, stored_here, written_out}
 use Rattle.control_word.proofs.history.Legal.{sound, written}
 use Rattle.control_word.proofs.history.Moving.{more_weaks, owner_no_weak}
 use Rattle.control_word.proofs.history.Shelving.{kept_shelved, kept_unshelved}
 use Rattle.control_word.proofs.history.Soundness.{Sound, kept_vacant}
-use Rattle.control_word.specs.Events.{Asks, after, clears, leaves, swaps, weak_leaves}
-use Rattle.control_word.specs.Handles.{handle, object_of}
-use Rattle.control_word.specs.Histories.{IsLegal, leads}
-use Rattle.control_word.specs.Laws.{StoredOnce, how_often, times_kept}
-use Rattle.control_word.specs.State.{Opening, State, all_stored, held}
-use Rattle.control_word.specs.declared.model.event.Entry.{Entry}
-use Rattle.control_word.specs.declared.model.event.Event.{Event}
-use Rattle.control_word.specs.declared.model.event.Event.TheVariants.{ClearMember, Compare, Count, Expired, Finish, Join, Leave, Load, Lock, Make, Read}
-use Rattle.control_word.specs.declared.model.event.Event.TheVariants.{Share, Split, Swap, Visit, WeakLeave, WeakShare}
-use Rattle.control_word.specs.declared.model.event.Event.TheVariants.{Same, Shelve, Unshelve}
-use Rattle.control_word.specs.declared.model.handle.Kind.TheVariants.{Owner, Weak}
+use Rattle.control_word.specs.Laws.{StoredOnce}
 
 all_kept : (f : ℕ → ℕ) (n b : ℕ) → 1 ≤ b → b ≤ n → 0 < how_often b (all_stored f n)
 all_kept f zero b low high = absurd (omega arith)

@@ -1,17 +1,11 @@
 -- Each object that was made has a value.
-use Rattle.std.proofs.Common.{◌≡◌, ◌≢◌, ℕ, suc, ◌≤◌, true, false, List, [], ◌∷◌, Option, Some, ◌∙◌, ⊎_elim, arith}
-use Rattle.std.proofs.lemmas.Bool.{cases_eq}
+use Rattle.std.proofs.Common.{◌≡◌, ℕ, suc, ◌≤◌, true, false, ◌≢◌, List, [], ◌∷◌, Some, Option, ◌∙◌}
+use Rattle.std.proofs.Common.{⊎_elim, arith}
+use Rattle.control_word.proofs.Prelude
+use Prelude.{after, cases_eq, ClearMember, Compare, Count, Entry, Event, Expired, Finish, Free}
+use Prelude.{Join, leads, Leave, Load, Lock, Make, Member, object_of, Opening, Read, Same, Share}
+use Prelude.{Shelve, Split, State, Swap, Unshelve, value, valued, Visit, WeakLeave, WeakShare}
 use Rattle.control_word.proofs.lists.Tallies.{put_other, put_same}
-use Rattle.control_word.specs.Events.{after}
-use Rattle.control_word.specs.Handles.{object_of}
-use Rattle.control_word.specs.Histories.{leads, value, valued}
-use Rattle.control_word.specs.State.{Opening, State}
-use Rattle.control_word.specs.declared.model.event.Cell.TheVariants.{Free, Member}
-use Rattle.control_word.specs.declared.model.event.Entry.{Entry}
-use Rattle.control_word.specs.declared.model.event.Event.{Event}
-use Rattle.control_word.specs.declared.model.event.Event.TheVariants.{ClearMember, Compare, Count, Expired, Finish, Join, Leave, Load, Lock, Make, Read}
-use Rattle.control_word.specs.declared.model.event.Event.TheVariants.{Share, Split, Swap, Visit, WeakLeave, WeakShare}
-use Rattle.control_word.specs.declared.model.event.Event.TheVariants.{Same, Shelve, Unshelve}
 
 module _ {V : Type 0} where
   -- what has a value has one after an event, and a new object has one

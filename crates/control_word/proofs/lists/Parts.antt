@@ -1,9 +1,8 @@
 -- The part of a list that is one desk's, and what changes of others' parts leave of it.
-use Rattle.std.proofs.Common.{◌≡◌, ◌≢◌, ℕ, Bool, true, ◌==◌, List, [], ◌∷◌, map, refl, sym, ap, ◌∙◌, inl, inr, ⊎_elim, eq-eqb}
-use Rattle.std.proofs.Common.{ne_eqb}
-use Rattle.std.proofs.lemmas.Bool.{cases_eq, cond_both, cond-true, cond-false, eqb-true}
-use Rattle.std.specs.List.{filter}
-use Rattle.control_word.specs.State.{Has, passed, without}
+use Rattle.std.proofs.Common.{◌≡◌, ℕ, Bool, true, ◌≢◌, List, [], ◌∷◌, map, ◌==◌, sym, refl, ap}
+use Rattle.std.proofs.Common.{◌∙◌, inl, inr, ⊎_elim, eq-eqb, ne_eqb, eqb-true}
+use Rattle.control_word.proofs.Prelude.{cases_eq, cond-false, cond-true, cond_both, filter, Has}
+use Rattle.control_word.proofs.Prelude.{passed, without}
 
 module _ {A : Type 0} (who : A → ℕ) (d : ℕ) where
   -- the part of a list that is d's

@@ -1,10 +1,9 @@
 -- Sums of numbers, and how many elements of a list pass a test.
-use Rattle.std.proofs.Common.{◌≡◌, ◌≢◌, ℕ, zero, suc, ◌+◌, ◌<◌, ◌≤◌, Bool, true, false, List, [], ◌∷◌, map, length}
-use Rattle.std.proofs.Common.{refl, sym, ap, ◌∙◌, ⊎_elim, arith}
-use Rattle.std.specs.List.{filter}
-use Rattle.std.proofs.lemmas.Bool.{cases_eq, cond_both, cond-true, cond-false}
+use Rattle.std.proofs.Common.{◌≡◌, ℕ, zero, suc, ◌+◌, ◌<◌, ◌≤◌, Bool, true, false, ◌≢◌, List, []}
+use Rattle.std.proofs.Common.{◌∷◌, map, length, sym, refl, ap, ◌∙◌, ⊎_elim, arith}
+use Rattle.control_word.proofs.Prelude.{cases_eq, cond-false, cond-true, cond_both, filter, HasAll}
+use Rattle.control_word.proofs.Prelude.{passed, put, sum_below, without}
 use Rattle.control_word.proofs.lists.Tallies.{num, num_cons, num_without, put_other, put_same}
-use Rattle.control_word.specs.State.{HasAll, passed, put, sum_below, without}
 
 pub sum_le : (n : ℕ) (f g : ℕ → ℕ) → ((i : ℕ) → f i ≤ g i) → sum_below n f ≤ sum_below n g
 sum_le zero f g le = omega arith

@@ -1,18 +1,16 @@
 -- How a change of the hands or of an object changes the counts.
-use Rattle.std.proofs.Common.{◌≡◌, ◌≢◌, ℕ, zero, suc, ◌+◌, ◌<◌, Bool, true, false, cond, ◌&&◌, ◌==◌, List, [], ◌∷◌}
-use Rattle.std.proofs.Common.{◌++◌, map, length, Option, Some}
-use Rattle.std.proofs.Common.{None, refl, sym, ap, subst, ◌∙◌, inl, inr, ⊎_elim, eq-eqb, ne_eqb, length-append, arith}
-use Rattle.std.specs.List.{filter}
+use Rattle.std.proofs.Common.{◌≡◌, ℕ, zero, suc, ◌+◌, ◌<◌, Bool, true, false, cond, ◌&&◌, ◌≢◌}
+use Rattle.std.proofs.Common.{List, [], ◌∷◌, ◌++◌, map, length, ◌==◌, Some, None, Option, sym}
+use Rattle.std.proofs.Common.{refl, ap, ◌∙◌, subst, inl, inr, ⊎_elim, arith, length-append, eq-eqb}
+use Rattle.std.proofs.Common.{ne_eqb, eqb-true}
+use Rattle.control_word.proofs.Prelude.{and_from, and_parts, cases_eq, cond-false, cond-true}
+use Rattle.control_word.proofs.Prelude.{cond_both, equivalent, filter, fun_ext, handle, Has, Held}
+use Rattle.control_word.proofs.Prelude.{how_often, is_on, Kind, NumberedHandle, Owner, Place, put}
+use Rattle.control_word.proofs.Prelude.{same_held, same_kind, same_number, same_place, same_stored}
+use Rattle.control_word.proofs.Prelude.{Stored, stored, tally, upto, Weak, without}
 use Rattle.std.proofs.lemmas.List.Elements.{filter-append}
-use Rattle.std.proofs.lemmas.Bool.{eqb-true, and_parts, and_from, cases_eq, both_ways, cond_both, cond-true, cond-false}
-use mathlib.Core.Path.{fun_ext}
-use Rattle.control_word.specs.Handles.{equivalent, handle, is_on, same_handle, same_kind, same_number, same_place}
-use Rattle.control_word.specs.Laws.{how_often}
-use Rattle.control_word.specs.State.{Has, Held, Stored, put, same_held, same_stored, stored, tally, upto, without}
-use Rattle.control_word.specs.declared.model.handle.NumberedHandle.{NumberedHandle}
-use Rattle.control_word.specs.declared.model.handle.Kind.{Kind}
-use Rattle.control_word.specs.declared.model.handle.Kind.TheVariants.{Owner, Weak}
-use Rattle.control_word.specs.declared.place.Place.{Place}
+use Rattle.std.proofs.lemmas.Bool.{both_ways}
+use Rattle.control_word.specs.Handles.{same_handle}
 
 module _ {A : Type 0} where
   pub put_same : (f : ℕ → A) (i : ℕ) (x : A) (j : ℕ) → j ≡ i → put f i x j ≡ x

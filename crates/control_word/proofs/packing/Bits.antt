@@ -1,9 +1,8 @@
 -- What a test of a bit tells.
-use Rattle.std.proofs.Common.{◌≡◌, ℕ, ◌*◌, ◌^◌, Bool, true, false, cond, ◌==◌, not, eq-eqb, ne_eqb, ap, ◌∙◌, arith}
-use Rattle.std.proofs.lemmas.Nat.{pow_pos}
+use Rattle.std.proofs.Common.{◌≡◌, ℕ, ◌*◌, ◌^◌, Bool, true, false, cond, not, ◌==◌, bit_and, ap}
+use Rattle.std.proofs.Common.{◌∙◌, arith, pow_pos, eq-eqb, ne_eqb}
+use Rattle.control_word.proofs.Prelude.{bit_at}
 use Rattle.std.proofs.lemmas.Nat.Bits.{and_pow}
-use Rattle.std.specs.Int.{bit_at}
-use Rattle.std.specs.Prelude.{bit_and}
 
 pub bit_tells : (n j : ℕ) (x : Bool) → bit_at n j ≡ cond x 1 0 → not (bit_and n (2 ^ j) == 0) ≡ x
 bit_tells n j x is = go x (and_pow n j ∙ ap (λ m. m * 2 ^ j) is)

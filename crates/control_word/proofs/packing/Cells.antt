@@ -1,9 +1,7 @@
 -- What the word of a cell says of the cell, and what steps on it do.
-use Rattle.std.proofs.Common.{◌≡◌, ◌+◌, ◌*◌, ◌<◌, Option, Some, None, arith, IfSome}
-use Rattle.control_word.specs.Packing.{IsBlock, IsPlace, IsCellWord}
-use Rattle.control_word.specs.Packing.{block_number, place_block, place_field, cell_bits}
-use Rattle.control_word.specs.declared.place.Block.{Block}
-use Rattle.control_word.specs.declared.place.Place.{Place}
+use Rattle.std.proofs.Common.{◌≡◌, ◌+◌, ◌*◌, ◌<◌, IfSome, Some, None, Option, arith}
+use Rattle.control_word.proofs.Prelude.{Block, cell_bits, IsBlock, IsCellWord, IsPlace, Place}
+use Rattle.control_word.specs.Packing.{block_number, place_block, place_field}
 use Rattle.control_word.specs.declared.packed.cell.CellWord.{CellWord}
 
 -- the parts are within their widths

@@ -1,6 +1,6 @@
 -- The two halves of a count's word, and what a step adds to either.
 use Rattle.std.proofs.Common.{◌≡◌, ℕ, ◌+◌, ◌*◌, ◌<◌, arith}
-use Rattle.control_word.specs.Packing.{number_of, funds_of}
+use Rattle.control_word.proofs.Prelude.{funds_of, number_of}
 
 module _
     (word number funds : ℕ)

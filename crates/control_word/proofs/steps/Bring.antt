@@ -1,20 +1,12 @@
 -- Funds are brought, under a handle in hand.
-use Rattle.std.proofs.Common.{◌≡◌, ℕ, ◌+◌, ◌*◌, ◌≤◌, false, List, get_or, set, Option, Some, refl, ap, ◌∙◌, arith}
-use mathlib.Core.Option.{some}
-use lib.ListN.{get_elem?}
+use Rattle.std.proofs.Common.{◌≡◌, ℕ, ◌+◌, ◌*◌, ◌≤◌, false, List, get_or, set, Some, Option, refl}
+use Rattle.std.proofs.Common.{ap, ◌∙◌, arith}
+use Rattle.control_word.proofs.Prelude.{adds, blocks_of, counts_at, Entry, get_elem?, handle, Has}
+use Rattle.control_word.proofs.Prelude.{held, Idle, Kind, leads, Opening, owes, Paying, pays}
+use Rattle.control_word.proofs.Prelude.{Place, some, Stands, View}
 use Rattle.control_word.proofs.history.Legal.{held_busy, sound}
 use Rattle.control_word.proofs.words.Payments.{cond_one, pay_step}
-use Rattle.control_word.specs.Handles.{handle}
-use Rattle.control_word.specs.Histories.{leads}
-use Rattle.control_word.specs.State.{Has, Opening, held}
 use Rattle.control_word.specs.CellSteps.{Brings}
-use Rattle.control_word.specs.Views.{Stands, adds, owes, pays}
-use Rattle.control_word.specs.Words.{blocks_of, counts_at}
-use Rattle.control_word.specs.declared.model.event.Entry.{Entry}
-use Rattle.control_word.specs.declared.model.handle.Kind.{Kind}
-use Rattle.control_word.specs.declared.place.Place.{Place}
-use Rattle.control_word.specs.declared.model.view.Pending.TheVariants.{Idle, Paying}
-use Rattle.control_word.specs.declared.model.view.View.{View}
 
 module _ {V : Type 0} where
   module _ (z : Opening) (words : List ℕ) (views : List (View V)) (h : List (Entry V)) (stands : Stands z words views h)

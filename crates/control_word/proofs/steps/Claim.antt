@@ -1,10 +1,15 @@
 -- The claim: a new object in the prepared block.
-use Rattle.std.proofs.Common.{◌≡◌, ◌≢◌, ℕ, zero, suc, ◌+◌, ◌-◌, cond, ◌<◌, ◌≤◌, ◌⊎◌, Bool, false, ◌==◌, List, []}
-use Rattle.std.proofs.Common.{◌∷◌, length, get_or, slice_index, set}
-use Rattle.std.proofs.Common.{Option, Some, None, refl, sym, ap, subst, ◌∙◌, inl, inr, ⊎_elim, eq-eqb, ne_eqb, arith}
-use Rattle.std.proofs.lemmas.Bool.{cases_eq, cases_lt, cond-true, cond-false}
-use mathlib.Core.Option.{some}
-use lib.ListN.{get_elem?}
+use Rattle.std.proofs.Common.{◌≡◌, ℕ, zero, suc, ◌+◌, ◌-◌, ◌<◌, ◌≤◌, Bool, false, cond, ◌≢◌, ◌⊎◌}
+use Rattle.std.proofs.Common.{List, [], ◌∷◌, length, get_or, set, ◌==◌, slice_index, Some, None}
+use Rattle.std.proofs.Common.{Option, sym, refl, ap, ◌∙◌, subst, inl, inr, ⊎_elim, arith, eq-eqb}
+use Rattle.std.proofs.Common.{ne_eqb}
+use Rattle.control_word.proofs.Prelude
+use Prelude.{added, adds, bag_size, Block, block_words, blocks_of, cases_eq, cases_lt, cell_spot}
+use Prelude.{common, cond-false, cond-true, empty, Entry, entry, Fits, flags_of, get_elem?, handle}
+use Prelude.{Has, Idle, IsVacant, Kind, kind_of_member, leads, Make, Making, member_funds, more}
+use Prelude.{new_object, NumberedHandle, Object, Opening, origin, owed, owes, owned_bits, Owner}
+use Prelude.{pays, Place, place_bits, put, Says, sees, slot, some, spot, Stands, State, stored}
+use Prelude.{value, View, Weak, weak_number, worth}
 use Rattle.control_word.proofs.history.Cells.{cell_made, member_made}
 use Rattle.control_word.proofs.history.Kept.{cells_led}
 use Rattle.control_word.proofs.history.Legal.{sound}
@@ -13,30 +18,16 @@ use Rattle.control_word.proofs.history.Moving.{counted_live, live_busy}
 use Rattle.control_word.proofs.history.Others.{fits_after}
 use Rattle.control_word.proofs.history.Soundness.{Sound}
 use Rattle.control_word.proofs.lists.Tallies.{put_cases, put_other, put_same}
-use Rattle.control_word.proofs.steps.Write.{added_high, made_more, others_none, vacant_free, words_mine}
+use Rattle.control_word.proofs.steps.Write.{added_high, made_more, others_none, vacant_free}
+use Rattle.control_word.proofs.steps.Write.{words_mine}
 use Rattle.control_word.proofs.views.Teams.{plain_step}
 use Rattle.control_word.proofs.words.Banks.{sum_all}
 use Rattle.control_word.proofs.words.Counting.{bag_one}
 use Rattle.control_word.proofs.words.Frames.{shows_write, spot_apart}
 use Rattle.control_word.proofs.words.Members.{packed_empty}
-use Rattle.control_word.specs.Events.{new_object, origin}
-use Rattle.control_word.specs.Handles.{empty, handle}
-use Rattle.control_word.specs.Histories.{entry, leads, value}
-use Rattle.control_word.specs.Layout.{spot}
-use Rattle.control_word.specs.State.{Has, IsVacant, Object, Opening, State, bag_size, common, count, kind_of_member, put, stored, weak, weak_number}
+use Rattle.control_word.specs.State.{count, weak}
 use Rattle.control_word.specs.Steps.{Claims}
-use Rattle.control_word.specs.Views.{Fits, Stands, added, adds, more, owed, owes, pays, sees}
-use Rattle.control_word.specs.Words.{Says, bank, block_words, blocks_of, cell_spot, flags_of, member_funds, object_words, owned_bits, packed}
-use Rattle.control_word.specs.Words.{place_bits, slot, worth}
-use Rattle.control_word.specs.declared.model.event.Entry.{Entry}
-use Rattle.control_word.specs.declared.model.event.Event.TheVariants.{Make}
-use Rattle.control_word.specs.declared.model.handle.NumberedHandle.{NumberedHandle}
-use Rattle.control_word.specs.declared.model.handle.Kind.{Kind}
-use Rattle.control_word.specs.declared.model.handle.Kind.TheVariants.{Owner, Weak}
-use Rattle.control_word.specs.declared.place.Block.{Block}
-use Rattle.control_word.specs.declared.place.Place.{Place}
-use Rattle.control_word.specs.declared.model.view.Pending.TheVariants.{Idle, Making}
-use Rattle.control_word.specs.declared.model.view.View.{View}
+use Rattle.control_word.specs.Words.{bank, object_words, packed}
 
 owned_put : (f g : ℕ → ℕ) (n : Option ℕ) → ((r : ℕ) → n ≡ Some r → f r ≡ g r) → owned_bits f n ≡ owned_bits g n
 owned_put f g None e = refl

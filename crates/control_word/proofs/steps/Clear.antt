@@ -1,24 +1,15 @@
 -- A member of an ending object is cleared.
-use Rattle.std.proofs.Common.{◌≡◌, ℕ, ◌+◌, ◌-◌, ◌<◌, false, List, ◌∷◌, set, refl, ap, subst, inl, arith}
-use mathlib.Core.Option.{some}
-use lib.ListN.{get_elem?}
+use Rattle.std.proofs.Common.{◌≡◌, ℕ, ◌+◌, ◌-◌, ◌<◌, false, List, ◌∷◌, set, refl, ap, subst, inl}
+use Rattle.std.proofs.Common.{arith}
+use Rattle.control_word.proofs.Prelude.{Adds, after, blocks_of, cell_word, ClearMember, common}
+use Rattle.control_word.proofs.Prelude.{empty, ending, Entry, entry, get_elem?, HasRoom, Idle}
+use Rattle.control_word.proofs.Prelude.{kind_of_member, leads, Member, Opening, purse, some, spot}
+use Rattle.control_word.proofs.Prelude.{Stands, state, View}
 use Rattle.control_word.proofs.steps.Swap.{exchange_step}
 use Rattle.control_word.proofs.words.CellWords.{cell_read}
 use Rattle.control_word.proofs.words.Purses.{formed_empty}
-use Rattle.control_word.specs.Events.{after}
-use Rattle.control_word.specs.Handles.{empty}
-use Rattle.control_word.specs.Histories.{entry, leads}
-use Rattle.control_word.specs.Layout.{spot}
-use Rattle.control_word.specs.State.{HasRoom, Opening, common, ending, kind_of_member}
-use Rattle.control_word.specs.Steps.{Adds, cell_word, purse, state}
 use Rattle.control_word.specs.CellSteps.{Clears}
-use Rattle.control_word.specs.Views.{Stands}
-use Rattle.control_word.specs.Words.{blocks_of, packed}
-use Rattle.control_word.specs.declared.model.event.Cell.TheVariants.{Member}
-use Rattle.control_word.specs.declared.model.event.Entry.{Entry}
-use Rattle.control_word.specs.declared.model.event.Event.TheVariants.{ClearMember}
-use Rattle.control_word.specs.declared.model.view.Pending.TheVariants.{Idle}
-use Rattle.control_word.specs.declared.model.view.View.{View}
+use Rattle.control_word.specs.Words.{packed}
 
 module _ {V : Type 0} where
   -- the desk that ends the object takes a member's value out

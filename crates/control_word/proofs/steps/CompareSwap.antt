@@ -1,24 +1,16 @@
 -- A compare that swaps.
-use Rattle.std.proofs.Common.{◌≡◌, ℕ, ◌-◌, Bool, true, false, List, ◌∷◌, set, refl, subst, inl, arith}
-use mathlib.Core.Option.{some}
-use lib.ListN.{get_elem?}
+use Rattle.std.proofs.Common.{◌≡◌, ℕ, ◌-◌, Bool, true, false, List, ◌∷◌, set, refl, subst, inl}
+use Rattle.std.proofs.Common.{arith}
+use Rattle.control_word.proofs.Prelude.{Adds, after, blocks_of, Cell, cell_at, cell_of, cell_word}
+use Rattle.control_word.proofs.Prelude.{Compare, Entry, entry, equivalent, get_elem?, HasRoom}
+use Rattle.control_word.proofs.Prelude.{InHand, IsOpen, kind_of, leads, me, NumberedHandle}
+use Rattle.control_word.proofs.Prelude.{Opening, purse, some, Stands, state, View}
 use Rattle.control_word.proofs.history.Legal.{sound}
 use Rattle.control_word.proofs.steps.Swap.{exchange_step}
 use Rattle.control_word.proofs.words.Banks.{IsKept, open_kept}
 use Rattle.control_word.proofs.words.CellWords.{cell_read}
-use Rattle.control_word.specs.Events.{InHand, IsOpen, after, cell_of, kind_of}
-use Rattle.control_word.specs.Handles.{equivalent}
-use Rattle.control_word.specs.Histories.{entry, leads}
-use Rattle.control_word.specs.State.{HasRoom, Opening}
-use Rattle.control_word.specs.Steps.{Adds, cell_word, me, purse, state}
 use Rattle.control_word.specs.CellSteps.{CompareSwaps}
-use Rattle.control_word.specs.Views.{Stands}
-use Rattle.control_word.specs.Words.{blocks_of, cell_at, packed}
-use Rattle.control_word.specs.declared.model.event.Cell.{Cell}
-use Rattle.control_word.specs.declared.model.event.Entry.{Entry}
-use Rattle.control_word.specs.declared.model.event.Event.TheVariants.{Compare}
-use Rattle.control_word.specs.declared.model.handle.NumberedHandle.{NumberedHandle}
-use Rattle.control_word.specs.declared.model.view.View.{View}
+use Rattle.control_word.specs.Words.{packed}
 
 module _ {V : Type 0} where
   module _ (z : Opening) (words : List ℕ) (views : List (View V)) (h : List (Entry V)) (stands : Stands z words views h)

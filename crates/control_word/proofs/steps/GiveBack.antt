@@ -1,20 +1,12 @@
 -- Funds that did not go in, or came out, are given back.
-use Rattle.std.proofs.Common.{◌≡◌, ℕ, ◌-◌, ◌*◌, false, List, get_or, set, Option, refl, ap, subst, ◌∙◌, arith}
-use mathlib.Core.Option.{some}
-use lib.ListN.{get_elem?}
+use Rattle.std.proofs.Common.{◌≡◌, ℕ, ◌-◌, ◌*◌, false, List, get_or, set, Option, refl, ap, ◌∙◌}
+use Rattle.std.proofs.Common.{subst, arith}
+use Rattle.control_word.proofs.Prelude.{adds, blocks_of, counts, counts_at, Entry, Fits, get_elem?}
+use Rattle.control_word.proofs.Prelude.{Idle, Kind, leads, me, Opening, owes, Paying, pays, Place}
+use Rattle.control_word.proofs.Prelude.{some, Stands, state, value, View}
 use Rattle.control_word.proofs.history.Legal.{held_busy, sound}
 use Rattle.control_word.proofs.words.Payments.{cond_one, own_funds, pay_step}
-use Rattle.control_word.specs.Histories.{leads, value}
-use Rattle.control_word.specs.State.{Opening}
-use Rattle.control_word.specs.Steps.{counts, me, state}
 use Rattle.control_word.specs.CellSteps.{GivesBack}
-use Rattle.control_word.specs.Views.{Fits, Stands, adds, owes, pays}
-use Rattle.control_word.specs.Words.{blocks_of, counts_at}
-use Rattle.control_word.specs.declared.model.event.Entry.{Entry}
-use Rattle.control_word.specs.declared.model.handle.Kind.{Kind}
-use Rattle.control_word.specs.declared.place.Place.{Place}
-use Rattle.control_word.specs.declared.model.view.Pending.TheVariants.{Idle, Paying}
-use Rattle.control_word.specs.declared.model.view.View.{View}
 
 module _ {V : Type 0} where
   module _ (z : Opening) (words : List ℕ) (views : List (View V)) (h : List (Entry V)) (stands : Stands z words views h)

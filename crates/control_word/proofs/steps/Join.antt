@@ -1,10 +1,10 @@
 -- The look of a join.
-use Rattle.std.proofs.Common.{◌≡◌, ◌≢◌, ℕ, ◌+◌, ◌≤◌, ◌==◌, false, List, [], ◌∷◌, map, length, set, refl, sym, ap, subst}
-use Rattle.std.proofs.Common.{◌∙◌, inl, inr, ⊎_elim, eq-eqb}
-use Rattle.std.proofs.Common.{ne_eqb, arith}
-use Rattle.std.proofs.lemmas.Bool.{cases_eq, cond-true, cond-false}
-use mathlib.Core.Option.{some}
-use lib.ListN.{get_elem?}
+use Rattle.std.proofs.Common.{◌≡◌, ℕ, ◌+◌, ◌≤◌, false, ◌≢◌, List, [], ◌∷◌, map, length, set, ◌==◌}
+use Rattle.std.proofs.Common.{sym, refl, ap, ◌∙◌, subst, inl, inr, ⊎_elim, arith, eq-eqb, ne_eqb}
+use Rattle.control_word.proofs.Prelude
+use Prelude.{adds, bag_size, cases_eq, cell_spot, cond-false, cond-true, Entry, entry, get_elem?}
+use Prelude.{HasRoom, Held, held, Idle, IsSecond, Join, joins_up, leads, Merging, more, Opening}
+use Prelude.{owed, owes, pays, put, renamed, sees, some, spot, Stands, State, value, View}
 use Rattle.control_word.proofs.history.Allowances.{allowed}
 use Rattle.control_word.proofs.history.Bags.{desk_of}
 use Rattle.control_word.proofs.history.Bounds.{there}
@@ -16,17 +16,7 @@ use Rattle.control_word.proofs.views.Merging.{merge_step}
 use Rattle.control_word.proofs.views.Teams.{event_step}
 use Rattle.control_word.proofs.words.Passed.{join_bank, join_vacant, join_words, same_sums}
 use Rattle.control_word.proofs.words.Payments.{shows_all}
-use Rattle.control_word.specs.Events.{joins_up, renamed}
-use Rattle.control_word.specs.Histories.{entry, leads, value}
-use Rattle.control_word.specs.Layout.{spot}
-use Rattle.control_word.specs.State.{HasRoom, Held, Opening, State, bag_size, held, put}
 use Rattle.control_word.specs.Steps.{Joins, MergesViews}
-use Rattle.control_word.specs.Views.{IsSecond, Stands, adds, more, owed, owes, pays, sees}
-use Rattle.control_word.specs.Words.{cell_spot}
-use Rattle.control_word.specs.declared.model.event.Entry.{Entry}
-use Rattle.control_word.specs.declared.model.event.Event.TheVariants.{Join}
-use Rattle.control_word.specs.declared.model.view.Pending.TheVariants.{Idle, Merging}
-use Rattle.control_word.specs.declared.model.view.View.{View}
 
 module _ {V : Type 0} where
   module _ (z : Opening) (words : List ℕ) (views : List (View V)) (h : List (Entry V)) (stands : Stands z words views h)

@@ -1,28 +1,20 @@
 -- Leave: one owner less, the last where the whole word was 1.
-use Rattle.std.proofs.Common.{◌-◌, ◌*◌, ◌≤◌, ◌≡◌, ℕ, ◌+◌, false, cond, ◌==◌, List, ◌∷◌, get_or, set, Option, refl, sym, ap}
-use Rattle.std.proofs.Common.{◌∙◌, ⊎_elim, arith}
-use Rattle.std.proofs.lemmas.Bool.{cond_both}
-use mathlib.Core.Option.{some}
-use lib.ListN.{get_elem?}
+use Rattle.std.proofs.Common.{◌≡◌, ℕ, ◌+◌, ◌-◌, ◌*◌, ◌≤◌, false, cond, List, ◌∷◌, get_or, set}
+use Rattle.std.proofs.Common.{◌==◌, Option, sym, refl, ap, ◌∙◌, ⊎_elim, arith}
+use Rattle.control_word.proofs.Prelude.{common, cond_both, counts, ending, Entry, entry, get_elem?}
+use Rattle.control_word.proofs.Prelude.{Has, held, leads, Leave, members, moved_to, Opening, Owner}
+use Rattle.control_word.proofs.Prelude.{owner, Place, put, same_held, sees, some, spot, Stands}
+use Rattle.control_word.proofs.Prelude.{unmade, View, without}
 use Rattle.control_word.proofs.history.Allowances.{allowed}
 use Rattle.control_word.proofs.history.Legal.{sound}
-use Rattle.control_word.proofs.history.Moving.{count_same, counted_live, less_owners, live_busy, owner_counted, weak_same}
+use Rattle.control_word.proofs.history.Moving.{count_same, counted_live, less_owners, live_busy}
+use Rattle.control_word.proofs.history.Moving.{owner_counted, weak_same}
 use Rattle.control_word.proofs.lists.Tallies.{put_cases}
 use Rattle.control_word.proofs.words.Changes.{settled_step}
 use Rattle.control_word.proofs.words.Counting.{bag_fewer}
 use Rattle.control_word.proofs.words.Debts.{HasOut, idle_out, last_test}
-use Rattle.control_word.specs.Events.{moved_to}
-use Rattle.control_word.specs.Handles.{owner}
-use Rattle.control_word.specs.Histories.{entry, leads}
-use Rattle.control_word.specs.Layout.{spot}
-use Rattle.control_word.specs.State.{Has, Opening, common, count, ending, held, members, put, same_held, unmade, without}
-use Rattle.control_word.specs.Steps.{Leaves, counts}
-use Rattle.control_word.specs.Views.{Stands, sees}
-use Rattle.control_word.specs.declared.model.event.Entry.{Entry}
-use Rattle.control_word.specs.declared.model.event.Event.TheVariants.{Leave}
-use Rattle.control_word.specs.declared.model.handle.Kind.TheVariants.{Owner}
-use Rattle.control_word.specs.declared.place.Place.{Place}
-use Rattle.control_word.specs.declared.model.view.View.{View}
+use Rattle.control_word.specs.State.{count}
+use Rattle.control_word.specs.Steps.{Leaves}
 
 module _ {V : Type 0} where
   -- One owner less, and with it the funds that the desk had out on its count. It was the last just where the whole word was that

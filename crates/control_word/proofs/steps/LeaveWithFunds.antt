@@ -1,18 +1,11 @@
 -- A handle that came out of a cell leaves by the step that gives its funds back.
-use Rattle.std.proofs.Common.{ℕ, Option, Some, subst}
+use Rattle.std.proofs.Common.{ℕ, Some, Option, subst}
+use Rattle.control_word.proofs.Prelude.{counts, Fits, handle, Has, held, Kind, me, Owner, Paying}
+use Rattle.control_word.proofs.Prelude.{Place, Point, Ready, state, value, Weak}
 use Rattle.control_word.proofs.steps.Leave.{settled_leave}
 use Rattle.control_word.proofs.steps.WeakLeave.{settled_weak_leave}
 use Rattle.control_word.proofs.words.Debts.{paying_out}
-use Rattle.control_word.specs.Handles.{handle}
-use Rattle.control_word.specs.Histories.{value}
-use Rattle.control_word.specs.State.{Has, held}
-use Rattle.control_word.specs.Steps.{Point, Ready, counts, me, state}
 use Rattle.control_word.specs.CellSteps.{LeavesWithFunds, WeakLeavesWithFunds}
-use Rattle.control_word.specs.Views.{Fits}
-use Rattle.control_word.specs.declared.model.handle.Kind.{Kind}
-use Rattle.control_word.specs.declared.model.handle.Kind.TheVariants.{Owner, Weak}
-use Rattle.control_word.specs.declared.place.Place.{Place}
-use Rattle.control_word.specs.declared.model.view.Pending.TheVariants.{Paying}
 
 module _ {V : Type 0} where
   -- a desk that has funds out has the handle that they are for

@@ -1,24 +1,16 @@
 -- Lock: an owner from a weak handle, where one remains.
-use Rattle.std.proofs.Common.{not, ◌≡◌, ℕ, suc, ◌<◌, true, false, List, ◌∷◌, get_or, set, Option, refl, sym, ap, ne_eqb, arith}
-use mathlib.Core.Option.{some}
-use lib.ListN.{get_elem?}
+use Rattle.std.proofs.Common.{◌≡◌, ℕ, suc, ◌<◌, true, false, not, List, ◌∷◌, get_or, set, Option}
+use Rattle.std.proofs.Common.{sym, refl, ap, arith, ne_eqb}
+use Rattle.control_word.proofs.Prelude.{bag_size, Entry, entry, get_elem?, Has, held, Idle, leads}
+use Rattle.control_word.proofs.Prelude.{Lock, more, Opening, Owner, Place, sees, some, spot}
+use Rattle.control_word.proofs.Prelude.{Stands, View, Weak, weak_of}
 use Rattle.control_word.proofs.history.Legal.{held_busy, sound}
 use Rattle.control_word.proofs.history.Moving.{counted_live}
 use Rattle.control_word.proofs.steps.Look.{lock_empty_step}
 use Rattle.control_word.proofs.words.Changes.{gain_step}
 use Rattle.control_word.proofs.words.Counting.{some_word}
-use Rattle.control_word.specs.Handles.{weak_of}
-use Rattle.control_word.specs.Histories.{entry, leads}
-use Rattle.control_word.specs.Layout.{spot}
-use Rattle.control_word.specs.State.{Has, Opening, bag_size, count, held}
+use Rattle.control_word.specs.State.{count}
 use Rattle.control_word.specs.Steps.{Locks}
-use Rattle.control_word.specs.Views.{Stands, more, sees}
-use Rattle.control_word.specs.declared.model.event.Entry.{Entry}
-use Rattle.control_word.specs.declared.model.event.Event.TheVariants.{Lock}
-use Rattle.control_word.specs.declared.model.handle.Kind.TheVariants.{Owner, Weak}
-use Rattle.control_word.specs.declared.place.Place.{Place}
-use Rattle.control_word.specs.declared.model.view.Pending.TheVariants.{Idle}
-use Rattle.control_word.specs.declared.model.view.View.{View}
 
 module _ {V : Type 0} where
   module _ (z : Opening) (words : List ℕ) (views : List (View V)) (h : List (Entry V)) (stands : Stands z words views h)

@@ -1,12 +1,15 @@
 -- Looks: loads that change nothing, and may be an event.
-use Rattle.std.proofs.Common.{not, ◌-◌, ◌≡◌, ◌≢◌, ℕ, ◌+◌, ◌*◌, ◌<◌, false, cond, ◌==◌, List, ◌∷◌, get_or, set, Option}
-use Rattle.std.proofs.Common.{Some, refl, sym, ap, subst, ◌∙◌, ⊎_elim, ne_eqb, arith, ◌≤◌, eq-eqb, Bool, None, inl}
-use Rattle.std.proofs.Common.{slice_index}
-use Rattle.std.proofs.lemmas.Bool.{cases_eq, cond-true, cond-false}
+use Rattle.std.proofs.Common.{◌≡◌, ℕ, ◌+◌, ◌-◌, ◌*◌, ◌<◌, ◌≤◌, Bool, false, cond, not, ◌≢◌, List}
+use Rattle.std.proofs.Common.{◌∷◌, get_or, set, ◌==◌, slice_index, Some, None, Option, sym, refl}
+use Rattle.std.proofs.Common.{ap, ◌∙◌, subst, inl, ⊎_elim, arith, eq-eqb, ne_eqb}
+use Rattle.control_word.proofs.Prelude
+use Prelude.{after, Asks, bag_size, Bare, blocks_of, cases_eq, Cell, cell_of, Compare, cond-false}
+use Prelude.{cond-true, Count, counts_at, Entry, entry, equivalent, Event, Expired, Fits, fun_ext}
+use Prelude.{funds_of, get_elem?, handle, Has, held, Idle, InHand, IsOpen, Kind, kind_of, leads}
+use Prelude.{Load, Lock, me, more, number_of, NumberedHandle, Opening, owed, Owner, owner, paid}
+use Prelude.{Place, Read, sees, Shows, slot, some, spot, Stands, state, value, valued, Values}
+use Prelude.{View, Weak, weak_of, word}
 use Rattle.std.proofs.lemmas.List.{set-get_or}
-use lib.ListN.{get_elem?}
-use mathlib.Core.Option.{some}
-use mathlib.Core.Path.{fun_ext}
 use Rattle.control_word.proofs.history.Allowances.{allowed}
 use Rattle.control_word.proofs.history.Legal.{held_busy, sound}
 use Rattle.control_word.proofs.history.Others.{IsPlain}
@@ -15,30 +18,14 @@ use Rattle.control_word.proofs.lists.Tallies.{differs}
 use Rattle.control_word.proofs.views.Teams.{plain_step, still_step}
 use Rattle.control_word.proofs.views.Resting.{sole_owes}
 use Rattle.control_word.proofs.words.Body.{body_more, body_read, words_field}
-use Rattle.control_word.proofs.words.Counting.{calm, funds_mean, number, number_tally, some_word, word_some}
+use Rattle.control_word.proofs.words.Counting.{calm, funds_mean, number, number_tally, some_word}
+use Rattle.control_word.proofs.words.Counting.{word_some}
 use Rattle.control_word.proofs.words.Rooms.{halves}
-use Rattle.control_word.specs.Events.{Asks, InHand, IsOpen, after, cell_of, kind_of}
-use Rattle.control_word.specs.Handles.{equivalent, handle, owner, weak_of}
-use Rattle.control_word.specs.Histories.{Values, entry, leads, value, valued}
 use Rattle.control_word.specs.Laws.{CountsExactly}
-use Rattle.control_word.specs.Layout.{spot}
-use Rattle.control_word.specs.Packing.{funds_of, number_of}
-use Rattle.control_word.specs.State.{Has, HasWhole, Opening, bag_size, count, held}
+use Rattle.control_word.specs.State.{HasWhole, count}
 use Rattle.control_word.specs.Steps.{LooksOn, Reads, Tells, TellsCount, TellsExpired}
 use Rattle.control_word.specs.CellSteps.{DiffersEmpty, LoadsEmpty}
-use Rattle.control_word.specs.Steps.{me, state, word}
-use Rattle.control_word.specs.Views.{Bare, Fits, Stands, more, owed, paid, sees}
-use Rattle.control_word.specs.Words.{Shows, bank, blocks_of, counts_at, object_words, slot}
-use Rattle.control_word.specs.declared.model.event.Cell.{Cell}
-use Rattle.control_word.specs.declared.model.event.Entry.{Entry}
-use Rattle.control_word.specs.declared.model.event.Event.{Event}
-use Rattle.control_word.specs.declared.model.event.Event.TheVariants.{Compare, Count, Expired, Load, Lock, Read}
-use Rattle.control_word.specs.declared.model.handle.NumberedHandle.{NumberedHandle}
-use Rattle.control_word.specs.declared.model.handle.Kind.{Kind}
-use Rattle.control_word.specs.declared.model.handle.Kind.TheVariants.{Owner, Weak}
-use Rattle.control_word.specs.declared.place.Place.{Place}
-use Rattle.control_word.specs.declared.model.view.Pending.TheVariants.{Idle}
-use Rattle.control_word.specs.declared.model.view.View.{View}
+use Rattle.control_word.specs.Words.{bank, object_words}
 
 module _ {V : Type 0} where
   module _ (z : Opening) (words : List ℕ) (views : List (View V)) (h : List (Entry V)) (stands : Stands z words views h)

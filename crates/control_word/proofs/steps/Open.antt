@@ -1,10 +1,10 @@
 -- A visit ends, and its door opens.
-use Rattle.std.proofs.Common.{◌≡◌, ◌≢◌, ℕ, ◌+◌, ◌-◌, ◌≤◌, ◌==◌, false, List, ◌∷◌, get_or, set, Option, refl, sym, ap}
-use Rattle.std.proofs.Common.{subst, ◌∙◌, eq-eqb, arith}
-use Rattle.std.proofs.lemmas.Bool.{cond-true}
-use Rattle.std.proofs.lemmas.List.{get_or-set_other}
-use mathlib.Core.Option.{some}
-use lib.ListN.{get_elem?}
+use Rattle.std.proofs.Common.{◌≡◌, ℕ, ◌+◌, ◌-◌, ◌≤◌, false, ◌≢◌, List, ◌∷◌, get_or, set, ◌==◌}
+use Rattle.std.proofs.Common.{Option, sym, refl, ap, ◌∙◌, subst, arith, get_or-set_other, eq-eqb}
+use Rattle.control_word.proofs.Prelude.{adds, cond-true, Entry, entry, Fits, get_elem?, Idle}
+use Rattle.control_word.proofs.Prelude.{leads, Making, Merging, Opening, owes, Owner, owner}
+use Rattle.control_word.proofs.Prelude.{Parting, Paying, pays, Pending, Place, sees, some, spot}
+use Rattle.control_word.proofs.Prelude.{Stands, value, View, Visit, Visiting}
 use Rattle.control_word.proofs.history.Allowances.{allowed}
 use Rattle.control_word.proofs.history.Legal.{held_busy, sound}
 use Rattle.control_word.proofs.history.Others.{IsVisiting, fits_after}
@@ -14,19 +14,7 @@ use Rattle.control_word.proofs.words.Body.{body_read}
 use Rattle.control_word.proofs.words.Flags.{shows_door, total_at, total_two}
 use Rattle.control_word.proofs.words.Frames.{spot_apart, total_set}
 use Rattle.control_word.proofs.words.Payments.{cond_one}
-use Rattle.control_word.specs.Handles.{owner}
-use Rattle.control_word.specs.Histories.{entry, leads, value}
-use Rattle.control_word.specs.Layout.{spot}
-use Rattle.control_word.specs.State.{Opening}
 use Rattle.control_word.specs.Steps.{Opens}
-use Rattle.control_word.specs.Views.{Fits, Stands, adds, owes, pays, sees}
-use Rattle.control_word.specs.declared.model.event.Entry.{Entry}
-use Rattle.control_word.specs.declared.model.event.Event.TheVariants.{Visit}
-use Rattle.control_word.specs.declared.model.handle.Kind.TheVariants.{Owner}
-use Rattle.control_word.specs.declared.place.Place.{Place}
-use Rattle.control_word.specs.declared.model.view.Pending.{Pending}
-use Rattle.control_word.specs.declared.model.view.Pending.TheVariants.{Idle, Making, Merging, Parting, Paying, Visiting}
-use Rattle.control_word.specs.declared.model.view.View.{View}
 
 module _ {V : Type 0} where
   module _ (z : Opening) (words : List ℕ) (views : List (View V)) (h : List (Entry V)) (stands : Stands z words views h)

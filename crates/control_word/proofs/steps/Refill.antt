@@ -1,36 +1,24 @@
 -- A cell gets funds in place of those taken.
-use Rattle.std.proofs.Common.{◌≡◌, ◌≢◌, ℕ, ◌+◌, ◌-◌, ◌*◌, ◌≤◌, false, List, get_or, set, Option, Some, refl, sym, ap, ◌∙◌}
-use Rattle.std.proofs.Common.{inl, ⊎_elim, arith}
-use Rattle.std.proofs.lemmas.Bool.{cases_eq}
-use Rattle.std.proofs.lemmas.List.{get_or-set_same, get_or-set_other, length-set}
-use mathlib.Core.Option.{some}
-use lib.ListN.{get_elem?}
+use Rattle.std.proofs.Common.{◌≡◌, ℕ, ◌+◌, ◌-◌, ◌*◌, ◌≤◌, false, ◌≢◌, List, get_or, set, Some}
+use Rattle.std.proofs.Common.{Option, sym, refl, ap, ◌∙◌, inl, ⊎_elim, arith, length-set}
+use Rattle.std.proofs.Common.{get_or-set_other, get_or-set_same}
+use Rattle.control_word.proofs.Prelude
+use Prelude.{adds, blocks_of, cases_eq, Cell, cell_at, cell_of, cell_spot, counts_at, Entry, fills}
+use Prelude.{Fits, Free, get_elem?, handle, Idle, Kind, leads, Making, me, Member, Merging, more}
+use Prelude.{Opening, owed, owes, Parting, Paying, pays, Pending, Place, put, some, spot, Stands}
+use Prelude.{State, state, value, View, Visiting, worth}
 use Rattle.control_word.proofs.history.Kept.{cells_led}
 use Rattle.control_word.proofs.history.Legal.{sound}
 use Rattle.control_word.proofs.lists.Tallies.{put_again, put_other, put_same}
 use Rattle.control_word.proofs.views.Teams.{still_step}
 use Rattle.control_word.proofs.words.Banks.{IsKept, bank_fill, open_kept}
-use Rattle.control_word.proofs.words.CellWords.{bare_put, cell_apart, cell_inside, cell_low, cell_read, same_known}
+use Rattle.control_word.proofs.words.CellWords.{bare_put, cell_apart, cell_inside, cell_low}
+use Rattle.control_word.proofs.words.CellWords.{cell_read, same_known}
 use Rattle.control_word.proofs.words.Counting.{owed_paid}
 use Rattle.control_word.proofs.words.Frames.{shelf_kept, total_set}
 use Rattle.control_word.proofs.words.Payments.{cond_one, one_at, one_else, one_here, shows_all}
-use Rattle.control_word.specs.Events.{cell_of, fills}
-use Rattle.control_word.specs.Handles.{handle}
-use Rattle.control_word.specs.Histories.{leads, value}
-use Rattle.control_word.specs.Layout.{spot}
-use Rattle.control_word.specs.State.{Opening, State, put}
-use Rattle.control_word.specs.Steps.{me, state}
 use Rattle.control_word.specs.CellSteps.{Refills}
-use Rattle.control_word.specs.Views.{Fits, Stands, adds, more, owed, owes, pays}
-use Rattle.control_word.specs.Words.{bank, blocks_of, cell_at, cell_spot, counts_at, packed, worth}
-use Rattle.control_word.specs.declared.model.event.Cell.{Cell}
-use Rattle.control_word.specs.declared.model.event.Cell.TheVariants.{Free, Member}
-use Rattle.control_word.specs.declared.model.event.Entry.{Entry}
-use Rattle.control_word.specs.declared.model.handle.Kind.{Kind}
-use Rattle.control_word.specs.declared.place.Place.{Place}
-use Rattle.control_word.specs.declared.model.view.Pending.{Pending}
-use Rattle.control_word.specs.declared.model.view.Pending.TheVariants.{Idle, Making, Merging, Parting, Paying, Visiting}
-use Rattle.control_word.specs.declared.model.view.View.{View}
+use Rattle.control_word.specs.Words.{bank, packed}
 
 module _ {V : Type 0} where
   module _ (z : Opening) (words : List ℕ) (views : List (View V)) (h : List (Entry V)) (stands : Stands z words views h)

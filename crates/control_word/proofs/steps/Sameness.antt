@@ -1,9 +1,12 @@
 -- A look at a cell which tells whether it holds a handle that the desk has. The word says so: a desk's handle keeps its
 -- object's block, so that no other object is there, and the funds taken lie above all else.
-use Rattle.std.proofs.Common.{◌≡◌, ◌≢◌, ℕ, ◌*◌, ◌/◌, ◌%◌, ◌<◌, ◌≤◌, ◌&&◌, ◌==◌, Option, Some, None, refl, sym, ap, ◌∙◌, arith}
-use Rattle.std.proofs.Common.{eq-eqb, ne_eqb, subst, ⊎_elim}
-use Rattle.std.specs.Prelude.{IfSome}
-use Rattle.std.proofs.lemmas.Bool.{cases_eq}
+use Rattle.std.proofs.Common.{◌≡◌, ℕ, ◌*◌, ◌/◌, ◌%◌, ◌<◌, ◌≤◌, ◌&&◌, ◌≢◌, IfSome, ◌==◌, Some, None}
+use Rattle.std.proofs.Common.{Option, sym, refl, ap, ◌∙◌, subst, ⊎_elim, arith, eq-eqb, ne_eqb}
+use Rattle.control_word.proofs.Prelude
+use Prelude.{block_of, blocks_of, cases_eq, cell_of, cell_word, equivalent, handle, Holds, Idle}
+use Prelude.{InHand, IsBlock, IsCellWord, IsFormed, IsPlace, Kind, kind_of, me, NumberedHandle}
+use Prelude.{object_of, owned_bits, Place, place_bits, Point, Ready, Same, same_number, same_place}
+use Prelude.{shown, state, word}
 use Rattle.control_word.proofs.history.Allowances.{opened}
 use Rattle.control_word.proofs.history.Formation.{formed}
 use Rattle.control_word.proofs.history.Legal.{held_busy, sound, written}
@@ -13,16 +16,7 @@ use Rattle.control_word.proofs.words.Banks.{open_kept}
 use Rattle.control_word.proofs.words.CellWords.{cell_read}
 use Rattle.control_word.proofs.words.Decoding.{cell_decodes, kept_busy, shown_fits}
 use Rattle.control_word.specs.CellSteps.{TellsSame}
-use Rattle.control_word.specs.Events.{Holds, InHand, cell_of, kind_of}
-use Rattle.control_word.specs.Handles.{IsFormed, equivalent, handle, object_of, same_number, same_place}
-use Rattle.control_word.specs.Packing.{IsBlock, IsCellWord, IsPlace}
-use Rattle.control_word.specs.Steps.{Point, Ready, cell_word, me, state, word}
-use Rattle.control_word.specs.Words.{block_of, blocks_of, owned_bits, packed, place_bits, shown}
-use Rattle.control_word.specs.declared.model.event.Event.TheVariants.{Same}
-use Rattle.control_word.specs.declared.model.handle.NumberedHandle.{NumberedHandle}
-use Rattle.control_word.specs.declared.model.handle.Kind.{Kind}
-use Rattle.control_word.specs.declared.model.view.Pending.TheVariants.{Idle}
-use Rattle.control_word.specs.declared.place.Place.{Place}
+use Rattle.control_word.specs.Words.{packed}
 
 -- numbers of two parts are equal just where both parts are
 both_parts : (a b c d e f : ℕ) → (a ≡ b → c ≡ d → e ≡ f) → (e ≡ f → (a ≡ b) × (c ≡ d)) → (e == f) ≡ (a == b && c == d)

@@ -1,21 +1,12 @@
 -- Share: one more owner.
 use Rattle.std.proofs.Common.{◌≡◌, ℕ, suc, ◌<◌, false, List, ◌∷◌, get_or, set, Option, refl}
-use mathlib.Core.Option.{some}
-use lib.ListN.{get_elem?}
+use Rattle.control_word.proofs.Prelude.{bag_size, Entry, entry, get_elem?, Has, held, Idle}
+use Rattle.control_word.proofs.Prelude.{IsPointer, leads, more, Opening, owner, Place, sees, Share}
+use Rattle.control_word.proofs.Prelude.{some, spot, Stands, View}
 use Rattle.control_word.proofs.history.Legal.{sound}
 use Rattle.control_word.proofs.history.Moving.{counted_live, owner_counted}
 use Rattle.control_word.proofs.words.Changes.{gain_step}
-use Rattle.control_word.specs.Handles.{IsPointer, owner}
-use Rattle.control_word.specs.Histories.{entry, leads}
-use Rattle.control_word.specs.Layout.{spot}
-use Rattle.control_word.specs.State.{Has, Opening, bag_size, held}
 use Rattle.control_word.specs.Steps.{Shares}
-use Rattle.control_word.specs.Views.{Stands, more, sees}
-use Rattle.control_word.specs.declared.model.event.Entry.{Entry}
-use Rattle.control_word.specs.declared.model.event.Event.TheVariants.{Share}
-use Rattle.control_word.specs.declared.place.Place.{Place}
-use Rattle.control_word.specs.declared.model.view.Pending.TheVariants.{Idle}
-use Rattle.control_word.specs.declared.model.view.View.{View}
 
 module _ {V : Type 0} where
   module _ (z : Opening) (words : List ℕ) (views : List (View V)) (h : List (Entry V)) (stands : Stands z words views h)

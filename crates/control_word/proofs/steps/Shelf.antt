@@ -1,15 +1,17 @@
 -- Blocks go to the shelf and come from it: one bit is set, or cleared.
-use Rattle.std.proofs.Common.{◌≡◌, ◌≢◌, ℕ, ◌+◌, ◌/◌, ◌%◌, ◌^◌, ◌<◌, ◌≤◌, Bool, true, false, cond, List, ◌∷◌}
-use Rattle.std.proofs.Common.{length, get_or}
-use Rattle.std.proofs.Common.{set, refl, sym, ap, subst, ◌∙◌, ⊎_elim, arith}
-use Rattle.std.proofs.lemmas.Bool.{cases_eq}
-use Rattle.std.proofs.lemmas.List.{get_or-set_same, get_or-set_other, length-set}
-use Rattle.std.proofs.lemmas.Nat.Bits.{bit_at-lt, bit_at-pow_other, bit_at-pow_same, bit_at_and, bit_at_not, bit_at_or}
+use Rattle.std.proofs.Common.{◌≡◌, ℕ, ◌+◌, ◌/◌, ◌%◌, ◌^◌, ◌<◌, ◌≤◌, Bool, true, false, cond, ◌≢◌}
+use Rattle.std.proofs.Common.{List, ◌∷◌, length, get_or, set, bit_and, bit_or, sym, refl, ap, ◌∙◌}
+use Rattle.std.proofs.Common.{subst, ⊎_elim, arith, length-set, get_or-set_other, get_or-set_same}
+use Rattle.control_word.proofs.Prelude
+use Prelude.{after, Asks, bag_size, Bare, bit_at, Block, block_words, cases_eq, cell_spot, Entry}
+use Prelude.{entry, Event, Fits, get_elem?, Has, Idle, InShape, IsVacant, leads, Making, Merging}
+use Prelude.{more, Opening, owed, Parting, Paying, Pending, put, sees, shelf_place, shelf_spot}
+use Prelude.{Shelve, Shows, ShowsShelf, some, spot, Stands, State, Stored, stored, Unshelve, value}
+use Prelude.{valued, Values, View, Visiting}
+use Rattle.std.proofs.lemmas.Nat.Bits.{bit_at-lt, bit_at-pow_other, bit_at-pow_same, bit_at_and}
+use Rattle.std.proofs.lemmas.Nat.Bits.{bit_at_not, bit_at_or}
 use Rattle.std.proofs.Math.Pow.{pow-lt}
-use Rattle.std.specs.Int.{bit_at, bit_not, w64}
-use Rattle.std.specs.Prelude.{bit_and, bit_or}
-use mathlib.Core.Option.{some}
-use lib.ListN.{get_elem?}
+use Rattle.std.specs.Int.{bit_not, w64}
 use Rattle.control_word.proofs.history.Allowances.{allowed, opened}
 use Rattle.control_word.proofs.history.Legal.{sound}
 use Rattle.control_word.proofs.history.Others.{IsPlain, fits_after, plain_names, plain_visits}
@@ -19,20 +21,10 @@ use Rattle.control_word.proofs.views.Teams.{plain_step, still_step}
 use Rattle.control_word.proofs.words.Counting.{calm}
 use Rattle.control_word.proofs.words.Frames.{spot_fits}
 use Rattle.control_word.proofs.words.Payments.{shows_all}
-use Rattle.control_word.specs.Events.{Asks, after}
-use Rattle.control_word.specs.Histories.{Values, entry, leads, value, valued}
-use Rattle.control_word.specs.Layout.{bit_of, shelf_place, spot}
-use Rattle.control_word.specs.State.{Has, InShape, IsVacant, Opening, State, Stored, bag_size, count, put, stored, weak}
+use Rattle.control_word.specs.Layout.{bit_of}
+use Rattle.control_word.specs.State.{count, weak}
 use Rattle.control_word.specs.Steps.{ShelfShows, Shelves, Unshelves}
-use Rattle.control_word.specs.Views.{Bare, Fits, Stands, more, owed, sees}
-use Rattle.control_word.specs.Words.{Shows, ShowsShelf, bank, block_words, cell_spot, shelf_spot}
-use Rattle.control_word.specs.declared.model.event.Entry.{Entry}
-use Rattle.control_word.specs.declared.model.event.Event.{Event}
-use Rattle.control_word.specs.declared.model.event.Event.TheVariants.{Shelve, Unshelve}
-use Rattle.control_word.specs.declared.place.Block.{Block}
-use Rattle.control_word.specs.declared.model.view.Pending.{Pending}
-use Rattle.control_word.specs.declared.model.view.Pending.TheVariants.{Idle, Making, Merging, Parting, Paying, Visiting}
-use Rattle.control_word.specs.declared.model.view.View.{View}
+use Rattle.control_word.specs.Words.{bank}
 
 -- block b's bit alone becomes x
 shelf_set : (z : Opening) (words : List ℕ) (s : State) (r : List Stored) (b n : ℕ) (x : Bool)

@@ -1,25 +1,16 @@
 -- The door of a visit is shut.
-use Rattle.std.proofs.Common.{◌≡◌, ◌≢◌, ℕ, ◌+◌, ◌<◌, ◌==◌, false, cond, List, get_or, set, Option, Some, refl, ap, ◌∙◌}
-use Rattle.std.proofs.Common.{⊎_elim, eq-eqb, ne_eqb, arith}
-use Rattle.std.proofs.lemmas.Bool.{cases_eq, cond-true, cond-false}
-use mathlib.Core.Option.{some}
-use lib.ListN.{get_elem?}
+use Rattle.std.proofs.Common.{◌≡◌, ℕ, ◌+◌, ◌<◌, false, cond, ◌≢◌, List, get_or, set, ◌==◌, Some}
+use Rattle.std.proofs.Common.{Option, refl, ap, ◌∙◌, ⊎_elim, arith, eq-eqb, ne_eqb}
+use Rattle.control_word.proofs.Prelude.{added, adds, cases_eq, cond-false, cond-true, Entry}
+use Rattle.control_word.proofs.Prelude.{get_elem?, Has, held, Idle, leads, me, Opening, owes}
+use Rattle.control_word.proofs.Prelude.{Owner, owner, pays, Place, sees_as, some, spot, Stands}
+use Rattle.control_word.proofs.Prelude.{state, value, View, Visiting}
 use Rattle.control_word.proofs.history.Legal.{held_busy, sound}
 use Rattle.control_word.proofs.views.Teams.{quiet_step}
 use Rattle.control_word.proofs.words.Flags.{flags_read, shows_door, stays_flag}
 use Rattle.control_word.proofs.words.Frames.{total_set}
 use Rattle.control_word.proofs.words.Payments.{cond_one}
-use Rattle.control_word.specs.Handles.{owner}
-use Rattle.control_word.specs.Histories.{leads, value}
-use Rattle.control_word.specs.Layout.{spot}
-use Rattle.control_word.specs.State.{Has, Opening, held}
-use Rattle.control_word.specs.Steps.{Shuts, me, state}
-use Rattle.control_word.specs.Views.{Stands, added, adds, owes, pays, sees_as}
-use Rattle.control_word.specs.declared.model.event.Entry.{Entry}
-use Rattle.control_word.specs.declared.model.handle.Kind.TheVariants.{Owner}
-use Rattle.control_word.specs.declared.place.Place.{Place}
-use Rattle.control_word.specs.declared.model.view.Pending.TheVariants.{Idle, Visiting}
-use Rattle.control_word.specs.declared.model.view.View.{View}
+use Rattle.control_word.specs.Steps.{Shuts}
 
 module _ {V : Type 0} where
   module _ (z : Opening) (words : List ℕ) (views : List (View V)) (h : List (Entry V)) (stands : Stands z words views h)

@@ -1,7 +1,10 @@
 -- The look of a split.
-use Rattle.std.proofs.Common.{◌≡◌, ℕ, ◌-◌, false, List, ◌∷◌, set, refl, sym, ap, subst, inl, inr, arith}
-use mathlib.Core.Option.{some}
-use lib.ListN.{get_elem?}
+use Rattle.std.proofs.Common.{◌≡◌, ℕ, ◌-◌, false, List, ◌∷◌, set, sym, refl, ap, subst, inl, inr}
+use Rattle.std.proofs.Common.{arith}
+use Rattle.control_word.proofs.Prelude
+use Prelude.{adds, after, Asks, Block, cell_spot, Entry, entry, get_elem?, HasRoom, Idle, IsActing}
+use Prelude.{leads, more, NumberedHandle, Opening, owed, owes, Parting, pays, put, sees_as, some}
+use Prelude.{Split, splits_off, spot, Stands, value, View}
 use Rattle.control_word.proofs.history.Legal.{sound}
 use Rattle.control_word.proofs.history.Names.{unknown_free}
 use Rattle.control_word.proofs.history.Others.{fits_after}
@@ -10,19 +13,7 @@ use Rattle.control_word.proofs.views.Cutting.{part_step}
 use Rattle.control_word.proofs.views.Teams.{event_step}
 use Rattle.control_word.proofs.words.Passed.{same_sums, split_bank, split_vacant, split_words}
 use Rattle.control_word.proofs.words.Payments.{shows_all}
-use Rattle.control_word.specs.Events.{Asks, after, splits_off}
-use Rattle.control_word.specs.Histories.{entry, leads, value}
-use Rattle.control_word.specs.Layout.{spot}
-use Rattle.control_word.specs.State.{HasRoom, IsActing, Opening, put}
 use Rattle.control_word.specs.Steps.{CutsView, Splits}
-use Rattle.control_word.specs.Views.{Stands, adds, more, owed, owes, pays, sees_as}
-use Rattle.control_word.specs.Words.{cell_spot}
-use Rattle.control_word.specs.declared.model.event.Entry.{Entry}
-use Rattle.control_word.specs.declared.model.event.Event.TheVariants.{Split}
-use Rattle.control_word.specs.declared.model.handle.NumberedHandle.{NumberedHandle}
-use Rattle.control_word.specs.declared.place.Block.{Block}
-use Rattle.control_word.specs.declared.model.view.Pending.TheVariants.{Idle, Parting}
-use Rattle.control_word.specs.declared.model.view.View.{View}
 
 module _ {V : Type 0} where
   module _ (z : Opening) (words : List ℕ) (views : List (View V)) (h : List (Entry V)) (stands : Stands z words views h)

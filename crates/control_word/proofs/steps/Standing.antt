@@ -1,5 +1,8 @@
 -- What stands at the start, what cells show, and that no count carries or wraps.
 use Rattle.std.proofs.Common.{◌≡◌, ℕ, None, ap, ◌∙◌, arith}
+use Rattle.control_word.proofs.Prelude.{blocks_of, Cell, cell_bits, cell_of, cell_word, Free}
+use Rattle.control_word.proofs.Prelude.{IsCellWord, me, Member, Pending, Point, Ready, shown}
+use Rattle.control_word.proofs.Prelude.{state, word}
 use Rattle.control_word.proofs.history.Kept.{cells_led}
 use Rattle.control_word.proofs.history.Legal.{sound}
 use Rattle.control_word.proofs.history.Storing.{kept}
@@ -7,14 +10,8 @@ use Rattle.control_word.proofs.words.Banks.{IsKept, open_kept}
 use Rattle.control_word.proofs.words.Decoding.{cell_decodes}
 use Rattle.control_word.proofs.words.Opening.{opens}
 use Rattle.control_word.proofs.words.Rooms.{funds_room, halves}
-use Rattle.control_word.specs.Events.{cell_of}
-use Rattle.control_word.specs.Packing.{IsCellWord, cell_bits}
-use Rattle.control_word.specs.Steps.{Begins, HasHeadroom, Point, Ready, cell_word, me, state, word}
+use Rattle.control_word.specs.Steps.{Begins, HasHeadroom}
 use Rattle.control_word.specs.CellSteps.{CellsShow}
-use Rattle.control_word.specs.Words.{blocks_of, shown}
-use Rattle.control_word.specs.declared.model.event.Cell.{Cell}
-use Rattle.control_word.specs.declared.model.event.Cell.TheVariants.{Free, Member}
-use Rattle.control_word.specs.declared.model.view.Pending.{Pending}
 
 module _ {V : Type 0} where
   pub begins : Begins V

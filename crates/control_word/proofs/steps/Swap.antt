@@ -1,36 +1,29 @@
 -- A cell gets a new value, and the old one comes out.
-use Rattle.std.proofs.Common.{◌≡◌, ◌≢◌, ℕ, ◌+◌, ◌-◌, ◌*◌, false, List, ◌∷◌, get_or, set, refl, sym, ap, subst, ◌∙◌, inl}
-use Rattle.std.proofs.Common.{⊎_elim, arith}
-use Rattle.std.proofs.lemmas.Bool.{cases_eq}
-use mathlib.Core.Option.{some}
-use lib.ListN.{get_elem?}
-use Rattle.std.proofs.lemmas.List.{get_or-set_other, get_or-set_same, length-set}
+use Rattle.std.proofs.Common.{◌≡◌, ℕ, ◌+◌, ◌-◌, ◌*◌, false, ◌≢◌, List, ◌∷◌, get_or, set, sym, refl}
+use Rattle.std.proofs.Common.{ap, ◌∙◌, subst, inl, ⊎_elim, arith, length-set, get_or-set_other}
+use Rattle.std.proofs.Common.{get_or-set_same}
+use Rattle.control_word.proofs.Prelude
+use Prelude.{Adds, adds, after, Asks, Bare, block_words, blocks_of, cases_eq, Cell, cell_at}
+use Prelude.{cell_of, cell_spot, cell_word, Entry, entry, Event, fills, Fits, Free, get_elem?}
+use Prelude.{HasRoom, InHand, IsOpen, kind_of, leads, loses, me, Member, more, NumberedHandle}
+use Prelude.{Object, Opening, owed, owes, pays, purse, put, Shows, some, spot, Stands, state, Swap}
+use Prelude.{swaps, value, valued, Values, View}
 use Rattle.control_word.proofs.history.Kept.{cells_led}
 use Rattle.control_word.proofs.history.Legal.{sound}
 use Rattle.control_word.proofs.history.Others.{IsPlain, fits_after, plain_names, plain_visits}
 use Rattle.control_word.proofs.lists.Tallies.{put_cases, put_other, put_same}
 use Rattle.control_word.proofs.views.Teams.{plain_step}
 use Rattle.control_word.proofs.words.Banks.{IsKept, bank_fill, bank_hands, open_kept}
-use Rattle.control_word.proofs.words.CellWords.{bare_put, cell_apart, cell_inside, cell_low, cell_read, same_known}
+use Rattle.control_word.proofs.words.CellWords.{bare_put, cell_apart, cell_inside, cell_low}
+use Rattle.control_word.proofs.words.CellWords.{cell_read, same_known}
 use Rattle.control_word.proofs.words.Frames.{shelf_kept, spot_apart, spot_fits, total_set}
-use Rattle.control_word.proofs.words.Members.{free_vacant, free_words, member_blocks, member_vacant, member_word, member_words}
+use Rattle.control_word.proofs.words.Members.{free_vacant, free_words, member_blocks}
+use Rattle.control_word.proofs.words.Members.{member_vacant, member_word, member_words}
 use Rattle.control_word.proofs.words.Payments.{latest_is, shows_all}
-use Rattle.control_word.proofs.words.Purses.{purse_adds, purse_fits, purse_lone, purse_owes, purse_pays}
-use Rattle.control_word.specs.Events.{Asks, InHand, IsOpen, after, cell_of, fills, kind_of, loses, swaps}
-use Rattle.control_word.specs.Histories.{Values, entry, leads, value, valued}
-use Rattle.control_word.specs.Layout.{spot}
-use Rattle.control_word.specs.State.{HasRoom, Object, Opening, put}
-use Rattle.control_word.specs.Steps.{Adds, cell_word, me, purse, state}
+use Rattle.control_word.proofs.words.Purses.{purse_adds, purse_fits, purse_lone, purse_owes}
+use Rattle.control_word.proofs.words.Purses.{purse_pays}
 use Rattle.control_word.specs.CellSteps.{Swaps}
-use Rattle.control_word.specs.Views.{Bare, Fits, Stands, adds, more, owed, owes, pays}
-use Rattle.control_word.specs.Words.{Shows, block_words, blocks_of, cell_at, cell_spot, packed}
-use Rattle.control_word.specs.declared.model.event.Cell.{Cell}
-use Rattle.control_word.specs.declared.model.event.Cell.TheVariants.{Free, Member}
-use Rattle.control_word.specs.declared.model.event.Entry.{Entry}
-use Rattle.control_word.specs.declared.model.event.Event.{Event}
-use Rattle.control_word.specs.declared.model.event.Event.TheVariants.{Swap}
-use Rattle.control_word.specs.declared.model.handle.NumberedHandle.{NumberedHandle}
-use Rattle.control_word.specs.declared.model.view.View.{View}
+use Rattle.control_word.specs.Words.{packed}
 
 module _ {V : Type 0} where
   module _ (z : Opening) (words : List ℕ) (views : List (View V)) (h : List (Entry V)) (stands : Stands z words views h)

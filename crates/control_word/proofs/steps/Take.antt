@@ -1,11 +1,13 @@
 -- A fund is taken from a cell: a load, or a compare that differs.
-use Rattle.std.proofs.Common.{◌⊎◌, ◌≡◌, ◌≢◌, ℕ, suc, ◌+◌, ◌-◌, ◌*◌, ◌<◌, ◌≤◌, Bool, true, false, List, [], ◌∷◌}
-use Rattle.std.proofs.Common.{get_or, set, Option, Some, refl, sym}
-use Rattle.std.proofs.Common.{ap, subst, ◌∙◌, inl, inr, ⊎_elim, arith}
-use Rattle.std.proofs.lemmas.Bool.{cases_eq}
-use Rattle.std.proofs.lemmas.List.{length-set}
-use mathlib.Core.Option.{some}
-use lib.ListN.{get_elem?}
+use Rattle.std.proofs.Common.{◌≡◌, ℕ, suc, ◌+◌, ◌-◌, ◌*◌, ◌<◌, ◌≤◌, Bool, true, false, ◌≢◌, ◌⊎◌}
+use Rattle.std.proofs.Common.{List, [], ◌∷◌, get_or, set, Some, Option, sym, refl, ap, ◌∙◌, subst}
+use Rattle.std.proofs.Common.{inl, inr, ⊎_elim, arith, length-set}
+use Rattle.control_word.proofs.Prelude
+use Prelude.{adds, after, Asks, bag_size, Bare, blocks_of, cases_eq, Cell, cell_at, cell_of}
+use Prelude.{cell_spot, Compare, counts_at, Entry, entry, equivalent, Event, fills, Fits, Free}
+use Prelude.{get_elem?, handle, Held, held, Idle, InHand, IsOpen, Kind, kind_of, leads, Load, me}
+use Prelude.{Member, more, NumberedHandle, Opening, owed, owes, Paying, pays, Place, put, Shows}
+use Prelude.{some, spot, Stands, State, state, tally, value, valued, Values, View, worth}
 use Rattle.control_word.proofs.history.Cells.{cell_counted, one_of}
 use Rattle.control_word.proofs.history.Kept.{cells_led}
 use Rattle.control_word.proofs.history.Legal.{sound}
@@ -14,30 +16,15 @@ use Rattle.control_word.proofs.history.Soundness.{IsBusy}
 use Rattle.control_word.proofs.lists.Tallies.{put_again, put_other, put_same}
 use Rattle.control_word.proofs.views.Teams.{plain_step}
 use Rattle.control_word.proofs.words.Banks.{IsKept, bank_fill, open_kept}
-use Rattle.control_word.proofs.words.CellWords.{bare_put, cell_apart, cell_inside, cell_low, same_known, taken_left}
+use Rattle.control_word.proofs.words.CellWords.{bare_put, cell_apart, cell_inside, cell_low}
+use Rattle.control_word.proofs.words.CellWords.{same_known, taken_left}
 use Rattle.control_word.proofs.words.Counting.{bag_one}
 use Rattle.control_word.proofs.words.Frames.{shelf_kept, total_set}
 use Rattle.control_word.proofs.words.Funds.{counted_busy}
-use Rattle.control_word.proofs.words.Payments.{cond_one, kept_in, one_at, one_else, one_here, read_set, shows_all, vacant_gain, words_gain}
-use Rattle.control_word.specs.Events.{Asks, InHand, IsOpen, after, cell_of, fills, kind_of}
-use Rattle.control_word.specs.Handles.{equivalent, handle}
-use Rattle.control_word.specs.Histories.{Values, entry, leads, value, valued}
-use Rattle.control_word.specs.Layout.{spot}
-use Rattle.control_word.specs.State.{Held, Opening, State, bag_size, held, put, tally}
-use Rattle.control_word.specs.Steps.{me, state}
+use Rattle.control_word.proofs.words.Payments.{cond_one, kept_in, one_at, one_else, one_here}
+use Rattle.control_word.proofs.words.Payments.{read_set, shows_all, vacant_gain, words_gain}
 use Rattle.control_word.specs.CellSteps.{Takes}
-use Rattle.control_word.specs.Views.{Bare, Fits, Stands, adds, more, owed, owes, pays}
-use Rattle.control_word.specs.Words.{Shows, bank, blocks_of, cell_at, cell_spot, counts_at, worth}
-use Rattle.control_word.specs.declared.model.event.Cell.{Cell}
-use Rattle.control_word.specs.declared.model.event.Cell.TheVariants.{Free, Member}
-use Rattle.control_word.specs.declared.model.event.Entry.{Entry}
-use Rattle.control_word.specs.declared.model.event.Event.{Event}
-use Rattle.control_word.specs.declared.model.event.Event.TheVariants.{Compare, Load}
-use Rattle.control_word.specs.declared.model.handle.NumberedHandle.{NumberedHandle}
-use Rattle.control_word.specs.declared.model.handle.Kind.{Kind}
-use Rattle.control_word.specs.declared.place.Place.{Place}
-use Rattle.control_word.specs.declared.model.view.Pending.TheVariants.{Idle, Paying}
-use Rattle.control_word.specs.declared.model.view.View.{View}
+use Rattle.control_word.specs.Words.{bank}
 
 module _ {V : Type 0} where
   module _ (z : Opening) (words : List ℕ) (views : List (View V)) (h : List (Entry V)) (stands : Stands z words views h)

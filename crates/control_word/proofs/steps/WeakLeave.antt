@@ -1,10 +1,12 @@
 -- One weak handle less, or the owners' common count; the block is vacant where the whole word was 1.
-use Rattle.std.proofs.Common.{None, ◌&&◌, ◌-◌, ◌≡◌, ◌≢◌, ℕ, suc, ◌+◌, ◌*◌, ◌<◌, ◌≤◌, true, false, cond, ◌==◌, List}
-use Rattle.std.proofs.Common.{◌∷◌, get_or, set, Option, Some, refl, sym, ap}
-use Rattle.std.proofs.Common.{◌∙◌, ⊎_elim, ne_eqb, arith, eq-eqb}
-use Rattle.std.proofs.lemmas.Bool.{cases_eq}
-use mathlib.Core.Option.{some}
-use lib.ListN.{get_elem?}
+use Rattle.std.proofs.Common.{◌≡◌, ℕ, suc, ◌+◌, ◌-◌, ◌*◌, ◌<◌, ◌≤◌, true, false, cond, ◌&&◌, ◌≢◌}
+use Rattle.std.proofs.Common.{List, ◌∷◌, get_or, set, ◌==◌, Some, None, Option, sym, refl, ap, ◌∙◌}
+use Rattle.std.proofs.Common.{⊎_elim, arith, eq-eqb, ne_eqb}
+use Rattle.control_word.proofs.Prelude
+use Prelude.{cases_eq, common, counts, empty, ending, Entry, entry, Finish, get_elem?, gone, Has}
+use Prelude.{held, Idle, is_gone, kind_of_member, leads, live, members, moved_to, Object, Opening}
+use Prelude.{owed, paid, Phase, Place, put, same_held, sees, some, spot, Stands, state, stored}
+use Prelude.{unmade, value, View, Weak, weak_number, weak_of, WeakLeave, without}
 use Rattle.std.proofs.Math.Bool.{and-true, and-false}
 use Rattle.control_word.proofs.history.Allowances.{allowed}
 use Rattle.control_word.proofs.history.Leaving.{finish_phase}
@@ -13,23 +15,12 @@ use Rattle.control_word.proofs.history.Moving.{count_same, less_weaks, weak_coun
 use Rattle.control_word.proofs.history.Soundness.{IsBusy}
 use Rattle.control_word.proofs.lists.Tallies.{put_cases, put_other}
 use Rattle.control_word.proofs.words.Changes.{settled_stores}
-use Rattle.control_word.proofs.words.Counting.{bag_fewer, funds_mean, number_read, one_test, owed_paid, word_some}
+use Rattle.control_word.proofs.words.Counting.{bag_fewer, funds_mean, number_read, one_test}
+use Rattle.control_word.proofs.words.Counting.{owed_paid, word_some}
 use Rattle.control_word.proofs.words.Debts.{HasOut, idle_out, last_test}
-use Rattle.control_word.specs.Events.{is_gone, moved_to}
-use Rattle.control_word.specs.Handles.{empty, weak_of}
-use Rattle.control_word.specs.Histories.{entry, leads, value}
-use Rattle.control_word.specs.Layout.{spot}
-use Rattle.control_word.specs.State.{Has, Object, Opening, Phase, common, ending, gone, held, kind_of_member, live, members, put, same_held, stored}
-use Rattle.control_word.specs.State.{unmade, weak, weak_number, without}
-use Rattle.control_word.specs.Steps.{Finishes, WeakLeaves, counts, state}
-use Rattle.control_word.specs.Views.{Stands, owed, paid, sees}
+use Rattle.control_word.specs.State.{weak}
+use Rattle.control_word.specs.Steps.{Finishes, WeakLeaves}
 use Rattle.control_word.specs.Words.{bank}
-use Rattle.control_word.specs.declared.model.event.Entry.{Entry}
-use Rattle.control_word.specs.declared.model.event.Event.TheVariants.{Finish, WeakLeave}
-use Rattle.control_word.specs.declared.model.handle.Kind.TheVariants.{Weak}
-use Rattle.control_word.specs.declared.place.Place.{Place}
-use Rattle.control_word.specs.declared.model.view.Pending.TheVariants.{Idle}
-use Rattle.control_word.specs.declared.model.view.View.{View}
 
 eqb_suc : (n : ℕ) → (suc n == 1) ≡ (n == 0)
 eqb_suc n = ⊎_elim (λ (e : n ≡ 0). eq-eqb (suc n) 1 (omega arith) ∙ sym (eq-eqb n 0 e)) (λ (e : n ≢ 0). ne_eqb (suc n) 1 (λ u. omega arith)

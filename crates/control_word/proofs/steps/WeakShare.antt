@@ -1,25 +1,15 @@
 -- One more weak handle.
-use Rattle.std.proofs.Common.{◌≡◌, ℕ, suc, ◌+◌, ◌<◌, false, List, ◌∷◌, get_or, set, Option, Some, refl, ap, ⊎_elim, arith}
-use mathlib.Core.Option.{some}
-use lib.ListN.{get_elem?}
+use Rattle.std.proofs.Common.{◌≡◌, ℕ, suc, ◌+◌, ◌<◌, false, List, ◌∷◌, get_or, set, Some, Option}
+use Rattle.std.proofs.Common.{refl, ap, ⊎_elim, arith}
+use Rattle.control_word.proofs.Prelude.{Asks, bag_size, common, Entry, entry, get_elem?, held}
+use Rattle.control_word.proofs.Prelude.{Idle, leads, more, Opening, Place, sees, some, spot}
+use Rattle.control_word.proofs.Prelude.{Stands, View, Weak, weak_of, WeakShare}
 use Rattle.control_word.proofs.history.Moving.{more_weaks, weak_no_owner}
 use Rattle.control_word.proofs.history.Soundness.{IsBusy}
 use Rattle.control_word.proofs.words.Changes.{settled_step}
 use Rattle.control_word.proofs.words.Counting.{bag_one}
 use Rattle.control_word.proofs.words.Debts.{idle_out}
-use Rattle.control_word.specs.Events.{Asks}
-use Rattle.control_word.specs.Handles.{weak_of}
-use Rattle.control_word.specs.Histories.{entry, leads}
-use Rattle.control_word.specs.Layout.{spot}
-use Rattle.control_word.specs.State.{Opening, bag_size, common, held}
 use Rattle.control_word.specs.Steps.{WeakShares}
-use Rattle.control_word.specs.Views.{Stands, more, sees}
-use Rattle.control_word.specs.declared.model.event.Entry.{Entry}
-use Rattle.control_word.specs.declared.model.event.Event.TheVariants.{WeakShare}
-use Rattle.control_word.specs.declared.model.handle.Kind.TheVariants.{Weak}
-use Rattle.control_word.specs.declared.place.Place.{Place}
-use Rattle.control_word.specs.declared.model.view.Pending.TheVariants.{Idle}
-use Rattle.control_word.specs.declared.model.view.View.{View}
 
 module _ {V : Type 0} where
   module _ (z : Opening) (words : List ℕ) (views : List (View V)) (h : List (Entry V)) (stands : Stands z words views h)

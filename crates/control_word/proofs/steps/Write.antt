@@ -1,35 +1,25 @@
 -- The words of an own vacant block are written: the weak word, the flags and the fields.
-use Rattle.std.proofs.Common.{◌≡◌, ◌≢◌, ℕ, zero, suc, ◌+◌, ◌-◌, cond, ◌<◌, ◌≤◌, Bool, true, false, ◌==◌, List, []}
-use Rattle.std.proofs.Common.{◌∷◌, length, get_or, slice_index}
-use Rattle.std.proofs.Common.{set, refl, sym, ap, subst, ◌∙◌, inl, inr, ⊎_elim, eq-eqb, ne_eqb, arith}
-use Rattle.std.proofs.lemmas.Bool.{cases_eq, cases_lt, cond-false}
-use Rattle.std.proofs.lemmas.List.{get_or-set_same, get_or-set_other, length-set}
-use mathlib.Core.Option.{some}
-use lib.ListN.{get_elem?}
-use Rattle.atomic_table.proofs.Lists.{at_set}
+use Rattle.std.proofs.Common.{◌≡◌, ℕ, zero, suc, ◌+◌, ◌-◌, ◌<◌, ◌≤◌, Bool, true, false, cond, ◌≢◌}
+use Rattle.std.proofs.Common.{List, [], ◌∷◌, length, get_or, set, ◌==◌, slice_index, sym, refl, ap}
+use Rattle.std.proofs.Common.{◌∙◌, subst, inl, inr, ⊎_elim, arith, length-set, get_or-set_other}
+use Rattle.std.proofs.Common.{get_or-set_same, eq-eqb, ne_eqb}
+use Rattle.control_word.proofs.Prelude
+use Prelude.{added, adds, at_set, Block, blocks_of, cases_eq, cases_lt, cell_spot, cond-false}
+use Prelude.{counts, counts_at, Entry, Fits, get_elem?, Has, how_often, Idle, Kind, leads, Making}
+use Prelude.{Merging, more, NumberedHandle, Opening, owed, owes, Owner, paid, Parting, Paying}
+use Prelude.{pays, Pending, same_stored, slot, some, spot, Stands, Stored, stored, value, View}
+use Prelude.{Visiting, weak_number, without}
 use Rattle.control_word.proofs.history.Legal.{held_busy, sound}
-use Rattle.control_word.proofs.lists.Tallies.{has_without, num_has, num_without, stored_self, stored_true}
+use Rattle.control_word.proofs.lists.Tallies.{has_without, num_has, num_without, stored_self}
+use Rattle.control_word.proofs.lists.Tallies.{stored_true}
 use Rattle.control_word.proofs.views.Teams.{still_step}
 use Rattle.control_word.proofs.words.Banks.{bank_none}
 use Rattle.control_word.proofs.words.Counting.{none_of}
-use Rattle.control_word.proofs.words.Frames.{shelf_kept, shows_write, spot_apart, spot_fits, total_none, total_set}
+use Rattle.control_word.proofs.words.Frames.{shelf_kept, shows_write, spot_apart, spot_fits}
+use Rattle.control_word.proofs.words.Frames.{total_none, total_set}
 use Rattle.control_word.proofs.words.Funds.{slot_low}
 use Rattle.control_word.proofs.words.Payments.{read_set, shows_all}
-use Rattle.control_word.specs.Histories.{leads, value}
-use Rattle.control_word.specs.Laws.{how_often}
-use Rattle.control_word.specs.Layout.{spot}
-use Rattle.control_word.specs.State.{Has, Opening, Stored, same_stored, stored, weak_number, without}
-use Rattle.control_word.specs.Steps.{WritesWeakWord, WritesWord, counts, known_of}
-use Rattle.control_word.specs.Views.{Fits, Stands, added, adds, more, owed, owes, paid, pays}
-use Rattle.control_word.specs.Words.{blocks_of, cell_spot, counts_at, slot}
-use Rattle.control_word.specs.declared.model.event.Entry.{Entry}
-use Rattle.control_word.specs.declared.model.handle.NumberedHandle.{NumberedHandle}
-use Rattle.control_word.specs.declared.model.handle.Kind.{Kind}
-use Rattle.control_word.specs.declared.model.handle.Kind.TheVariants.{Owner}
-use Rattle.control_word.specs.declared.place.Block.{Block}
-use Rattle.control_word.specs.declared.model.view.Pending.{Pending}
-use Rattle.control_word.specs.declared.model.view.Pending.TheVariants.{Idle, Making, Merging, Parting, Paying, Visiting}
-use Rattle.control_word.specs.declared.model.view.View.{View}
+use Rattle.control_word.specs.Steps.{WritesWeakWord, WritesWord, known_of}
 
 -- a block that is in two desks' stores would be there twice
 two_stores : (d e b : ℕ) (l : List Stored) → Has (stored d b) l → Has (stored e b) l → d ≢ e → 1 < how_often b l

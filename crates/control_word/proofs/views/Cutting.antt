@@ -1,20 +1,13 @@
 -- A view is cut in two after a split; no word changes.
-use Rattle.std.proofs.Common.{◌≡◌, ◌≢◌, ℕ, zero, suc, ◌+◌, ◌⊎◌, false, List, [], ◌∷◌, ◌++◌, length, set, refl, sym, ap, subst}
-use Rattle.std.proofs.Common.{◌∙◌, inl, inr, ⊎_elim, arith}
-use Rattle.std.proofs.lemmas.Bool.{cases_eq}
-use mathlib.Core.Path.{fun_ext}
-use mathlib.Core.Option.{some, some-injective, some-ne-none}
-use lib.ListN.{get_elem?}
-use Rattle.atomic_table.proofs.Lists.{at_set, set_here, set_else}
+use Rattle.std.proofs.Common.{◌≡◌, ℕ, zero, suc, ◌+◌, false, ◌≢◌, ◌⊎◌, List, [], ◌∷◌, ◌++◌, length}
+use Rattle.std.proofs.Common.{set, sym, refl, ap, ◌∙◌, subst, inl, inr, ⊎_elim, arith}
+use Rattle.control_word.proofs.Prelude.{added, adds, at_set, cases_eq, Entry, fun_ext, get_elem?}
+use Rattle.control_word.proofs.Prelude.{IsActing, IsSecond, Knows, leads, more, Opening, owed}
+use Rattle.control_word.proofs.Prelude.{owes, paid, Parting, pays, Seated, set_else, set_here}
+use Rattle.control_word.proofs.Prelude.{Shows, some, some-injective, some-ne-none, spot, Stands}
+use Rattle.control_word.proofs.Prelude.{StandsFor, State, total, View}
 use Rattle.control_word.proofs.words.Frames.{at_inside, total_set}
-use Rattle.control_word.specs.Histories.{leads}
-use Rattle.control_word.specs.Layout.{spot}
-use Rattle.control_word.specs.State.{IsActing, Opening, State}
-use Rattle.control_word.specs.Views.{IsSecond, Knows, Seated, Stands, StandsFor, added, adds, comes, more, owed, owes, paid, pays, stays, total}
-use Rattle.control_word.specs.Words.{Shows}
-use Rattle.control_word.specs.declared.model.event.Entry.{Entry}
-use Rattle.control_word.specs.declared.model.view.Pending.TheVariants.{Parting}
-use Rattle.control_word.specs.declared.model.view.View.{View}
+use Rattle.control_word.specs.Views.{comes, stays}
 
 -- an element behind a list
 at_end : {A : Type 0} (l : List A) (a : A) (i : ℕ) (x : A) → get_elem? (l ++ a ∷ []) i ≡ some x

@@ -1,21 +1,13 @@
 -- One view takes in another before a join; no word changes.
-use Rattle.std.proofs.Common.{◌≡◌, ◌≢◌, ℕ, ◌+◌, ◌≤◌, ◌⊎◌, nat_lt, Bool, true, false, true≢false, cond, List, [], ◌∷◌}
-use Rattle.std.proofs.Common.{◌++◌, length, set, refl, sym, ap}
-use Rattle.std.proofs.Common.{subst, ◌∙◌, inl, inr, ⊎_elim, ltb-true, ltb-false, length-append, arith}
-use Rattle.std.proofs.lemmas.Bool.{cases_eq}
-use mathlib.Core.Path.{fun_ext}
-use mathlib.Core.Option.{some, some-injective}
-use lib.ListN.{get_elem?}
-use Rattle.atomic_table.proofs.Lists.{at_set, set_here, set_else}
+use Rattle.std.proofs.Common.{◌≡◌, ℕ, ◌+◌, ◌≤◌, Bool, true, false, cond, ◌≢◌, ◌⊎◌, List, [], ◌∷◌}
+use Rattle.std.proofs.Common.{◌++◌, length, set, nat_lt, sym, refl, ap, ◌∙◌, subst, inl, inr}
+use Rattle.std.proofs.Common.{⊎_elim, true≢false, arith, length-append, ltb-false, ltb-true}
+use Rattle.control_word.proofs.Prelude.{added, adds, at_set, cases_eq, Entry, fun_ext, get_elem?}
+use Rattle.control_word.proofs.Prelude.{Idle, IsActing, Knows, leads, more, NoneBy, Opening, owed}
+use Rattle.control_word.proofs.Prelude.{owes, paid, pays, Seated, set_else, set_here, Shows, some}
+use Rattle.control_word.proofs.Prelude.{some-injective, spot, Stands, StandsFor, State, View}
 use Rattle.control_word.proofs.words.Frames.{at_inside, total_set}
-use Rattle.control_word.specs.Histories.{leads}
-use Rattle.control_word.specs.Layout.{spot}
-use Rattle.control_word.specs.State.{IsActing, Opening, State}
-use Rattle.control_word.specs.Views.{Knows, NoneBy, Seated, Stands, StandsFor, added, adds, longer, more, owed, owes, paid, pays, together, used_up}
-use Rattle.control_word.specs.Words.{Shows}
-use Rattle.control_word.specs.declared.model.event.Entry.{Entry}
-use Rattle.control_word.specs.declared.model.view.Pending.TheVariants.{Idle}
-use Rattle.control_word.specs.declared.model.view.View.{View}
+use Rattle.control_word.specs.Views.{longer, together, used_up}
 
 -- of two equal lists with the same kind of end the shorter beginning begins the longer
 split_append : {A : Type 0} (a b c d : List A) → a ++ b ≡ c ++ d → length c ≤ length a → (m : List A) × (a ≡ c ++ m) × (d ≡ m ++ b)

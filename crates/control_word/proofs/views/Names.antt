@@ -1,18 +1,12 @@
 -- Sums over views with different names.
-use Rattle.std.proofs.Common.{◌≡◌, ◌≢◌, ℕ, zero, suc, ◌+◌, ◌<◌, ◌≤◌, ◌&&◌, Bool, true, false, cond, ◌==◌, nat_lt, lt-ltb}
-use Rattle.std.proofs.Common.{le-ltb, List, [], ◌∷◌, map}
-use Rattle.std.proofs.Common.{length, refl, sym, ap, ◌∙◌, ⊎_elim, eq-eqb, ne_eqb, arith}
-use Rattle.std.proofs.lemmas.Bool.{cases_eq, cond-true, cond-false, eqb-true, cases_lt}
-use mathlib.Core.Option.{some}
-use lib.ListN.{get_elem?}
+use Rattle.std.proofs.Common.{◌≡◌, ℕ, zero, suc, ◌+◌, ◌<◌, ◌≤◌, Bool, true, false, cond, ◌&&◌, ◌≢◌}
+use Rattle.std.proofs.Common.{List, [], ◌∷◌, map, length, nat_lt, ◌==◌, sym, refl, ap, ◌∙◌, ⊎_elim}
+use Rattle.std.proofs.Common.{arith, le-ltb, lt-ltb, eq-eqb, ne_eqb, eqb-true}
+use Rattle.control_word.proofs.Prelude.{cases_eq, cases_lt, cond-false, cond-true, get_elem?, Held}
+use Rattle.control_word.proofs.Prelude.{is_on, Kind, some, sum_below, tally, total, View}
 use Rattle.control_word.proofs.history.Bounds.{tally_length}
 use Rattle.control_word.proofs.lists.Tallies.{num, num_cons, tally_append}
 use Rattle.control_word.proofs.words.Frames.{total_none}
-use Rattle.control_word.specs.Handles.{is_on}
-use Rattle.control_word.specs.State.{Held, sum_below, tally}
-use Rattle.control_word.specs.Views.{total}
-use Rattle.control_word.specs.declared.model.handle.Kind.{Kind}
-use Rattle.control_word.specs.declared.model.view.View.{View}
 
 total_sum : {A : Type 0} (f g k : A → ℕ) (l : List A) → ((a : A) → k a ≡ f a + g a) → total k l ≡ total f l + total g l
 total_sum f g k [] h = refl

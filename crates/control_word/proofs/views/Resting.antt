@@ -1,10 +1,11 @@
 -- A sole desk has seen all, and the counts of a block at rest are exactly the handles on it.
-use Rattle.std.proofs.Common.{◌≡◌, ◌≢◌, ℕ, ◌+◌, ◌*◌, ◌<◌, Bool, true, false, List, get_or, refl, sym}
-use Rattle.std.proofs.Common.{ap, subst, ◌∙◌, inl, ⊎_elim}
-use Rattle.std.proofs.Common.{ne_eqb, arith}
-use Rattle.std.proofs.lemmas.Bool.{cond-false}
-use mathlib.Core.Option.{some, some-injective}
-use lib.ListN.{get_elem?}
+use Rattle.std.proofs.Common.{◌≡◌, ℕ, ◌+◌, ◌*◌, ◌<◌, Bool, true, false, ◌≢◌, List, get_or, sym}
+use Rattle.std.proofs.Common.{refl, ap, ◌∙◌, subst, inl, ⊎_elim, arith, ne_eqb}
+use Rattle.control_word.proofs.Prelude.{added, adds, block_words, cond-false, Entry, Fits}
+use Rattle.control_word.proofs.Prelude.{get_elem?, Idle, InShape, leads, Making, Merging}
+use Rattle.control_word.proofs.Prelude.{number_of, Opening, owed, owes, Owner, paid, Parting}
+use Rattle.control_word.proofs.Prelude.{Paying, pays, Pending, slot, some, some-injective, spot}
+use Rattle.control_word.proofs.Prelude.{Stands, value, View, Visiting, Weak, weak_number}
 use Rattle.control_word.proofs.history.Allowances.{opened}
 use Rattle.control_word.proofs.history.Kept.{Same, same_kept}
 use Rattle.control_word.proofs.history.Legal.{held_busy, sound}
@@ -13,18 +14,10 @@ pub use Rattle.control_word.proofs.lists.Sums.{sum_at}
 use Rattle.control_word.proofs.words.Frames.{spot_apart, total_none}
 use Rattle.control_word.proofs.words.Funds.{slot_low}
 use Rattle.control_word.proofs.words.Rooms.{number_room}
-use Rattle.control_word.specs.Histories.{leads, value}
 use Rattle.control_word.specs.Laws.{RestsExactly, SoleHasSeenAll}
-use Rattle.control_word.specs.Layout.{spot}
-use Rattle.control_word.specs.Packing.{number_of}
-use Rattle.control_word.specs.State.{InShape, Opening, count, weak_number}
-use Rattle.control_word.specs.Views.{Fits, IsAtRest, NamesBlock, Stands, added, adds, owed, owes, paid, pays}
-use Rattle.control_word.specs.Words.{bank, block_words, slot}
-use Rattle.control_word.specs.declared.model.event.Entry.{Entry}
-use Rattle.control_word.specs.declared.model.handle.Kind.TheVariants.{Owner, Weak}
-use Rattle.control_word.specs.declared.model.view.Pending.{Pending}
-use Rattle.control_word.specs.declared.model.view.Pending.TheVariants.{Idle, Making, Merging, Parting, Paying, Visiting}
-use Rattle.control_word.specs.declared.model.view.View.{View}
+use Rattle.control_word.specs.State.{count}
+use Rattle.control_word.specs.Views.{IsAtRest, NamesBlock}
+use Rattle.control_word.specs.Words.{bank}
 
 module _ {V : Type 0} where
   -- what a desk has by what it has seen, it has

@@ -1,24 +1,15 @@
 -- One desk's step changes its own view, and leaves what is so of the others.
-use Rattle.std.proofs.Common.{◌≡◌, ◌≢◌, ℕ, ◌<◌, ◌≤◌, ◌⊎◌, false, true≢false, List, [], ◌∷◌, set, refl, sym, ap, subst}
-use Rattle.std.proofs.Common.{◌∙◌, inl, ⊎_elim, arith}
-use mathlib.Core.Option.{some}
-use lib.ListN.{get_elem?}
-use Rattle.atomic_table.proofs.Lists.{at_set, set_here}
+use Rattle.std.proofs.Common.{◌≡◌, ℕ, ◌<◌, ◌≤◌, false, ◌≢◌, ◌⊎◌, List, [], ◌∷◌, set, sym, refl, ap}
+use Rattle.std.proofs.Common.{◌∙◌, subst, inl, ⊎_elim, true≢false, arith}
+use Rattle.control_word.proofs.Prelude
+use Prelude.{added, adds, after, Asks, at_set, Bare, Entry, entry, Event, Fits, get_elem?, HasRoom}
+use Prelude.{Idle, InShape, IsActing, IsSecond, Knows, leads, Making, Merging, more, Names}
+use Prelude.{Opening, owed, Parting, Paying, Pending, Seated, sees_as, set_here, Shows, some, spot}
+use Prelude.{Stands, StandsFor, value, Values, View, Visiting, word}
 use Rattle.control_word.proofs.history.Kept.{acting_same, same_after}
 use Rattle.control_word.proofs.history.Others.{IsLone, IsPlain, acts_after, plain_names}
 use Rattle.control_word.proofs.words.Frames.{at_inside, total_set}
-use Rattle.control_word.specs.Events.{Asks, after}
-use Rattle.control_word.specs.Histories.{Values, entry, leads, value}
-use Rattle.control_word.specs.Layout.{spot}
-use Rattle.control_word.specs.State.{HasRoom, InShape, IsActing, Opening}
-use Rattle.control_word.specs.Steps.{word}
-use Rattle.control_word.specs.Views.{Bare, Fits, HasBoth, IsSecond, Knows, Names, Seated, Stands, StandsFor, Team, added, adds, more, owed, sees_as}
-use Rattle.control_word.specs.Words.{Shows}
-use Rattle.control_word.specs.declared.model.event.Entry.{Entry}
-use Rattle.control_word.specs.declared.model.event.Event.{Event}
-use Rattle.control_word.specs.declared.model.view.Pending.{Pending}
-use Rattle.control_word.specs.declared.model.view.Pending.TheVariants.{Idle, Making, Merging, Parting, Paying, Visiting}
-use Rattle.control_word.specs.declared.model.view.View.{View}
+use Rattle.control_word.specs.Views.{HasBoth, Team}
 
 module _ {V : Type 0} where
   -- one view changes, and the history may grow by an event of its desk

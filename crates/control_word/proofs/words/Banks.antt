@@ -1,8 +1,10 @@
 -- How a change of one cell changes the funds of the cells.
-use Rattle.std.proofs.Common.{◌≡◌, ◌≢◌, ℕ, zero, suc, ◌+◌, ◌-◌, ◌<◌, ◌≤◌, Option, Some, None, refl, sym, ap, ◌∙◌}
-use Rattle.std.proofs.Common.{⊎_elim, ne_eqb, arith, List}
-use Rattle.std.proofs.lemmas.Bool.{cases_eq, cond-false}
-use mathlib.Core.Path.{fun_ext}
+use Rattle.std.proofs.Common.{◌≡◌, ℕ, zero, suc, ◌+◌, ◌-◌, ◌<◌, ◌≤◌, ◌≢◌, List, Some, None, Option}
+use Rattle.std.proofs.Common.{sym, refl, ap, ◌∙◌, ⊎_elim, arith, ne_eqb}
+use Rattle.control_word.proofs.Prelude
+use Prelude.{blocks_of, cases_eq, Cell, cell_at, cell_of, cell_spot, common, cond-false, counts_at}
+use Prelude.{fills, Free, fun_ext, handle, Held, IsOpen, Kind, Member, member_funds}
+use Prelude.{NumberedHandle, Object, Opening, Place, put, spot, State, sum_below, worth}
 use Rattle.control_word.proofs.history.Cells.{open_live}
 use Rattle.control_word.proofs.history.Clearing.{was_made}
 use Rattle.control_word.proofs.history.Moving.{live_busy}
@@ -11,16 +13,7 @@ use Rattle.control_word.proofs.history.Storing.{kept}
 use Rattle.control_word.proofs.lists.Tallies.{put_cases, put_other, put_same}
 use Rattle.control_word.proofs.words.Frames.{spot_apart, spot_fits}
 use Rattle.control_word.proofs.words.Funds.{cell_busy, member_busy}
-use Rattle.control_word.specs.Events.{IsOpen, cell_of, fills}
-use Rattle.control_word.specs.Handles.{handle}
-use Rattle.control_word.specs.Layout.{spot}
-use Rattle.control_word.specs.State.{Held, Object, Opening, State, common, put, sum_below}
-use Rattle.control_word.specs.Words.{bank, blocks_of, cell_at, cell_spot, counts_at, member_funds, worth}
-use Rattle.control_word.specs.declared.model.event.Cell.{Cell}
-use Rattle.control_word.specs.declared.model.event.Cell.TheVariants.{Free, Member}
-use Rattle.control_word.specs.declared.model.handle.NumberedHandle.{NumberedHandle}
-use Rattle.control_word.specs.declared.model.handle.Kind.{Kind}
-use Rattle.control_word.specs.declared.place.Place.{Place}
+use Rattle.control_word.specs.Words.{bank}
 
 pub sum_set : (n p : ℕ) (f g : ℕ → ℕ) → p < n → ((j : ℕ) → j < n → j ≢ p → g j ≡ f j) → sum_below n g + f p ≡ sum_below n f + g p
 sum_set zero p f g lt same = absurd (omega arith)

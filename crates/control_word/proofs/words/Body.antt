@@ -1,22 +1,18 @@
 -- The flags and fields of a block.
-use Rattle.std.proofs.Common.{◌≡◌, ◌≢◌, ℕ, zero, suc, ◌+◌, ◌-◌, ◌<◌, ◌≤◌, List, ◌∷◌, get_or, slice_index, refl, ap}
-use Rattle.std.proofs.Common.{◌∙◌, ⊎_elim, ne_eqb, arith}
-use Rattle.std.proofs.lemmas.Bool.{cond-false}
+use Rattle.std.proofs.Common.{◌≡◌, ℕ, zero, suc, ◌+◌, ◌-◌, ◌<◌, ◌≤◌, ◌≢◌, List, ◌∷◌, get_or}
+use Rattle.std.proofs.Common.{slice_index, refl, ap, ◌∙◌, ⊎_elim, arith, ne_eqb}
+use Rattle.control_word.proofs.Prelude
+use Prelude.{added, adds, block_words, blocks_of, cond-false, Entry, Fits, flags_of, Idle, InShape}
+use Prelude.{leads, Making, Merging, more, Object, Opening, owed, owes, Parting, Paying, pays}
+use Prelude.{Pending, slot, spot, Stands, value, View, Visiting, weak_number}
 use Rattle.control_word.proofs.history.Legal.{held_busy, sound}
 use Rattle.control_word.proofs.history.Soundness.{IsBusy}
 use Rattle.control_word.proofs.words.Banks.{bank_none}
 use Rattle.control_word.proofs.words.Counting.{none_of}
 use Rattle.control_word.proofs.words.Frames.{spot_apart}
 use Rattle.control_word.proofs.words.Funds.{slot_low}
-use Rattle.control_word.specs.Histories.{leads, value}
-use Rattle.control_word.specs.Layout.{spot}
-use Rattle.control_word.specs.State.{InShape, Object, Opening, count, weak_number}
-use Rattle.control_word.specs.Views.{Fits, Stands, added, adds, more, owed, owes, pays}
-use Rattle.control_word.specs.Words.{block_words, blocks_of, flags_of, object_words, slot}
-use Rattle.control_word.specs.declared.model.event.Entry.{Entry}
-use Rattle.control_word.specs.declared.model.view.Pending.{Pending}
-use Rattle.control_word.specs.declared.model.view.Pending.TheVariants.{Idle, Making, Merging, Parting, Paying, Visiting}
-use Rattle.control_word.specs.declared.model.view.View.{View}
+use Rattle.control_word.specs.State.{count}
+use Rattle.control_word.specs.Words.{object_words}
 
 -- the fields of an object among its words
 pub words_field : (f : ℕ → ℕ) (x : Object) (j : ℕ) → j < 4 → get_or (object_words f x) (1 + j) 0 ≡ slice_index x.fields j

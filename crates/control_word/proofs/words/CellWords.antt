@@ -1,14 +1,12 @@
 -- The word of a cell that is open, or a member of a busy object.
-use Rattle.std.proofs.Common.{ne_eqb, ◌≡◌, ◌≢◌, ℕ, ◌+◌, ◌*◌, Option, Some, None, ◌<◌, false, List, get_or, set, refl, sym, ap}
-use Rattle.std.proofs.Common.{◌∙◌, ⊎_elim, arith}
-use Rattle.std.proofs.Common.{◌⊎◌, ◌≡◌, ◌≢◌, ℕ, ◌+◌, ◌*◌, ◌<◌, false, List, length, get_or, set, Option, Some, None, refl, sym}
-use Rattle.std.proofs.Common.{ap, ◌∙◌, ⊎_elim, ne_eqb, arith}
-use Rattle.std.proofs.lemmas.Bool.{cases_eq, cond-false}
-use Rattle.std.proofs.lemmas.Bool.{cond-false, cases_eq}
-use Rattle.std.proofs.lemmas.List.{get_or-set_other}
-use Rattle.std.proofs.lemmas.List.{get_or-set_other}
-use lib.ListN.{get_elem?}
-use mathlib.Core.Option.{some}
+use Rattle.std.proofs.Common.{◌≡◌, ℕ, ◌+◌, ◌*◌, ◌<◌, false, ◌≢◌, ◌⊎◌, List, length, get_or, set}
+use Rattle.std.proofs.Common.{Some, None, Option, sym, refl, ap, ◌∙◌, ⊎_elim, arith}
+use Rattle.std.proofs.Common.{get_or-set_other, ne_eqb}
+use Rattle.control_word.proofs.Prelude
+use Prelude.{adds, Bare, blocks_of, cases_eq, Cell, cell_at, cell_of, cell_spot, cond-false}
+use Prelude.{counts, counts_at, Entry, Fits, Free, get_elem?, Idle, InShape, Kind, leads, Making}
+use Prelude.{Member, Merging, more, Opening, owed, owes, Owner, Parting, Paying, pays, Pending}
+use Prelude.{put, slot, some, spot, Stands, value, View, Visiting, weak_number}
 use Rattle.control_word.proofs.history.Kept.{cells_led}
 use Rattle.control_word.proofs.history.Legal.{held_busy, sound}
 use Rattle.control_word.proofs.lists.Tallies.{put_other, put_same}
@@ -17,21 +15,7 @@ use Rattle.control_word.proofs.words.Counting.{none_of}
 use Rattle.control_word.proofs.words.Frames.{spot_apart, spot_fits}
 use Rattle.control_word.proofs.words.Funds.{slot_low}
 use Rattle.control_word.proofs.words.Members.{member_word}
-use Rattle.control_word.specs.Events.{cell_of}
-use Rattle.control_word.specs.Histories.{leads, value}
-use Rattle.control_word.specs.Layout.{spot}
-use Rattle.control_word.specs.State.{InShape, Opening, put, weak_number}
-use Rattle.control_word.specs.Steps.{counts}
-use Rattle.control_word.specs.Views.{Bare, Fits, Stands, adds, more, owed, owes, pays}
-use Rattle.control_word.specs.Words.{blocks_of, cell_at, cell_spot, counts_at, packed, slot}
-use Rattle.control_word.specs.declared.model.event.Cell.{Cell}
-use Rattle.control_word.specs.declared.model.event.Cell.TheVariants.{Free, Member}
-use Rattle.control_word.specs.declared.model.event.Entry.{Entry}
-use Rattle.control_word.specs.declared.model.handle.Kind.{Kind}
-use Rattle.control_word.specs.declared.model.handle.Kind.TheVariants.{Owner}
-use Rattle.control_word.specs.declared.model.view.Pending.{Pending}
-use Rattle.control_word.specs.declared.model.view.Pending.TheVariants.{Idle, Making, Merging, Parting, Paying, Visiting}
-use Rattle.control_word.specs.declared.model.view.View.{View}
+use Rattle.control_word.specs.Words.{packed}
 
 module _ {V : Type 0} where
   module _ (z : Opening) (words : List ℕ) (views : List (View V)) (h : List (Entry V)) (stands : Stands z words views h)

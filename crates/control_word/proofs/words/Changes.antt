@@ -1,8 +1,11 @@
 -- Events that change one number, after which their desk rests.
-use Rattle.std.proofs.Common.{◌≡◌, ◌≢◌, ℕ, suc, ◌+◌, ◌*◌, ◌<◌, false, List, ◌∷◌, get_or, set, Option, Some, refl, sym, ap}
-use Rattle.std.proofs.Common.{subst, ◌∙◌, ⊎_elim, arith, ◌≤◌, ◌⊎◌}
-use mathlib.Core.Option.{some}
-use lib.ListN.{get_elem?}
+use Rattle.std.proofs.Common.{◌≡◌, ℕ, suc, ◌+◌, ◌*◌, ◌<◌, ◌≤◌, false, ◌≢◌, ◌⊎◌, List, ◌∷◌, get_or}
+use Rattle.std.proofs.Common.{set, Some, Option, sym, refl, ap, ◌∙◌, subst, ⊎_elim, arith}
+use Rattle.control_word.proofs.Prelude
+use Prelude.{after, Asks, bag_size, Bare, block_words, blocks_of, common, counts, counts_at, Entry}
+use Prelude.{entry, Event, get_elem?, Held, held, Idle, Kind, leads, live, more, moved_to, Object}
+use Prelude.{Opening, owed, Owner, owner, Place, sees, Shows, slot, some, spot, Stands, State}
+use Prelude.{Stored, unmade, value, Values, View, Weak, weak_number}
 use Rattle.control_word.proofs.history.Kept.{still}
 use Rattle.control_word.proofs.history.Legal.{sound}
 use Rattle.control_word.proofs.history.Moving.{live_busy, more_owners, owner_no_weak}
@@ -14,21 +17,8 @@ use Rattle.control_word.proofs.words.Debts.{HasOut, idle_out, settles}
 use Rattle.control_word.proofs.words.Frames.{shows_number, shows_stores}
 use Rattle.control_word.proofs.words.Funds.{bank_still, slot_low}
 use Rattle.control_word.proofs.words.Payments.{one_at, one_else, one_here}
-use Rattle.control_word.specs.Events.{Asks, after, moved_to}
-use Rattle.control_word.specs.Handles.{owner}
-use Rattle.control_word.specs.Histories.{Values, entry, leads, value}
-use Rattle.control_word.specs.Layout.{spot}
-use Rattle.control_word.specs.State.{Held, Object, Opening, State, Stored, bag_size, common, count, held, live, unmade, weak_number}
-use Rattle.control_word.specs.Steps.{counts}
-use Rattle.control_word.specs.Views.{Bare, Stands, more, owed, sees}
-use Rattle.control_word.specs.Words.{Shows, bank, block_words, blocks_of, counts_at, slot}
-use Rattle.control_word.specs.declared.model.event.Entry.{Entry}
-use Rattle.control_word.specs.declared.model.event.Event.{Event}
-use Rattle.control_word.specs.declared.model.handle.Kind.{Kind}
-use Rattle.control_word.specs.declared.model.handle.Kind.TheVariants.{Owner, Weak}
-use Rattle.control_word.specs.declared.place.Place.{Place}
-use Rattle.control_word.specs.declared.model.view.Pending.TheVariants.{Idle}
-use Rattle.control_word.specs.declared.model.view.View.{View}
+use Rattle.control_word.specs.State.{count}
+use Rattle.control_word.specs.Words.{bank}
 
 module _ {V : Type 0} where
   stores_shows : (z : Opening) (ws : List ℕ) (us taken : ℕ → ℕ) (vs : List (View V)) (t : State) (r : List Stored)

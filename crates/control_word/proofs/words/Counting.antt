@@ -1,35 +1,23 @@
-use Rattle.std.proofs.Common.{◌≡◌, ◌≢◌, ℕ, suc, ◌+◌, ◌*◌, ◌<◌, Bool, true, false, cond, ◌==◌, List, ◌∷◌, map, get_or, set}
-use Rattle.std.proofs.Common.{Option, Some, refl, sym, ap}
-use Rattle.std.proofs.Common.{subst, ◌∙◌, ⊎_elim, ne_eqb, arith, ◌≤◌, length, eq-eqb}
-use Rattle.std.proofs.lemmas.Bool.{cases_eq, cond-false, cond-true}
-use Rattle.std.proofs.lemmas.List.{get_or-set_other}
-use mathlib.Core.Option.{some, some-injective}
-use lib.ListN.{get_elem?}
-use Rattle.std.specs.List.{filter}
+use Rattle.std.proofs.Common.{◌≡◌, ℕ, suc, ◌+◌, ◌*◌, ◌<◌, ◌≤◌, Bool, true, false, cond, ◌≢◌, List}
+use Rattle.std.proofs.Common.{◌∷◌, map, length, get_or, set, ◌==◌, Some, Option, sym, refl, ap}
+use Rattle.std.proofs.Common.{◌∙◌, subst, ⊎_elim, arith, get_or-set_other, eq-eqb, ne_eqb}
+use Rattle.control_word.proofs.Prelude
+use Prelude.{added, adds, after, blocks_of, cases_eq, cond-false, cond-true, counts_at, Entry}
+use Prelude.{Event, filter, Fits, get_elem?, handle, handles, Has, Held, held, Idle, in_cells}
+use Prelude.{InShape, Kind, leads, Making, me, Merging, more, NumberedHandle, Opening, owed, owes}
+use Prelude.{Owner, paid, Parting, Paying, pays, Pending, Place, same_held, sees, slot, some}
+use Prelude.{some-injective, spot, Stands, State, tally, total, value, valued, View, Visiting}
+use Prelude.{Weak, weak_number, without, word}
 use Rattle.control_word.proofs.history.Cells.{one_of}
 use Rattle.control_word.proofs.history.Legal.{held_busy, sound}
 use Rattle.control_word.proofs.history.Others.{IsPlain, fits_after, plain_names, plain_visits}
 use Rattle.control_word.proofs.history.Soundness.{IsBusy, Sound}
-use Rattle.control_word.proofs.lists.Tallies.{has_without, held_self, held_true, num, num_without, tally_append, tally_has, tally_without}
+use Rattle.control_word.proofs.lists.Tallies.{has_without, held_self, held_true, num, num_without}
+use Rattle.control_word.proofs.lists.Tallies.{tally_append, tally_has, tally_without}
 use Rattle.control_word.proofs.words.Frames.{spot_apart, total_none, total_set}
 use Rattle.control_word.proofs.words.Funds.{bank_few, same_counts, slot_low, total_le, total_some}
-use Rattle.control_word.specs.Events.{after}
-use Rattle.control_word.specs.Handles.{handle}
-use Rattle.control_word.specs.Histories.{leads, value, valued}
-use Rattle.control_word.specs.Layout.{spot}
-use Rattle.control_word.specs.State.{Has, Held, InShape, Opening, State, count, handles, held, in_cells, same_held, tally, weak, weak_number, without}
-use Rattle.control_word.specs.Steps.{me, word}
-use Rattle.control_word.specs.Views.{Fits, Stands, added, adds, more, owed, owes, paid, pays, sees, total}
-use Rattle.control_word.specs.Words.{bank, blocks_of, counts_at, slot}
-use Rattle.control_word.specs.declared.model.event.Entry.{Entry}
-use Rattle.control_word.specs.declared.model.event.Event.{Event}
-use Rattle.control_word.specs.declared.model.handle.NumberedHandle.{NumberedHandle}
-use Rattle.control_word.specs.declared.model.handle.Kind.{Kind}
-use Rattle.control_word.specs.declared.model.handle.Kind.TheVariants.{Owner, Weak}
-use Rattle.control_word.specs.declared.place.Place.{Place}
-use Rattle.control_word.specs.declared.model.view.Pending.{Pending}
-use Rattle.control_word.specs.declared.model.view.Pending.TheVariants.{Idle, Making, Merging, Parting, Paying, Visiting}
-use Rattle.control_word.specs.declared.model.view.View.{View}
+use Rattle.control_word.specs.State.{count, weak}
+use Rattle.control_word.specs.Words.{bank}
 
 module _ {V : Type 0} where
   -- a write of an owner or a weak word leaves what the other desks' half-done calls know

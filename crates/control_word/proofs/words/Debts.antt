@@ -1,30 +1,21 @@
 -- What a desk's half-done call has out on a count, and what the count's word says to that desk.
-use Rattle.std.proofs.Common.{◌≡◌, ◌≢◌, ℕ, ◌+◌, ◌-◌, ◌*◌, ◌<◌, ◌≤◌, ◌==◌, false, true, Bool, List, map}
-use Rattle.std.proofs.Common.{set, get_or, Option, Some, refl, sym, ap}
-use Rattle.std.proofs.Common.{◌∙◌, inl, ⊎_elim, eq-eqb, ne_eqb, arith}
-use Rattle.std.proofs.lemmas.Bool.{cases_eq}
-use mathlib.Core.Option.{some}
-use lib.ListN.{get_elem?}
-use Rattle.atomic_table.proofs.Lists.{at_set}
+use Rattle.std.proofs.Common.{◌≡◌, ℕ, ◌+◌, ◌-◌, ◌*◌, ◌<◌, ◌≤◌, Bool, true, false, ◌≢◌, List, map}
+use Rattle.std.proofs.Common.{get_or, set, ◌==◌, Some, Option, sym, refl, ap, ◌∙◌, inl, ⊎_elim}
+use Rattle.std.proofs.Common.{arith, eq-eqb, ne_eqb}
+use Rattle.control_word.proofs.Prelude
+use Prelude.{added, adds, at_set, blocks_of, cases_eq, counts_at, Entry, get_elem?, handle}
+use Prelude.{handles, Has, held, Idle, in_cells, Kind, leads, Opening, owed, owes, paid, Paying}
+use Prelude.{pays, Pending, Place, same_held, sees, some, Stands, tally, View, without}
 use Rattle.control_word.proofs.history.Cells.{one_of}
 use Rattle.control_word.proofs.history.Legal.{held_busy, sound}
 use Rattle.control_word.proofs.history.Soundness.{IsBusy}
 use Rattle.control_word.proofs.lists.Tallies.{tally_append, tally_without}
-use Rattle.control_word.proofs.words.Counting.{number, number_read, one_test, pays_handle, two_held}
+use Rattle.control_word.proofs.words.Counting.{number, number_read, one_test, pays_handle}
+use Rattle.control_word.proofs.words.Counting.{two_held}
 use Rattle.control_word.proofs.words.Frames.{total_set}
 use Rattle.control_word.proofs.words.Funds.{bank_few, total_some}
 use Rattle.control_word.proofs.words.Payments.{cond_one, one_at, one_here, rest_paid}
-use Rattle.control_word.specs.Handles.{handle}
-use Rattle.control_word.specs.Histories.{leads}
-use Rattle.control_word.specs.State.{Has, Opening, handles, held, in_cells, same_held, tally, without}
-use Rattle.control_word.specs.Views.{Stands, added, adds, owed, owes, paid, pays, sees}
-use Rattle.control_word.specs.Words.{bank, blocks_of, counts_at}
-use Rattle.control_word.specs.declared.model.event.Entry.{Entry}
-use Rattle.control_word.specs.declared.model.handle.Kind.{Kind}
-use Rattle.control_word.specs.declared.place.Place.{Place}
-use Rattle.control_word.specs.declared.model.view.Pending.{Pending}
-use Rattle.control_word.specs.declared.model.view.Pending.TheVariants.{Idle, Paying}
-use Rattle.control_word.specs.declared.model.view.View.{View}
+use Rattle.control_word.specs.Words.{bank}
 
 module _ {V : Type 0} where
   -- a call with so many funds out on word w, and with nothing else on any word

@@ -1,9 +1,10 @@
 -- What the word of a cell unpacks to.
-use Rattle.std.proofs.Common.{◌≡◌, ℕ, ◌+◌, ◌*◌, ◌≤◌, Option, Some, None, refl, ◌∙◌, arith}
-use Rattle.std.specs.Prelude.{IfSome}
-use Rattle.std.proofs.Common.{false, List, get_or}
-use mathlib.Core.Option.{some}
-use lib.ListN.{get_elem?}
+use Rattle.std.proofs.Common.{◌≡◌, ℕ, ◌+◌, ◌*◌, ◌≤◌, false, List, get_or, IfSome, Some, None}
+use Rattle.std.proofs.Common.{Option, refl, ◌∙◌, arith}
+use Rattle.control_word.proofs.Prelude
+use Prelude.{block_of, blocks_of, Cell, cell_at, cell_bits, cell_of, Entry, Free, get_elem?}
+use Prelude.{handle, IsBlock, IsCellWord, IsFormed, IsPlace, IsPointer, Kind, leads, Member}
+use Prelude.{NumberedHandle, Opening, Place, shown, some, Stands, State, View}
 use Rattle.control_word.proofs.history.Allowances.{opened}
 use Rattle.control_word.proofs.history.Clearing.{was_made}
 use Rattle.control_word.proofs.history.Formation.{formed}
@@ -12,20 +13,7 @@ use Rattle.control_word.proofs.history.Soundness.{IsBusy, Sound}
 use Rattle.control_word.proofs.words.Banks.{IsKept}
 use Rattle.control_word.proofs.words.CellWords.{cell_read}
 use Rattle.control_word.proofs.words.Funds.{cell_busy, member_busy}
-use Rattle.control_word.specs.Events.{cell_of}
-use Rattle.control_word.specs.Handles.{IsFormed, IsPointer, handle}
-use Rattle.control_word.specs.Histories.{leads}
-use Rattle.control_word.specs.Packing.{IsBlock, IsCellWord, IsPlace, cell_bits}
-use Rattle.control_word.specs.State.{Opening, State}
-use Rattle.control_word.specs.Views.{Stands}
-use Rattle.control_word.specs.Words.{block_of, blocks_of, cell_at, packed, shown}
-use Rattle.control_word.specs.declared.model.event.Cell.{Cell}
-use Rattle.control_word.specs.declared.model.event.Cell.TheVariants.{Free, Member}
-use Rattle.control_word.specs.declared.model.event.Entry.{Entry}
-use Rattle.control_word.specs.declared.model.handle.NumberedHandle.{NumberedHandle}
-use Rattle.control_word.specs.declared.model.handle.Kind.{Kind}
-use Rattle.control_word.specs.declared.place.Place.{Place}
-use Rattle.control_word.specs.declared.model.view.View.{View}
+use Rattle.control_word.specs.Words.{packed}
 
 shown_parts : (block : ℕ → ℕ) (k : Kind) (o : Option ℕ) (p : Option Place) (t : ℕ)
     → packed block (handle k o p) + 17179869184 * t ≡ cell_bits (shown block (handle k o p) t)

@@ -1,27 +1,19 @@
 -- The door bit of a flag word.
-use Rattle.std.proofs.Common.{◌≡◌, ◌≢◌, ℕ, zero, suc, ◌+◌, ◌-◌, ◌*◌, ◌<◌, ◌≤◌, ◌==◌, Bool, true, false, cond, List, []}
-use Rattle.std.proofs.Common.{◌∷◌, length, get_or, set}
-use Rattle.std.proofs.Common.{Option, refl, sym, ap, ◌∙◌, ⊎_elim, ne_eqb, arith}
-use Rattle.std.proofs.lemmas.Bool.{cases_eq, cond_both, cond-false}
-use Rattle.std.proofs.lemmas.List.{get_or-set_other, length-set}
-use mathlib.Core.Option.{some, some-injective, some-ne-none}
-use lib.ListN.{get_elem?}
+use Rattle.std.proofs.Common.{◌≡◌, ℕ, zero, suc, ◌+◌, ◌-◌, ◌*◌, ◌<◌, ◌≤◌, Bool, true, false, cond}
+use Rattle.std.proofs.Common.{◌≢◌, List, [], ◌∷◌, length, get_or, set, ◌==◌, Option, sym, refl, ap}
+use Rattle.std.proofs.Common.{◌∙◌, ⊎_elim, arith, length-set, get_or-set_other, ne_eqb}
+use Rattle.control_word.proofs.Prelude.{added, adds, blocks_of, cases_eq, cell_spot, cond-false}
+use Rattle.control_word.proofs.Prelude.{cond_both, Entry, Fits, flags_of, get_elem?, Idle, leads}
+use Rattle.control_word.proofs.Prelude.{Making, Merging, more, Opening, owed, owes, paid, Parting}
+use Rattle.control_word.proofs.Prelude.{Paying, pays, Pending, Place, Shows, some, some-injective}
+use Rattle.control_word.proofs.Prelude.{some-ne-none, spot, Stands, State, total, View, Visiting}
 use Rattle.control_word.proofs.history.Legal.{sound}
 use Rattle.control_word.proofs.history.Soundness.{IsBusy, Sound}
 use Rattle.control_word.proofs.words.Body.{body_read, words_flags}
 use Rattle.control_word.proofs.words.Frames.{shelf_kept, spot_apart, spot_fits, total_set}
 use Rattle.control_word.proofs.words.Funds.{total_some}
 use Rattle.control_word.proofs.words.Payments.{one_at, read_set, shows_all}
-use Rattle.control_word.specs.Histories.{leads}
-use Rattle.control_word.specs.Layout.{spot}
-use Rattle.control_word.specs.State.{Opening, State}
-use Rattle.control_word.specs.Views.{Fits, Stands, added, adds, more, owed, owes, paid, pays, total}
-use Rattle.control_word.specs.Words.{Shows, blocks_of, cell_spot, flags_of, object_words}
-use Rattle.control_word.specs.declared.model.event.Entry.{Entry}
-use Rattle.control_word.specs.declared.place.Place.{Place}
-use Rattle.control_word.specs.declared.model.view.Pending.{Pending}
-use Rattle.control_word.specs.declared.model.view.Pending.TheVariants.{Idle, Making, Merging, Parting, Paying, Visiting}
-use Rattle.control_word.specs.declared.model.view.View.{View}
+use Rattle.control_word.specs.Words.{object_words}
 
 pub total_at : {A : Type 0} (f : A → ℕ) (l : List A) (i : ℕ) (a : A) → get_elem? l i ≡ some a → f a ≤ total f l
 total_at f [] i a e = absurd (some-ne-none a (sym e))

@@ -1,21 +1,15 @@
 -- What one write of a word, and one change of a view, leave as they were.
-use Rattle.std.proofs.Common.{◌≡◌, ◌≢◌, ℕ, zero, suc, ◌+◌, ◌*◌, ◌%◌, ◌<◌, ◌≤◌, ◌⊎◌, List, [], ◌∷◌, length}
-use Rattle.std.proofs.Common.{get_or, set}
-use Rattle.std.proofs.Common.{refl, sym, ap, subst, ◌∙◌, inl, inr}
-use Rattle.std.proofs.Common.{⊎_elim, arith}
-use Rattle.std.proofs.lemmas.Bool.{cases_eq}
-use Rattle.std.proofs.lemmas.List.{get_or-set_same, get_or-set_other, length-set}
-use Rattle.std.specs.Int.{bit_at}
-use mathlib.Core.Path.{fun_ext}
-use mathlib.Core.Option.{some, some-ne-none, some-injective}
-use lib.ListN.{get_elem?}
+use Rattle.std.proofs.Common.{◌≡◌, ℕ, zero, suc, ◌+◌, ◌*◌, ◌%◌, ◌<◌, ◌≤◌, ◌≢◌, ◌⊎◌, List, [], ◌∷◌}
+use Rattle.std.proofs.Common.{length, get_or, set, sym, refl, ap, ◌∙◌, subst, inl, inr, ⊎_elim}
+use Rattle.std.proofs.Common.{arith, length-set, get_or-set_other, get_or-set_same}
+use Rattle.control_word.proofs.Prelude
+use Prelude.{bit_at, block_words, blocks_of, cases_eq, cell_spot, fun_ext, get_elem?, Held}
+use Prelude.{InShape, IsVacant, moved_to, NumberedHandle, Object, on_shelf, Opening, Says}
+use Prelude.{shelf_spot, Shows, ShowsShelf, some, some-injective, some-ne-none, spot, State}
+use Prelude.{Stored, total, unmade, weak_number}
 use Rattle.control_word.proofs.history.Soundness.{IsBusy, Sound}
-use Rattle.control_word.specs.Events.{moved_to}
-use Rattle.control_word.specs.Layout.{spot}
-use Rattle.control_word.specs.State.{Held, InShape, IsVacant, Object, Opening, State, Stored, count, on_shelf, unmade, weak, weak_number}
-use Rattle.control_word.specs.Views.{total}
-use Rattle.control_word.specs.Words.{Says, Shows, ShowsShelf, block_words, blocks_of, cell_spot, object_words, packed, shelf_spot}
-use Rattle.control_word.specs.declared.model.handle.NumberedHandle.{NumberedHandle}
+use Rattle.control_word.specs.State.{count, weak}
+use Rattle.control_word.specs.Words.{object_words, packed}
 
 pub spot_apart : (b k c j : ℕ) → 1 ≤ b → 1 ≤ c → k < 10 → j < 10 → spot b k ≡ spot c j → (b ≡ c) × (k ≡ j)
 spot_apart b k c j hb hc hk hj e = (omega arith, omega arith)

@@ -1,11 +1,12 @@
 -- The funds of cells and of half-done calls, and the words that count.
-use Rattle.std.proofs.Common.{◌≡◌, ◌≢◌, ℕ, zero, suc, ◌+◌, ◌-◌, ◌*◌, ◌<◌, ◌≤◌, ◌==◌, cond, List, [], ◌∷◌, map}
-use Rattle.std.proofs.Common.{Option, Some, None, refl, sym, ap, ◌∙◌}
-use Rattle.std.proofs.Common.{⊎_elim, eq-eqb, ne_eqb, arith}
-use Rattle.std.proofs.lemmas.Bool.{cases_eq, cond-true, cond-false}
-use mathlib.Core.Path.{fun_ext}
-use mathlib.Core.Option.{some}
-use lib.ListN.{get_elem?}
+use Rattle.std.proofs.Common.{◌≡◌, ℕ, zero, suc, ◌+◌, ◌-◌, ◌*◌, ◌<◌, ◌≤◌, cond, ◌≢◌, List, [], ◌∷◌}
+use Rattle.std.proofs.Common.{map, ◌==◌, Some, None, Option, sym, refl, ap, ◌∙◌, ⊎_elim, arith}
+use Rattle.std.proofs.Common.{eq-eqb, ne_eqb}
+use Rattle.control_word.proofs.Prelude.{blocks_of, cases_eq, cell_spot, cond-false, cond-true}
+use Rattle.control_word.proofs.Prelude.{counts_at, fun_ext, get_elem?, handle, handles, Held}
+use Rattle.control_word.proofs.Prelude.{in_cells, Kind, member_funds, members, moved_to, Object}
+use Rattle.control_word.proofs.Prelude.{Opening, Owner, Place, slot, some, spot, State, sum_below}
+use Rattle.control_word.proofs.Prelude.{tally, total, unmade, upto, Weak, worth}
 use Rattle.control_word.proofs.history.Cells.{member_counted, one_of, tally_upto}
 use Rattle.control_word.proofs.history.Kept.{still}
 use Rattle.control_word.proofs.history.Legal.{sound}
@@ -13,15 +14,8 @@ use Rattle.control_word.proofs.history.Moving.{counted_live, live_busy}
 use Rattle.control_word.proofs.history.Soundness.{IsBusy, Sound}
 use Rattle.control_word.proofs.lists.Tallies.{tally_append, tally_cons}
 use Rattle.control_word.proofs.words.Frames.{spot_apart}
-use Rattle.control_word.specs.Events.{moved_to}
-use Rattle.control_word.specs.Handles.{handle}
-use Rattle.control_word.specs.Layout.{spot}
-use Rattle.control_word.specs.State.{Held, Object, Opening, State, count, handles, in_cells, members, sum_below, tally, unmade, upto, weak}
-use Rattle.control_word.specs.Views.{total}
-use Rattle.control_word.specs.Words.{bank, blocks_of, cell_spot, counts_at, member_funds, slot, worth}
-use Rattle.control_word.specs.declared.model.handle.Kind.{Kind}
-use Rattle.control_word.specs.declared.model.handle.Kind.TheVariants.{Owner, Weak}
-use Rattle.control_word.specs.declared.place.Place.{Place}
+use Rattle.control_word.specs.State.{count, weak}
+use Rattle.control_word.specs.Words.{bank}
 
 module _ {A : Type 0} where
   pub total_le : (f g : A → ℕ) (l : List A) → ((i : ℕ) (a : A) → get_elem? l i ≡ some a → f a ≤ g a) → total f l ≤ total g l

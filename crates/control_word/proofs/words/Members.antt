@@ -1,20 +1,16 @@
 -- What a swap of a cell makes of the words.
-use Rattle.std.proofs.Common.{◌≡◌, ◌≢◌, ℕ, zero, suc, ◌+◌, ◌<◌, get_or, refl, sym, ap, ◌∙◌, ⊎_elim, arith}
-use Rattle.std.proofs.lemmas.Bool.{cases_eq}
-use mathlib.Core.Path.{fun_ext}
+use Rattle.std.proofs.Common.{◌≡◌, ℕ, zero, suc, ◌+◌, ◌<◌, ◌≢◌, get_or, sym, refl, ap, ◌∙◌, ⊎_elim}
+use Rattle.std.proofs.Common.{arith}
+use Rattle.control_word.proofs.Prelude.{block_words, blocks_of, cases_eq, Cell, common, empty}
+use Rattle.control_word.proofs.Prelude.{Free, fun_ext, InHand, IsVacant, Kind, kind_of, Member}
+use Rattle.control_word.proofs.Prelude.{NumberedHandle, Object, Opening, put, State, swaps}
+use Rattle.control_word.proofs.Prelude.{weak_number}
 use Rattle.control_word.proofs.history.Cells.{swap_count, swap_weak}
 use Rattle.control_word.proofs.history.Soundness.{Sound}
 use Rattle.control_word.proofs.lists.Tallies.{put_cases, put_other}
 use Rattle.control_word.proofs.words.Banks.{IsKept}
 use Rattle.control_word.proofs.words.Payments.{kept_in}
-use Rattle.control_word.specs.Events.{InHand, kind_of, swaps}
-use Rattle.control_word.specs.Handles.{empty}
-use Rattle.control_word.specs.State.{IsVacant, Object, Opening, State, common, put, weak_number}
-use Rattle.control_word.specs.Words.{block_words, blocks_of, object_words, packed}
-use Rattle.control_word.specs.declared.model.event.Cell.{Cell}
-use Rattle.control_word.specs.declared.model.event.Cell.TheVariants.{Free, Member}
-use Rattle.control_word.specs.declared.model.handle.NumberedHandle.{NumberedHandle}
-use Rattle.control_word.specs.declared.model.handle.Kind.{Kind}
+use Rattle.control_word.specs.Words.{object_words, packed}
 
 pub packed_empty : (f : ℕ → ℕ) (k : Kind) → packed f (empty k) ≡ 0
 unfolding packed

@@ -1,21 +1,17 @@
 -- At the start all words are 0, and one desk has the whole allowance.
-use Rattle.std.proofs.Common.{◌≡◌, ℕ, zero, suc, ◌+◌, ◌<◌, [], length, get_or, replicate, refl, sym, ap, subst, ◌∙◌, inr, ◌%◌}
-use Rattle.std.proofs.Common.{⊎_elim, false, arith}
+use Rattle.std.proofs.Common.{◌≡◌, ℕ, zero, suc, ◌+◌, ◌%◌, ◌<◌, false, [], length, get_or}
+use Rattle.std.proofs.Common.{replicate, sym, refl, ap, ◌∙◌, subst, inr, ⊎_elim, arith}
+use Rattle.control_word.proofs.Prelude
+use Prelude.{added, adds, bit_at, block_words, blocks_of, cell_spot, get_elem?, Idle, IsOpening}
+use Prelude.{kind_of_free, nobody, Opening, owed, owes, Owner, paid, pays, Pending, Seated}
+use Prelude.{shelf_place, shelf_spot, some, some-injective, some-ne-none, spot, Stands, StandsFor}
+use Prelude.{start, total, View, Weak}
 use Rattle.std.proofs.lemmas.Nat.Bits.{bit_at-zero}
-use Rattle.std.specs.Int.{bit_at}
-use mathlib.Core.Option.{some, some-ne-none, some-injective}
-use lib.ListN.{get_elem?}
 use Rattle.control_word.proofs.history.Legal.{sound_start}
 use Rattle.control_word.proofs.words.Banks.{bank_none}
 use Rattle.control_word.proofs.words.Members.{packed_empty}
-use Rattle.control_word.specs.Layout.{spot, shelf_place}
-use Rattle.control_word.specs.State.{IsOpening, Opening, kind_of_free, nobody, start}
-use Rattle.control_word.specs.Views.{Seated, Stands, StandsFor, added, adds, fresh, owed, owes, paid, pays, total}
-use Rattle.control_word.specs.Words.{bank, block_words, blocks_of, cell_spot, object_words, shelf_spot}
-use Rattle.control_word.specs.declared.model.handle.Kind.TheVariants.{Owner, Weak}
-use Rattle.control_word.specs.declared.model.view.Pending.{Pending}
-use Rattle.control_word.specs.declared.model.view.Pending.TheVariants.{Idle}
-use Rattle.control_word.specs.declared.model.view.View.{View}
+use Rattle.control_word.specs.Views.{fresh}
+use Rattle.control_word.specs.Words.{bank, object_words}
 
 zero_read : (n i : ℕ) → get_or {A = ℕ} (replicate n 0) i 0 ≡ 0
 zero_read zero i = refl

@@ -1,21 +1,15 @@
 -- What a split and a join leave of the words.
-use Rattle.std.proofs.Common.{◌≡◌, ℕ, zero, suc, ◌+◌, false, List, map, get_or, set, refl, ap, ◌∙◌, arith}
-use mathlib.Core.Option.{some}
-use lib.ListN.{get_elem?}
+use Rattle.std.proofs.Common.{◌≡◌, ℕ, zero, suc, ◌+◌, false, List, map, get_or, set, refl, ap, ◌∙◌}
+use Rattle.std.proofs.Common.{arith}
+use Rattle.control_word.proofs.Prelude
+use Prelude.{added, adds, Block, block_words, common, Entry, get_elem?, HasAll, Held, held, is_on}
+use Prelude.{IsVacant, joins_up, Kind, NumberedHandle, Opening, owed, owes, Owner, paid, passed}
+use Prelude.{pays, renamed, same_held, some, splits_off, Stands, State, View, Weak}
 use Rattle.control_word.proofs.history.Passing.{handed_common, hands_count, hands_weak, num_passed}
 use Rattle.control_word.proofs.lists.Tallies.{held_self, held_true, num, num_map}
 use Rattle.control_word.proofs.words.Frames.{total_set}
-use Rattle.control_word.specs.Events.{joins_up, renamed, splits_off}
-use Rattle.control_word.specs.Handles.{is_on}
-use Rattle.control_word.specs.State.{HasAll, Held, IsVacant, Opening, State, common, count, held, passed, same_held, weak}
-use Rattle.control_word.specs.Views.{Stands, added, adds, owed, owes, paid, pays}
-use Rattle.control_word.specs.Words.{bank, block_words, object_words}
-use Rattle.control_word.specs.declared.model.event.Entry.{Entry}
-use Rattle.control_word.specs.declared.model.handle.NumberedHandle.{NumberedHandle}
-use Rattle.control_word.specs.declared.model.handle.Kind.{Kind}
-use Rattle.control_word.specs.declared.model.handle.Kind.TheVariants.{Owner, Weak}
-use Rattle.control_word.specs.declared.place.Block.{Block}
-use Rattle.control_word.specs.declared.model.view.View.{View}
+use Rattle.control_word.specs.State.{count, weak}
+use Rattle.control_word.specs.Words.{bank, object_words}
 
 -- what a split and a join leave of the counts
 module _ (s : State) where

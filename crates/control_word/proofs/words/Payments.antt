@@ -1,16 +1,19 @@
 -- A step on a count's word without an event: funds come, go, or one of them becomes a handle.
-use Rattle.std.proofs.Common.{◌≡◌, ◌≢◌, ℕ, zero, suc, ◌+◌, ◌*◌, ◌<◌, ◌≤◌, ◌==◌, false, cond, List, ◌∷◌, length}
-use Rattle.std.proofs.Common.{get_or, set, Option, Some, refl, sym}
-use Rattle.std.proofs.Common.{ap, subst, ◌∙◌, inl, inr, ⊎_elim, eq-eqb, ne_eqb, arith}
-use Rattle.std.proofs.lemmas.Bool.{cases_eq, cond-true, cond-false}
-use Rattle.std.proofs.lemmas.List.{get_or-set_same, get_or-set_other, length-set}
-use mathlib.Core.Option.{some}
-use lib.ListN.{get_elem?}
-use Rattle.atomic_table.proofs.Lists.{at_set}
+use Rattle.std.proofs.Common.{◌≡◌, ℕ, zero, suc, ◌+◌, ◌*◌, ◌<◌, ◌≤◌, false, cond, ◌≢◌, List, ◌∷◌}
+use Rattle.std.proofs.Common.{length, get_or, set, ◌==◌, Some, Option, sym, refl, ap, ◌∙◌, subst}
+use Rattle.std.proofs.Common.{inl, inr, ⊎_elim, arith, length-set, get_or-set_other}
+use Rattle.std.proofs.Common.{get_or-set_same, eq-eqb, ne_eqb}
+use Rattle.control_word.proofs.Prelude
+use Prelude.{adds, at_set, block_words, blocks_of, cases_eq, Cell, cell_spot, cond-false}
+use Prelude.{cond-true, counts_at, Entry, Fits, Free, get_elem?, handle, held, Idle, InShape}
+use Prelude.{IsVacant, Kind, leads, Making, Member, Merging, more, Opening, owed, owes, Owner}
+use Prelude.{paid, Parting, Paying, pays, Pending, Place, Shows, ShowsShelf, slot, some, spot}
+use Prelude.{Stands, State, value, View, Visiting, Weak, weak_number}
 use Rattle.control_word.proofs.history.Cells.{InState}
 use Rattle.control_word.proofs.history.Clearing.{was_made}
 use Rattle.control_word.proofs.history.Legal.{sound}
-use Rattle.control_word.proofs.history.Moving.{more_owners, more_weaks, owner_no_weak, weak_no_owner}
+use Rattle.control_word.proofs.history.Moving.{more_owners, more_weaks, owner_no_weak}
+use Rattle.control_word.proofs.history.Moving.{weak_no_owner}
 use Rattle.control_word.proofs.history.Others.{IsLone}
 use Rattle.control_word.proofs.history.Soundness.{IsBusy, Sound}
 use Rattle.control_word.proofs.history.Storing.{kept}
@@ -19,21 +22,7 @@ use Rattle.control_word.proofs.words.Banks.{IsKept}
 use Rattle.control_word.proofs.words.Counting.{each_paid, number_read}
 use Rattle.control_word.proofs.words.Frames.{shelf_kept, spot_apart, spot_fits, total_set}
 use Rattle.control_word.proofs.words.Funds.{slot_low, total_le}
-use Rattle.control_word.specs.Handles.{handle}
-use Rattle.control_word.specs.Histories.{leads, value}
-use Rattle.control_word.specs.Layout.{spot}
-use Rattle.control_word.specs.State.{InShape, IsVacant, Opening, State, held, weak_number}
-use Rattle.control_word.specs.Views.{Fits, Stands, adds, more, owed, owes, paid, pays}
-use Rattle.control_word.specs.Words.{Shows, ShowsShelf, block_words, blocks_of, cell_spot, counts_at, packed, slot}
-use Rattle.control_word.specs.declared.model.event.Cell.{Cell}
-use Rattle.control_word.specs.declared.model.event.Cell.TheVariants.{Free, Member}
-use Rattle.control_word.specs.declared.model.event.Entry.{Entry}
-use Rattle.control_word.specs.declared.model.handle.Kind.{Kind}
-use Rattle.control_word.specs.declared.model.handle.Kind.TheVariants.{Owner, Weak}
-use Rattle.control_word.specs.declared.place.Place.{Place}
-use Rattle.control_word.specs.declared.model.view.Pending.{Pending}
-use Rattle.control_word.specs.declared.model.view.Pending.TheVariants.{Idle, Making, Merging, Parting, Paying, Visiting}
-use Rattle.control_word.specs.declared.model.view.View.{View}
+use Rattle.control_word.specs.Words.{packed}
 
 pub kept_in : (z : Opening) (s : State) (c : Cell) → Sound z s → IsKept s c → InState s c
 kept_in z s (Free c) fine kept = kept

@@ -1,19 +1,12 @@
 -- The funds of a handle that goes into a cell or came out of it.
-use Rattle.std.proofs.Common.{ne_eqb, eq-eqb, ◌≡◌, ℕ, ◌-◌, ◌==◌, Option, Some, None, ◌≤◌, List, refl, sym, ap, inl, ⊎_elim, arith}
-use Rattle.std.proofs.lemmas.Bool.{cond-false, cond-true, cases_eq}
+use Rattle.std.proofs.Common.{◌≡◌, ℕ, ◌-◌, ◌≤◌, List, ◌==◌, Some, None, Option, sym, refl, ap, inl}
+use Rattle.std.proofs.Common.{⊎_elim, arith, eq-eqb, ne_eqb}
+use Rattle.control_word.proofs.Prelude.{adds, blocks_of, cases_eq, Cell, cond-false, cond-true}
+use Rattle.control_word.proofs.Prelude.{counts_at, empty, Fits, handle, IsFormed, Kind}
+use Rattle.control_word.proofs.Prelude.{NumberedHandle, owes, Owner, pays, Place, purse, State}
+use Rattle.control_word.proofs.Prelude.{swaps, Weak, worth}
 use Rattle.control_word.proofs.history.Others.{IsLone}
 use Rattle.control_word.proofs.words.Members.{swap_blocks}
-use Rattle.control_word.specs.Events.{swaps}
-use Rattle.control_word.specs.Handles.{IsFormed, empty, handle}
-use Rattle.control_word.specs.State.{State}
-use Rattle.control_word.specs.Steps.{purse}
-use Rattle.control_word.specs.Views.{Fits, adds, owes, pays}
-use Rattle.control_word.specs.Words.{blocks_of, counts_at, worth}
-use Rattle.control_word.specs.declared.model.event.Cell.{Cell}
-use Rattle.control_word.specs.declared.model.handle.NumberedHandle.{NumberedHandle}
-use Rattle.control_word.specs.declared.model.handle.Kind.{Kind}
-use Rattle.control_word.specs.declared.model.handle.Kind.TheVariants.{Owner, Weak}
-use Rattle.control_word.specs.declared.place.Place.{Place}
 
 pub formed_empty : (k : Kind) → IsFormed (empty k)
 formed_empty Owner = (tt, tt)

@@ -1,10 +1,12 @@
 -- The funds and the number of a word stay in their halves.
-use Rattle.std.proofs.Common.{◌≡◌, ◌≢◌, ℕ, ◌+◌, ◌-◌, ◌*◌, ◌<◌, ◌≤◌, ◌&&◌, Bool, true, false, ◌==◌, List, []}
-use Rattle.std.proofs.Common.{◌∷◌, map, get_or, Option, Some, refl, sym}
-use Rattle.std.proofs.Common.{ap, ◌∙◌, inl, ⊎_elim, eq-eqb, arith}
-use Rattle.std.proofs.lemmas.Bool.{cases_eq, cond_both, and_from, cases_lt}
-use mathlib.Core.Option.{some, some-injective}
-use lib.ListN.{get_elem?}
+use Rattle.std.proofs.Common.{◌≡◌, ℕ, ◌+◌, ◌-◌, ◌*◌, ◌<◌, ◌≤◌, Bool, true, false, ◌&&◌, ◌≢◌, List}
+use Rattle.std.proofs.Common.{[], ◌∷◌, map, get_or, ◌==◌, Some, Option, sym, refl, ap, ◌∙◌, inl}
+use Rattle.std.proofs.Common.{⊎_elim, arith, eq-eqb}
+use Rattle.control_word.proofs.Prelude
+use Prelude.{and_from, blocks_of, cases_eq, cases_lt, cond_both, counts_at, Entry, Fits, get_elem?}
+use Prelude.{handle, handles, Held, held, Idle, in_cells, is_on, IsLegal, Kind, leads, Making}
+use Prelude.{Merging, Opening, owed, owes, Owner, paid, Parting, Paying, pays, Pending, Place}
+use Prelude.{some, some-injective, Stands, tally, total, value, View, Visiting, Weak, word}
 use Rattle.control_word.proofs.history.Allowances.{allowed, opened}
 use Rattle.control_word.proofs.history.Bounds.{in_cells_few}
 use Rattle.control_word.proofs.history.Formation.{formed}
@@ -14,22 +16,11 @@ use Rattle.control_word.proofs.history.Numbers.{numbers_fit}
 use Rattle.control_word.proofs.history.Soundness.{IsBusy}
 use Rattle.control_word.proofs.lists.Tallies.{num_has, tally_append}
 use Rattle.control_word.proofs.views.Names.{named, named_awake, names_sum, own, own_awake, own_sum}
-use Rattle.control_word.proofs.words.Counting.{number, number_read, number_tally, owed_paid, owes_funds, pays_handle}
+use Rattle.control_word.proofs.words.Counting.{number, number_read, number_tally, owed_paid}
+use Rattle.control_word.proofs.words.Counting.{owes_funds, pays_handle}
 use Rattle.control_word.proofs.words.Frames.{total_none}
 use Rattle.control_word.proofs.words.Funds.{bank_few, total_le}
-use Rattle.control_word.specs.Handles.{handle, is_on}
-use Rattle.control_word.specs.Histories.{IsLegal, leads, value}
-use Rattle.control_word.specs.State.{Held, Opening, handles, held, in_cells, tally}
-use Rattle.control_word.specs.Steps.{word}
-use Rattle.control_word.specs.Views.{Fits, Stands, owed, owes, paid, pays, total}
-use Rattle.control_word.specs.Words.{bank, blocks_of, counts_at}
-use Rattle.control_word.specs.declared.model.event.Entry.{Entry}
-use Rattle.control_word.specs.declared.model.handle.Kind.{Kind}
-use Rattle.control_word.specs.declared.model.handle.Kind.TheVariants.{Owner, Weak}
-use Rattle.control_word.specs.declared.place.Place.{Place}
-use Rattle.control_word.specs.declared.model.view.Pending.{Pending}
-use Rattle.control_word.specs.declared.model.view.Pending.TheVariants.{Idle, Making, Merging, Parting, Paying, Visiting}
-use Rattle.control_word.specs.declared.model.view.View.{View}
+use Rattle.control_word.specs.Words.{bank}
 
 -- the number that a word tells: its low half, or 1 where that is 0 and funds are there
 pub relaxed : (n l m f : ℕ) (low high : ℕ) → n + l ≡ m + 4294967296 * f → l ≤ f → l ≤ m → m < 4294967296 → n ≡ low + 4294967296 * high

@@ -1,23 +1,17 @@
 -- The worked histories, by computation.
-use Rattle.std.proofs.Common.{◌≡◌, ℕ, ◌<◌, Bool, true, false, cond, ◌==◌, List, [], ◌∷◌, slice_index}
-use Rattle.std.proofs.Common.{Option, Some, None}
-use Rattle.std.proofs.Common.{refl, sym, ap, ◌∙◌, inl, inr, ⊎_elim, arith}
+use Rattle.std.proofs.Common.{◌≡◌, ℕ, ◌<◌, Bool, true, false, cond, List, [], ◌∷◌, ◌==◌}
+use Rattle.std.proofs.Common.{slice_index, Some, None, Option, sym, refl, ap, ◌∙◌, inl, inr}
+use Rattle.std.proofs.Common.{⊎_elim, arith, ltb-true, eqb-true}
+use Rattle.control_word.proofs.Prelude.{empty, Entry, equivalent, four_blocks, IsLegal}
+use Rattle.control_word.proofs.Prelude.{kind_of_member, MayCome, NumberedHandle, Owner, Place}
 use Rattle.std.proofs.lemmas.Option.{same_Some}
-use Rattle.std.proofs.lemmas.Bool.{eqb-true, ltb-true}
-use Rattle.control_word.specs.Handles.{empty, equivalent}
-use Rattle.control_word.specs.Histories.{IsLegal, MayCome}
-use Rattle.control_word.specs.State.{count, kind_of_member, weak}
-use Rattle.control_word.specs.Worked.{BlockUsedAgain, CountAfterCopy, CycleStays, FailedCompareHandsOutHeld}
-use Rattle.control_word.specs.Worked.{LockKeepsAlive, compare_ended}
-use Rattle.control_word.specs.Worked.{compare_held, compares, copy_ended, cycle_ended, four_blocks, leftover}
-use Rattle.control_word.specs.Worked.{lock_ended, lock_expired, owner_at}
-use Rattle.control_word.specs.Worked.{MembersGoOut, SplitAndJoined, member_cleared, member_ended, reached}
-use Rattle.control_word.specs.Worked.{reuse_copied}
-use Rattle.control_word.specs.Worked.{reuse_ended, split_joined}
-use Rattle.control_word.specs.declared.model.event.Entry.{Entry}
-use Rattle.control_word.specs.declared.model.handle.NumberedHandle.{NumberedHandle}
-use Rattle.control_word.specs.declared.model.handle.Kind.TheVariants.{Owner}
-use Rattle.control_word.specs.declared.place.Place.{Place}
+use Rattle.control_word.specs.State.{count, weak}
+use Rattle.control_word.specs.Worked.{BlockUsedAgain, CountAfterCopy, CycleStays}
+use Rattle.control_word.specs.Worked.{FailedCompareHandsOutHeld, LockKeepsAlive, compare_ended}
+use Rattle.control_word.specs.Worked.{compare_held, compares, copy_ended, cycle_ended, leftover}
+use Rattle.control_word.specs.Worked.{lock_ended, lock_expired, owner_at, MembersGoOut}
+use Rattle.control_word.specs.Worked.{SplitAndJoined, member_cleared, member_ended, reached}
+use Rattle.control_word.specs.Worked.{reuse_copied, reuse_ended, split_joined}
 use Rattle.control_word.proofs.worked.Coming.{◌▸◌, comes, opening_fits, vacant}
 
 copy_legal : IsLegal four_blocks copy_ended

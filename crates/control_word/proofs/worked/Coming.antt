@@ -1,15 +1,10 @@
 -- What a worked history's events owe, by tests that compute.
-use Rattle.std.proofs.Common.{◌≡◌, ℕ, suc, ◌≤◌, Bool, true, false, cond, ◌&&◌, not, ◌==◌, nat_lt, List}
-use Rattle.std.proofs.Common.{refl, eq-eqb, ne_eqb, arith}
-use Rattle.std.proofs.lemmas.Bool.{and_parts, ltb-true, cond-true, cond-false}
+use Rattle.std.proofs.Common.{◌≡◌, ℕ, suc, ◌≤◌, Bool, true, false, cond, not, ◌&&◌, List, nat_lt}
+use Rattle.std.proofs.Common.{◌==◌, refl, arith, ltb-true, eq-eqb, ne_eqb}
+use Rattle.control_word.proofs.Prelude.{after, and_parts, Asks, bag_size, cond-false, cond-true}
+use Rattle.control_word.proofs.Prelude.{Entry, Event, four_blocks, IsLegal, IsOpening, IsVacant}
+use Rattle.control_word.proofs.Prelude.{leads, MayCome, times_kept, value, Values}
 use Rattle.control_word.proofs.history.Storing.{stored_once}
-use Rattle.control_word.specs.Events.{Asks, after}
-use Rattle.control_word.specs.Histories.{IsLegal, MayCome, Values, leads, value}
-use Rattle.control_word.specs.Laws.{times_kept}
-use Rattle.control_word.specs.State.{IsOpening, IsVacant, bag_size}
-use Rattle.control_word.specs.Worked.{four_blocks}
-use Rattle.control_word.specs.declared.model.event.Entry.{Entry}
-use Rattle.control_word.specs.declared.model.event.Event.{Event}
 
 pub opening_fits : IsOpening four_blocks
 opening_fits = record {
