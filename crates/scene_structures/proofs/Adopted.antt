@@ -1,35 +1,16 @@
 -- A child that was added on a sole desk.
-use Rattle.std.proofs.Common.{◌≡◌, ℕ, suc, ◌≤◌, false, List, [], ◌∷◌, Some, refl, sym, ap, subst, ◌∙◌, ⊎_elim, arith}
-use Rattle.std.proofs.lemmas.List.Elements.{All-cons, All-nil}
-use Rattle.control_word.proofs.history.Cells.{InState}
-use Rattle.control_word.proofs.history.Legal.{sound}
-use Rattle.control_word.proofs.lists.Tallies.{put_same}
-use Rattle.control_word.specs.Events.{place_at}
-use Rattle.control_word.specs.Handles.{object_of, owner}
-use Rattle.control_word.specs.Histories.{IsLegal}
-use Rattle.control_word.specs.State.{Object, State}
-use Rattle.control_word.specs.declared.model.event.Cell.{Cell}
-use Rattle.control_word.specs.declared.model.event.Cell.TheVariants.{Member}
-use Rattle.control_word.specs.declared.model.event.Event.TheVariants.{Make}
-use Rattle.control_word.specs.declared.place.Place.{Place}
-use Rattle.control_block.specs.CellCalls.{handle_in}
-use Rattle.control_block.specs.Desks.{DeskNow, latest_of, state_of}
-use Rattle.control_block.specs.Own.{IsSole, KeepsDesks}
-use Rattle.control_block.specs.Rule.{opening_of}
-use Rattle.control_block.proofs.Own.{goes_by_call}
-use Rattle.control_block.specs.declared.handles.Shared.{Shared}
-use Rattle.shared_handle.proofs.Goings.{does_one}
-use Rattle.control_word.proofs.history.Clearing.{was_made}
-use Rattle.control_word.specs.declared.model.handle.Kind.TheVariants.{Owner}
-use Rattle.control_block.specs.Desks.{bag_of}
-use Rattle.shared_handle.specs.Endings.{IsWithin}
-use Rattle.scene_structures.specs.Hands.{Lists, node_in}
-use Rattle.scene_structures.specs.Puts.{PutsOnly, in_no_cell}
-use Rattle.scene_structures.specs.Scenes.{Adopts, IsAdopted}
-use Rattle.scene_structures.specs.Stacks.{Rises}
-use Rattle.scene_structures.specs.Watches.{Watches, weak_of_owner}
+use Rattle.std.proofs.Common.{◌≡◌, ℕ, suc, ◌≤◌, false, List, [], ◌∷◌, Some, sym, refl, ap, ◌∙◌}
+use Rattle.std.proofs.Common.{subst, ⊎_elim, arith}
+use Rattle.scene_structures.proofs.Prelude
+use Prelude.{Adopts, All-cons, All-nil, bag_of, Cell, DeskNow, does_one, goes_by_call, handle_in}
+use Prelude.{in_no_cell, InState, IsLegal, IsSole, IsWithin, KeepsDesks, latest_of, Lists, Make}
+use Prelude.{Member, node_in, Object, object_of, opening_of, Owner, owner, Place, place_at}
+use Prelude.{put_same, PutsOnly, Rises, Shared, sound, State, state_of, was_made, Watches}
+use Prelude.{weak_of_owner}
+use Rattle.scene_structures.specs.Scenes.{IsAdopted}
 use Rattle.scene_structures.proofs.Attached.{apart_up}
-use Rattle.scene_structures.proofs.Alone.{block_on, grown, hangs_puts, held_on, hung_up, in_on, legal_on, list_on, lives_on, rises_puts, sole_on}
+use Rattle.scene_structures.proofs.Alone.{block_on, grown, hangs_puts, held_on, hung_up, in_on}
+use Rattle.scene_structures.proofs.Alone.{legal_on, list_on, lives_on, rises_puts, sole_on}
 use Rattle.scene_structures.proofs.Frames.{chain_live}
 use Rattle.scene_structures.proofs.Grows.{apart_nowhere}
 use Rattle.scene_structures.proofs.Sole.{fresh_apart, held_live, state_is}

@@ -1,33 +1,18 @@
 -- The steps by which a child is added, put together.
-use Rattle.std.proofs.Common.{◌≡◌, ℕ, ◌+◌, ◌≤◌, List, [], ◌∷◌, length, false, Option, None, Some, Ok, refl, sym, ap, subst, ◌∙◌}
-use Rattle.std.proofs.Common.{arith}
-use Rattle.control_word.specs.Events.{place_at}
-use Rattle.control_word.specs.Handles.{handle, object_of, owner}
-use Rattle.control_word.specs.declared.model.event.Cell.{Cell}
-use Rattle.control_word.specs.declared.model.event.Cell.TheVariants.{Member}
-use Rattle.control_word.specs.declared.model.event.Event.TheVariants.{Load}
-use Rattle.control_word.specs.declared.model.handle.NumberedHandle.{NumberedHandle}
-use Rattle.control_word.specs.declared.model.handle.Kind.TheVariants.{Owner}
-use Rattle.control_word.specs.declared.place.Block.{Block}
-use Rattle.control_word.specs.declared.place.Place.{Place}
-use Rattle.control_block.specs.Own.{KeepsLatest}
-use Rattle.control_block.proofs.Latest.{calls_keep_latest}
-use Rattle.control_block.specs.CellCalls.{handle_in, with_handle}
-use Rattle.control_block.specs.Desks.{AddsEvent, DeskNow, bag_of, latest_of}
-use Rattle.control_block.specs.declared.handles.Shared.{Shared}
-use Rattle.shared_handle.specs.Calls.{Makes, SharesOwner}
-use Rattle.shared_handle.proofs.Goings.{does_both, does_one}
-use Rattle.atomic_cells.specs.Sites.{IsMember, SharedAt, shared_cell}
+use Rattle.std.proofs.Common.{◌≡◌, ℕ, ◌+◌, ◌≤◌, false, List, [], ◌∷◌, length, Some, None, Ok}
+use Rattle.std.proofs.Common.{Option, sym, refl, ap, ◌∙◌, subst, arith}
+use Rattle.scene_structures.proofs.Prelude
+use Prelude.{AddsEvent, Adopts, bag_of, Block, calls_keep_latest, Cell, DeskNow, does_both}
+use Prelude.{does_one, handle, handle_in, HasHands, IsMember, KeepsHeld, KeepsLatest, KeepsThese}
+use Prelude.{latest_of, Lists, Load, Makes, Member, NextOf, node_in, NumberedHandle, object_of}
+use Prelude.{Owner, owner, Place, place_at, PutsOnly, Rises, Shared, shared_cell, SharedAt}
+use Prelude.{SharesOwner, Watches, weak_of_owner, with_handle}
 use Rattle.atomic_cells.specs.declared.sites.SharedMember.TheVariants.{First}
 use Rattle.atomic_cells.specs.declared.sites.SharedSite.TheVariants as site
-use Rattle.scene_structures.specs.Hands.{HasHands, KeepsHeld, KeepsThese, Lists, node_in}
-use Rattle.scene_structures.specs.Puts.{PutsOnly}
-use Rattle.scene_structures.specs.Scenes.{Adopts}
-use Rattle.scene_structures.specs.Stacks.{NextOf, Rises}
-use Rattle.scene_structures.specs.Watches.{Watches, weak_of_owner}
 use Rattle.scene_structures.proofs.Watches.{weak_same}
 use Rattle.scene_structures.proofs.Hands.{hands_copied, hands_got, lists_first, lists_under, most}
-use Rattle.scene_structures.proofs.Pushes.{listed_some, rises_later, same_left, same_node, shares_does}
+use Rattle.scene_structures.proofs.Pushes.{listed_some, rises_later, same_left, same_node}
+use Rattle.scene_structures.proofs.Pushes.{shares_does}
 
 module _ {V : Type 0} where
   module _ (d m n s l e : DeskNow V) (parent node copy : Shared) where

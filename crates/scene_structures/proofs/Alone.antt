@@ -1,33 +1,17 @@
 -- What stays on a sole desk over a call that puts little anywhere.
-use Rattle.std.proofs.Common.{◌≡◌, ℕ, ◌≤◌, true, false, List, ◌∷◌, ◌++◌, map, Some, refl, sym, ap, subst, ◌∙◌, inl, inr}
-use Rattle.std.proofs.Common.{◌⊎◌}
-use Rattle.std.specs.Prelude.{All}
-use Rattle.std.proofs.lemmas.List.Elements.{All-append, All-cons, All-weaker}
-use Rattle.control_word.proofs.history.Cells.{InState}
-use Rattle.control_word.proofs.history.Kept.{block_kept}
-use Rattle.control_word.specs.Events.{cell_of}
-use Rattle.control_word.specs.Handles.{object_of, owner}
-use Rattle.control_word.specs.Histories.{IsLegal, entry, leads}
-use Rattle.control_word.specs.State.{State}
-use Rattle.control_word.specs.declared.model.event.Cell.{Cell}
-use Rattle.control_word.specs.declared.model.event.Cell.TheVariants.{Member}
-use Rattle.control_word.specs.declared.model.event.Event.{Event}
-use Rattle.control_word.specs.declared.model.event.Event.TheVariants.{ClearMember, Compare, Count, Expired, Finish, Join, Leave, Load, Lock, Make, Read}
-use Rattle.control_word.specs.declared.model.event.Event.TheVariants.{Share, Split, Swap, Visit, WeakLeave, WeakShare}
-use Rattle.control_word.specs.declared.model.event.Event.TheVariants.{Same, Shelve, Unshelve}
-use Rattle.control_word.specs.declared.model.handle.NumberedHandle.{NumberedHandle}
-use Rattle.control_word.specs.declared.place.Place.{Place}
-use Rattle.control_word.specs.declared.shape.Shape.{Shape}
-use Rattle.control_block.specs.Desks.{DeskNow, state_of}
-use Rattle.control_block.specs.Own.{Does, IsSole, KeepsDesks}
-use Rattle.control_block.specs.Rule.{opening_of}
-use Rattle.scene_structures.specs.Chains.{IsList}
-use Rattle.scene_structures.specs.Puts.{PutsOnly, in_no_cell}
-use Rattle.scene_structures.specs.Watches.{Watches}
-use Rattle.scene_structures.specs.Stacks.{NextOf, Rises}
+use Rattle.std.proofs.Common.{◌≡◌, ℕ, ◌≤◌, true, false, ◌⊎◌, List, ◌∷◌, ◌++◌, map, Some, All, sym}
+use Rattle.std.proofs.Common.{refl, ap, ◌∙◌, subst, inl, inr}
+use Rattle.scene_structures.proofs.Prelude
+use Prelude.{All-append, All-cons, All-weaker, block_kept, Cell, cell_of, ClearMember, Compare}
+use Prelude.{Count, DeskNow, Does, entry, Event, Expired, Finish, in_no_cell, InState, IsLegal}
+use Prelude.{IsList, IsSole, Join, KeepsDesks, leads, Leave, Load, Lock, Make, Member, NextOf}
+use Prelude.{NumberedHandle, object_of, opening_of, owner, Place, PutsOnly, Read, Rises, Same}
+use Prelude.{Shape, Share, Shelve, Split, State, state_of, Swap, Unshelve, Visit, Watches}
+use Prelude.{WeakLeave, WeakShare}
 use Rattle.scene_structures.proofs.Frames.{Apart}
 use Rattle.scene_structures.proofs.Grows.{in_front, risen}
-use Rattle.scene_structures.proofs.Heads.{IsHead, Lives, cell_held, cell_put, frames_at, in_later, lives_run}
+use Rattle.scene_structures.proofs.Heads.{IsHead, Lives, cell_held, cell_put, frames_at, in_later}
+use Rattle.scene_structures.proofs.Heads.{lives_run}
 use Rattle.scene_structures.proofs.Rows.{partings_put}
 use Rattle.scene_structures.proofs.Sole.{keep_all, legal_is, seen_is, sole_is, state_is}
 

@@ -1,29 +1,13 @@
 -- What the own events of an attach come to: in a row, and on a sole desk.
-use Rattle.std.proofs.Common.{◌≡◌, ℕ, suc, ◌<◌, ◌≤◌, false, true, List, [], ◌∷◌, ◌++◌, map, Some, refl, sym, ap, subst, ◌∙◌}
-use Rattle.std.proofs.Common.{arith}
-use Rattle.std.specs.Prelude.{All}
-use Rattle.std.proofs.lemmas.List.Elements.{All-append, All-cons, All-nil}
-use Rattle.control_word.proofs.history.Kept.{block_kept, cells_led}
-use Rattle.control_word.proofs.history.Legal.{sound}
-use Rattle.control_word.proofs.lists.Tallies.{put_same}
-use Rattle.control_word.specs.Handles.{owner}
-use Rattle.control_word.specs.Histories.{IsLegal, entry, leads}
-use Rattle.control_word.specs.State.{Object, State, live}
-use Rattle.control_word.specs.declared.model.event.Cell.{Cell}
-use Rattle.control_word.specs.declared.model.event.Cell.TheVariants.{Free, Member}
-use Rattle.control_word.specs.declared.model.event.Event.TheVariants.{Compare, Make}
-use Rattle.control_word.specs.declared.model.event.Event.TheVariants.{Swap}
-use Rattle.control_word.specs.declared.place.Place.{Place}
-use Rattle.control_block.proofs.Own.{goes_by_call, goes_in_turn}
-use Rattle.control_block.specs.Desks.{DeskNow, latest_of, state_of}
-use Rattle.control_block.specs.Own.{Goes, IsSole, KeepsDesks}
-use Rattle.control_block.specs.Rule.{opening_of}
-use Rattle.control_block.specs.declared.handles.Shared.{Shared}
-use Rattle.scene_structures.specs.Chains.{IsList}
-use Rattle.scene_structures.specs.Observers.{Attaches, IsAttached, ups}
-use Rattle.scene_structures.specs.Puts.{PutsOnly, in_no_cell}
-use Rattle.scene_structures.specs.Stacks.{NextOf}
-use Rattle.scene_structures.specs.Watches.{weak_of_owner}
+use Rattle.std.proofs.Common.{◌≡◌, ℕ, suc, ◌<◌, ◌≤◌, true, false, List, [], ◌∷◌, ◌++◌, map, Some}
+use Rattle.std.proofs.Common.{All, sym, refl, ap, ◌∙◌, subst, arith}
+use Rattle.scene_structures.proofs.Prelude
+use Prelude.{All-append, All-cons, All-nil, Attaches, block_kept, Cell, cells_led, Compare}
+use Prelude.{DeskNow, entry, Free, Goes, goes_by_call, goes_in_turn, in_no_cell, IsLegal, IsList}
+use Prelude.{IsSole, KeepsDesks, latest_of, leads, live, Make, Member, NextOf, Object, opening_of}
+use Prelude.{owner, Place, put_same, PutsOnly, Shared, sound, State, state_of, Swap, ups}
+use Prelude.{weak_of_owner}
+use Rattle.scene_structures.specs.Observers.{IsAttached}
 use Rattle.scene_structures.proofs.Alone.{all_wider}
 use Rattle.scene_structures.proofs.Frames.{Apart, chain_live, frames}
 use Rattle.scene_structures.proofs.Grows.{in_front, risen}

@@ -1,35 +1,16 @@
 -- Whole calls on a stack.
-use Rattle.std.proofs.Common.{◌≡◌, ℕ, ◌<◌, ◌≤◌, ◌+◌, false, length, List, [], ◌∷◌, Option, None, Some, refl, sym, ap, subst}
-use Rattle.std.proofs.Common.{◌∙◌, arith}
-use Rattle.std.specs.Prelude.{MatchOption, vec_capacity}
-use Rattle.control_word.specs.Events.{place_at}
-use Rattle.control_word.specs.Handles.{object_of, owner}
-use Rattle.control_word.specs.Histories.{IsLegal}
-use Rattle.control_word.specs.declared.model.event.Cell.{Cell}
-use Rattle.control_word.specs.declared.model.event.Cell.TheVariants.{Free}
-use Rattle.control_word.specs.declared.model.event.Event.TheVariants.{Load}
-use Rattle.control_word.specs.declared.model.handle.NumberedHandle.{NumberedHandle}
-use Rattle.control_word.specs.declared.model.handle.Kind.TheVariants.{Owner}
-use Rattle.control_word.specs.declared.place.Block.{Block}
-use Rattle.control_block.proofs.Latest.{calls_keep_latest}
-use Rattle.control_block.specs.CellCalls.{handle_in, with_handle}
-use Rattle.control_word.specs.Histories.{leads}
-use Rattle.control_word.specs.declared.model.event.Entry.{Entry}
-use Rattle.control_word.specs.declared.shape.Shape.{Shape}
-use Rattle.control_block.specs.Desks.{AddsEvent, IsFirstDesk, Belongs, DeskNow, DomainNow, allowance_of, bag_of, latest_of}
-use Rattle.shared_handle.specs.Piles.{AllEnd, Carries}
-use Rattle.shared_handle.specs.declared.pile.Pile.{Pile}
-use Rattle.control_block.specs.Own.{IsSole}
-use Rattle.control_block.specs.Rule.{opening_of}
-use Rattle.control_block.specs.declared.handles.Shared.{Shared}
-use Rattle.shared_handle.specs.Calls.{Makes}
-use Rattle.scene_structures.specs.Hands.{HasHands, Lists, node_in}
-use Rattle.scene_structures.specs.Pops.{TakesNode}
-use Rattle.scene_structures.specs.Puts.{PutsOnly}
-use Rattle.scene_structures.specs.Stacks.{FindsNone, IsEmptyList, IsPopped, NextOf, Pushes, Rises, ServesDomain}
+use Rattle.std.proofs.Common.{◌≡◌, ℕ, ◌+◌, ◌<◌, ◌≤◌, false, List, [], ◌∷◌, length, Some, None}
+use Rattle.std.proofs.Common.{vec_capacity, Option, MatchOption, sym, refl, ap, ◌∙◌, subst, arith}
+use Rattle.scene_structures.proofs.Prelude
+use Prelude.{AddsEvent, AllEnd, allowance_of, bag_of, Belongs, Block, calls_keep_latest, Carries}
+use Prelude.{Cell, DeskNow, does_one, DomainNow, Entry, FindsNone, Free, handle_in, HasHands}
+use Prelude.{IsEmptyList, IsLegal, IsPopped, IsSole, latest_of, leads, Lists, Load, Makes, NextOf}
+use Prelude.{node_in, NumberedHandle, object_of, opening_of, Owner, owner, Pile, place_at, Pushes}
+use Prelude.{PutsOnly, Rises, Shape, Shared, TakesNode, with_handle}
+use Rattle.control_block.specs.Desks.{IsFirstDesk}
+use Rattle.scene_structures.specs.Stacks.{ServesDomain}
 use Rattle.scene_structures.proofs.Hands.{first_lists, lists_first}
 use Rattle.scene_structures.proofs.Pushes.{rises_later, same_node}
-use Rattle.shared_handle.proofs.Goings.{does_one}
 use Rattle.scene_structures.proofs.Sole.{bare_list, popped_list}
 
 module _ {V : Type 0} where

@@ -1,10 +1,10 @@
 -- What is counted in hands is in one.
-use Rattle.std.proofs.Common.{◌≡◌, ℕ, ◌<◌, Bool, true, false, filter, length, List, [], ◌∷◌, map, refl, ap, inl, inr, arith}
-use Rattle.std.proofs.lemmas.Bool.{cond-false}
-use Rattle.control_word.proofs.lists.Tallies.{tally_append}
+use Rattle.std.proofs.Common.{◌≡◌, ℕ, ◌<◌, Bool, true, false, List, [], ◌∷◌, map, length, filter}
+use Rattle.std.proofs.Common.{refl, ap, inl, inr, arith}
+use Rattle.scene_structures.proofs.Prelude.{cond-false, Has, Held, in_cells, Owner, State, tally}
+use Rattle.scene_structures.proofs.Prelude.{tally_append}
 use Rattle.control_word.specs.Handles.{is_on}
-use Rattle.control_word.specs.State.{Has, Held, State, count, in_cells, tally}
-use Rattle.control_word.specs.declared.model.handle.Kind.TheVariants.{Owner}
+use Rattle.control_word.specs.State.{count}
 
 abbrev pub IsHandOf : ℕ → List Held → Held → Type 0
 IsHandOf o l x = Has x l × (is_on Owner o x.handle ≡ true)

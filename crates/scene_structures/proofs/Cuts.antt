@@ -1,15 +1,10 @@
 -- A node goes out of a list. Two chains from one place are one list, so no object is listed twice, and what is put into
 -- the `next` of one is in that of no other.
-use Rattle.std.proofs.Common.{◌≡◌, ℕ, ◌<◌, ◌≤◌, List, [], ◌∷◌, length, None, Some, refl, sym, ap, subst, ◌∙◌, inl, inr}
-use Rattle.std.proofs.Common.{⊎_elim, arith}
-use Rattle.std.proofs.lemmas.Option.{same_Some}
-use Rattle.control_word.proofs.lists.Tallies.{put_cases, put_other, put_same}
-use Rattle.control_word.specs.Events.{cell_of, swaps}
-use Rattle.control_word.specs.State.{Has, Object, State, put}
-use Rattle.control_word.specs.declared.model.event.Cell.{Cell}
-use Rattle.control_word.specs.declared.model.event.Cell.TheVariants.{Free, Member}
-use Rattle.control_word.specs.declared.model.handle.NumberedHandle.{NumberedHandle}
-use Rattle.scene_structures.specs.Chains.{Chain, IsList}
+use Rattle.std.proofs.Common.{◌≡◌, ℕ, ◌<◌, ◌≤◌, List, [], ◌∷◌, length, Some, None, sym, refl, ap}
+use Rattle.std.proofs.Common.{◌∙◌, subst, inl, inr, ⊎_elim, arith}
+use Rattle.scene_structures.proofs.Prelude.{Cell, cell_of, Chain, Free, Has, IsList, Member}
+use Rattle.scene_structures.proofs.Prelude.{NumberedHandle, Object, put, put_cases, put_other}
+use Rattle.scene_structures.proofs.Prelude.{put_same, same_Some, State, swaps}
 use Rattle.scene_structures.proofs.Frames.{AllKept, Keeps, chain_kept}
 use Rattle.scene_structures.proofs.Heads.{IsHead, cell_put}
 

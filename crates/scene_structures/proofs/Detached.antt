@@ -1,37 +1,17 @@
 -- What the steps of taking a node out say, put together.
-use Rattle.std.proofs.Common.{◌≡◌, ℕ, ◌+◌, ◌<◌, Bool, true, false, List, [], ◌∷◌, ◌++◌, length, Option, None, Some, Ok, refl}
-use Rattle.std.proofs.Common.{sym, ap, subst, ◌∙◌, arith}
-use Rattle.std.proofs.lemmas.List.Elements.{All-append}
-use Rattle.control_word.specs.Handles.{handle, object_of}
-use Rattle.control_word.specs.Histories.{IsLegal}
-use Rattle.control_word.specs.declared.model.event.Cell.{Cell}
-use Rattle.control_word.specs.declared.model.event.Cell.TheVariants.{Member}
-use Rattle.control_word.specs.declared.model.event.Event.TheVariants.{Compare, Load}
-use Rattle.control_word.specs.declared.model.handle.NumberedHandle.{NumberedHandle}
-use Rattle.control_word.specs.State.{Has}
-use Rattle.control_word.specs.declared.model.handle.Kind.TheVariants.{Owner}
-use Rattle.control_word.specs.declared.place.Block.{Block}
-use Rattle.control_word.specs.declared.place.Place.{Place}
-use Rattle.control_block.proofs.Bags.{shown_held}
-use Rattle.control_block.proofs.Own.{goes_in_turn}
-use Rattle.control_block.specs.CellCalls.{handle_in, without_handle}
-use Rattle.control_block.specs.Desks.{AddsEvent, DeskNow, bag_of, state_of}
-use Rattle.control_block.specs.Own.{Does}
-use Rattle.control_block.specs.Rule.{opening_of}
-use Rattle.control_block.specs.declared.handles.Shared.{Shared}
-use Rattle.shared_handle.proofs.Goings.{does_both, does_none, does_one}
-use Rattle.control_block.specs.CellCalls.{HoldsHandle}
-use Rattle.shared_handle.specs.Endings.{IsWithin}
-use Rattle.shared_handle.specs.Piles.{IsParting}
-use Rattle.atomic_cells.specs.Sites.{IsMember, SharedAt, shared_cell}
+use Rattle.std.proofs.Common.{◌≡◌, ℕ, ◌+◌, ◌<◌, Bool, true, false, List, [], ◌∷◌, ◌++◌, length}
+use Rattle.std.proofs.Common.{Some, None, Ok, Option, sym, refl, ap, ◌∙◌, subst, arith}
+use Rattle.scene_structures.proofs.Prelude
+use Prelude.{AddsEvent, All-append, bag_of, Block, Cell, Compare, Cut, CutsOut, DeskNow, Does}
+use Prelude.{does_both, does_none, does_one, End, FindsNone, goes_in_turn, handle, handle_in, Has}
+use Prelude.{HasHands, HeldSought, HoldsHandle, in_no_cell, IsEnd, IsLegal, IsMember, IsParting}
+use Prelude.{IsSought, IsWithin, KeepsHeld, KeepsThese, Lists, Load, Meets, Member, node_in}
+use Prelude.{NumberedHandle, object_of, opening_of, Other, Owner, Place, PutsOnly, ReachesNode}
+use Prelude.{SameNode, Seeks, Shared, shared_cell, SharedAt, shown_held, Sought, stacked, state_of}
+use Prelude.{without_handle}
 use Rattle.atomic_cells.specs.declared.sites.SharedMember.TheVariants.{First, Next}
 use Rattle.atomic_cells.specs.declared.sites.SharedSite.TheVariants as shared
-use Rattle.scene_structures.specs.Detaches.{CutsOut, HandsSought, HeldSought, IsEnd, IsSought, Meets, ReachesNode, Seeks, Skips}
-use Rattle.scene_structures.specs.Hands.{HasHands, KeepsHeld, KeepsThese, Lists, SameNode, node_in, stacked}
-use Rattle.scene_structures.specs.Puts.{PutsOnly, in_no_cell}
-use Rattle.scene_structures.specs.Stacks.{FindsNone}
-use Rattle.scene_structures.specs.declared.lists.cutting.Sought.{Sought}
-use Rattle.scene_structures.specs.declared.lists.cutting.Sought.TheVariants.{Cut, End, Other}
+use Rattle.scene_structures.specs.Detaches.{HandsSought, Skips}
 use Rattle.scene_structures.proofs.Hands.{hands_first}
 use Rattle.scene_structures.proofs.Pruned.{Left}
 use Rattle.scene_structures.proofs.Rows.{does_wider, parting_puts}

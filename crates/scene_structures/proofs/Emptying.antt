@@ -1,23 +1,12 @@
 -- What a cleared member, a weak handle that leaves and a finish make of the trees on a pile.
-use Rattle.std.proofs.Common.{◌≡◌, ◌≢◌, ℕ, ◌<◌, Bool, List, [], ◌∷◌, Option, Some, None}
-use Rattle.std.proofs.Common.{refl, sym, ap, subst, ◌∙◌, arith}
-use Rattle.control_word.proofs.history.Legal.{sound}
-use Rattle.control_word.proofs.history.Soundness.{Sound}
-use Rattle.control_word.proofs.lists.Tallies.{put_other, put_same}
-use Rattle.control_word.specs.Events.{clears, finishes, moved_to, weak_leaves}
-use Rattle.control_word.specs.Handles.{empty}
-use Rattle.control_word.specs.State.{Has, Object, Opening, State, ending, gone, held, kind_of_member, live, put}
-use Rattle.control_word.specs.declared.model.event.Event.TheVariants.{ClearMember, Finish, WeakLeave}
-use Rattle.control_word.specs.declared.model.handle.NumberedHandle.{NumberedHandle}
-use Rattle.control_word.specs.declared.model.handle.Kind.TheVariants.{Weak}
-use Rattle.control_word.specs.declared.place.Block.{Block}
-use Rattle.control_word.specs.declared.place.Place.{Place}
-use Rattle.control_block.specs.Desks.{AddsEvent, DeskNow, latest_of, on_latest, state_of}
-use Rattle.control_block.specs.Rule.{opening_of}
-use Rattle.shared_handle.specs.Endings.{with_clear}
-use Rattle.shared_handle.specs.Calls.{LeavesWeakly}
-use Rattle.shared_handle.specs.declared.endings.Member.TheVariants.{First, Next, Up}
-use Rattle.scene_structures.specs.Trees.{IsTree, Tree, bare}
+use Rattle.std.proofs.Common.{◌≡◌, ℕ, ◌<◌, Bool, ◌≢◌, List, [], ◌∷◌, Some, None, Option, sym, refl}
+use Rattle.std.proofs.Common.{ap, ◌∙◌, subst, arith}
+use Rattle.scene_structures.proofs.Prelude
+use Prelude.{AddsEvent, bare, Block, ClearMember, clears, DeskNow, empty, ending, Finish, finishes}
+use Prelude.{First, gone, Has, held, IsTree, kind_of_member, latest_of, LeavesWeakly, live}
+use Prelude.{moved_to, Next, NumberedHandle, Object, on_latest, Opening, opening_of, Place, put}
+use Prelude.{put_other, put_same, Sound, sound, State, state_of, Tree, Up, Weak, weak_leaves}
+use Prelude.{WeakLeave, with_clear}
 use Rattle.scene_structures.proofs.Standing.{IsAlone}
 use Rattle.scene_structures.proofs.Trees.{clear_member, finish_member, tree_cleared, tree_finished}
 use Rattle.scene_structures.proofs.Trees.{tree_weakly}

@@ -1,21 +1,12 @@
 -- A list in a cell is no longer than there are blocks: each of its objects lives in a block of its own.
 use Rattle.std.proofs.Common.{◌≡◌, ℕ, ◌-◌, ◌%◌, ◌^◌, ◌<◌, ◌≤◌, Bool, true, false, not, List, []}
-use Rattle.std.proofs.Common.{◌∷◌, length, filter, refl, sym}
-use Rattle.std.proofs.Common.{ap, subst, ◌∙◌, inl, inr}
-use Rattle.std.proofs.Common.{⊎_elim, arith}
-use Rattle.control_word.proofs.history.Kept.{cells_led}
-use Rattle.control_word.proofs.history.Legal.{sound}
-use Rattle.control_word.proofs.history.Soundness.{Sound}
-use Rattle.control_word.proofs.lists.Sums.{sum_ones, sum_put, sum_zero}
-use Rattle.control_word.proofs.lists.Tallies.{put_cases, put_other}
-use Rattle.control_word.specs.Histories.{IsLegal}
-use Rattle.control_word.specs.State.{Has, Opening, State, common, live, put, sum_below}
-use Rattle.control_word.specs.declared.model.event.Cell.TheVariants.{Free}
-use Rattle.control_word.specs.declared.model.handle.NumberedHandle.{NumberedHandle}
-use Rattle.control_block.specs.Desks.{DeskNow, state_of}
-use Rattle.control_block.specs.Rule.{opening_of}
-use Rattle.scene_structures.specs.Chains.{Chain}
-use Rattle.scene_structures.specs.Prunes.{AreOwned, IsPruned}
+use Rattle.std.proofs.Common.{◌∷◌, length, filter, sym, refl, ap, ◌∙◌, subst, inl, inr, ⊎_elim}
+use Rattle.std.proofs.Common.{arith}
+use Rattle.scene_structures.proofs.Prelude.{AreOwned, cells_led, Chain, common, DeskNow, Free, Has}
+use Rattle.scene_structures.proofs.Prelude.{IsLegal, IsPruned, live, NumberedHandle, Opening}
+use Rattle.scene_structures.proofs.Prelude.{opening_of, put, put_cases, put_other, Sound, sound}
+use Rattle.scene_structures.proofs.Prelude.{State, state_of, sum_below, sum_ones}
+use Rattle.control_word.proofs.lists.Sums.{sum_put, sum_zero}
 use Rattle.scene_structures.proofs.Frames.{AllLive, chain_live}
 use Rattle.scene_structures.proofs.Sought.{not_below}
 

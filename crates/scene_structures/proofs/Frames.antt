@@ -1,30 +1,16 @@
 -- What stays of a chain when a desk's own events put nothing into it.
-use Rattle.std.proofs.Common.{◌≡◌, ℕ, suc, ◌<◌, ◌≤◌, true, false, cond, List, [], ◌∷◌, ◌++◌, map, Some, refl, sym, ap, subst}
-use Rattle.std.proofs.Common.{◌∙◌, arith}
-use Rattle.std.proofs.lemmas.Bool.{cond_both}
-use Rattle.control_word.proofs.history.Cells.{InState, cell_counted, one_of}
-use Rattle.control_word.proofs.history.Clearing.{was_made}
-use Rattle.control_word.proofs.history.Kept.{cells_led}
-use Rattle.control_word.proofs.history.Legal.{sound}
-use Rattle.control_word.proofs.history.Soundness.{OwnersFit, Sound}
-use Rattle.control_word.proofs.lists.Tallies.{put_cases, put_other}
-use Rattle.control_word.specs.Events.{Asks, after, cell_of, new_object, moved_to}
-use Rattle.control_word.specs.Handles.{empty, object_of}
-use Rattle.control_word.specs.Histories.{IsLegal, entry, leads}
-use Rattle.control_word.specs.State.{Object, Opening, Phase, State, count, ending, gone, kind_of_member, live, put, unmade}
-use Rattle.control_word.specs.declared.model.event.Cell.TheVariants.{Free, Member}
-use Rattle.control_word.specs.declared.model.event.Cell.{Cell}
-use Rattle.control_word.specs.declared.model.event.Entry.{Entry}
-use Rattle.control_word.specs.declared.model.event.Event.{Event}
-use Rattle.control_word.specs.declared.model.event.Event.TheVariants.{ClearMember, Compare, Count, Expired, Finish, Join, Leave, Load, Lock, Make, Read}
-use Rattle.control_word.specs.declared.model.event.Event.TheVariants.{Share, Split, Swap, Visit, WeakLeave, WeakShare}
-use Rattle.control_word.specs.declared.model.event.Event.TheVariants.{Same, Shelve, Unshelve}
-use Rattle.control_word.specs.declared.model.handle.NumberedHandle.{NumberedHandle}
-use Rattle.control_word.specs.declared.model.handle.Kind.TheVariants.{Owner}
-use Rattle.scene_structures.specs.Chains.{Chain, IsList}
-use Rattle.scene_structures.specs.Puts.{PutsOnly}
-use Rattle.std.specs.Prelude.{All}
-use Rattle.std.proofs.lemmas.List.Elements.{All-head, All-tail}
+use Rattle.std.proofs.Common.{◌≡◌, ℕ, suc, ◌<◌, ◌≤◌, true, false, cond, List, [], ◌∷◌, ◌++◌, map}
+use Rattle.std.proofs.Common.{Some, All, sym, refl, ap, ◌∙◌, subst, arith}
+use Rattle.scene_structures.proofs.Prelude
+use Prelude.{after, All-head, All-tail, Asks, Cell, cell_of, cells_led, Chain, ClearMember}
+use Prelude.{Compare, cond_both, Count, empty, ending, Entry, entry, Event, Expired, Finish, Free}
+use Prelude.{gone, InState, IsLegal, IsList, Join, kind_of_member, leads, Leave, live, Load, Lock}
+use Prelude.{Make, Member, moved_to, new_object, NumberedHandle, Object, object_of, one_of}
+use Prelude.{Opening, Owner, OwnersFit, Phase, put, put_cases, put_other, PutsOnly, Read, Same}
+use Prelude.{Share, Shelve, Sound, sound, Split, State, Swap, unmade, Unshelve, Visit, was_made}
+use Prelude.{WeakLeave, WeakShare}
+use Rattle.control_word.proofs.history.Cells.{cell_counted}
+use Rattle.control_word.specs.State.{count}
 
 -- the object is in the block that it was in, and holds in `next` what it held
 pub record Keeps (s t : State) (o : ℕ) : Type 0 where

@@ -1,33 +1,15 @@
 -- On a sole desk a list grows by just the node that rises.
-use Rattle.std.proofs.Common.{◌≡◌, ℕ, ◌≤◌, ◌&&◌, Bool, true, false, List, [], ◌∷◌, ◌++◌, map, Option, None, Some, refl, sym}
-use Rattle.std.proofs.Common.{ap, subst, ◌∙◌, ⊎_elim, append_assoc, arith}
-use Rattle.std.proofs.lemmas.List.{map-append}
-use Rattle.std.proofs.lemmas.List.Elements.{All-append, All-cons, All-nil}
-use Rattle.std.specs.Prelude.{All}
-use Rattle.control_word.proofs.history.Cells.{open_live}
-use Rattle.control_word.proofs.history.Given.{legal_seen}
-use Rattle.control_word.proofs.history.Kept.{block_kept}
-use Rattle.control_word.proofs.history.Legal.{sound}
-use Rattle.control_word.proofs.lists.Tallies.{put_same, same_handle_true}
-use Rattle.control_word.specs.Events.{Asks, after, cell_of, kind_of, place_at, Holds}
-use Rattle.control_word.specs.Handles.{equivalent, object_of, owner, same_handle, same_kind}
-use Rattle.control_word.specs.Histories.{IsLegal, entry, leads}
-use Rattle.control_word.specs.State.{Opening, State, live, put}
-use Rattle.control_word.specs.declared.model.event.Cell.TheVariants.{Member}
-use Rattle.control_word.specs.declared.model.event.Entry.{Entry}
-use Rattle.control_word.specs.declared.model.event.Event.{Event}
-use Rattle.control_word.specs.declared.model.event.Event.TheVariants.{Compare, Swap}
-use Rattle.control_word.specs.declared.model.handle.NumberedHandle.{NumberedHandle}
-use Rattle.control_word.specs.declared.model.handle.Kind.{Kind}
-use Rattle.control_word.specs.declared.model.handle.Kind.TheVariants.{Owner}
-use Rattle.control_word.specs.declared.place.Place.{Place}
-use Rattle.scene_structures.specs.Chains.{Chain, IsList}
-use Rattle.shared_handle.specs.Piles.{IsParting}
-use Rattle.scene_structures.specs.Puts.{PutsOnly, in_no_cell}
-use Rattle.scene_structures.specs.Stacks.{NextOf}
-use Rattle.control_word.proofs.history.Cells.{InState}
-use Rattle.control_word.specs.declared.model.event.Cell.{Cell}
-use Rattle.scene_structures.proofs.Frames.{AllKept, Apart, all_kept, chain_kept, chain_live, keeps_after}
+use Rattle.std.proofs.Common.{◌≡◌, ℕ, ◌≤◌, Bool, true, false, ◌&&◌, List, [], ◌∷◌, ◌++◌, map, Some}
+use Rattle.std.proofs.Common.{None, All, Option, sym, refl, ap, ◌∙◌, subst, ⊎_elim, append_assoc}
+use Rattle.std.proofs.Common.{arith}
+use Rattle.scene_structures.proofs.Prelude
+use Prelude.{All-append, All-cons, All-nil, block_kept, Cell, cell_of, Chain, Compare, Entry}
+use Prelude.{entry, equivalent, Event, Holds, in_no_cell, InState, IsLegal, IsList, IsParting}
+use Prelude.{Kind, leads, legal_seen, live, map-append, Member, NextOf, NumberedHandle, open_live}
+use Prelude.{Opening, Owner, owner, Place, put_same, PutsOnly, same_handle_true, same_kind, sound}
+use Prelude.{State, Swap}
+use Rattle.scene_structures.proofs.Frames.{AllKept, Apart, all_kept, chain_kept, chain_live}
+use Rattle.scene_structures.proofs.Frames.{keeps_after}
 use Rattle.scene_structures.proofs.Heads.{IsHead, Lives, cell_put, frames_at, in_later, lives_run}
 use Rattle.scene_structures.proofs.Lives.{keeps_run}
 use Rattle.scene_structures.proofs.Rows.{partings_put}

@@ -1,21 +1,10 @@
 -- Handles that lie on a desk's bag.
-use Rattle.std.proofs.Common.{◌≡◌, ℕ, ◌+◌, ◌<◌, ◌≤◌, Bool, true, false, List, [], ◌∷◌, length, Option, None, Some, refl, sym, ap}
-use Rattle.std.proofs.Common.{subst}
-use Rattle.std.proofs.Common.{◌∙◌, inl, inr, arith}
-use Rattle.std.proofs.lemmas.Bool.{cond-true, cond-false}
-use Rattle.control_word.proofs.lists.Tallies.{handle_self, same_handle_true}
-use Rattle.control_word.specs.Handles.{handle, same_handle}
-use Rattle.control_word.specs.State.{Has, without}
-use Rattle.control_word.specs.declared.model.handle.NumberedHandle.{NumberedHandle}
-use Rattle.control_word.specs.declared.model.handle.Kind.TheVariants.{Owner}
-use Rattle.control_word.specs.declared.place.Block.{Block}
-use Rattle.control_word.specs.declared.place.Place.{Place}
-use Rattle.control_block.specs.Desks.{DeskNow, bag_of}
-use Rattle.control_block.specs.declared.handles.Shared.{Shared}
-use Rattle.control_block.specs.CellCalls.{HoldsHandle, with_handle, without_handle}
-use Rattle.shared_handle.proofs.Callers.{first_out}
-use Rattle.scene_structures.specs.Hands.{HasHands, Lists, stacked}
-use Rattle.shared_handle.specs.Endings.{IsWithin}
+use Rattle.std.proofs.Common.{◌≡◌, ℕ, ◌+◌, ◌<◌, ◌≤◌, Bool, true, false, List, [], ◌∷◌, length}
+use Rattle.std.proofs.Common.{Some, None, Option, sym, refl, ap, ◌∙◌, subst, inl, inr, arith}
+use Rattle.scene_structures.proofs.Prelude
+use Prelude.{bag_of, Block, cond-false, cond-true, DeskNow, first_out, handle, handle_self, Has}
+use Prelude.{HasHands, HoldsHandle, IsWithin, Lists, NumberedHandle, Owner, Place, same_handle}
+use Prelude.{same_handle_true, Shared, stacked, with_handle, without, without_handle}
 
 below : (h f : NumberedHandle) (l : List NumberedHandle) (b : Bool) → same_handle h f ≡ b → without same_handle h (f ∷ h ∷ l) ≡ f ∷ l
 below h f l true e = cond-true (same_handle h f) (h ∷ l) (f ∷ without same_handle h (h ∷ l)) e ∙ ap (λ (x : NumberedHandle). x ∷ l) (same_handle_true h f e)

@@ -1,26 +1,13 @@
 -- What stays of a list that stands in any cell, and of the cell.
-use Rattle.std.proofs.Common.{◌≡◌, ℕ, suc, ◌≤◌, true, false, cond, List, [], ◌∷◌, ◌++◌, map, refl, sym, ap, subst, ◌∙◌, arith}
-use Rattle.std.specs.Prelude.{All}
-use Rattle.std.proofs.lemmas.Bool.{cond_both}
-use Rattle.std.proofs.lemmas.List.Elements.{All-head, All-tail}
-use Rattle.control_word.proofs.history.Cells.{InState}
-use Rattle.control_word.proofs.history.Kept.{block_kept, cells_led}
-use Rattle.control_word.proofs.history.Legal.{sound}
-use Rattle.control_word.proofs.lists.Tallies.{put_cases, put_other, put_same}
-use Rattle.control_word.specs.Events.{Asks, after, cell_of, moved_to, new_object, swaps}
-use Rattle.control_word.specs.Handles.{object_of}
-use Rattle.control_word.specs.Histories.{IsLegal, entry, leads}
-use Rattle.control_word.specs.State.{Object, Opening, State, ending, gone, live, put}
-use Rattle.control_word.specs.declared.model.event.Cell.TheVariants.{Free, Member}
-use Rattle.control_word.specs.declared.model.event.Cell.{Cell}
-use Rattle.control_word.specs.declared.model.event.Entry.{Entry}
-use Rattle.control_word.specs.declared.model.event.Event.{Event}
-use Rattle.control_word.specs.declared.model.event.Event.TheVariants.{ClearMember, Compare, Count, Expired, Finish, Join, Leave, Load, Lock, Make, Read}
-use Rattle.control_word.specs.declared.model.event.Event.TheVariants.{Share, Split, Swap, Visit, WeakLeave, WeakShare}
-use Rattle.control_word.specs.declared.model.event.Event.TheVariants.{Same, Shelve, Unshelve}
-use Rattle.control_word.specs.declared.model.handle.NumberedHandle.{NumberedHandle}
-use Rattle.scene_structures.specs.Chains.{Chain, IsList}
-use Rattle.scene_structures.specs.Puts.{PutsOnly}
+use Rattle.std.proofs.Common.{◌≡◌, ℕ, suc, ◌≤◌, true, false, cond, List, [], ◌∷◌, ◌++◌, map, All}
+use Rattle.std.proofs.Common.{sym, refl, ap, ◌∙◌, subst, arith}
+use Rattle.scene_structures.proofs.Prelude
+use Prelude.{after, All-head, All-tail, Asks, block_kept, Cell, cell_of, cells_led, Chain}
+use Prelude.{ClearMember, Compare, cond_both, Count, ending, Entry, entry, Event, Expired, Finish}
+use Prelude.{Free, gone, InState, IsLegal, IsList, Join, leads, Leave, live, Load, Lock, Make}
+use Prelude.{Member, moved_to, new_object, NumberedHandle, Object, object_of, Opening, put}
+use Prelude.{put_cases, put_other, put_same, PutsOnly, Read, Same, Share, Shelve, sound, Split}
+use Prelude.{State, Swap, swaps, Unshelve, Visit, WeakLeave, WeakShare}
 use Rattle.scene_structures.proofs.Frames.{Apart, all_kept, cell_after, chain_kept, chain_live}
 use Rattle.scene_structures.proofs.Lives.{phase_back}
 

@@ -1,24 +1,16 @@
 -- What a call that ends nothing leaves as it is, members of what is held, and calls that aren't refused.
-use Rattle.std.proofs.Common.{◌≡◌, ◌↔◌, ◌+◌, ◌<◌, ◌∙◌, List, Option, Result, Ok, Err, refl, sym, ap, subst, arith}
-use Rattle.std.specs.Prelude.{IsErr}
-use Rattle.control_word.specs.declared.model.handle.NumberedHandle.{NumberedHandle}
-use Rattle.control_word.specs.declared.model.handle.Kind.TheVariants.{Owner}
-use Rattle.control_word.specs.declared.place.Block.{Block}
-use Rattle.control_word.specs.declared.shape.Shape.{Shape}
-use Rattle.control_block.specs.CellCalls.{HoldsHandle}
-use Rattle.control_block.specs.Desks.{Belongs, DeskNow, DomainNow, IsSameDesk, Keeps, KeepsEndings, allowance_of, held_of}
-use Rattle.control_block.specs.declared.handles.Shared.{Shared}
-use Rattle.shared_handle.proofs.Piles.{carries_kept}
-use Rattle.shared_handle.specs.Piles.{Carries}
-use Rattle.shared_handle.specs.declared.pile.Pile.{Pile}
-use Rattle.atomic_cells.specs.Sites.{IsMember, IsOpenSite, IsOpenWeakly, SharedAt, WeakAt}
+use Rattle.std.proofs.Common.{◌≡◌, ◌+◌, ◌<◌, ◌↔◌, List, IsErr, Ok, Err, Option, Result, sym, refl}
+use Rattle.std.proofs.Common.{ap, ◌∙◌, subst, arith}
+use Rattle.scene_structures.proofs.Prelude.{allowance_of, Belongs, Block, Carries, carries_kept}
+use Rattle.scene_structures.proofs.Prelude.{Cut, DeskNow, DomainNow, End, HeldSought, HoldsHandle}
+use Rattle.scene_structures.proofs.Prelude.{IsMember, IsOpenBy, IsOpenSite, IsSameDesk, Keeps}
+use Rattle.scene_structures.proofs.Prelude.{KeepsEndings, Lists, NumberedHandle, Other, Owner}
+use Rattle.scene_structures.proofs.Prelude.{Pile, Shape, Shared, SharedAt, Sought, WeakAt}
+use Rattle.control_block.specs.Desks.{held_of}
+use Rattle.atomic_cells.specs.Sites.{IsOpenWeakly}
 use Rattle.atomic_cells.specs.declared.sites.SharedMember.{SharedMember}
 use Rattle.atomic_cells.specs.declared.sites.SharedSite.TheVariants as shared
 use Rattle.atomic_cells.specs.declared.sites.WeakSite.TheVariants as weak
-use Rattle.scene_structures.specs.Detaches.{HeldSought}
-use Rattle.scene_structures.specs.Hands.{IsOpenBy, Lists}
-use Rattle.scene_structures.specs.declared.lists.cutting.Sought.{Sought}
-use Rattle.scene_structures.specs.declared.lists.cutting.Sought.TheVariants.{Cut, End, Other}
 
 -- a member of what the bag lists
 pub open_listed : (base : List NumberedHandle) (h : Shared) (at : SharedAt) (m : SharedMember) (z : Shape)

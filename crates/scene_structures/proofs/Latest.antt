@@ -1,24 +1,12 @@
 -- What a desk has still is on the object that it was on.
-use Rattle.std.proofs.Common.{◌≡◌, ℕ, ◌∷◌, [], List, map, Option, None, Some, refl, ap, subst, ◌∙◌, inl, inr, ⊎_elim}
-use Rattle.std.proofs.lemmas.Bool.{cond_both}
-use Rattle.control_word.specs.Handles.{handle, same_handle}
-use Rattle.control_word.specs.Histories.{leads}
-use Rattle.control_word.specs.State.{Has, without}
-use Rattle.control_word.specs.declared.model.handle.NumberedHandle.{NumberedHandle}
-use Rattle.control_word.specs.declared.model.handle.Kind.{Kind}
-use Rattle.control_word.specs.declared.place.Block.{Block}
-use Rattle.control_word.specs.declared.place.Place.{Place}
-use Rattle.control_word.specs.declared.shape.Shape.{Shape}
-use Rattle.control_block.proofs.Latest.{calls_keep_latest}
-use Rattle.control_block.specs.CellCalls.{with_handle, without_handle}
-use Rattle.control_block.specs.Desks.{DeskNow, HasHandle, bag_of, latest_of}
-use Rattle.control_block.specs.Own.{KeepsLatest}
-use Rattle.control_block.specs.Rule.{opening_of}
-use Rattle.shared_handle.specs.Calls.{LeavesWeakly}
-use Rattle.shared_handle.specs.Endings.{IsLeft}
-use Rattle.shared_handle.specs.declared.endings.Left.{Left}
-use Rattle.shared_handle.specs.declared.endings.Left.TheVariants.{Empty, Last, Others}
-use Rattle.scene_structures.specs.Hands.{KeepsHeld}
+use Rattle.std.proofs.Common.{◌≡◌, ℕ, List, [], ◌∷◌, map, Some, None, Option, refl, ap, ◌∙◌, subst}
+use Rattle.std.proofs.Common.{inl, inr, ⊎_elim}
+use Rattle.scene_structures.proofs.Prelude.{bag_of, Block, calls_keep_latest, cond_both, DeskNow}
+use Rattle.scene_structures.proofs.Prelude.{Empty, handle, Has, IsLeft, KeepsHeld, KeepsLatest}
+use Rattle.scene_structures.proofs.Prelude.{Kind, Last, latest_of, leads, LeavesWeakly, Left}
+use Rattle.scene_structures.proofs.Prelude.{NumberedHandle, opening_of, Others, Place, same_handle}
+use Rattle.scene_structures.proofs.Prelude.{Shape, with_handle, without, without_handle}
+use Rattle.control_block.specs.Desks.{HasHandle}
 
 pub has_mapped : {A B : Type 0} (f : A → B) (x : A) (l : List A) → Has x l → Has (f x) (map f l)
 has_mapped f x [] h = absurd h

@@ -1,33 +1,15 @@
 -- A node that is taken out of its parent's children on a sole desk.
-use Rattle.std.proofs.Common.{◌≡◌, ℕ, ◌<◌, Bool, true, false, List, [], ◌∷◌, MatchOption, Option, None, Some}
-use Rattle.std.proofs.Common.{refl, sym, ap, subst, ◌∙◌, ◌⊎◌, inl, inr, ⊎_elim, arith}
-use Rattle.control_word.proofs.history.Legal.{sound}
-use Rattle.control_word.specs.Events.{cell_of}
-use Rattle.control_word.specs.Handles.{object_of, owner}
-use Rattle.control_word.specs.Histories.{IsLegal}
-use Rattle.control_word.specs.State.{Has, count, live}
-use Rattle.control_word.specs.declared.model.event.Cell.{Cell}
-use Rattle.control_word.specs.declared.model.event.Cell.TheVariants.{Member}
-use Rattle.control_word.specs.declared.model.handle.NumberedHandle.{NumberedHandle}
-use Rattle.control_word.specs.declared.model.handle.Kind.TheVariants.{Owner}
-use Rattle.control_word.specs.declared.place.Block.{Block}
-use Rattle.control_word.specs.declared.place.Place.{Place}
-use Rattle.control_block.specs.CellCalls.{handle_in}
-use Rattle.control_block.specs.Desks.{DeskNow, bag_of, state_of}
-use Rattle.control_block.specs.Own.{Does, IsSole}
-use Rattle.control_block.specs.Rule.{opening_of}
-use Rattle.control_block.specs.declared.handles.Shared.{Shared}
-use Rattle.shared_handle.proofs.Goings.{does_both, does_none, does_one, weak_does}
-use Rattle.shared_handle.specs.Endings.{IsWithin}
-use Rattle.shared_handle.specs.Locks.{LocksHandle}
-use Rattle.shared_handle.specs.Piles.{IsParting}
-use Rattle.scene_structures.specs.Chains.{IsList}
-use Rattle.scene_structures.specs.Detaches.{Detaches, LeavesParent, Seeks, UnlinksIf}
-use Rattle.scene_structures.specs.Hands.{Lists, node_in}
-use Rattle.scene_structures.specs.Leaves.{IsCut, IsDetached, IsNoChild, KeepsBut, LeavesList, WentOut, after_all}
-use Rattle.scene_structures.specs.Parents.{IsParent, LocksUp}
-use Rattle.scene_structures.specs.Prunes.{is_owned}
-use Rattle.scene_structures.specs.Puts.{PutsOnly, in_no_cell}
+use Rattle.std.proofs.Common.{◌≡◌, ℕ, ◌<◌, Bool, true, false, ◌⊎◌, List, [], ◌∷◌, Some, None}
+use Rattle.std.proofs.Common.{Option, MatchOption, sym, refl, ap, ◌∙◌, subst, inl, inr, ⊎_elim}
+use Rattle.std.proofs.Common.{arith}
+use Rattle.scene_structures.proofs.Prelude
+use Prelude.{after_all, bag_of, Block, Cell, cell_of, DeskNow, Detaches, Does, does_both}
+use Prelude.{does_none, does_one, handle_in, Has, in_no_cell, is_owned, IsLegal, IsList, IsParent}
+use Prelude.{IsParting, IsSole, IsWithin, KeepsBut, LeavesParent, Lists, live, LocksHandle}
+use Prelude.{LocksUp, Member, node_in, NumberedHandle, object_of, opening_of, Owner, owner, Place}
+use Prelude.{PutsOnly, Seeks, Shared, sound, state_of, UnlinksIf, weak_does}
+use Rattle.control_word.specs.State.{count}
+use Rattle.scene_structures.specs.Leaves.{IsCut, IsDetached, IsNoChild, LeavesList, WentOut}
 use Rattle.scene_structures.specs.Scenes.{AreChildren}
 use Rattle.scene_structures.proofs.Alone.{held_on, legal_on}
 use Rattle.scene_structures.proofs.Cuts.{end_of, onto}
@@ -36,11 +18,13 @@ use Rattle.scene_structures.proofs.Heads.{Lives}
 use Rattle.scene_structures.proofs.Looks.{owner_within}
 use Rattle.scene_structures.proofs.Pushes.{shares_does}
 use Rattle.scene_structures.proofs.Sole.{held_live}
-use Rattle.scene_structures.proofs.Sought.{IfCut, IsOut, Stood, after_onto, in_onto, list_stays, lived, not_below, onto_more, seeks_does}
-use Rattle.scene_structures.proofs.Sought.{object_is, sought_list, stood_on}
+use Rattle.scene_structures.proofs.Sought.{IfCut, IsOut, Stood, after_onto, in_onto, list_stays}
+use Rattle.scene_structures.proofs.Sought.{lived, not_below, onto_more, seeks_does, object_is}
+use Rattle.scene_structures.proofs.Sought.{sought_list, stood_on}
 use Rattle.scene_structures.proofs.Stays.{puts_nothing}
-use Rattle.scene_structures.proofs.Unlinking.{anywhere, counts, head_of, in_there, keeps_but, none_wider, owner_none, owner_some}
-use Rattle.scene_structures.proofs.Unlinking.{unlinked_list, unlinks_does, wider}
+use Rattle.scene_structures.proofs.Unlinking.{anywhere, counts, head_of, in_there, keeps_but}
+use Rattle.scene_structures.proofs.Unlinking.{none_wider, owner_none, owner_some, unlinked_list}
+use Rattle.scene_structures.proofs.Unlinking.{unlinks_does, wider}
 
 module _ {V : Type 0} where
   -- the object left the list, or wasn't in it

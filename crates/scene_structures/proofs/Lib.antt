@@ -1,3 +1,4 @@
+pub mod Prelude
 pub mod Others
 pub mod Orders
 pub mod Hands

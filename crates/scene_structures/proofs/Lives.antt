@@ -1,21 +1,10 @@
 -- An object that lives still when handles have left holds in `next` what it held.
-use Rattle.std.proofs.Common.{◌≡◌, ℕ, cond, List, [], ◌∷◌, ◌++◌, map, refl, ap}
-use Rattle.std.proofs.Common.{◌∙◌, arith}
-use Rattle.std.proofs.lemmas.Bool.{cond_both}
-use Rattle.control_word.proofs.history.Clearing.{was_made}
-use Rattle.control_word.proofs.history.Legal.{sound}
-use Rattle.control_word.proofs.lists.Tallies.{put_cases}
-use Rattle.control_word.specs.Events.{after, moved_to}
-use Rattle.control_word.specs.Handles.{empty, object_of}
-use Rattle.control_word.specs.Histories.{IsLegal, entry, leads}
-use Rattle.control_word.specs.State.{Object, Opening, State, ending, gone, kind_of_member, live, put}
-use Rattle.control_word.specs.declared.model.event.Event.{Event}
-use Rattle.control_word.specs.declared.model.event.Entry.{Entry}
-use Rattle.control_word.specs.declared.model.event.Event.TheVariants.{ClearMember, Finish, Leave, WeakLeave}
-use Rattle.shared_handle.specs.Piles.{IsParting}
-use Rattle.scene_structures.specs.Puts.{in_no_cell}
-use Rattle.std.specs.Prelude.{All}
-use Rattle.std.proofs.lemmas.List.Elements.{All-head, All-tail}
+use Rattle.std.proofs.Common.{◌≡◌, ℕ, cond, List, [], ◌∷◌, ◌++◌, map, All, refl, ap, ◌∙◌, arith}
+use Rattle.scene_structures.proofs.Prelude.{after, All-head, All-tail, ClearMember, cond_both}
+use Rattle.scene_structures.proofs.Prelude.{empty, ending, Entry, entry, Event, Finish, gone}
+use Rattle.scene_structures.proofs.Prelude.{in_no_cell, IsLegal, IsParting, kind_of_member, leads}
+use Rattle.scene_structures.proofs.Prelude.{Leave, live, moved_to, Object, object_of, Opening, put}
+use Rattle.scene_structures.proofs.Prelude.{put_cases, sound, State, was_made, WeakLeave}
 use Rattle.scene_structures.proofs.Frames.{Keeps, keeps_after}
 use Rattle.scene_structures.proofs.Rows.{parting_puts}
 

@@ -1,34 +1,13 @@
 -- What tries to take the top node say, put together.
-use Rattle.std.proofs.Common.{◌≡◌, ℕ, Bool, true, false, [], ◌∷◌, ◌++◌, Option, None, Some, Ok, refl, sym, ap, subst, ◌∙◌}
-use Rattle.std.proofs.lemmas.List.Elements.{All-append, All-cons, All-nil}
-use Rattle.control_word.specs.Handles.{owner}
-use Rattle.control_word.specs.Histories.{IsLegal}
-use Rattle.control_word.specs.declared.model.event.Cell.{Cell}
-use Rattle.control_word.specs.declared.model.event.Cell.TheVariants.{Member}
-use Rattle.control_word.specs.declared.model.event.Event.{Event}
-use Rattle.control_word.specs.declared.model.event.Event.TheVariants.{Compare, Load}
-use Rattle.control_word.specs.declared.model.handle.NumberedHandle.{NumberedHandle}
-use Rattle.control_word.specs.declared.model.handle.Kind.TheVariants.{Owner}
-use Rattle.control_word.specs.declared.place.Block.{Block}
-use Rattle.control_word.specs.declared.place.Place.{Place}
-use Rattle.control_word.specs.declared.shape.Shape.{Shape}
-use Rattle.control_block.proofs.Bags.{shown_held}
-use Rattle.control_block.proofs.Own.{goes_by_call, goes_in_turn}
-use Rattle.control_block.specs.CellCalls.{handle_in}
-use Rattle.control_block.specs.Desks.{AddsEvent, DeskNow, bag_of, latest_of, state_of}
-use Rattle.control_block.specs.Own.{Does}
-use Rattle.control_block.specs.Rule.{opening_of}
-use Rattle.control_block.specs.declared.handles.Shared.{Shared}
-use Rattle.shared_handle.specs.Endings.{IsWithin}
-use Rattle.std.proofs.Common.{Result, Err}
-use Rattle.control_word.specs.declared.refusal.Refusal.{Refusal}
-use Rattle.control_word.specs.declared.refusal.Refusal.TheVariants.{Null, Outside}
-use Rattle.atomic_cells.specs.Sites.{IsMember}
-use Rattle.scene_structures.specs.Chains.{OwnsObject}
-use Rattle.scene_structures.specs.Hands.{Lists, node_in}
-use Rattle.shared_handle.specs.Piles.{IsParting}
-use Rattle.scene_structures.specs.Puts.{PutsOnly, in_no_cell}
-use Rattle.scene_structures.specs.Stacks.{FindsNone, Looks, Sees, PopsNode}
+use Rattle.std.proofs.Common.{◌≡◌, ℕ, Bool, true, false, [], ◌∷◌, ◌++◌, Some, None, Ok, Err}
+use Rattle.std.proofs.Common.{Option, Result, sym, refl, ap, ◌∙◌, subst}
+use Rattle.scene_structures.proofs.Prelude
+use Prelude.{AddsEvent, All-append, All-cons, All-nil, bag_of, Block, Cell, Compare, DeskNow, Does}
+use Prelude.{Event, FindsNone, goes_by_call, goes_in_turn, handle_in, in_no_cell, IsLegal}
+use Prelude.{IsMember, IsParting, IsWithin, latest_of, Lists, Load, Looks, Member, node_in, Null}
+use Prelude.{NumberedHandle, opening_of, Outside, Owner, owner, OwnsObject, Place, PutsOnly}
+use Prelude.{Refusal, Sees, Shape, Shared, shown_held, state_of}
+use Rattle.scene_structures.specs.Stacks.{PopsNode}
 use Rattle.scene_structures.proofs.Rows.{partings_put}
 
 same_block : (a b : Block) → a.0 ≡ b.0 → a ≡ b

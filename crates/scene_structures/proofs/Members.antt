@@ -1,16 +1,8 @@
 -- A member that is put nowhere holds what it held, while its object lives.
-use Rattle.std.proofs.Common.{◌≡◌, ℕ, ◌≤◌, List, [], ◌∷◌, ◌++◌, map, refl, ◌∙◌}
-use Rattle.std.specs.Prelude.{All}
-use Rattle.std.proofs.lemmas.List.Elements.{All-head, All-tail}
-use Rattle.control_word.proofs.history.Kept.{block_kept}
-use Rattle.control_word.specs.Histories.{IsLegal, entry, leads}
-use Rattle.control_word.specs.State.{Opening, live}
-use Rattle.control_word.specs.declared.model.event.Cell.TheVariants.{Member}
-use Rattle.control_word.specs.declared.model.event.Cell.{Cell}
-use Rattle.control_word.specs.declared.model.event.Entry.{Entry}
-use Rattle.control_word.specs.declared.model.event.Event.{Event}
-use Rattle.scene_structures.specs.Observers.{ups}
-use Rattle.scene_structures.specs.Puts.{PutsOnly}
+use Rattle.std.proofs.Common.{◌≡◌, ℕ, ◌≤◌, List, [], ◌∷◌, ◌++◌, map, All, refl, ◌∙◌}
+use Rattle.scene_structures.proofs.Prelude.{All-head, All-tail, block_kept, Cell, Entry, entry}
+use Rattle.scene_structures.proofs.Prelude.{Event, IsLegal, leads, live, Member, Opening, PutsOnly}
+use Rattle.scene_structures.proofs.Prelude.{ups}
 use Rattle.scene_structures.proofs.Frames.{AllLive}
 use Rattle.scene_structures.proofs.Heads.{live_before, member_after}
 

@@ -1,25 +1,13 @@
 -- In which order objects end, call by call.
-use Rattle.std.proofs.Common.{◌≡◌, List, [], ◌∷◌, ◌++◌, Bool, Option, None, Some, Result, Ok, Err, refl, inl, inr, sym, subst}
-use Rattle.std.proofs.lemmas.List.Elements.{All-nil}
-use Rattle.control_word.specs.declared.model.event.Event.{Event}
-use Rattle.control_word.specs.declared.place.Block.{Block}
-use Rattle.control_word.specs.declared.place.Place.{Place}
-use Rattle.control_word.specs.declared.refusal.Refusal.{Refusal}
-use Rattle.control_word.specs.declared.refusal.Refusal.TheVariants.{Null, Outside}
-use Rattle.control_block.specs.Desks.{AddsEvent, DeskNow}
-use Rattle.control_block.specs.Own.{Does}
-use Rattle.shared_handle.proofs.Goings.{does_both, does_none, does_one}
-use Rattle.shared_handle.specs.Calls.{IsExpiry, LeavesWeakly, Makes, SharesOwner, SharesWeakly, counting}
+use Rattle.std.proofs.Common.{◌≡◌, ℕ, Bool, List, [], ◌∷◌, ◌++◌, Some, None, Ok, Err, Option}
+use Rattle.std.proofs.Common.{Result, sym, refl, subst, inl, inr}
+use Rattle.scene_structures.proofs.Prelude
+use Prelude.{AddsEvent, All-nil, AreRounds, AsksExpired, Block, counting, DeskNow, Does, does_both}
+use Prelude.{does_none, does_one, Drops, Ending, EndsInOrder, Event, Gone, IsExpiry, LeavesWeakly}
+use Prelude.{LocksHandle, LocksUp, Makes, Null, Outside, Past, Place, Refusal, Shared, SharesOwner}
+use Prelude.{SharesWeakly}
 use Rattle.shared_handle.specs.Endings.{IsRead}
-use Rattle.shared_handle.specs.Locks.{LocksHandle}
-use Rattle.shared_handle.specs.Piles.{AreRounds, Drops, Past}
-use Rattle.shared_handle.specs.declared.endings.Ending.{Ending}
-use Rattle.shared_handle.specs.declared.pile.Gone.{Gone}
-use Rattle.scene_structures.specs.Orders.{AreSteps, Before, EndsInOrder, EndsNothing, IsStep}
-use Rattle.scene_structures.specs.Parents.{LocksUp}
-use Rattle.scene_structures.specs.Prunes.{AsksExpired}
-use Rattle.control_block.specs.declared.handles.Shared.{Shared}
-use Rattle.std.specs.Prelude.{ℕ}
+use Rattle.scene_structures.specs.Orders.{AreSteps, Before, EndsNothing, IsStep}
 
 module _ {V : Type 0} where
   still_counted : (d e : DeskNow V) (n : ℕ) → e ≡ counting n d → Does EndsNothing d e

@@ -1,32 +1,20 @@
 -- What ends in the desk's hands elsewhere than on a pile stays as it is, call by call.
-use Rattle.std.proofs.Common.{◌≡◌, ◌≢◌, ℕ, ◌++◌, ◌∷◌, false, length, List, [], None, Some}
-use Rattle.std.proofs.Common.{refl, sym, ap, subst, ◌∙◌, arith}
-use Rattle.control_word.proofs.history.Given.{legal_seen}
-use Rattle.control_word.proofs.history.Legal.{sound}
-use Rattle.control_word.proofs.lists.Tallies.{put_again, put_other}
-use Rattle.control_word.specs.Events.{after}
-use Rattle.control_word.specs.Histories.{IsLegal, leads}
-use Rattle.control_word.specs.State.{Object, State, ending}
-use Rattle.control_word.specs.declared.model.event.Event.{Event}
-use Rattle.control_word.specs.declared.model.event.Event.TheVariants.{ClearMember, Finish}
-use Rattle.control_word.specs.declared.model.handle.NumberedHandle.{NumberedHandle}
-use Rattle.control_word.specs.declared.place.Block.{Block}
+use Rattle.std.proofs.Common.{◌≡◌, ℕ, false, ◌≢◌, List, [], ◌∷◌, ◌++◌, length, Some, None, sym}
+use Rattle.std.proofs.Common.{refl, ap, ◌∙◌, subst, arith}
+use Rattle.scene_structures.proofs.Prelude
+use Prelude.{AddsEvent, after, AllEnd, AreRounds, Block, Cleared, ClearMember, ClearsMember}
+use Prelude.{counting, DeskNow, Empty, Ended, Ending, ending, endings_of, EndsInHand, Event}
+use Prelude.{Finish, First, IsClearing, IsLeft, IsLegal, IsRound, Keeps, KeepsEndings, KeepsOthers}
+use Prelude.{Last, latest_of, leads, LeavesWeakly, Left, legal_seen, Next, NumberedHandle, Object}
+use Prelude.{opening_of, Others, Past, put_again, put_other, Round, Settled, sound, State}
+use Prelude.{state_of, Up, with_clear}
 use Rattle.control_block.proofs.Endings.{ends_here, ends_unmade, still_ends}
-use Rattle.control_block.specs.Desks.{AddsEvent, DeskNow, IsEnding, Keeps, KeepsEndings, endings_of, latest_of, member_in, object_in, state_of}
-use Rattle.control_block.specs.Rule.{opening_of}
+use Rattle.control_block.specs.Desks.{IsEnding, member_in, object_in}
 use Rattle.shared_handle.proofs.Beside.{apart, left_apart, up_beside}
 use Rattle.shared_handle.proofs.PiledEndings.{among_append, among_before, piled_apart}
-use Rattle.shared_handle.specs.Calls.{LeavesWeakly, counting}
-use Rattle.shared_handle.specs.Endings.{ClearsMember, EndsInHand, IsBeside, IsClearing, IsLeft, with_clear}
-use Rattle.shared_handle.specs.Piles.{AllEnd, AreRounds, IsRound, KeepsElsewhere, NotAmong, Past}
-use Rattle.shared_handle.specs.declared.endings.Ending.{Ending}
-use Rattle.shared_handle.specs.declared.endings.Left.{Left}
-use Rattle.shared_handle.specs.declared.endings.Left.TheVariants.{Empty, Last, Others}
+use Rattle.shared_handle.specs.Endings.{IsBeside}
+use Rattle.shared_handle.specs.Piles.{KeepsElsewhere, NotAmong}
 use Rattle.shared_handle.specs.declared.endings.Member.{Member}
-use Rattle.shared_handle.specs.declared.endings.Member.TheVariants.{First, Next, Up}
-use Rattle.shared_handle.specs.declared.pile.Round.{Round}
-use Rattle.shared_handle.specs.declared.pile.Round.TheVariants.{Cleared, Ended, Settled}
-use Rattle.scene_structures.specs.Others.{KeepsOthers}
 
 module _ {V : Type 0} where
   pub others_none : (d : DeskNow V) (xs : List (Ending V)) → KeepsOthers d xs d xs

@@ -1,39 +1,20 @@
 -- A look for a node's parent.
-use Rattle.std.proofs.Common.{◌≡◌, ℕ, ◌==◌, Bool, true, false, not, cond, is_some, [], ◌∷◌, Option, None, Some, Ok, refl, sym, ap, subst}
-use Rattle.std.proofs.Common.{◌∙◌, arith}
-use Rattle.std.proofs.lemmas.Bool.{cond-true, cond-false}
+use Rattle.std.proofs.Common.{◌≡◌, ℕ, Bool, true, false, cond, not, [], ◌∷◌, is_some, ◌==◌, Some}
+use Rattle.std.proofs.Common.{None, Ok, Option, sym, refl, ap, ◌∙◌, subst, arith}
+use Rattle.scene_structures.proofs.Prelude
+use Prelude.{AddsEvent, bag_of, Block, calls_keep_latest, Cell, cell_of, comes_next, cond-false}
+use Prelude.{cond-true, DeskNow, does_one, empty, Event, handle, handle_in, Has, HoldsHandle}
+use Prelude.{in_cells, in_no_cell, IsLegal, IsMember, IsOwnerOf, IsParent, IsSole, KeepsLatest}
+use Prelude.{latest_of, leads, LeavesWeakly, Load, LocksHandle, LocksUp, Member, node_in}
+use Prelude.{NumberedHandle, object_of, opening_of, Owner, owner, owner_of, Place, PutsOnly}
+use Prelude.{Shared, State, state_of, tally, Weak, weak_cell, WeakAt, with_handle}
 use Rattle.control_word.proofs.history.Clearing.{gets_tally}
-use Rattle.control_word.specs.Events.{cell_of, gets}
-use Rattle.control_word.specs.Handles.{empty, handle, object_of, owner}
-use Rattle.control_word.specs.Histories.{IsLegal, leads}
-use Rattle.control_word.specs.State.{Has, State, count, in_cells, tally}
-use Rattle.control_word.specs.declared.model.event.Cell.{Cell}
-use Rattle.control_word.specs.declared.model.event.Cell.TheVariants.{Member}
-use Rattle.control_word.specs.declared.model.event.Event.{Event}
-use Rattle.control_word.specs.declared.model.event.Event.TheVariants.{Load}
-use Rattle.control_word.specs.declared.model.handle.NumberedHandle.{NumberedHandle}
-use Rattle.control_word.specs.declared.model.handle.Kind.TheVariants.{Owner, Weak}
-use Rattle.control_word.specs.declared.place.Block.{Block}
-use Rattle.control_word.specs.declared.place.Place.{Place}
-use Rattle.control_block.proofs.Latest.{calls_keep_latest}
-use Rattle.control_block.proofs.Sole.{comes_next}
-use Rattle.control_block.specs.CellCalls.{handle_in, with_handle}
-use Rattle.control_block.specs.Desks.{AddsEvent, DeskNow, bag_of, latest_of, state_of}
+use Rattle.control_word.specs.Events.{gets}
+use Rattle.control_word.specs.State.{count}
 use Rattle.control_block.specs.LockCalls.{state_before}
 use Rattle.control_block.specs.LockStepKinds.{earlier}
-use Rattle.control_block.specs.Own.{IsSole, KeepsLatest}
-use Rattle.control_block.specs.Rule.{opening_of}
-use Rattle.control_block.specs.declared.handles.Shared.{Shared}
-use Rattle.shared_handle.proofs.Goings.{does_one}
-use Rattle.shared_handle.specs.Calls.{LeavesWeakly}
-use Rattle.control_block.specs.CellCalls.{HoldsHandle}
-use Rattle.shared_handle.specs.Locks.{IsOwnerOf, LocksHandle}
 use Rattle.atomic_cells.specs.Cells.{Loads}
-use Rattle.atomic_cells.specs.Sites.{IsMember, WeakAt, weak_cell}
 use Rattle.atomic_cells.specs.declared.sites.WeakSite.TheVariants as site
-use Rattle.scene_structures.specs.Hands.{node_in}
-use Rattle.scene_structures.specs.Parents.{IsParent, LocksUp, owner_of}
-use Rattle.scene_structures.specs.Puts.{PutsOnly, in_no_cell}
 use Rattle.scene_structures.proofs.Alone.{sole_on}
 use Rattle.scene_structures.proofs.Calls.{got_lists}
 use Rattle.scene_structures.proofs.Latest.{has_over, weak_latest}

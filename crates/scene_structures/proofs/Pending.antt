@@ -1,30 +1,16 @@
 -- Trees that hang on a pile of objects that end, and the leave of an owner of one.
-use Rattle.std.proofs.Common.{◌≡◌, ◌≢◌, ℕ, ◌<◌, ◌==◌, true, false, List, [], ◌∷◌, ◌++◌, map, Option, Some, None}
-use Rattle.std.proofs.Common.{refl, sym, ap, subst, ◌∙◌, append_assoc, arith}
+use Rattle.std.proofs.Common.{◌≡◌, ℕ, ◌<◌, true, false, ◌≢◌, List, [], ◌∷◌, ◌++◌, map, ◌==◌, Some}
+use Rattle.std.proofs.Common.{None, Option, sym, refl, ap, ◌∙◌, subst, append_assoc, arith}
+use Rattle.scene_structures.proofs.Prelude
+use Prelude.{AddsEvent, after, Asks, bare, Block, comes_next, DeskNow, Ending, ending, EndsInHand}
+use Prelude.{Event, gone_of, handle_in, Has, held, IsLeft, IsLegal, IsTree, IsUncleared, latest_of}
+use Prelude.{leads, Leave, leaves, Left, live, moved_to, node, Object, objects_in_order, on_latest}
+use Prelude.{opening_of, Owner, owner, piled, Place, put_other, put_same, Sound, sound, State}
+use Prelude.{state_of, top_value, Tree, value, values_ended_by}
 use Rattle.control_word.proofs.history.Formation.{formed}
-use Rattle.control_word.proofs.history.Legal.{sound}
-use Rattle.control_word.proofs.history.Soundness.{Sound}
-use Rattle.control_word.proofs.lists.Tallies.{put_other, put_same}
-use Rattle.control_word.specs.Events.{Asks, after, leaves, moved_to}
-use Rattle.control_word.specs.Handles.{owner}
-use Rattle.control_word.specs.Histories.{IsLegal, leads, value, valued}
-use Rattle.control_word.specs.State.{Has, Object, State, count, ending, held, live}
-use Rattle.control_word.specs.declared.model.event.Event.{Event}
-use Rattle.control_word.specs.declared.model.event.Event.TheVariants.{Leave}
-use Rattle.control_word.specs.declared.model.handle.Kind.TheVariants.{Owner}
-use Rattle.control_word.specs.declared.place.Block.{Block}
-use Rattle.control_word.specs.declared.place.Place.{Place}
-use Rattle.control_block.specs.CellCalls.{handle_in}
-use Rattle.control_block.specs.Desks.{AddsEvent, DeskNow, latest_of, on_latest, state_of}
-use Rattle.control_block.specs.Rule.{opening_of}
-use Rattle.control_block.proofs.Sole.{comes_next}
-use Rattle.shared_handle.specs.Endings.{EndsInHand, IsLeft, IsUncleared}
-use Rattle.shared_handle.specs.Piles.{gone_of, piled}
-use Rattle.shared_handle.specs.declared.endings.Ending.{Ending}
-use Rattle.shared_handle.specs.declared.endings.Left.{Left}
+use Rattle.control_word.specs.Histories.{valued}
+use Rattle.control_word.specs.State.{count}
 use Rattle.shared_handle.specs.declared.endings.Left.TheVariants as left
-use Rattle.scene_structures.specs.Teardowns.{values_ended_by, top_value}
-use Rattle.scene_structures.specs.Trees.{IsTree, Tree, bare, objects_in_order, node}
 use Rattle.scene_structures.proofs.Standing.{IsAlone}
 use Rattle.scene_structures.proofs.Trees.{ending_live, in_no_member, leave_member, one_lives}
 use Rattle.scene_structures.proofs.Trees.{tree_left}

@@ -1,32 +1,16 @@
 -- What the steps of a prune say, put together.
-use Rattle.std.proofs.Common.{◌≡◌, ◌+◌, ℕ, Bool, List, [], ◌∷◌, MatchOption, Option, None, Some, Ok, arith, refl, sym, ap, subst, ◌∙◌}
-use Rattle.control_word.specs.Handles.{handle, object_of}
-use Rattle.control_word.specs.State.{Has}
-use Rattle.control_word.specs.declared.model.event.Cell.{Cell}
-use Rattle.control_word.specs.declared.model.event.Cell.TheVariants.{Member}
-use Rattle.control_word.specs.declared.model.event.Event.{Event}
-use Rattle.control_word.specs.declared.model.event.Event.TheVariants.{Load, Swap}
-use Rattle.control_word.specs.declared.model.handle.NumberedHandle.{NumberedHandle}
-use Rattle.control_word.specs.declared.model.handle.Kind.TheVariants.{Owner, Weak}
-use Rattle.control_word.specs.declared.place.Block.{Block}
-use Rattle.control_word.specs.declared.place.Place.{Place}
-use Rattle.control_word.specs.declared.shape.Shape.{Shape}
-use Rattle.control_block.proofs.Latest.{calls_keep_latest}
-use Rattle.control_block.specs.CellCalls.{handle_in, with_handle, without_handle}
-use Rattle.control_block.specs.Desks.{AddsEvent, DeskNow, bag_of, latest_of}
-use Rattle.control_block.specs.Own.{Does, KeepsLatest}
-use Rattle.control_block.specs.declared.handles.Shared.{Shared}
-use Rattle.shared_handle.proofs.Callers.{first_out}
-use Rattle.shared_handle.specs.Calls.{IsExpiry, LeavesWeakly}
-use Rattle.control_block.specs.CellCalls.{HoldsHandle}
-use Rattle.shared_handle.specs.Endings.{IsWithin}
-use Rattle.shared_handle.specs.Piles.{IsParting}
-use Rattle.atomic_cells.specs.Sites.{IsMember, SharedAt, WeakAt, shared_cell, weak_cell}
+use Rattle.std.proofs.Common.{◌≡◌, ℕ, ◌+◌, Bool, List, [], ◌∷◌, Some, None, Ok, Option}
+use Rattle.std.proofs.Common.{MatchOption, sym, refl, ap, ◌∙◌, subst, arith}
+use Rattle.scene_structures.proofs.Prelude
+use Prelude.{AddsEvent, AsksExpired, bag_of, Block, calls_keep_latest, Cell, ClearsFront, DeskNow}
+use Prelude.{Does, Event, Finds, first_out, handle, handle_in, Has, HasHands, HoldsHandle}
+use Prelude.{IsExpiry, IsMember, IsOpenBy, IsParting, IsWithin, KeepsHeld, KeepsLatest, latest_of}
+use Prelude.{LeavesWeakly, Lists, Load, Member, node_in, NumberedHandle, object_of, Owner}
+use Prelude.{PassesNode, Place, Prunes, SameKept, SameNode, Shape, Shared, shared_cell, SharedAt}
+use Prelude.{stacked, Swap, Weak, weak_cell, WeakAt, with_handle, without_handle}
 use Rattle.atomic_cells.specs.declared.sites.SharedMember.TheVariants.{Next}
 use Rattle.atomic_cells.specs.declared.sites.SharedSite.TheVariants as shared
 use Rattle.atomic_cells.specs.declared.sites.WeakSite.TheVariants as weak
-use Rattle.scene_structures.specs.Hands.{HasHands, IsOpenBy, KeepsHeld, Lists, SameNode, node_in, stacked}
-use Rattle.scene_structures.specs.Prunes.{AsksExpired, ClearsFront, Finds, PassesNode, Prunes, SameKept}
 use Rattle.scene_structures.proofs.Hands.{holds_first, holds_second, lists_first, most}
 use Rattle.scene_structures.proofs.Latest.{has_over, weak_latest}
 

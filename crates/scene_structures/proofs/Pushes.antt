@@ -1,36 +1,18 @@
 -- The steps of a push, put together.
-use Rattle.std.proofs.Common.{◌≡◌, ℕ, ◌+◌, cond, arith, Bool, true, false, List, [], ◌∷◌, ◌++◌, Option, None, Some, Ok, refl, sym, ap}
-use Rattle.std.proofs.Common.{subst, ◌∙◌}
-use Rattle.control_word.specs.Handles.{handle, object_of}
-use Rattle.control_word.specs.State.{Has}
-use Rattle.control_word.specs.declared.model.event.Cell.TheVariants.{Member}
-use Rattle.control_word.specs.declared.model.event.Cell.{Cell}
-use Rattle.control_word.specs.declared.model.event.Event.TheVariants.{Compare, Swap}
-use Rattle.control_word.specs.declared.model.handle.NumberedHandle.{NumberedHandle}
-use Rattle.control_word.specs.declared.model.handle.Kind.TheVariants.{Owner}
-use Rattle.control_word.specs.declared.place.Block.{Block}
-use Rattle.control_word.specs.declared.place.Place.{Place}
-use Rattle.control_block.specs.CellCalls.{handle_in, with_handle, without_handle}
-use Rattle.control_block.specs.Desks.{AddsEvent, DeskNow, bag_of, state_of}
-use Rattle.shared_handle.proofs.Callers.{first_out}
-use Rattle.control_block.specs.declared.handles.Shared.{Shared}
-use Rattle.shared_handle.specs.Calls.{SharesOwner, counting}
+use Rattle.std.proofs.Common.{◌≡◌, ℕ, ◌+◌, Bool, true, false, cond, List, [], ◌∷◌, ◌++◌, Some}
+use Rattle.std.proofs.Common.{None, Ok, Option, sym, refl, ap, ◌∙◌, subst, append_assoc, arith}
+use Rattle.scene_structures.proofs.Prelude
+use Prelude.{AddsEvent, All-append, All-cons, All-nil, bag_of, Block, calls_keep_latest, Cell}
+use Prelude.{Compare, counting, DeskNow, Does, does_both, does_one, Fills, first_out, Goes}
+use Prelude.{goes_by_call, goes_in_turn, handle, handle_in, Has, IsMember, IsParting, KeepsHeld}
+use Prelude.{KeepsLatest, Lists, Member, NextOf, node_in, NumberedHandle, object_of, Owner, Place}
+use Prelude.{PutsOnly, Rises, SameNode, Shared, shared_cell, SharedAt, SharesOwner, state_of, Swap}
+use Prelude.{with_handle, without_handle}
 use Rattle.atomic_cells.specs.Compares.{GivesBackDesired, bag_compared, came_out, has_swapped}
 use Rattle.atomic_cells.specs.declared.compared.Compared.{Compared}
 use Rattle.atomic_cells.specs.declared.compared.Compared.TheVariants.{Differs, Swapped}
-use Rattle.atomic_cells.specs.Sites.{IsMember, SharedAt, shared_cell}
 use Rattle.atomic_cells.specs.declared.sites.SharedMember.TheVariants.{Next}
 use Rattle.atomic_cells.specs.declared.sites.SharedSite.TheVariants as site
-use Rattle.control_block.specs.Own.{Does, Goes, KeepsLatest}
-use Rattle.std.proofs.lemmas.List.Elements.{All-append, All-cons, All-nil}
-use Rattle.std.proofs.Common.{append_assoc}
-use Rattle.shared_handle.specs.Piles.{IsParting}
-use Rattle.scene_structures.specs.Puts.{PutsOnly}
-use Rattle.scene_structures.specs.Hands.{KeepsHeld, Lists, SameNode, node_in}
-use Rattle.scene_structures.specs.Stacks.{Fills, NextOf, Rises}
-use Rattle.control_block.proofs.Latest.{calls_keep_latest}
-use Rattle.control_block.proofs.Own.{goes_by_call, goes_in_turn}
-use Rattle.shared_handle.proofs.Goings.{does_both, does_one}
 use Rattle.scene_structures.proofs.Rows.{partings_put}
 use Rattle.scene_structures.proofs.Latest.{has_all, latest_none}
 

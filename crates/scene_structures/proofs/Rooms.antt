@@ -1,26 +1,13 @@
 -- Room for a call's handles, a new node's handle, and what a call took.
-use Rattle.std.proofs.Common.{◌≡◌, ◌↔◌, ◌+◌, ◌<◌, ◌≤◌, ℕ, Bool, false, List, [], ◌∷◌}
-use Rattle.std.proofs.Common.{length, Option, None, Some, Result, Ok, Err}
-use Rattle.std.proofs.Common.{inl, inr, refl, sym, subst, arith}
-use Rattle.std.proofs.lemmas.Bool.{iff_false}
-use Rattle.std.specs.Prelude.{IfSome, IsTrue, MatchOption, vec_capacity}
-use Rattle.control_word.specs.Handles.{handle}
-use Rattle.control_word.specs.State.{Has}
-use Rattle.control_word.specs.declared.model.handle.NumberedHandle.{NumberedHandle}
-use Rattle.control_word.specs.declared.model.handle.Kind.{Kind}
-use Rattle.control_word.specs.declared.model.handle.Kind.TheVariants.{Owner}
-use Rattle.control_word.specs.declared.place.Block.{Block}
-use Rattle.control_word.specs.declared.place.Place.{Place}
+use Rattle.std.proofs.Common.{◌≡◌, ℕ, ◌+◌, ◌<◌, ◌≤◌, Bool, false, ◌↔◌, List, [], ◌∷◌, length}
+use Rattle.std.proofs.Common.{IfSome, IsTrue, Some, None, Ok, Err, vec_capacity, Option, Result}
+use Rattle.std.proofs.Common.{MatchOption, sym, refl, subst, inl, inr, arith}
+use Rattle.scene_structures.proofs.Prelude.{AllEnd, bag_of, Belongs, Block, Carries, DeskNow}
+use Rattle.scene_structures.proofs.Prelude.{DomainNow, handle, Has, HasHands, HoldsHandle}
+use Rattle.scene_structures.proofs.Prelude.{iff_false, IsWithin, Kind, Makes, NumberedHandle}
+use Rattle.scene_structures.proofs.Prelude.{Owner, Pile, Place, Shared, with_handle}
 use Rattle.control_word.specs.declared.refusal.Refused.{Refused}
-use Rattle.control_block.specs.CellCalls.{HoldsHandle, with_handle}
-use Rattle.control_block.specs.Desks.{Belongs, DeskNow, DomainNow, bag_of}
 use Rattle.control_block.specs.Refusals.{IsFullOrLimit}
-use Rattle.control_block.specs.declared.handles.Shared.{Shared}
-use Rattle.shared_handle.specs.Calls.{Makes}
-use Rattle.shared_handle.specs.Endings.{IsWithin}
-use Rattle.shared_handle.specs.Piles.{AllEnd, Carries}
-use Rattle.shared_handle.specs.declared.pile.Pile.{Pile}
-use Rattle.scene_structures.specs.Hands.{HasHands}
 use Rattle.scene_structures.proofs.Hands.{holds_first, most, under}
 
 -- not near the limit

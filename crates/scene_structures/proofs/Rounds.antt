@@ -1,39 +1,20 @@
 -- Rounds of a pile leave the desk the handles that it had, each on its object.
-use Rattle.std.proofs.Common.{◌≡◌, ◌⊎◌, ℕ, ◌++◌, ◌∷◌, [], List, Option, None, Some, refl, sym, ap, subst, ◌∙◌, inl, inr}
-use Rattle.std.proofs.lemmas.Bool.{cond-true}
-use Rattle.control_word.proofs.history.Given.{legal_seen, names_an_object}
-use Rattle.control_word.proofs.history.Kept.{block_kept, same_kept}
-use Rattle.control_word.proofs.lists.Parts.{has_part, part_has, part_mine}
+use Rattle.std.proofs.Common.{◌≡◌, ℕ, ◌⊎◌, List, [], ◌∷◌, ◌++◌, Some, None, Option, sym, refl, ap}
+use Rattle.std.proofs.Common.{◌∙◌, subst, inl, inr}
+use Rattle.scene_structures.proofs.Prelude
+use Prelude.{AddsEvent, after, AreRounds, bag, Block, block_kept, Cleared, ClearMember, cond-true}
+use Prelude.{DeskNow, Does, Empty, Ended, Ending, Event, First, handle, handle_in, Has, has_part}
+use Prelude.{Held, held, IsClearing, IsLeft, IsLegal, IsParting, IsRound, KeepsHeld, Kind, Last}
+use Prelude.{latest_of, leads, LeavesWeakly, Left, legal_seen, Next, NumberedHandle, on_latest}
+use Prelude.{opening_of, Others, Owner, Past, Place, Round, same_held, Settled, shown_held, State}
+use Prelude.{state_of, Up, Weak, without}
+use Rattle.control_word.proofs.history.Given.{names_an_object}
+use Rattle.control_word.proofs.history.Kept.{same_kept}
+use Rattle.control_word.proofs.lists.Parts.{part_has, part_mine}
 use Rattle.control_word.proofs.lists.Tallies.{held_self, held_true}
-use Rattle.control_word.specs.Events.{after}
-use Rattle.control_word.specs.Handles.{handle}
-use Rattle.control_word.specs.Histories.{IsLegal, leads}
-use Rattle.control_word.specs.State.{Has, Held, State, bag, held, same_held, without}
-use Rattle.control_word.specs.declared.model.event.Event.{Event}
-use Rattle.control_word.specs.declared.model.event.Event.TheVariants.{ClearMember}
-use Rattle.control_word.specs.declared.model.handle.NumberedHandle.{NumberedHandle}
-use Rattle.control_word.specs.declared.model.handle.Kind.{Kind}
-use Rattle.control_word.specs.declared.model.handle.Kind.TheVariants.{Owner, Weak}
-use Rattle.control_word.specs.declared.place.Block.{Block}
-use Rattle.control_word.specs.declared.place.Place.{Place}
-use Rattle.control_block.proofs.Bags.{shown_held}
 use Rattle.control_block.proofs.partings.Parts.{part_without_mine}
-use Rattle.control_block.specs.CellCalls.{handle_in}
-use Rattle.control_block.specs.Desks.{AddsEvent, DeskNow, latest_of, on_latest, state_of}
-use Rattle.control_block.specs.Own.{Does}
-use Rattle.control_block.specs.Rule.{opening_of}
-use Rattle.shared_handle.specs.Calls.{LeavesWeakly}
-use Rattle.shared_handle.specs.Endings.{IsClearing, IsLeft}
-use Rattle.shared_handle.specs.Piles.{AreRounds, IsParting, IsRound, Past}
-use Rattle.shared_handle.specs.declared.endings.Ending.{Ending}
-use Rattle.shared_handle.specs.declared.endings.Left.{Left}
-use Rattle.shared_handle.specs.declared.endings.Left.TheVariants.{Empty, Last, Others}
 use Rattle.shared_handle.specs.declared.endings.Member.{Member}
-use Rattle.shared_handle.specs.declared.endings.Member.TheVariants.{First, Next, Up}
-use Rattle.shared_handle.specs.declared.pile.Round.{Round}
-use Rattle.shared_handle.specs.declared.pile.Round.TheVariants.{Cleared, Ended, Settled}
 use Rattle.scene_structures.proofs.Latest.{held_here}
-use Rattle.scene_structures.specs.Hands.{KeepsHeld}
 
 bag_without : (s : State) (n : ℕ) (h : NumberedHandle)
     → bag (record s { hands = without same_held (held n h) s.hands }) n ≡ without same_held (held n h) (bag s n)

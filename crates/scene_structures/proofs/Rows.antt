@@ -1,16 +1,9 @@
 -- What a call's own events are, put in a row.
-use Rattle.std.proofs.Common.{List}
-use Rattle.std.proofs.lemmas.List.Elements.{All-weaker}
-use Rattle.std.specs.Prelude.{All}
-use Rattle.control_word.specs.declared.model.event.Cell.{Cell}
-use Rattle.control_word.specs.declared.model.event.Event.{Event}
-use Rattle.control_word.specs.declared.model.event.Event.TheVariants.{ClearMember, Compare, Count, Expired, Finish, Join, Leave, Load, Lock, Make, Read}
-use Rattle.control_word.specs.declared.model.event.Event.TheVariants.{Share, Split, Swap, Visit, WeakLeave, WeakShare}
-use Rattle.control_word.specs.declared.model.event.Event.TheVariants.{Same, Shelve, Unshelve}
-use Rattle.control_block.specs.Desks.{DeskNow}
-use Rattle.control_block.specs.Own.{Does, KeepsDesks}
-use Rattle.shared_handle.specs.Piles.{IsParting}
-use Rattle.scene_structures.specs.Puts.{PutsOnly}
+use Rattle.std.proofs.Common.{List, All}
+use Rattle.scene_structures.proofs.Prelude
+use Prelude.{All-weaker, Cell, ClearMember, Compare, Count, DeskNow, Does, Event, Expired, Finish}
+use Prelude.{IsParting, Join, KeepsDesks, Leave, Load, Lock, Make, PutsOnly, Read, Same, Share}
+use Prelude.{Shelve, Split, Swap, Unshelve, Visit, WeakLeave, WeakShare}
 
 module _ {V : Type 0} where
   pub parting_puts : (at : Cell → Type 0) (x : Event V) → IsParting x → PutsOnly at x

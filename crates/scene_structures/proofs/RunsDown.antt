@@ -1,25 +1,18 @@
 -- Rounds of a pile, with the slots of what ends in them.
-use Rattle.std.proofs.Common.{◌≡◌, ◌≢◌, ◌⊎◌, ℕ, ◌+◌, ◌*◌, ◌<◌, ◌≤◌, arith, length, List, [], ◌∷◌, ◌++◌, Option}
-use Rattle.std.proofs.Common.{None, refl, sym, ap, subst, ◌∙◌, inl, inr, append_assoc}
-use Rattle.std.proofs.lemmas.List.{append-nil}
-use Rattle.control_block.specs.Desks.{DeskNow}
-use Rattle.shared_handle.specs.Endings.{with_clear}
-use Rattle.control_word.specs.declared.place.Block.{Block}
-use Rattle.control_word.specs.declared.place.Place.{Place}
-use Rattle.control_block.specs.declared.handles.Shared.{Shared}
-use Rattle.shared_handle.specs.Piles.{ClearsTop, Drops, FinishesTop, IsRound, gone_of, piled}
-use Rattle.shared_handle.specs.declared.pile.Round.{Round}
-use Rattle.shared_handle.specs.declared.pile.Round.TheVariants.{Cleared, Ended, Settled}
-use Rattle.shared_handle.specs.declared.endings.Ending.{Ending}
-use Rattle.shared_handle.specs.declared.endings.Left.{Left}
+use Rattle.std.proofs.Common.{◌≡◌, ℕ, ◌+◌, ◌*◌, ◌<◌, ◌≤◌, ◌≢◌, ◌⊎◌, List, [], ◌∷◌, ◌++◌, length}
+use Rattle.std.proofs.Common.{None, Option, sym, refl, ap, ◌∙◌, subst, inl, inr, append_assoc}
+use Rattle.std.proofs.Common.{append-nil, arith}
+use Rattle.scene_structures.proofs.Prelude
+use Prelude.{AreOut, Block, Cleared, ClearsTop, DeskNow, Drops, empty_slots, Ended, Ending}
+use Prelude.{filled_values, FinishesTop, First, Gone, gone_of, IsRound, Left, MakesRounds, MayStop}
+use Prelude.{Next, piled, Place, Round, Settled, Shared, TearsDown, top_value, Up, values_ended_by}
+use Prelude.{values_ended_in, with_clear}
 use Rattle.shared_handle.specs.declared.endings.Left.TheVariants as left
 use Rattle.shared_handle.specs.declared.endings.Member.{Member}
-use Rattle.shared_handle.specs.declared.endings.Member.TheVariants.{First, Next, Up}
-use Rattle.shared_handle.specs.declared.pile.Gone.{Gone}
 use Rattle.shared_handle.specs.declared.pile.Gone.TheVariants.{Empty, Last, Others}
-use Rattle.scene_structures.specs.Teardowns.{AreOut, MayStop, MakesRounds, RunsDown, RoundStepsBy, TearsDown, empty_slots, values_ended_by, values_ended_in}
-use Rattle.scene_structures.specs.Teardowns.{filled_values, top_value}
-use Rattle.scene_structures.proofs.Slots.{last_of, no_last, last_same, out_all, out_more, out_same, out_whole, top_there}
+use Rattle.scene_structures.specs.Teardowns.{RunsDown, RoundStepsBy}
+use Rattle.scene_structures.proofs.Slots.{last_of, no_last, last_same, out_all, out_more, out_same}
+use Rattle.scene_structures.proofs.Slots.{out_whole, top_there}
 
 not_none : {A : Type 0} (is : List A) → is ≢ [] → (js : List A) × (i : A) × (is ≡ js ++ i ∷ [])
 not_none {A} is some = go (last_of is)

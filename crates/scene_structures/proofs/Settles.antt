@@ -1,30 +1,20 @@
 -- Four rounds a block are enough, where a desk is alone.
-use Rattle.std.proofs.Common.{◌≡◌, ◌⊎◌, ℕ, suc, ◌+◌, ◌*◌, ◌≤◌, Bool, true, false, cond, length, List, []}
-use Rattle.std.proofs.Common.{◌∷◌, ◌++◌, Option, None, Some, refl, sym, ap, subst, ◌∙◌, inl, inr, arith}
-use Rattle.std.proofs.lemmas.List.{length-append}
-use Rattle.control_word.specs.Histories.{IsLegal}
-use Rattle.control_word.specs.declared.place.Block.{Block}
-use Rattle.control_word.specs.declared.place.Place.{Place}
-use Rattle.control_word.specs.declared.shape.Shape.{Shape}
-use Rattle.control_block.specs.Desks.{DeskNow, DomainNow, state_of}
-use Rattle.control_block.specs.Own.{IsSole}
-use Rattle.control_block.specs.Rule.{opening_of}
-use Rattle.control_block.specs.declared.handles.Shared.{Shared}
-use Rattle.shared_handle.specs.Endings.{IsAllClear, IsClearing, IsGone, IsLeft, IsUncleared, with_clear}
-use Rattle.shared_handle.specs.Piles.{AreRounds, Carries, IsRound, Past, gone_of, next_member, piled}
+use Rattle.std.proofs.Common.{◌≡◌, ℕ, suc, ◌+◌, ◌*◌, ◌≤◌, Bool, true, false, cond, ◌⊎◌, List, []}
+use Rattle.std.proofs.Common.{◌∷◌, ◌++◌, length, Some, None, Option, sym, refl, ap, ◌∙◌, subst}
+use Rattle.std.proofs.Common.{inl, inr, arith, length-append}
+use Rattle.scene_structures.proofs.Prelude
+use Prelude.{AreOut, AreRounds, Block, Carries, Cleared, DeskNow, DomainNow, Ended, Ending, First}
+use Prelude.{Gone, gone_of, IsClearing, IsGone, IsLeft, IsLegal, IsRound, IsSole, IsUncleared}
+use Prelude.{Left, MayStop, Next, next_member, opening_of, Past, Pile, piled, Place, Round}
+use Prelude.{Settled, Shape, Shared, state_of, TearsDown, top_value, Up, values_ended}
+use Prelude.{values_ended_by, values_ended_in, with_clear}
+use Rattle.shared_handle.specs.Endings.{IsAllClear}
 use Rattle.shared_handle.proofs.Few.{few_listed}
-use Rattle.shared_handle.specs.declared.pile.Pile.{Pile}
-use Rattle.shared_handle.specs.declared.endings.Ending.{Ending}
-use Rattle.shared_handle.specs.declared.endings.Left.{Left}
 use Rattle.shared_handle.specs.declared.endings.Left.TheVariants as left
 use Rattle.shared_handle.specs.declared.endings.Member.{Member}
-use Rattle.shared_handle.specs.declared.endings.Member.TheVariants.{First, Next, Up}
-use Rattle.shared_handle.specs.declared.pile.Gone.{Gone}
-use Rattle.shared_handle.specs.declared.pile.Round.{Round}
-use Rattle.shared_handle.specs.declared.pile.Round.TheVariants.{Cleared, Ended, Settled}
-use Rattle.scene_structures.specs.Teardowns.{AreOut, MayStop, TearsDown, values_ended, values_ended_by, values_ended_in, top_value}
 use Rattle.scene_structures.proofs.Slots.{no_last}
-use Rattle.scene_structures.proofs.Standing.{IsAlone, Loses, clearing_loses, endings_stand, few_stand, finish_loses, left_loses, standing}
+use Rattle.scene_structures.proofs.Standing.{IsAlone, Loses, clearing_loses, endings_stand}
+use Rattle.scene_structures.proofs.Standing.{few_stand, finish_loses, left_loses, standing}
 
 abbrev one_if : Bool → ℕ
 one_if b = cond b 1 0

@@ -1,27 +1,13 @@
 -- On a sole desk a list loses just the node that is taken, and one in which no node was found is empty.
-use Rattle.std.proofs.Common.{◌≡◌, ℕ, ◌<◌, Bool, true, false, List, [], ◌∷◌, ◌++◌, map, None, Some, refl, sym, ap, subst, ◌∙◌}
-use Rattle.std.proofs.Common.{⊎_elim}
-use Rattle.std.specs.Prelude.{All}
-use Rattle.std.proofs.lemmas.List.Elements.{All-cons}
-use Rattle.control_word.proofs.history.Given.{legal_seen}
-use Rattle.control_word.proofs.lists.Tallies.{put_same}
-use Rattle.control_word.specs.Events.{cell_of}
-use Rattle.control_word.specs.Handles.{equivalent, owner}
-use Rattle.control_word.specs.Histories.{IsLegal, entry, leads}
-use Rattle.control_word.specs.State.{Opening, State, live}
-use Rattle.control_word.specs.declared.model.event.Cell.{Cell}
-use Rattle.control_word.specs.declared.model.event.Cell.TheVariants.{Free, Member}
-use Rattle.control_word.specs.declared.model.event.Entry.{Entry}
-use Rattle.control_word.specs.declared.model.event.Event.{Event}
-use Rattle.control_word.specs.declared.model.event.Event.TheVariants.{Compare, Load}
-use Rattle.control_word.specs.declared.model.handle.NumberedHandle.{NumberedHandle}
-use Rattle.control_word.specs.declared.place.Place.{Place}
-use Rattle.scene_structures.specs.Chains.{Chain, IsList, OwnsObject}
-use Rattle.shared_handle.specs.Piles.{IsParting}
-use Rattle.scene_structures.specs.Puts.{PutsOnly, in_no_cell}
-use Rattle.scene_structures.specs.Stacks.{Sees}
+use Rattle.std.proofs.Common.{◌≡◌, ℕ, ◌<◌, Bool, true, false, List, [], ◌∷◌, ◌++◌, map, Some, None}
+use Rattle.std.proofs.Common.{All, sym, refl, ap, ◌∙◌, subst, ⊎_elim}
+use Rattle.scene_structures.proofs.Prelude
+use Prelude.{All-cons, Cell, cell_of, Chain, Compare, Entry, entry, equivalent, Event, Free}
+use Prelude.{in_no_cell, IsLegal, IsList, IsParting, leads, legal_seen, live, Load, Member}
+use Prelude.{NumberedHandle, Opening, owner, OwnsObject, Place, put_same, PutsOnly, Sees, State}
 use Rattle.scene_structures.proofs.Frames.{cell_run, chain_kept, frames}
-use Rattle.scene_structures.proofs.Grows.{all_same, apart_nowhere, in_front, none_alike, same_owner}
+use Rattle.scene_structures.proofs.Grows.{all_same, apart_nowhere, in_front, none_alike}
+use Rattle.scene_structures.proofs.Grows.{same_owner}
 use Rattle.scene_structures.proofs.Lives.{keeps_run}
 use Rattle.scene_structures.proofs.Rows.{partings_put}
 

@@ -1,30 +1,15 @@
 -- What a prune comes to on a sole desk.
-use Rattle.std.proofs.Common.{◌≡◌, ℕ, zero, suc, ◌+◌, ◌<◌, Bool, true, false, not, filter, length, List, [], ◌∷◌, ◌++◌, map}
-use Rattle.std.proofs.Common.{Option, None, Some, refl, sym, ap, subst, ◌∙◌, arith}
-use Rattle.std.proofs.lemmas.List.Elements.{All-cons}
-use Rattle.control_word.proofs.history.Kept.{cells_led}
-use Rattle.control_word.specs.Events.{cell_of}
-use Rattle.control_word.specs.Handles.{object_of}
-use Rattle.control_word.specs.Histories.{IsLegal, entry, leads}
-use Rattle.control_word.specs.State.{State}
-use Rattle.control_word.specs.declared.model.event.Cell.{Cell}
-use Rattle.control_word.specs.declared.model.event.Cell.TheVariants.{Free, Member}
-use Rattle.control_word.specs.declared.model.handle.NumberedHandle.{NumberedHandle}
-use Rattle.control_word.specs.declared.model.handle.Kind.TheVariants.{Owner, Weak}
-use Rattle.control_word.specs.declared.place.Block.{Block}
-use Rattle.control_block.specs.CellCalls.{handle_in}
-use Rattle.control_block.specs.Desks.{DeskNow, state_of}
-use Rattle.control_block.specs.Own.{Does, IsSole, KeepsDesks}
-use Rattle.control_block.specs.Rule.{opening_of}
-use Rattle.control_block.specs.declared.handles.Shared.{Shared}
-use Rattle.shared_handle.proofs.Goings.{does_both, does_none, does_one, weak_does}
-use Rattle.shared_handle.specs.Endings.{IsWithin}
-use Rattle.shared_handle.specs.Piles.{IsParting}
-use Rattle.scene_structures.specs.Chains.{Chain, IsList}
-use Rattle.scene_structures.specs.Hands.{node_in}
-use Rattle.scene_structures.specs.Prunes.{AreOwned, ClearsFront, Cuts, CutsAll, Finds, GoesOn, IsPruned, PassesNode, Prunes, SameKept, is_owned, picked}
-use Rattle.scene_structures.specs.Puts.{PutsOnly, in_no_cell}
-use Rattle.scene_structures.specs.Stacks.{FindsNone}
+use Rattle.std.proofs.Common.{◌≡◌, ℕ, zero, suc, ◌+◌, ◌<◌, Bool, true, false, not, List, [], ◌∷◌}
+use Rattle.std.proofs.Common.{◌++◌, map, length, Some, None, filter, Option, sym, refl, ap, ◌∙◌}
+use Rattle.std.proofs.Common.{subst, arith}
+use Rattle.scene_structures.proofs.Prelude
+use Prelude.{All-cons, AreOwned, Block, Cell, cell_of, cells_led, Chain, ClearsFront, CutsAll}
+use Prelude.{DeskNow, Does, does_both, does_none, does_one, entry, Finds, FindsNone, Free, GoesOn}
+use Prelude.{handle_in, in_no_cell, is_owned, IsLegal, IsList, IsParting, IsPruned, IsSole}
+use Prelude.{IsWithin, KeepsDesks, leads, Member, node_in, NumberedHandle, object_of, opening_of}
+use Prelude.{Owner, PassesNode, Prunes, PutsOnly, SameKept, Shared, State, state_of, Weak}
+use Prelude.{weak_does}
+use Rattle.scene_structures.specs.Prunes.{Cuts, picked}
 use Rattle.scene_structures.proofs.Cuts.{below, chain_below, end_holds, end_of, onto}
 use Rattle.scene_structures.proofs.Frames.{frames}
 use Rattle.scene_structures.proofs.Grows.{apart_nowhere}
@@ -33,7 +18,9 @@ use Rattle.scene_structures.proofs.Parents.{looked_up}
 use Rattle.scene_structures.proofs.Rows.{puts_keep}
 use Rattle.scene_structures.proofs.Shrinks.{seen_there}
 use Rattle.scene_structures.proofs.Sole.{keep_all, legal_is, state_is}
-use Rattle.scene_structures.proofs.Stays.{Stands, expiry_does, expiry_told, found_first, goes, goes_both, nothing_there, puts_nothing, stands_cut, stands_on}
+use Rattle.scene_structures.proofs.Stays.{Stands, expiry_does, expiry_told, found_first, goes}
+use Rattle.scene_structures.proofs.Stays.{goes_both, nothing_there, puts_nothing, stands_cut}
+use Rattle.scene_structures.proofs.Stays.{stands_on}
 
 module _ {V : Type 0} where
   -- what was found below those that stay

@@ -1,18 +1,11 @@
 -- A cell that handles in a bag keep open stays the cell that it was.
-use Rattle.std.proofs.Common.{◌≡◌, ◌<◌, List, [], ◌∷◌, Some, refl, sym, ap, subst, ◌∙◌}
-use Rattle.control_word.specs.Handles.{handle}
-use Rattle.control_word.specs.State.{Has}
-use Rattle.control_word.specs.declared.model.event.Cell.TheVariants.{Member}
-use Rattle.control_word.specs.declared.model.handle.NumberedHandle.{NumberedHandle}
-use Rattle.control_word.specs.declared.model.handle.Kind.TheVariants.{Owner}
-use Rattle.control_word.specs.declared.shape.Shape.{Shape}
-use Rattle.control_block.specs.Desks.{DeskNow, bag_of}
-use Rattle.control_block.specs.Own.{KeepsLatest}
-use Rattle.control_block.specs.declared.handles.Shared.{Shared}
-use Rattle.atomic_cells.specs.Sites.{IsOpenSite, number_of_member, shared_cell}
-use Rattle.atomic_cells.specs.declared.sites.SharedSite.{SharedSite}
+use Rattle.std.proofs.Common.{◌≡◌, ◌<◌, List, [], ◌∷◌, Some, sym, refl, ap, ◌∙◌, subst}
+use Rattle.scene_structures.proofs.Prelude.{bag_of, DeskNow, handle, Has, HasHands, IsOpenBy}
+use Rattle.scene_structures.proofs.Prelude.{IsOpenSite, KeepsHeld, KeepsLatest, KeepsThese, Member}
+use Rattle.scene_structures.proofs.Prelude.{NumberedHandle, Owner, Shape, Shared, shared_cell}
+use Rattle.scene_structures.proofs.Prelude.{SharedSite, stacked}
+use Rattle.atomic_cells.specs.Sites.{number_of_member}
 use Rattle.atomic_cells.specs.declared.sites.SharedSite.TheVariants.{Free, Of}
-use Rattle.scene_structures.specs.Hands.{HasHands, IsOpenBy, KeepsHeld, KeepsThese, stacked}
 use Rattle.scene_structures.proofs.Hands.{under}
 
 -- what lies below is in the bag

@@ -1,11 +1,10 @@
 -- Slots for the values of objects that end, beside the pile.
-use Rattle.std.proofs.Common.{◌≡◌, ◌⊎◌, ℕ, suc, ◌+◌, ◌<◌, length, List, [], ◌∷◌, ◌++◌, Option, None, Some, refl, sym, ap, subst}
-use Rattle.std.proofs.Common.{◌∙◌, inl, inr, arith}
-use Rattle.std.proofs.Common.{◌≢◌, ◌≤◌, append_assoc, reverse, slice_set}
+use Rattle.std.proofs.Common.{◌≡◌, ℕ, suc, ◌+◌, ◌<◌, ◌≤◌, ◌≢◌, ◌⊎◌, List, [], ◌∷◌, ◌++◌, reverse}
+use Rattle.std.proofs.Common.{length, slice_set, Some, None, Option, sym, refl, ap, ◌∙◌, subst}
+use Rattle.std.proofs.Common.{inl, inr, append_assoc, append-nil, arith, length-append}
+use Rattle.scene_structures.proofs.Prelude.{AreOut, empty_slots, Ending, filled_values}
 use Rattle.std.proofs.Math.Seq.{set-append_seam}
-use Rattle.std.proofs.lemmas.List.{append-nil, length-append, reverse-append}
-use Rattle.shared_handle.specs.declared.endings.Ending.{Ending}
-use Rattle.scene_structures.specs.Teardowns.{AreOut, empty_slots, filled_values}
+use Rattle.std.proofs.lemmas.List.{reverse-append}
 
 pub no_last : {B : Type 0} (is : List B) (i : B) → [] ≡ is ++ i ∷ [] → ⊥
 no_last [] i e = cc e

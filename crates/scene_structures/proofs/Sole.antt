@@ -1,39 +1,16 @@
 -- What the own events of a push and of a pop come to on a sole desk.
-use Rattle.std.proofs.Common.{◌≡◌, ℕ, suc, ◌<◌, ◌≤◌, true, false, List, [], ◌∷◌, ◌++◌, map, Option, None, Some, refl, sym, ap}
-use Rattle.std.proofs.Common.{subst, ◌∙◌, arith}
-use Rattle.std.specs.Prelude.{All}
-use Rattle.std.proofs.lemmas.List.Elements.{All-append, All-cons, All-nil, All-weaker}
-use Rattle.control_word.proofs.history.Cells.{open_live}
-use Rattle.control_word.proofs.history.Kept.{cells_led}
-use Rattle.control_word.proofs.history.Legal.{sound}
-use Rattle.control_word.proofs.lists.Tallies.{put_same}
-use Rattle.control_word.specs.Events.{place_at}
-use Rattle.control_word.specs.Handles.{handle, owner}
-use Rattle.control_word.specs.Histories.{IsLegal, entry, leads}
-use Rattle.control_word.specs.State.{Opening, State, live}
-use Rattle.control_word.specs.declared.model.event.Cell.{Cell}
-use Rattle.control_word.specs.declared.model.event.Cell.TheVariants.{Free, Member}
-use Rattle.control_word.specs.declared.model.event.Entry.{Entry}
-use Rattle.control_word.specs.declared.model.event.Event.{Event}
-use Rattle.control_word.specs.declared.model.event.Event.TheVariants.{Compare, Load, Make, Swap}
-use Rattle.control_word.specs.declared.model.handle.NumberedHandle.{NumberedHandle}
-use Rattle.control_word.specs.declared.model.handle.Kind.TheVariants.{Owner}
-use Rattle.control_word.specs.declared.place.Block.{Block}
-use Rattle.control_word.specs.declared.place.Place.{Place}
-use Rattle.control_block.specs.CellCalls.{handle_in}
-use Rattle.control_word.specs.declared.shape.Shape.{Shape}
-use Rattle.control_block.proofs.Own.{goes_by_call, goes_in_turn}
-use Rattle.control_block.proofs.Bags.{shown_held}
+use Rattle.std.proofs.Common.{◌≡◌, ℕ, suc, ◌<◌, ◌≤◌, true, false, List, [], ◌∷◌, ◌++◌, map, Some}
+use Rattle.std.proofs.Common.{None, All, Option, sym, refl, ap, ◌∙◌, subst, arith}
+use Rattle.scene_structures.proofs.Prelude
+use Prelude.{All-append, All-cons, All-nil, All-weaker, bag_of, Block, Cell, cells_led, Compare}
+use Prelude.{DeskNow, Entry, entry, Event, FindsNone, Free, Goes, goes_by_call, goes_in_turn}
+use Prelude.{handle, handle_in, in_no_cell, IsEmptyList, IsLegal, IsList, IsPopped, IsSole}
+use Prelude.{KeepsDesks, latest_of, leads, Lists, live, Load, Make, Member, NextOf, node_in}
+use Prelude.{NumberedHandle, open_live, opening_of, Owner, owner, OwnsObject, Place, place_at}
+use Prelude.{Pushes, put_same, PutsOnly, Shape, Shared, shown_held, sound, State, state_of, Swap}
+use Prelude.{TakesNode}
 use Rattle.control_block.proofs.Sole.{come_in_a_row}
-use Rattle.control_block.specs.Desks.{DeskNow, bag_of, latest_of, state_of}
-use Rattle.control_block.specs.Own.{Goes, IsSole, KeepsDesks}
-use Rattle.control_block.specs.Rule.{opening_of}
-use Rattle.control_block.specs.declared.handles.Shared.{Shared}
-use Rattle.scene_structures.specs.Chains.{IsList, OwnsObject}
-use Rattle.scene_structures.specs.Hands.{Lists, node_in}
-use Rattle.scene_structures.specs.Pops.{TakesNode}
-use Rattle.scene_structures.specs.Puts.{PutsOnly, in_no_cell}
-use Rattle.scene_structures.specs.Stacks.{FindsNone, IsEmptyList, IsPopped, IsPushed, NextOf, Pushes}
+use Rattle.scene_structures.specs.Stacks.{IsPushed}
 use Rattle.scene_structures.proofs.Frames.{AllLive, Apart, chain_live, frames}
 use Rattle.scene_structures.proofs.Grows.{apart_nowhere, risen}
 use Rattle.scene_structures.proofs.Looks.{looks_does, sees_none}

@@ -1,30 +1,15 @@
 -- A node that is sought in a list on a sole desk, and goes out of it.
-use Rattle.std.proofs.Common.{◌≡◌, ℕ, Bool, true, false, List, [], ◌∷◌, ◌++◌, map, length}
-use Rattle.std.proofs.Common.{Option, None, Some, refl, sym, ap, subst, ◌∙◌}
-use Rattle.std.proofs.Common.{◌⊎◌, inl, inr}
-use Rattle.std.proofs.Common.{⊎_elim, arith}
-use Rattle.std.proofs.lemmas.List.Elements.{All-cons, All-nil}
-use Rattle.control_word.proofs.history.Cells.{InState}
-use Rattle.control_word.specs.Events.{cell_of}
-use Rattle.control_word.specs.Handles.{object_of}
-use Rattle.control_word.specs.Histories.{IsLegal, entry, leads}
-use Rattle.control_word.specs.State.{Has, State}
-use Rattle.control_word.specs.declared.model.event.Cell.{Cell}
-use Rattle.control_word.specs.declared.model.event.Cell.TheVariants.{Member}
-use Rattle.control_word.specs.declared.model.handle.NumberedHandle.{NumberedHandle}
-use Rattle.control_block.specs.Desks.{DeskNow, state_of}
-use Rattle.control_block.specs.Own.{Does, IsSole}
-use Rattle.control_block.specs.Rule.{opening_of}
-use Rattle.control_block.specs.declared.handles.Shared.{Shared}
-use Rattle.shared_handle.proofs.Goings.{does_both, does_one}
-use Rattle.scene_structures.specs.Chains.{Chain, IsList}
-use Rattle.scene_structures.specs.Detaches.{CutsOut, IsEnd, Meets, ReachesNode, Seeks}
-use Rattle.scene_structures.specs.Hands.{node_in}
-use Rattle.scene_structures.specs.Leaves.{after_all}
-use Rattle.scene_structures.specs.Puts.{PutsOnly, in_no_cell}
-use Rattle.scene_structures.specs.Stacks.{FindsNone, NextOf}
+use Rattle.std.proofs.Common.{◌≡◌, ℕ, Bool, true, false, ◌⊎◌, List, [], ◌∷◌, ◌++◌, map, length}
+use Rattle.std.proofs.Common.{Some, None, Option, sym, refl, ap, ◌∙◌, subst, inl, inr, ⊎_elim}
+use Rattle.std.proofs.Common.{arith}
+use Rattle.scene_structures.proofs.Prelude
+use Prelude.{after_all, All-cons, All-nil, Cell, cell_of, Chain, CutsOut, DeskNow, Does, does_both}
+use Prelude.{does_one, entry, FindsNone, Has, in_no_cell, InState, IsEnd, IsLegal, IsList, IsSole}
+use Prelude.{leads, Meets, Member, NextOf, node_in, NumberedHandle, object_of, opening_of}
+use Prelude.{PutsOnly, ReachesNode, Seeks, Shared, State, state_of}
 use Rattle.scene_structures.proofs.Alone.{all_wider, in_on, legal_on, list_on, lives_on, sole_on}
-use Rattle.scene_structures.proofs.Cuts.{below, chain_below, cut_at, end_holds, end_of, onto, same_chain, shorter}
+use Rattle.scene_structures.proofs.Cuts.{below, chain_below, cut_at, end_holds, end_of, onto}
+use Rattle.scene_structures.proofs.Cuts.{same_chain, shorter}
 use Rattle.scene_structures.proofs.Detached.{on_some}
 use Rattle.scene_structures.proofs.Frames.{Apart}
 use Rattle.scene_structures.proofs.Grows.{apart_nowhere}

@@ -1,39 +1,22 @@
 -- How many objects live or end, each in a block of its own, where a desk is alone.
-use Rattle.std.proofs.Common.{◌≡◌, ℕ, suc, ◌+◌, ◌-◌, ◌<◌, ◌≤◌, ◌==◌, Bool, cond, [], ◌∷◌, Option}
-use Rattle.std.proofs.Common.{None, Some, refl, sym, ap, subst, ◌∙◌, arith}
-use Rattle.std.proofs.lemmas.Bool.{cond_both}
-use Rattle.std.proofs.lemmas.List.Elements.{All-cons, All-nil}
-use Rattle.control_word.proofs.history.Legal.{sound}
-use Rattle.control_word.proofs.history.Soundness.{Sound}
-use Rattle.control_word.proofs.lists.Sums.{sum_le, sum_ones}
-use Rattle.control_word.proofs.lists.Tallies.{put_other, put_same}
+use Rattle.std.proofs.Common.{◌≡◌, ℕ, suc, ◌+◌, ◌-◌, ◌<◌, ◌≤◌, Bool, cond, [], ◌∷◌, ◌==◌, Some}
+use Rattle.std.proofs.Common.{None, Option, sym, refl, ap, ◌∙◌, subst, arith}
+use Rattle.scene_structures.proofs.Prelude
+use Prelude.{AddsEvent, after, All-cons, All-nil, Asks, Block, ClearMember, ClearsMember}
+use Prelude.{comes_next, common, cond_both, counting, DeskNow, Ending, ending, Event, Finish}
+use Prelude.{First, goes_by_call, gone, Holds, IsClearing, IsFinish, IsLeft, IsLegal, IsSole}
+use Prelude.{KeepsDesks, leads, Leave, leaves, LeavesWeakly, Left, live, moved_to, Next}
+use Prelude.{NumberedHandle, Object, object_of, Opening, opening_of, Owner, Phase, Place, put}
+use Prelude.{put_other, put_same, Shape, Sound, sound, State, state_of, sum_below, sum_ones}
+use Prelude.{unmade, Up, WeakLeave}
+use Rattle.control_word.proofs.lists.Sums.{sum_le}
 use Rattle.control_word.proofs.words.Banks.{sum_all, sum_set}
-use Rattle.control_word.specs.Events.{Asks, Holds, after, leaves, moved_to}
-use Rattle.control_word.specs.Handles.{object_of}
-use Rattle.control_word.specs.Histories.{IsLegal, leads}
-use Rattle.control_word.specs.State.{Object, Opening, Phase, State, common, ending, gone, live, put, sum_below, unmade}
-use Rattle.control_word.specs.declared.model.event.Event.{Event}
-use Rattle.control_word.specs.declared.model.event.Event.TheVariants.{ClearMember, Finish, Leave, WeakLeave}
-use Rattle.control_word.specs.declared.model.handle.NumberedHandle.{NumberedHandle}
-use Rattle.control_word.specs.declared.model.handle.Kind.TheVariants.{Owner}
-use Rattle.control_word.specs.declared.place.Block.{Block}
-use Rattle.control_word.specs.declared.place.Place.{Place}
-use Rattle.control_word.specs.declared.shape.Shape.{Shape}
 use Rattle.control_block.proofs.Endings.{owner_lives}
-use Rattle.control_block.proofs.Own.{goes_by_call}
 use Rattle.control_block.proofs.Passage.{IsQuiet, quiet_clear}
-use Rattle.control_block.proofs.Sole.{comes_next}
-use Rattle.control_block.specs.Desks.{AddsEvent, DeskNow, ends_with, many_ending, state_of}
-use Rattle.control_block.specs.Own.{IsSole, KeepsDesks}
-use Rattle.control_block.specs.Rule.{opening_of}
-use Rattle.shared_handle.specs.Calls.{LeavesWeakly, counting}
-use Rattle.shared_handle.specs.Endings.{ClearsMember, ClearsUp, IsClearing, IsLeft}
-use Rattle.shared_handle.specs.Piles.{IsFinish}
-use Rattle.shared_handle.specs.declared.endings.Ending.{Ending}
-use Rattle.shared_handle.specs.declared.endings.Left.{Left}
+use Rattle.control_block.specs.Desks.{ends_with, many_ending}
+use Rattle.shared_handle.specs.Endings.{ClearsUp}
 use Rattle.shared_handle.specs.declared.endings.Left.TheVariants as left
 use Rattle.shared_handle.specs.declared.endings.Member.{Member}
-use Rattle.shared_handle.specs.declared.endings.Member.TheVariants.{First, Next, Up}
 use Rattle.scene_structures.proofs.Sole.{sole_is}
 
 abbrev pub many_standing : ℕ → State → ℕ

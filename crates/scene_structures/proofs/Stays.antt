@@ -1,30 +1,11 @@
 -- A sole desk that has a list in a free cell: what each step of a prune leaves of it.
-use Rattle.std.proofs.Common.{◌≡◌, ℕ, ◌<◌, Bool, not, List, [], ◌∷◌, ◌++◌}
-use Rattle.std.proofs.Common.{Option, None, Some, refl, sym, ap, subst, ◌∙◌}
-use Rattle.std.proofs.lemmas.Option.{same_Some}
-use Rattle.control_word.specs.Events.{after}
-use Rattle.control_word.specs.Histories.{IsLegal, leads}
-use Rattle.control_word.specs.State.{State}
-use Rattle.control_word.specs.declared.model.event.Cell.{Cell}
-use Rattle.control_word.specs.declared.model.event.Cell.TheVariants.{Free}
-use Rattle.control_word.specs.declared.model.event.Event.{Event}
-use Rattle.control_word.specs.declared.model.event.Event.TheVariants.{Expired, Swap}
-use Rattle.control_word.specs.declared.model.handle.NumberedHandle.{NumberedHandle}
-use Rattle.control_word.specs.declared.model.handle.Kind.TheVariants.{Weak}
-use Rattle.control_word.specs.declared.place.Block.{Block}
-use Rattle.control_word.specs.declared.place.Place.{Place}
-use Rattle.control_block.proofs.Own.{goes_in_turn}
-use Rattle.control_block.proofs.Sole.{comes_next}
-use Rattle.control_block.specs.CellCalls.{handle_in}
-use Rattle.control_block.specs.Desks.{AddsEvent, DeskNow, state_of}
-use Rattle.control_block.specs.Own.{Does, IsSole}
-use Rattle.control_block.specs.Rule.{opening_of}
-use Rattle.shared_handle.proofs.Goings.{does_none, does_one}
-use Rattle.shared_handle.specs.Calls.{IsExpiry}
-use Rattle.shared_handle.specs.Piles.{IsParting}
-use Rattle.scene_structures.specs.Chains.{Chain, IsList, OwnsObject}
-use Rattle.scene_structures.specs.Prunes.{GoesOn, is_owned}
-use Rattle.scene_structures.specs.Puts.{PutsOnly, in_no_cell}
+use Rattle.std.proofs.Common.{◌≡◌, ℕ, ◌<◌, Bool, not, List, [], ◌∷◌, ◌++◌, Some, None, Option, sym}
+use Rattle.std.proofs.Common.{refl, ap, ◌∙◌, subst}
+use Rattle.scene_structures.proofs.Prelude
+use Prelude.{AddsEvent, after, Block, Cell, Chain, comes_next, DeskNow, Does, does_none, does_one}
+use Prelude.{Event, Expired, Free, goes_in_turn, GoesOn, handle_in, in_no_cell, is_owned, IsExpiry}
+use Prelude.{IsLegal, IsList, IsParting, IsSole, leads, NumberedHandle, opening_of, OwnsObject}
+use Prelude.{Place, PutsOnly, same_Some, State, state_of, Swap, Weak}
 use Rattle.scene_structures.proofs.Alone.{in_on, legal_on, list_on, sole_on}
 use Rattle.scene_structures.proofs.Cuts.{cut_at, end_of, onto}
 use Rattle.scene_structures.proofs.Grows.{apart_nowhere}

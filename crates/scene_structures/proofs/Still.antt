@@ -1,47 +1,36 @@
 -- A call on a sole desk that puts nothing anywhere and gives back just what it took: no object ends in it, so what it saw is
 -- what there was before.
-use Rattle.std.proofs.Common.{◌≡◌, ◌⊎◌, ℕ, suc, ◌==◌, ◌<◌, ◌≤◌, Bool, true, false, not, length, List, [], ◌∷◌}
-use Rattle.std.proofs.Common.{◌++◌, map}
-use Rattle.std.proofs.Common.{Some, refl, sym, ap, subst, ◌∙◌, inl, inr, ⊎_elim, arith}
-use Rattle.std.specs.Prelude.{All, slice_index}
-use Rattle.std.proofs.lemmas.Bool.{and_parts, cases_lt, eqb-true}
-use Rattle.std.proofs.lemmas.List.Elements.{All-cons, All-head, All-nil, All-tail, All-weaker}
+use Rattle.std.proofs.Common.{◌≡◌, ℕ, suc, ◌<◌, ◌≤◌, Bool, true, false, not, ◌⊎◌, List, [], ◌∷◌}
+use Rattle.std.proofs.Common.{◌++◌, map, length, ◌==◌, slice_index, Some, All, sym, refl, ap, ◌∙◌}
+use Rattle.std.proofs.Common.{subst, inl, inr, ⊎_elim, arith, eqb-true}
+use Rattle.scene_structures.proofs.Prelude
+use Prelude.{after, All-cons, All-head, All-nil, All-tail, All-weaker, Asks, bag, bag_of}
+use Prelude.{block_kept, cases_lt, Cell, cell_of, ClearMember, common, counted_live, DeskNow}
+use Prelude.{empty, ending, Entry, entry, Event, Finish, Free, Goes, gone, handle, Has, has_part}
+use Prelude.{Held, held, in_cells, in_no_cell, IsLegal, IsLooking, IsSole, KeepsDesks}
+use Prelude.{KeepsEndings, kind_of_member, leads, Leave, live, Load, Lock, Member, members}
+use Prelude.{moved_to, NumberedHandle, object_of, Opening, opening_of, Owner, OwnersFit, Phase}
+use Prelude.{Place, put_again, put_same, PutsOnly, Read, same_held, same_kind, Shape, Share}
+use Prelude.{shown_held, Sound, sound, State, state_of, tally, tally_append, tally_here, unmade}
+use Prelude.{upto, value, was_made, WeakLeave, without}
+use Rattle.std.proofs.lemmas.Bool.{and_parts}
 use Rattle.control_word.proofs.history.Allowances.{allowed}
-use Rattle.control_word.proofs.history.Clearing.{was_made}
-use Rattle.control_word.proofs.history.Kept.{block_kept}
-use Rattle.control_word.proofs.history.Legal.{sound, written}
-use Rattle.control_word.proofs.history.Moving.{counted_live, live_busy, owner_counted}
+use Rattle.control_word.proofs.history.Legal.{written}
+use Rattle.control_word.proofs.history.Moving.{live_busy, owner_counted}
 use Rattle.control_word.proofs.history.Sole.{alone}
-use Rattle.control_word.proofs.history.Soundness.{IsBusy, OwnersFit, Sound}
-use Rattle.control_word.proofs.lists.Parts.{has_part}
-use Rattle.control_word.proofs.lists.Tallies.{put_again, put_same, same_kind_true, same_number_true, tally_append, tally_here, tally_without}
-use Rattle.control_word.specs.Events.{Asks, after, cell_of, moved_to}
-use Rattle.control_word.specs.Handles.{empty, handle, object_of, same_kind, same_number}
-use Rattle.control_word.specs.Histories.{IsLegal, entry, leads, value}
-use Rattle.control_word.specs.State.{Has, Held, IsActing, Opening, Phase, State, bag, common, count, ending, gone, held, in_cells, kind_of_member, live}
-use Rattle.control_word.specs.State.{members, same_held}
-use Rattle.control_word.specs.State.{tally, unmade, upto, without}
-use Rattle.control_word.specs.declared.model.event.Cell.{Cell}
-use Rattle.control_word.specs.declared.model.event.Cell.TheVariants.{Free, Member}
-use Rattle.control_word.specs.declared.model.event.Entry.{Entry}
-use Rattle.control_word.specs.declared.model.event.Event.{Event}
-use Rattle.control_word.specs.declared.model.event.Event.TheVariants.{ClearMember, Finish, Leave, Load, Lock, Read, Share, WeakLeave}
-use Rattle.control_word.specs.declared.model.handle.NumberedHandle.{NumberedHandle}
-use Rattle.control_word.specs.declared.model.handle.Kind.TheVariants.{Owner}
+use Rattle.control_word.proofs.history.Soundness.{IsBusy}
+use Rattle.control_word.proofs.lists.Tallies.{same_kind_true, same_number_true, tally_without}
+use Rattle.control_word.specs.Handles.{same_number}
+use Rattle.control_word.specs.State.{IsActing, count}
 use Rattle.control_word.specs.Words.{blocks_of}
-use Rattle.control_word.specs.declared.place.Place.{Place}
-use Rattle.control_word.specs.declared.shape.Shape.{Shape}
-use Rattle.control_block.proofs.Bags.{seen_as, shown_held}
-use Rattle.control_block.specs.Desks.{DeskNow, KeepsEndings, bag_of, in_block, state_of}
-use Rattle.control_block.specs.Own.{Goes, IsSole, KeepsDesks}
-use Rattle.control_block.specs.Rule.{opening_of}
-use Rattle.scene_structures.specs.Puts.{PutsOnly, in_no_cell}
-use Rattle.scene_structures.specs.Walks.{IsLooking}
+use Rattle.control_block.proofs.Bags.{seen_as}
+use Rattle.control_block.specs.Desks.{in_block}
 use Rattle.scene_structures.proofs.Heads.{live_before}
 use Rattle.scene_structures.proofs.Latest.{has_mapped}
 use Rattle.scene_structures.proofs.Sole.{keep_all, state_is}
 use Rattle.scene_structures.proofs.Counted.{hand_of, in_hands}
-use Rattle.scene_structures.proofs.Used.{Used, cleared_again, is_empty, looking_puts, used_clear, used_finish, used_on}
+use Rattle.scene_structures.proofs.Used.{Used, cleared_again, is_empty, looking_puts, used_clear}
+use Rattle.scene_structures.proofs.Used.{used_finish, used_on}
 use Rattle.control_word.proofs.history.Values.{has_value}
 
 -- objects and cells are as they were

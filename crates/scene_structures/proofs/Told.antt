@@ -1,33 +1,21 @@
 -- What a walk tells on a sole desk.
-use Rattle.std.proofs.Common.{◌≡◌, ℕ, ◌==◌, ◌<◌, Bool, true, false, not, filter, List, [], ◌∷◌, ◌++◌, map}
-use Rattle.std.proofs.Common.{Option, None, Some, refl, sym, ap, subst, ◌∙◌, ⊎_elim, arith}
-use Rattle.std.specs.Prelude.{All, slice_index}
-use Rattle.std.proofs.lemmas.Bool.{cond-false, cond-true, cond_both}
-use Rattle.std.proofs.lemmas.Option.{same_Some}
-use Rattle.std.proofs.lemmas.List.Elements.{All-cons, All-head, All-nil, All-tail}
-use Rattle.control_word.proofs.history.Kept.{block_kept, cells_led}
-use Rattle.control_word.proofs.history.Legal.{sound}
-use Rattle.control_word.specs.Events.{cell_of, place_at}
-use Rattle.control_word.specs.Handles.{handle, owner}
-use Rattle.control_word.specs.Histories.{IsLegal, entry, leads}
-use Rattle.control_word.specs.State.{Opening, State, bag, count}
-use Rattle.control_word.specs.declared.model.event.Cell.TheVariants.{Free, Member}
-use Rattle.control_word.specs.declared.model.event.Entry.{Entry}
-use Rattle.control_word.specs.declared.model.event.Event.{Event}
-use Rattle.control_word.specs.declared.model.event.Event.TheVariants.{Load, Lock, Read}
-use Rattle.control_word.specs.declared.model.handle.NumberedHandle.{NumberedHandle}
-use Rattle.control_word.specs.declared.model.handle.Kind.{Kind}
-use Rattle.control_word.specs.declared.place.Place.{Place}
-use Rattle.control_block.specs.Desks.{DeskNow, KeepsEndings, bag_of, state_of}
-use Rattle.control_block.specs.Own.{IsSole}
-use Rattle.control_block.specs.Rule.{opening_of}
-use Rattle.scene_structures.specs.Chains.{Chain, IsList}
-use Rattle.scene_structures.specs.Puts.{in_no_cell}
-use Rattle.scene_structures.specs.Walks.{HasLooked, IsAsked, IsToldList, SeenNode, Walks, WalksOver, is_look, told_onto, told_at, told_by, told_of}
+use Rattle.std.proofs.Common.{◌≡◌, ℕ, ◌<◌, Bool, true, false, not, List, [], ◌∷◌, ◌++◌, map, ◌==◌}
+use Rattle.std.proofs.Common.{slice_index, Some, None, All, filter, Option, sym, refl, ap, ◌∙◌}
+use Rattle.std.proofs.Common.{subst, ⊎_elim, arith}
+use Rattle.scene_structures.proofs.Prelude
+use Prelude.{All-cons, All-head, All-nil, All-tail, bag, bag_of, block_kept, cell_of, cells_led}
+use Prelude.{Chain, cond-false, cond-true, cond_both, DeskNow, Entry, entry, Event, Free, handle}
+use Prelude.{HasLooked, in_no_cell, is_look, IsAsked, IsLegal, IsList, IsSole, KeepsEndings, Kind}
+use Prelude.{leads, Load, Lock, Member, NumberedHandle, Opening, opening_of, owner, Place}
+use Prelude.{place_at, Read, same_Some, SeenNode, sound, State, state_of, told_of, told_onto}
+use Prelude.{Walks, WalksOver}
+use Rattle.control_word.specs.State.{count}
+use Rattle.scene_structures.specs.Walks.{IsToldList, told_at, told_by}
 use Rattle.scene_structures.proofs.Frames.{AllLive, chain_live, frames}
 use Rattle.scene_structures.proofs.Grows.{apart_nowhere}
 use Rattle.scene_structures.proofs.Sole.{legal_is, state_is}
-use Rattle.scene_structures.proofs.Still.{IsTrueIn, all_puts, all_true, looking_keep, none_lost, none_used}
+use Rattle.scene_structures.proofs.Still.{IsTrueIn, all_puts, all_true, looking_keep, none_lost}
+use Rattle.scene_structures.proofs.Still.{none_used}
 use Rattle.scene_structures.proofs.Walks.{looked_both, looked_call, looked_then}
 
 turned : (b : Bool) → false ≡ not b → b ≡ true

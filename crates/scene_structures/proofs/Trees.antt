@@ -1,24 +1,18 @@
 -- Trees that nobody else owns, over the events by which handles leave and objects end.
-use Rattle.std.proofs.Common.{◌≡◌, ◌≢◌, ℕ, zero, suc, ◌<◌, Bool, true, [], ◌∷◌, map, Option}
-use Rattle.std.proofs.Common.{Some, None}
-use Rattle.std.proofs.Common.{refl, sym, ap, subst, ◌∙◌, ⊎_elim, inl, arith}
-use Rattle.std.proofs.lemmas.Bool.{cases_lt}
-use Rattle.control_word.proofs.history.Cells.{member_counted, one_of, swap_count, tally_upto}
-use Rattle.control_word.proofs.history.Clearing.{was_made}
-use Rattle.control_word.proofs.history.Moving.{count_same, counted_live, less_owners, less_weaks}
-use Rattle.control_word.proofs.history.Soundness.{Formed, Sound}
-use Rattle.control_word.proofs.lists.Tallies.{put_cases, put_other, tally_append, tally_has, tally_here}
-use Rattle.control_word.specs.Events.{clears, finishes, leaves, moved_to, weak_leaves}
-use Rattle.control_word.specs.Handles.{IsFormed, empty, handle, owner}
-use Rattle.control_word.specs.State.{Has, Held, Object, Opening, State, common, count, ending, gone, handles, held, in_cells, kind_of_member, live}
-use Rattle.control_word.specs.State.{members}
-use Rattle.control_word.specs.State.{put, same_held, tally, upto, without}
-use Rattle.control_word.specs.declared.model.event.Cell.TheVariants.{Member}
-use Rattle.control_word.specs.declared.model.handle.NumberedHandle.{NumberedHandle}
-use Rattle.control_word.specs.declared.model.handle.Kind.{Kind}
-use Rattle.control_word.specs.declared.model.handle.Kind.TheVariants.{Owner, Weak}
-use Rattle.control_word.specs.declared.place.Place.{Place}
-use Rattle.scene_structures.specs.Trees.{IsTree, Tree, bare, node}
+use Rattle.std.proofs.Common.{◌≡◌, ℕ, zero, suc, ◌<◌, Bool, true, ◌≢◌, [], ◌∷◌, map, Some, None}
+use Rattle.std.proofs.Common.{Option, sym, refl, ap, ◌∙◌, subst, inl, ⊎_elim, arith}
+use Rattle.scene_structures.proofs.Prelude
+use Prelude.{bare, cases_lt, clears, common, counted_live, empty, ending, finishes, gone, handle}
+use Prelude.{Has, Held, held, in_cells, IsTree, Kind, kind_of_member, leaves, live, Member}
+use Prelude.{members, moved_to, node, NumberedHandle, Object, one_of, Opening, Owner, owner, Place}
+use Prelude.{put, put_cases, put_other, same_held, Sound, State, tally, tally_append, tally_here}
+use Prelude.{Tree, upto, was_made, Weak, weak_leaves, without}
+use Rattle.control_word.proofs.history.Cells.{member_counted, swap_count, tally_upto}
+use Rattle.control_word.proofs.history.Moving.{count_same, less_owners, less_weaks}
+use Rattle.control_word.proofs.history.Soundness.{Formed}
+use Rattle.control_word.proofs.lists.Tallies.{tally_has}
+use Rattle.control_word.specs.Handles.{IsFormed}
+use Rattle.control_word.specs.State.{count, handles}
 
 -- what keeps the only owners of a tree keeps the tree
 pub tree_kept : (s t : State) (P : NumberedHandle → Type 0)

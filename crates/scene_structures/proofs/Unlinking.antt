@@ -1,41 +1,22 @@
 -- What an object that is unlinked on a sole desk holds then, and what a list keeps meanwhile.
-use Rattle.std.proofs.Common.{◌≡◌, ℕ, zero, suc, ◌<◌, ◌==◌, Bool, true, false, not, cond, List, [], ◌∷◌, ◌++◌, Option, None, Some}
-use Rattle.std.proofs.Common.{refl, sym, ap, subst, ◌∙◌, ◌⊎◌, inl, inr, arith}
-use Rattle.std.proofs.lemmas.Bool.{cond-true, cond-false}
-use Rattle.std.proofs.lemmas.List.Elements.{All-append, All-cons, All-nil}
-use Rattle.std.proofs.lemmas.Option.{same_Some}
-use Rattle.control_word.proofs.history.Cells.{InState}
-use Rattle.control_word.proofs.history.Clearing.{was_made}
-use Rattle.control_word.proofs.history.Legal.{sound}
-use Rattle.control_word.specs.Events.{cell_of}
-use Rattle.control_word.specs.Handles.{empty, owner}
-use Rattle.control_word.specs.Histories.{IsLegal, entry, leads}
-use Rattle.control_word.specs.State.{Has, State, count}
-use Rattle.control_word.specs.declared.model.event.Cell.{Cell}
-use Rattle.control_word.specs.declared.model.event.Cell.TheVariants.{Free, Member}
-use Rattle.control_word.specs.declared.model.event.Event.TheVariants.{Swap}
-use Rattle.control_word.specs.declared.model.handle.NumberedHandle.{NumberedHandle}
-use Rattle.control_word.specs.declared.model.handle.Kind.TheVariants.{Owner, Weak}
-use Rattle.control_word.specs.declared.place.Place.{Place}
-use Rattle.control_block.specs.Desks.{DeskNow, state_of}
-use Rattle.control_block.specs.Own.{Does, IsSole}
-use Rattle.control_block.specs.Rule.{opening_of}
-use Rattle.shared_handle.proofs.Goings.{does_both}
-use Rattle.scene_structures.specs.Chains.{IsList}
-use Rattle.scene_structures.specs.Detaches.{Unlinks}
-use Rattle.scene_structures.specs.Leaves.{IsLiveCell, KeepsBut}
-use Rattle.scene_structures.specs.Parents.{owner_of}
-use Rattle.scene_structures.specs.Prunes.{is_owned}
-use Rattle.scene_structures.specs.Puts.{PutsOnly, in_no_cell}
-use Rattle.scene_structures.specs.Stacks.{Fills, NextOf}
+use Rattle.std.proofs.Common.{◌≡◌, ℕ, zero, suc, ◌<◌, Bool, true, false, cond, not, ◌⊎◌, List, []}
+use Rattle.std.proofs.Common.{◌∷◌, ◌++◌, ◌==◌, Some, None, Option, sym, refl, ap, ◌∙◌, subst, inl}
+use Rattle.std.proofs.Common.{inr, arith}
+use Rattle.scene_structures.proofs.Prelude
+use Prelude.{All-append, All-cons, All-nil, Cell, cell_of, cond-false, cond-true, DeskNow, Does}
+use Prelude.{does_both, empty, entry, Fills, Free, Has, in_no_cell, InState, is_owned, IsLegal}
+use Prelude.{IsList, IsSole, KeepsBut, leads, Member, NextOf, NumberedHandle, opening_of, Owner}
+use Prelude.{owner, owner_of, Place, PutsOnly, same_Some, sound, State, state_of, Swap, Unlinks}
+use Prelude.{was_made, Weak}
+use Rattle.control_word.specs.State.{count}
+use Rattle.scene_structures.specs.Leaves.{IsLiveCell}
 use Rattle.scene_structures.proofs.Alone.{all_wider, hangs_puts, held_on, hung_up, list_on}
 use Rattle.scene_structures.proofs.Attached.{apart_up}
 use Rattle.scene_structures.proofs.Grows.{in_front}
 use Rattle.scene_structures.proofs.Heads.{IsHead, Lives, cell_held, cell_put, in_later}
 use Rattle.scene_structures.proofs.Rows.{partings_put}
 use Rattle.scene_structures.proofs.Sole.{keep_all, legal_is, state_is}
-use Rattle.scene_structures.proofs.Sought.{Stood, apart_next, list_stays, lived}
-use Rattle.scene_structures.proofs.Sought.{stood_on}
+use Rattle.scene_structures.proofs.Sought.{Stood, apart_next, list_stays, lived, stood_on}
 
 -- what owner a lock gives
 pub owner_none : (s : State) (h : NumberedHandle) → is_owned s h ≡ false → (owner_of s h).object ≡ None

@@ -1,26 +1,12 @@
 -- What the steps of a detach say, put together.
-use Rattle.std.proofs.Common.{◌≡◌, ℕ, ◌+◌, ◌≤◌, Bool, [], ◌∷◌, length, MatchOption, Option, None, Some, refl}
-use Rattle.std.proofs.Common.{sym, ap, subst, ◌∙◌, arith}
-use Rattle.control_word.specs.Handles.{empty, handle, object_of}
-use Rattle.control_word.specs.declared.model.handle.NumberedHandle.{NumberedHandle}
-use Rattle.control_word.specs.State.{Has}
-use Rattle.control_word.specs.declared.model.handle.Kind.TheVariants.{Owner, Weak}
-use Rattle.control_word.specs.declared.place.Block.{Block}
-use Rattle.control_word.specs.declared.place.Place.{Place}
-use Rattle.control_block.specs.CellCalls.{handle_in, with_handle, without_handle}
-use Rattle.control_block.specs.Desks.{DeskNow, bag_of}
-use Rattle.control_block.specs.Own.{Does, IsSole}
-use Rattle.control_block.specs.declared.handles.Shared.{Shared}
-use Rattle.shared_handle.proofs.Goings.{does_both}
-use Rattle.shared_handle.specs.Calls.{SharesOwner, counting, weak_place}
-use Rattle.shared_handle.specs.Piles.{IsParting}
-use Rattle.scene_structures.specs.Detaches.{Detaches, LeavesParent}
-use Rattle.scene_structures.specs.Detaches.{Unlinks, UnlinksIf}
-use Rattle.scene_structures.specs.Hands.{HasHands, KeepsHeld, Lists, node_in}
-use Rattle.scene_structures.specs.Parents.{IsParent, LocksUp}
-use Rattle.scene_structures.specs.Puts.{PutsOnly, in_no_cell}
-use Rattle.scene_structures.specs.Stacks.{Fills}
-use Rattle.scene_structures.specs.Watches.{Watches, weak_of_owner}
+use Rattle.std.proofs.Common.{◌≡◌, ℕ, ◌+◌, ◌≤◌, Bool, [], ◌∷◌, length, Some, None, Option}
+use Rattle.std.proofs.Common.{MatchOption, sym, refl, ap, ◌∙◌, subst, arith}
+use Rattle.scene_structures.proofs.Prelude
+use Prelude.{bag_of, Block, counting, DeskNow, Detaches, Does, does_both, empty, Fills, handle}
+use Prelude.{handle_in, Has, HasHands, in_no_cell, IsParent, IsParting, IsSole, KeepsHeld}
+use Prelude.{LeavesParent, Lists, LocksUp, node_in, NumberedHandle, object_of, Owner, Place}
+use Prelude.{PutsOnly, Shared, SharesOwner, Unlinks, UnlinksIf, Watches, Weak, weak_of_owner}
+use Prelude.{weak_place, with_handle, without_handle}
 use Rattle.scene_structures.proofs.Hands.{hands_got, hands_second}
 use Rattle.scene_structures.proofs.Latest.{has_all, latest_none}
 use Rattle.scene_structures.proofs.Pushes.{same_left, same_node, shares_does}

@@ -1,17 +1,12 @@
 -- An object that ends in a desk's hands is finished, or loses what one of its members held.
-use Rattle.std.proofs.Common.{◌≡◌, ◌≢◌, ◌⊎◌, ℕ, ◌≤◌, Bool, true, false, refl, sym, ap, ◌∙◌, inl, inr, arith}
-use Rattle.std.proofs.lemmas.Bool.{eqb-true}
-use Rattle.control_word.proofs.history.Moving.{counted_live}
-use Rattle.control_word.proofs.history.Soundness.{Sound}
-use Rattle.control_word.proofs.lists.Tallies.{handle_self, put_again, put_cases, put_same, same_handle_true}
-use Rattle.control_word.specs.Events.{Asks, after, moved_to}
-use Rattle.control_word.specs.Handles.{empty, object_of, same_handle}
-use Rattle.control_word.specs.State.{Object, Opening, State, count, ending, gone, kind_of_member, live, put}
-use Rattle.control_word.specs.declared.model.event.Event.{Event}
-use Rattle.control_word.specs.declared.model.event.Event.TheVariants.{ClearMember, Finish, Leave, Load, Lock, Read, Share, WeakLeave}
-use Rattle.control_word.specs.declared.model.handle.NumberedHandle.{NumberedHandle}
-use Rattle.scene_structures.specs.Puts.{PutsOnly, in_no_cell}
-use Rattle.scene_structures.specs.Walks.{IsLooking}
+use Rattle.std.proofs.Common.{◌≡◌, ℕ, ◌≤◌, Bool, true, false, ◌≢◌, ◌⊎◌, sym, refl, ap, ◌∙◌, inl}
+use Rattle.std.proofs.Common.{inr, arith, eqb-true}
+use Rattle.scene_structures.proofs.Prelude
+use Prelude.{after, Asks, ClearMember, counted_live, empty, ending, Event, Finish, gone}
+use Prelude.{handle_self, in_no_cell, IsLooking, kind_of_member, Leave, live, Load, Lock, moved_to}
+use Prelude.{NumberedHandle, Object, object_of, Opening, put, put_again, put_cases, put_same}
+use Prelude.{PutsOnly, Read, same_handle, same_handle_true, Share, Sound, State, WeakLeave}
+use Rattle.control_word.specs.State.{count}
 use Rattle.scene_structures.proofs.Heads.{live_before}
 
 pub record Used (s t : State) (d : ℕ) : Type 0 where

@@ -1,37 +1,22 @@
 -- Looks of a desk, one call after the other.
-use Rattle.std.proofs.Common.{◌≡◌, ℕ, Bool, true, false, cond, filter, List, [], ◌∷◌, ◌++◌, Option, None, Some, Ok, refl, sym, ap, subst}
-use Rattle.std.proofs.Common.{◌∙◌, inl}
-use Rattle.std.specs.Prelude.{All, is_some}
-use Rattle.std.proofs.lemmas.Option.{same_Some}
-use Rattle.std.proofs.lemmas.List.Elements.{All-append, All-cons, All-head, All-nil, All-tail, All-weaker, filter-append}
-use Rattle.control_word.specs.Events.{place_at}
-use Rattle.control_word.specs.Handles.{handle, has_object, object_of, owner}
-use Rattle.control_word.specs.State.{Has}
-use Rattle.control_word.specs.declared.model.event.Cell.{Cell}
-use Rattle.control_word.specs.declared.model.event.Cell.TheVariants.{Member}
-use Rattle.control_word.specs.declared.model.event.Event.{Event}
-use Rattle.control_word.specs.declared.model.event.Event.TheVariants.{ClearMember, Finish, Leave, Load, Lock, Read, Share, WeakLeave}
-use Rattle.control_word.specs.declared.model.handle.NumberedHandle.{NumberedHandle}
-use Rattle.control_word.specs.declared.model.handle.Kind.TheVariants.{Owner, Weak}
-use Rattle.control_word.specs.declared.place.Block.{Block}
-use Rattle.control_word.specs.declared.place.Place.{Place}
-use Rattle.control_block.proofs.Latest.{calls_keep_latest}
-use Rattle.control_block.proofs.Own.{goes_by_call, goes_by_none, goes_in_turn}
-use Rattle.control_block.specs.CellCalls.{handle_in, with_handle, without_handle}
-use Rattle.control_block.specs.Desks.{AddsEvent, DeskNow, bag_of, latest_of}
-use Rattle.control_block.specs.Own.{Does, KeepsLatest}
-use Rattle.control_block.specs.declared.handles.Shared.{Shared}
-use Rattle.shared_handle.proofs.Callers.{first_out}
-use Rattle.shared_handle.proofs.Goings.{weak_does}
-use Rattle.shared_handle.specs.Calls.{LeavesWeakly, counting}
-use Rattle.shared_handle.specs.Locks.{IsOwnerOf, LocksHandle}
-use Rattle.shared_handle.specs.Piles.{FoldsBack, IsParting}
-use Rattle.atomic_cells.specs.Sites.{IsMember, SharedAt, WeakAt, shared_cell, weak_cell}
+use Rattle.std.proofs.Common.{◌≡◌, ℕ, Bool, true, false, cond, List, [], ◌∷◌, ◌++◌, is_some, Some}
+use Rattle.std.proofs.Common.{None, Ok, All, filter, Option, sym, refl, ap, ◌∙◌, subst, inl}
+use Rattle.scene_structures.proofs.Prelude
+use Prelude.{AddsEvent, All-append, All-cons, All-head, All-nil, All-tail, All-weaker, bag_of}
+use Prelude.{Block, calls_keep_latest, Cell, ClearMember, counting, DeskNow, Does, Event, Finish}
+use Prelude.{first_out, FoldsBack, goes_by_call, goes_in_turn, handle, handle_in, Has, HasLooked}
+use Prelude.{is_look, IsAsked, IsLooking, IsMember, IsOwnerOf, IsParting, KeepsHeld, KeepsLatest}
+use Prelude.{latest_of, Leave, LeavesWeakly, Load, Lock, LocksHandle, Member, node_in}
+use Prelude.{NumberedHandle, object_of, Owner, owner, Place, place_at, Read, same_Some, SeenNode}
+use Prelude.{Share, Shared, shared_cell, SharedAt, TellsField, told_onto, Walks, Weak, weak_cell}
+use Prelude.{weak_does, WeakAt, WeakLeave, with_handle, without_handle}
+use Rattle.std.proofs.lemmas.List.Elements.{filter-append}
+use Rattle.control_word.specs.Handles.{has_object}
+use Rattle.control_block.proofs.Own.{goes_by_none}
 use Rattle.atomic_cells.specs.declared.sites.SharedMember.TheVariants.{Next}
 use Rattle.atomic_cells.specs.declared.sites.SharedSite.TheVariants as shared
 use Rattle.atomic_cells.specs.declared.sites.WeakSite.TheVariants as weak
-use Rattle.scene_structures.specs.Hands.{KeepsHeld, node_in}
-use Rattle.scene_structures.specs.Walks.{HasLooked, IsAsked, IsLooking, SeenNode, TellsField, VisitsNode, Walks, is_look, told_onto}
+use Rattle.scene_structures.specs.Walks.{VisitsNode}
 use Rattle.scene_structures.proofs.Looks.{owner_within}
 use Rattle.scene_structures.proofs.Latest.{has_over, latest_none, weak_latest}
 

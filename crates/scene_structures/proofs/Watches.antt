@@ -1,33 +1,15 @@
 -- A weak handle that goes into a node's `up`.
-use Rattle.std.proofs.Common.{◌≡◌, ◌+◌, List, [], ◌∷◌, Bool, false, Option, None, Some, Ok, refl, sym, ap, subst, ◌∙◌}
-use Rattle.std.proofs.lemmas.List.Elements.{All-nil}
-use Rattle.control_word.specs.Events.{place_at}
-use Rattle.control_word.specs.Handles.{handle, object_of, owner}
-use Rattle.control_word.specs.State.{Has}
-use Rattle.control_word.specs.declared.model.event.Cell.{Cell}
-use Rattle.control_word.specs.declared.model.event.Cell.TheVariants.{Member}
-use Rattle.control_word.specs.declared.model.event.Event.TheVariants.{Load, Swap}
-use Rattle.control_word.specs.declared.model.handle.NumberedHandle.{NumberedHandle}
-use Rattle.control_word.specs.declared.model.handle.Kind.TheVariants.{Owner, Weak}
-use Rattle.control_word.specs.declared.place.Block.{Block}
-use Rattle.control_word.specs.declared.place.Place.{Place}
-use Rattle.control_block.proofs.Latest.{calls_keep_latest}
-use Rattle.control_block.proofs.Own.{goes_by_call, goes_in_turn}
-use Rattle.control_block.specs.CellCalls.{handle_in, with_handle, without_handle}
-use Rattle.control_block.specs.Desks.{AddsEvent, DeskNow, KeepsEndings, bag_of, latest_of}
-use Rattle.control_block.specs.Own.{Does, KeepsLatest}
-use Rattle.control_block.specs.declared.handles.Shared.{Shared}
-use Rattle.shared_handle.proofs.Callers.{first_out}
-use Rattle.shared_handle.proofs.Goings.{does_one, weak_does}
-use Rattle.shared_handle.specs.Calls.{LeavesWeakly, Makes, SharesWeakly, counting, weak_place}
-use Rattle.control_block.specs.CellCalls.{HoldsHandle}
-use Rattle.atomic_cells.specs.Sites.{IsMember, WeakAt, weak_cell}
+use Rattle.std.proofs.Common.{◌≡◌, ◌+◌, Bool, false, List, [], ◌∷◌, Some, None, Ok, Option, sym}
+use Rattle.std.proofs.Common.{refl, ap, ◌∙◌, subst}
+use Rattle.scene_structures.proofs.Prelude
+use Prelude.{AddsEvent, All-nil, Attaches, bag_of, Block, calls_keep_latest, Cell, counting}
+use Prelude.{DeskNow, Does, does_one, first_out, goes_by_call, goes_in_turn, handle, handle_in}
+use Prelude.{Has, HoldsHandle, in_no_cell, IsMember, KeepsEndings, KeepsHeld, KeepsLatest}
+use Prelude.{latest_of, LeavesWeakly, Lists, Load, Makes, Member, NextOf, node_in, NumberedHandle}
+use Prelude.{object_of, Owner, owner, Place, place_at, PutsOnly, Rises, Shared, SharesWeakly, Swap}
+use Prelude.{Watches, Weak, weak_cell, weak_does, weak_of_owner, weak_place, WeakAt, with_handle}
+use Prelude.{without_handle}
 use Rattle.atomic_cells.specs.declared.sites.WeakSite.TheVariants as site
-use Rattle.scene_structures.specs.Hands.{KeepsHeld, Lists, node_in}
-use Rattle.scene_structures.specs.Observers.{Attaches}
-use Rattle.scene_structures.specs.Puts.{PutsOnly, in_no_cell}
-use Rattle.scene_structures.specs.Stacks.{NextOf, Rises}
-use Rattle.scene_structures.specs.Watches.{Watches, weak_of_owner}
 use Rattle.scene_structures.proofs.Calls.{got_lists}
 use Rattle.scene_structures.proofs.Latest.{has_over, latest_none, weak_latest}
 use Rattle.scene_structures.proofs.Pushes.{rises_later, same_left, same_node}

@@ -1,30 +1,23 @@
 -- What ends in rounds of a pile, where nobody else owns it: whole trees, in their order.
-use Rattle.std.proofs.Common.{◌≡◌, ℕ, Bool, true, false, cond, List, [], ◌∷◌, ◌++◌, map, Option, Some, None}
-use Rattle.std.proofs.Common.{refl, sym, ap, subst, ◌∙◌, append_assoc}
-use Rattle.std.proofs.lemmas.List.{append-nil, append_cancel_left, map-append}
-use Rattle.control_word.specs.Histories.{IsLegal}
-use Rattle.control_word.specs.declared.model.handle.Kind.TheVariants.{Owner, Weak}
-use Rattle.control_block.specs.CellCalls.{handle_in}
-use Rattle.control_block.specs.Desks.{DeskNow, latest_of, state_of}
-use Rattle.control_block.specs.Own.{IsSole}
-use Rattle.control_block.specs.Rule.{opening_of}
-use Rattle.control_block.specs.declared.handles.Shared.{Shared}
-use Rattle.shared_handle.specs.Endings.{IsClearing, IsGone, with_clear}
-use Rattle.shared_handle.specs.Piles.{AreRounds, ClearsTop, FinishesTop, IsFinish, IsRound, Past, gone_of, next_member, piled}
-use Rattle.shared_handle.specs.declared.endings.Ending.{Ending}
-use Rattle.shared_handle.specs.declared.endings.Left.{Left}
+use Rattle.std.proofs.Common.{◌≡◌, ℕ, Bool, true, false, cond, List, [], ◌∷◌, ◌++◌, map, Some}
+use Rattle.std.proofs.Common.{None, Option, sym, refl, ap, ◌∙◌, subst, append_assoc, append-nil}
+use Rattle.scene_structures.proofs.Prelude
+use Prelude.{AreRounds, bare, Cleared, ClearsTop, DeskNow, Ended, Ending, FinishesTop, First, Gone}
+use Prelude.{gone_of, handle_in, IsClearing, IsFinish, IsGone, IsLegal, IsRound, IsSole, IsTree}
+use Prelude.{latest_of, Left, map-append, Next, next_member, objects_in_order, opening_of, Owner}
+use Prelude.{Past, piled, Round, Settled, Shared, state_of, TearsDown, Tree, Up, values_ended}
+use Prelude.{values_ended_by, values_ended_in, Weak, with_clear}
+use Rattle.std.proofs.lemmas.List.{append_cancel_left}
 use Rattle.shared_handle.specs.declared.endings.Left.TheVariants as left
 use Rattle.shared_handle.specs.declared.endings.Member.{Member}
-use Rattle.shared_handle.specs.declared.endings.Member.TheVariants.{First, Next, Up}
-use Rattle.shared_handle.specs.declared.pile.Gone.{Gone}
-use Rattle.shared_handle.specs.declared.pile.Round.{Round}
-use Rattle.shared_handle.specs.declared.pile.Round.TheVariants.{Cleared, Ended, Settled}
-use Rattle.scene_structures.specs.Teardowns.{IsAbove, TearsDown, values_ended, values_ended_by, values_ended_in}
-use Rattle.scene_structures.specs.Trees.{IsTornDown, IsTree, Tree, bare, objects_in_order}
+use Rattle.scene_structures.specs.Teardowns.{IsAbove}
+use Rattle.scene_structures.specs.Trees.{IsTornDown}
 use Rattle.scene_structures.proofs.Slots.{last_same, no_last}
-use Rattle.scene_structures.proofs.Standing.{IsAlone, clearing_loses, finish_loses, left_loses, takes_loses}
+use Rattle.scene_structures.proofs.Standing.{IsAlone, clearing_loses, finish_loses, left_loses}
+use Rattle.scene_structures.proofs.Standing.{takes_loses}
 use Rattle.scene_structures.proofs.Pending.{Frame, endings, left_of, Pend, value_of, Lets, lets}
-use Rattle.scene_structures.proofs.Emptying.{emptied, without_first, without_next, without_up, first_pends, next_pends, up_pends, weakly, finished}
+use Rattle.scene_structures.proofs.Emptying.{emptied, without_first, without_next, without_up}
+use Rattle.scene_structures.proofs.Emptying.{first_pends, next_pends, up_pends, weakly, finished}
 
 module _ {V : Type 0} where
   -- rounds so far: what came out, and what will, is what it was

@@ -1,17 +1,11 @@
-use Rattle.std.proofs.Common.{ℕ, refl, ap, subst, ◌∙◌}
-use Rattle.control_word.specs.Handles.{object_of}
-use Rattle.control_word.specs.declared.model.event.Cell.{Cell}
-use Rattle.shared_handle.proofs.Goings.{does_both, does_none}
-use Rattle.shared_handle.proofs.Piles.{same_both, same_desk}
-use Rattle.atomic_cells.specs.Sites.{shared_cell}
-use Rattle.scene_structures.specs.Detaches.{IsSought}
-use Rattle.scene_structures.specs.Hands.{node_in}
-use Rattle.scene_structures.specs.Puts.{PutsOnly, in_no_cell}
+use Rattle.std.proofs.Common.{ℕ, refl, ap, ◌∙◌, subst, arith}
+use Rattle.scene_structures.proofs.Prelude.{Cell, does_both, does_none, in_no_cell, IsSought}
+use Rattle.scene_structures.proofs.Prelude.{node_in, object_of, PutsOnly, same_both, same_desk}
+use Rattle.scene_structures.proofs.Prelude.{shared_cell}
 use Rattle.scene_structures.proofs.Adopting.{these_node}
 use Rattle.scene_structures.proofs.Detached.{sought_later}
 use Rattle.scene_structures.proofs.Sites.{cell_these, open_same, these_both}
 use Rattle.scene_structures.proofs.Others.{others_both, others_none}
-use Rattle.std.proofs.Common.{arith}
 use Rattle.scene_structures.proofs.Kept.{same_then, held_from}
 use Rattle.scene_structures.proofs.Orders.{order_both, order_none}
 use Rattle.scene_structures.proofs.lists.cutting.cut.Goals as goal

@@ -1,12 +1,7 @@
-use Rattle.std.proofs.Common.{◌≡◌, [], List}
-use Rattle.control_word.specs.declared.model.handle.NumberedHandle.{NumberedHandle}
-use Rattle.control_block.specs.Desks.{IsSameDesk}
-use Rattle.control_block.specs.Own.{Does}
-use Rattle.shared_handle.specs.Piles.{Carries}
-use Rattle.scene_structures.specs.Others.{KeepsOthers}
-use Rattle.scene_structures.specs.Orders.{EndsInOrder}
-use Rattle.scene_structures.specs.Hands.{HasHands, KeepsThese}
-use Rattle.scene_structures.specs.Puts.{PutsOnly, in_no_cell}
+use Rattle.std.proofs.Common.{◌≡◌, List, []}
+use Rattle.scene_structures.proofs.Prelude.{Carries, Does, EndsInOrder, HasHands, in_no_cell}
+use Rattle.scene_structures.proofs.Prelude.{IsSameDesk, KeepsOthers, KeepsThese, NumberedHandle}
+use Rattle.scene_structures.proofs.Prelude.{PutsOnly}
 use Rattle.scene_structures.proofs.lists.cutting.cut.Given as goal
 
 abbrev pub invariant-loop : goal.invariant-loop

@@ -1,13 +1,10 @@
 use Rattle.std.proofs.Common.{◌≡◌, ℕ, ◌+◌, true, false, List, [], ◌∷◌, refl, ap, subst, arith}
-use Rattle.control_word.specs.Handles.{object_of}
-use Rattle.control_word.specs.declared.model.handle.NumberedHandle.{NumberedHandle}
-use Rattle.shared_handle.proofs.Piles.{same_both, same_desk}
-use Rattle.atomic_cells.specs.Sites.{shared_cell}
-use Rattle.scene_structures.specs.Detaches.{HeldSought, IsEnd, IsSought, Meets}
-use Rattle.scene_structures.specs.Hands.{HasHands, node_in, stacked}
-use Rattle.scene_structures.specs.declared.lists.cutting.Sought.{Sought}
+use Rattle.scene_structures.proofs.Prelude.{HasHands, HeldSought, IsEnd, IsSought, Meets, node_in}
+use Rattle.scene_structures.proofs.Prelude.{NumberedHandle, object_of, same_both, same_desk}
+use Rattle.scene_structures.proofs.Prelude.{shared_cell, Sought, stacked}
 use Rattle.scene_structures.proofs.Adopting.{these_node}
-use Rattle.scene_structures.proofs.Detached.{below_left, below_these, beyond, reaches_on, seeks_on, sought_left}
+use Rattle.scene_structures.proofs.Detached.{below_left, below_these, beyond, reaches_on, seeks_on}
+use Rattle.scene_structures.proofs.Detached.{sought_left}
 use Rattle.scene_structures.proofs.Hands.{first_lists, hands_second, lists_under}
 use Rattle.scene_structures.proofs.Pruned.{Left, hands_below, left_holds, open_next}
 use Rattle.scene_structures.proofs.Pushes.{same_left}

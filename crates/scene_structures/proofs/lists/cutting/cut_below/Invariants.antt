@@ -1,14 +1,7 @@
-use Rattle.std.proofs.Common.{◌≡◌, ℕ, [], ◌∷◌, List}
-use Rattle.control_word.specs.Handles.{object_of}
-use Rattle.control_word.specs.declared.model.event.Cell.{Cell}
-use Rattle.control_word.specs.declared.model.handle.NumberedHandle.{NumberedHandle}
-use Rattle.control_block.specs.Desks.{DeskNow, IsSameDesk}
-use Rattle.shared_handle.specs.Endings.{IsWithin}
-use Rattle.shared_handle.specs.Piles.{Carries}
-use Rattle.scene_structures.specs.Others.{KeepsOthers}
-use Rattle.scene_structures.specs.Orders.{EndsInOrder}
-use Rattle.scene_structures.specs.Detaches.{ReachesNode}
-use Rattle.scene_structures.specs.Hands.{HasHands, KeepsThese, node_in}
+use Rattle.std.proofs.Common.{◌≡◌, ℕ, List, [], ◌∷◌}
+use Rattle.scene_structures.proofs.Prelude.{Carries, Cell, DeskNow, EndsInOrder, HasHands}
+use Rattle.scene_structures.proofs.Prelude.{IsSameDesk, IsWithin, KeepsOthers, KeepsThese, node_in}
+use Rattle.scene_structures.proofs.Prelude.{NumberedHandle, object_of, ReachesNode}
 use Rattle.scene_structures.proofs.lists.cutting.cut_below.Given as goal
 
 abbrev pub invariant-loop : goal.invariant-loop

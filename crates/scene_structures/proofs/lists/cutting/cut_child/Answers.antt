@@ -1,17 +1,11 @@
-use Rattle.std.proofs.Common.{ℕ, List, [], ap, sym, subst}
-use Rattle.control_word.specs.Handles.{object_of}
-use Rattle.control_word.specs.declared.model.event.Cell.{Cell}
-use Rattle.control_word.specs.declared.model.event.Cell.TheVariants.{Member}
-use Rattle.scene_structures.specs.Detaches.{Meets, Seeks}
-use Rattle.scene_structures.specs.Hands.{node_in}
+use Rattle.std.proofs.Common.{ℕ, List, [], sym, ap, subst, arith}
+use Rattle.scene_structures.proofs.Prelude.{Cell, CutsOut, FindsNone, Meets, Member, node_in}
+use Rattle.scene_structures.proofs.Prelude.{object_of, Seeks}
 use Rattle.scene_structures.proofs.Adopting.{these_node}
 use Rattle.scene_structures.proofs.Detached.{first_cell}
 use Rattle.scene_structures.proofs.Others.{others_both}
-use Rattle.std.proofs.Common.{arith}
 use Rattle.scene_structures.proofs.Kept.{same_then, open_listed}
 use Rattle.scene_structures.proofs.Sites.{these_both}
-use Rattle.scene_structures.specs.Stacks.{FindsNone}
-use Rattle.scene_structures.specs.Detaches.{CutsOut}
 use Rattle.scene_structures.proofs.Orders.{order_both}
 use Rattle.scene_structures.proofs.lists.cutting.cut_child.Goals as goal
 

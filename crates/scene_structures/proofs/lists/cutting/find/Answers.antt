@@ -1,14 +1,11 @@
-use Rattle.std.proofs.Common.{[]}
-use Rattle.control_block.proofs.Latest.{calls_keep_latest}
-use Rattle.atomic_cells.specs.Sites.{shared_cell}
+use Rattle.std.proofs.Common.{[], refl, arith}
+use Rattle.scene_structures.proofs.Prelude.{calls_keep_latest, shared_cell}
 use Rattle.scene_structures.proofs.Calls.{got_lists}
 use Rattle.scene_structures.proofs.Hands.{hands_first, hands_got}
 use Rattle.scene_structures.proofs.Looks.{finds_none, looks_first, no_member}
-use Rattle.scene_structures.proofs.Sites.{these_after, these_both, these_over}
+use Rattle.scene_structures.proofs.Sites.{these_after, these_both, these_over, open_now}
 use Rattle.scene_structures.proofs.Others.{others_both, others_call}
-use Rattle.std.proofs.Common.{refl, arith}
 use Rattle.scene_structures.proofs.Kept.{same_call, same_then, carries_call, granted}
-use Rattle.scene_structures.proofs.Sites.{open_now}
 use Rattle.scene_structures.proofs.Orders.{order_both, order_event}
 use Rattle.scene_structures.proofs.lists.cutting.find.Goals as goal
 

@@ -1,27 +1,18 @@
-use Rattle.std.proofs.Common.{◌≡◌, [], ◌∷◌, true, subst}
-use Rattle.control_word.specs.declared.model.event.Cell.{Cell}
-use Rattle.control_word.specs.declared.model.event.Event.TheVariants.{Compare}
-use Rattle.control_word.specs.declared.model.handle.Kind.TheVariants.{Owner}
-use Rattle.control_block.proofs.Latest.{calls_keep_latest}
-use Rattle.control_block.specs.CellCalls.{without_handle}
-use Rattle.control_block.specs.Desks.{AddsEvent, bag_of}
-use Rattle.control_block.specs.declared.handles.Shared.{Shared}
-use Rattle.shared_handle.proofs.Goings.{does_both}
-use Rattle.shared_handle.specs.Piles.{IsParting}
-use Rattle.atomic_cells.specs.Sites.{shared_cell}
-use Rattle.scene_structures.specs.Hands.{node_in}
+use Rattle.std.proofs.Common.{◌≡◌, true, [], ◌∷◌, sym, refl, subst, arith}
+use Rattle.scene_structures.proofs.Prelude.{AddsEvent, bag_of, calls_keep_latest, Cell, Compare}
+use Rattle.scene_structures.proofs.Prelude.{does_both, HoldsHandle, IsParting, node_in, Owner}
+use Rattle.scene_structures.proofs.Prelude.{Shared, shared_cell, stacked, without_handle}
 use Rattle.scene_structures.proofs.Detached.{missed, skips}
-use Rattle.scene_structures.proofs.Hands.{first_lists, hands_first, hands_given, hands_got, hands_second, holds_first}
-use Rattle.scene_structures.proofs.Pushes.{differs_back, differs_bag, differs_event, differs_held, same_node, swapped_bag, swapped_event, swapped_held}
-use Rattle.scene_structures.proofs.Sites.{cell_these, open_now, these_after, these_both, these_over}
+use Rattle.scene_structures.proofs.Hands.{first_lists, hands_first, hands_given, hands_got}
+use Rattle.scene_structures.proofs.Hands.{hands_second, holds_first, holds_second}
+use Rattle.scene_structures.proofs.Pushes.{differs_back, differs_bag, differs_event, differs_held}
+use Rattle.scene_structures.proofs.Pushes.{same_node, swapped_bag, swapped_event, swapped_held}
+use Rattle.scene_structures.proofs.Sites.{cell_these, open_now, these_after, these_both}
+use Rattle.scene_structures.proofs.Sites.{these_over}
 use Rattle.scene_structures.proofs.Others.{others_both, others_call}
-use Rattle.std.proofs.Common.{refl, sym, arith}
 use Rattle.scene_structures.proofs.Kept.{same_call, same_then, carries_call, granted, unrefused}
-use Rattle.scene_structures.proofs.Hands.{holds_second}
 use Rattle.scene_structures.proofs.Pruned.{hands_below, open_next}
 use Rattle.scene_structures.proofs.Looks.{no_member}
-use Rattle.scene_structures.specs.Hands.{stacked}
-use Rattle.control_block.specs.CellCalls.{HoldsHandle}
 use Rattle.scene_structures.proofs.Orders.{order_both, order_event}
 use Rattle.scene_structures.proofs.lists.cutting.skip.Goals as goal
 

@@ -1,19 +1,14 @@
-use Rattle.std.proofs.Common.{Bool, true, true≢false, [], sym, subst, ◌∙◌}
-use Rattle.control_word.specs.declared.model.event.Cell.{Cell}
-use Rattle.shared_handle.proofs.Goings.{does_both, does_one}
-use Rattle.atomic_cells.specs.Sites.{shared_cell}
+use Rattle.std.proofs.Common.{Bool, true, [], sym, ◌∙◌, subst, true≢false, arith}
+use Rattle.scene_structures.proofs.Prelude.{Cell, does_both, does_one, in_no_cell, Lists, node_in}
+use Rattle.scene_structures.proofs.Prelude.{PutsOnly, shared_cell}
 use Rattle.scene_structures.specs.Detaches.{MaySkip}
-use Rattle.scene_structures.specs.Hands.{Lists, node_in}
-use Rattle.scene_structures.specs.Puts.{PutsOnly, in_no_cell}
 use Rattle.scene_structures.proofs.Adopting.{these_node}
 use Rattle.scene_structures.proofs.Detached.{cuts_node, meets_other}
 use Rattle.scene_structures.proofs.Hands.{first_lists, lists_under}
 use Rattle.scene_structures.proofs.Looks.{legal_after}
-use Rattle.scene_structures.proofs.Sites.{cell_these}
+use Rattle.scene_structures.proofs.Sites.{cell_these, open_same, these_both}
 use Rattle.scene_structures.proofs.Others.{others_both}
-use Rattle.std.proofs.Common.{arith}
 use Rattle.scene_structures.proofs.Kept.{same_then}
-use Rattle.scene_structures.proofs.Sites.{open_same, these_both}
 use Rattle.scene_structures.proofs.Orders.{order_both}
 use Rattle.scene_structures.proofs.lists.cutting.try_cut.Goals as goal
 

@@ -1,9 +1,6 @@
-use Rattle.std.proofs.Common.{refl, ◌∙◌}
-use Rattle.shared_handle.proofs.Piles.{same_both, same_desk}
+use Rattle.std.proofs.Common.{◌<◌, sym, refl, ◌∙◌, subst, arith}
+use Rattle.scene_structures.proofs.Prelude.{same_both, same_desk, Shape}
 use Rattle.scene_structures.proofs.Others.{others_both, others_none}
-use Rattle.std.proofs.Common.{◌<◌}
-use Rattle.control_word.specs.declared.shape.Shape.{Shape}
-use Rattle.std.proofs.Common.{sym, subst, arith}
 use Rattle.scene_structures.proofs.Kept.{same_then}
 use Rattle.scene_structures.proofs.Orders.{order_both, order_none}
 use Rattle.scene_structures.proofs.lists.popping.take.Goals as goal

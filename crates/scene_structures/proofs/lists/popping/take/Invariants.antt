@@ -1,12 +1,6 @@
-use Rattle.std.proofs.Common.{◌≡◌, [], ◌∷◌, List}
-use Rattle.control_word.specs.declared.model.event.Cell.TheVariants.{Free}
-use Rattle.control_word.specs.declared.model.handle.NumberedHandle.{NumberedHandle}
-use Rattle.control_block.specs.Desks.{DeskNow, IsSameDesk}
-use Rattle.scene_structures.specs.Hands.{HasHands}
-use Rattle.shared_handle.specs.Piles.{Carries}
-use Rattle.scene_structures.specs.Others.{KeepsOthers}
-use Rattle.scene_structures.specs.Orders.{EndsInOrder}
-use Rattle.scene_structures.specs.Stacks.{Looks}
+use Rattle.std.proofs.Common.{◌≡◌, List, [], ◌∷◌}
+use Rattle.scene_structures.proofs.Prelude.{Carries, DeskNow, EndsInOrder, Free, HasHands}
+use Rattle.scene_structures.proofs.Prelude.{IsSameDesk, KeepsOthers, Looks, NumberedHandle}
 use Rattle.scene_structures.proofs.lists.popping.take.Given as goal
 
 abbrev pub invariant-loop : goal.invariant-loop

@@ -1,28 +1,17 @@
-use Rattle.std.proofs.Common.{◌≡◌, [], ◌∷◌, true, false, subst, ap, ◌∙◌}
-use Rattle.control_word.specs.declared.model.event.Cell.{Cell}
-use Rattle.control_word.specs.declared.model.event.Cell.TheVariants.{Free}
-use Rattle.control_word.specs.declared.model.event.Event.TheVariants.{Compare, Load}
-use Rattle.control_word.specs.declared.model.handle.NumberedHandle.{NumberedHandle}
-use Rattle.control_word.specs.declared.model.handle.Kind.TheVariants.{Owner}
-use Rattle.control_block.proofs.Latest.{calls_keep_latest}
-use Rattle.control_block.specs.CellCalls.{handle_in, without_handle}
-use Rattle.control_block.specs.Desks.{AddsEvent, bag_of, latest_of}
-use Rattle.control_block.specs.declared.handles.Shared.{Shared}
-use Rattle.atomic_cells.specs.Sites.{shared_cell}
-use Rattle.scene_structures.specs.Hands.{node_in}
-use Rattle.shared_handle.specs.Piles.{IsParting}
-use Rattle.scene_structures.proofs.Hands.{first_lists, hands_first, hands_given, hands_got, hands_second, holds_second, second_lists}
+use Rattle.std.proofs.Common.{◌≡◌, ◌<◌, true, false, [], ◌∷◌, sym, ap, ◌∙◌, subst, arith}
+use Rattle.scene_structures.proofs.Prelude.{AddsEvent, bag_of, calls_keep_latest, Cell, Compare}
+use Rattle.scene_structures.proofs.Prelude.{does_both, Free, handle_in, HoldsHandle, IsOpenSite}
+use Rattle.scene_structures.proofs.Prelude.{IsParting, latest_of, Load, node_in, NumberedHandle}
+use Rattle.scene_structures.proofs.Prelude.{Owner, Shape, Shared, shared_cell, without_handle}
+use Rattle.scene_structures.proofs.Hands.{first_lists, hands_first, hands_given, hands_got}
+use Rattle.scene_structures.proofs.Hands.{hands_second, holds_second, second_lists, holds_first}
 use Rattle.scene_structures.proofs.Looks.{finds_none, looks_again, no_member, owner_within, takes}
-use Rattle.scene_structures.proofs.Pushes.{differs_back, differs_bag, differs_event, differs_held, same_left, same_node, swapped_bag, swapped_event}
+use Rattle.scene_structures.proofs.Pushes.{differs_back, differs_bag, differs_event, differs_held}
+use Rattle.scene_structures.proofs.Pushes.{same_left, same_node, swapped_bag, swapped_event}
 use Rattle.scene_structures.proofs.Pushes.{swapped_held}
-use Rattle.shared_handle.proofs.Goings.{does_both}
 use Rattle.scene_structures.proofs.Others.{others_both, others_call}
-use Rattle.std.proofs.Common.{◌<◌, sym, arith}
-use Rattle.scene_structures.proofs.Kept.{same_call, same_then, carries_call, granted, unrefused, open_held}
-use Rattle.scene_structures.proofs.Hands.{holds_first}
-use Rattle.control_block.specs.CellCalls.{HoldsHandle}
-use Rattle.atomic_cells.specs.Sites.{IsOpenSite}
-use Rattle.control_word.specs.declared.shape.Shape.{Shape}
+use Rattle.scene_structures.proofs.Kept.{same_call, same_then, carries_call, granted, unrefused}
+use Rattle.scene_structures.proofs.Kept.{open_held}
 use Rattle.scene_structures.proofs.Orders.{order_both, order_event}
 use Rattle.scene_structures.proofs.lists.popping.try_pop.Goals as goal
 

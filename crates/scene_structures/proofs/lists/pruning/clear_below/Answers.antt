@@ -1,13 +1,11 @@
-use Rattle.std.proofs.Common.{◌≡◌, ◌+◌, [], ◌∷◌, IfSome, MatchOption, None, Some, Option, refl, sym, subst, arith}
-use Rattle.control_word.specs.Handles.{object_of}
-use Rattle.control_block.specs.declared.handles.Shared.{Shared}
-use Rattle.shared_handle.proofs.Piles.{same_both, same_desk}
-use Rattle.shared_handle.specs.Endings.{IsWithin}
-use Rattle.scene_structures.specs.Hands.{node_in, stacked}
-use Rattle.scene_structures.specs.Prunes.{Prunes, SameKept}
+use Rattle.std.proofs.Common.{◌≡◌, ◌+◌, [], ◌∷◌, IfSome, Some, None, Option, MatchOption, sym}
+use Rattle.std.proofs.Common.{refl, subst, arith}
+use Rattle.scene_structures.proofs.Prelude.{IsWithin, node_in, object_of, Prunes, same_both}
+use Rattle.scene_structures.proofs.Prelude.{same_desk, SameKept, Shared, stacked}
 use Rattle.scene_structures.proofs.Hands.{first_lists, hands_first, hands_second}
 use Rattle.scene_structures.proofs.Pushes.{same_left}
-use Rattle.scene_structures.proofs.Pruned.{Left, descends, hands_below, left_holds, left_in_hand, open_next}
+use Rattle.scene_structures.proofs.Pruned.{Left, descends, hands_below, left_holds, left_in_hand}
+use Rattle.scene_structures.proofs.Pruned.{open_next}
 use Rattle.scene_structures.proofs.Others.{others_both, others_none}
 use Rattle.scene_structures.proofs.Kept.{same_then}
 use Rattle.scene_structures.proofs.Looks.{no_member}

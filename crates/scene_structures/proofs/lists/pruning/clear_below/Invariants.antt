@@ -1,13 +1,7 @@
-use Rattle.std.proofs.Common.{◌≡◌, ℕ, ◌+◌, ◌%◌, ◌^◌, [], ◌∷◌, List, Some}
-use Rattle.control_word.specs.declared.model.event.Cell.{Cell}
-use Rattle.control_word.specs.declared.model.handle.NumberedHandle.{NumberedHandle}
-use Rattle.control_block.specs.Desks.{DeskNow, IsSameDesk}
-use Rattle.shared_handle.specs.Endings.{IsWithin}
-use Rattle.shared_handle.specs.Piles.{Carries}
-use Rattle.scene_structures.specs.Others.{KeepsOthers}
-use Rattle.scene_structures.specs.Orders.{EndsInOrder}
-use Rattle.scene_structures.specs.Hands.{HasHands}
-use Rattle.scene_structures.specs.Prunes.{Prunes}
+use Rattle.std.proofs.Common.{◌≡◌, ℕ, ◌+◌, ◌%◌, ◌^◌, List, [], ◌∷◌, Some}
+use Rattle.scene_structures.proofs.Prelude.{Carries, Cell, DeskNow, EndsInOrder, HasHands}
+use Rattle.scene_structures.proofs.Prelude.{IsSameDesk, IsWithin, KeepsOthers, NumberedHandle}
+use Rattle.scene_structures.proofs.Prelude.{Prunes}
 use Rattle.scene_structures.proofs.lists.pruning.clear_below.Given as goal
 
 abbrev pub invariant-loop : goal.invariant-loop

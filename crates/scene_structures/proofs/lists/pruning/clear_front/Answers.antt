@@ -1,15 +1,9 @@
-use Rattle.std.proofs.Common.{◌≡◌, suc, true, refl, subst, arith}
-use Rattle.control_word.specs.Handles.{object_of}
-use Rattle.control_word.specs.declared.model.event.Cell.{Cell}
-use Rattle.shared_handle.proofs.Piles.{same_both, same_desk}
-use Rattle.scene_structures.specs.Hands.{node_in}
-use Rattle.scene_structures.specs.Prunes.{Finds, PassesNode}
-use Rattle.scene_structures.proofs.Sites.{cell_these, these_both}
+use Rattle.std.proofs.Common.{◌≡◌, suc, true, false, refl, ◌∙◌, subst, arith}
+use Rattle.scene_structures.proofs.Prelude.{Cell, Finds, FindsNone, node_in, object_of, PassesNode}
+use Rattle.scene_structures.proofs.Prelude.{same_both, same_desk}
+use Rattle.scene_structures.proofs.Sites.{cell_these, these_both, open_same}
 use Rattle.scene_structures.proofs.Others.{others_both, others_none}
-use Rattle.std.proofs.Common.{◌∙◌, false}
 use Rattle.scene_structures.proofs.Kept.{same_then}
-use Rattle.scene_structures.proofs.Sites.{open_same}
-use Rattle.scene_structures.specs.Stacks.{FindsNone}
 use Rattle.scene_structures.proofs.Orders.{order_both, order_none}
 use Rattle.scene_structures.proofs.lists.pruning.clear_front.Goals as goal
 

@@ -1,12 +1,6 @@
-use Rattle.std.proofs.Common.{◌≡◌, ℕ, ◌%◌, ◌^◌, [], List}
-use Rattle.control_word.specs.declared.model.handle.NumberedHandle.{NumberedHandle}
-use Rattle.control_block.specs.Desks.{IsSameDesk}
-use Rattle.shared_handle.specs.Piles.{Carries}
-use Rattle.scene_structures.specs.Others.{KeepsOthers}
-use Rattle.scene_structures.specs.Orders.{EndsInOrder}
-use Rattle.atomic_cells.specs.Sites.{shared_cell}
-use Rattle.scene_structures.specs.Hands.{HasHands, KeepsThese}
-use Rattle.scene_structures.specs.Prunes.{CutsAll}
+use Rattle.std.proofs.Common.{◌≡◌, ℕ, ◌%◌, ◌^◌, List, []}
+use Rattle.scene_structures.proofs.Prelude.{Carries, CutsAll, EndsInOrder, HasHands, IsSameDesk}
+use Rattle.scene_structures.proofs.Prelude.{KeepsOthers, KeepsThese, NumberedHandle, shared_cell}
 use Rattle.scene_structures.proofs.lists.pruning.clear_front.Given as goal
 
 abbrev pub invariant-loop : goal.invariant-loop

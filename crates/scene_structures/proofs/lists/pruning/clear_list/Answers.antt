@@ -1,13 +1,8 @@
-use Rattle.std.proofs.Common.{◌+◌, ap, subst, [], Option, Some, arith}
-use Rattle.control_word.specs.declared.model.event.Cell.{Cell}
-use Rattle.control_word.specs.declared.model.event.Cell.TheVariants.{Free}
-use Rattle.control_block.specs.declared.handles.Shared.{Shared}
-use Rattle.atomic_cells.specs.Sites.{shared_cell}
-use Rattle.scene_structures.specs.Prunes.{ClearsFront}
+use Rattle.std.proofs.Common.{◌≡◌, ◌+◌, [], ◌∷◌, IfSome, Some, None, Option, MatchOption, sym, ap}
+use Rattle.std.proofs.Common.{subst, arith}
+use Rattle.scene_structures.proofs.Prelude.{Cell, ClearsFront, Free, HasHands, IsOpenBy, IsWithin}
+use Rattle.scene_structures.proofs.Prelude.{Shared, shared_cell}
 use Rattle.scene_structures.proofs.Others.{others_both}
-use Rattle.std.proofs.Common.{◌≡◌, ◌∷◌, sym, None, MatchOption, IfSome}
-use Rattle.scene_structures.specs.Hands.{HasHands, IsOpenBy}
-use Rattle.shared_handle.specs.Endings.{IsWithin}
 use Rattle.scene_structures.proofs.Orders.{order_both}
 use Rattle.scene_structures.proofs.lists.pruning.clear_list.Goals as goal
 

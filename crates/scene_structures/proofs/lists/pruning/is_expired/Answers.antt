@@ -1,11 +1,8 @@
+use Rattle.std.proofs.Common.{ap, ◌∙◌}
+use Rattle.scene_structures.proofs.Prelude.{bag_of, first_out, Weak, without_handle}
 use Rattle.scene_structures.proofs.Watches.{endings_both}
 use Rattle.scene_structures.proofs.Pruned.{asks_latest}
-use Rattle.std.proofs.Common.{◌∙◌, ap}
-use Rattle.control_block.specs.CellCalls.{without_handle}
-use Rattle.control_block.specs.Desks.{bag_of}
 use Rattle.scene_structures.proofs.Rooms.{holds_still}
-use Rattle.control_word.specs.declared.model.handle.Kind.TheVariants.{Weak}
-use Rattle.shared_handle.proofs.Callers.{first_out}
 use Rattle.scene_structures.proofs.lists.pruning.is_expired.Goals as goal
 
 pub returns-clause-endings : goal.returns-clause-endings

@@ -1,16 +1,14 @@
-use Rattle.std.proofs.Common.{[], ◌∷◌, true, false}
-use Rattle.control_block.proofs.Latest.{calls_keep_latest}
-use Rattle.atomic_cells.specs.Sites.{shared_cell}
+use Rattle.std.proofs.Common.{true, false, [], ◌∷◌, refl, ◌∙◌, arith}
+use Rattle.scene_structures.proofs.Prelude.{calls_keep_latest, shared_cell}
 use Rattle.scene_structures.proofs.Calls.{got_lists}
 use Rattle.scene_structures.proofs.Hands.{first_lists, hands_first, hands_got, hands_kept}
 use Rattle.scene_structures.proofs.Looks.{finds_none, looks_first, no_member}
 use Rattle.scene_structures.proofs.Pruned.{finds}
 use Rattle.scene_structures.proofs.Pushes.{same_left}
-use Rattle.scene_structures.proofs.Sites.{these_after, these_both, these_over}
+use Rattle.scene_structures.proofs.Sites.{these_after, these_both, these_over, open_now}
 use Rattle.scene_structures.proofs.Others.{others_both, others_call, others_kept}
-use Rattle.std.proofs.Common.{◌∙◌, refl, arith}
-use Rattle.scene_structures.proofs.Kept.{same_call, same_then, carries_call, carries_over, granted, open_up}
-use Rattle.scene_structures.proofs.Sites.{open_now}
+use Rattle.scene_structures.proofs.Kept.{same_call, same_then, carries_call, carries_over, granted}
+use Rattle.scene_structures.proofs.Kept.{open_up}
 use Rattle.scene_structures.proofs.Orders.{order_asked, order_both, order_event}
 use Rattle.scene_structures.proofs.lists.pruning.look_in.Goals as goal
 

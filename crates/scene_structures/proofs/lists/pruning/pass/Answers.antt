@@ -1,19 +1,12 @@
-use Rattle.std.proofs.Common.{[], ◌∷◌, subst}
-use Rattle.control_word.specs.declared.model.event.Cell.{Cell}
-use Rattle.control_word.specs.declared.model.event.Event.TheVariants.{Swap}
-use Rattle.control_block.proofs.Latest.{calls_keep_latest}
-use Rattle.control_block.specs.Desks.{AddsEvent}
-use Rattle.shared_handle.proofs.Goings.{does_both}
-use Rattle.shared_handle.specs.Piles.{IsParting}
-use Rattle.atomic_cells.specs.Sites.{shared_cell}
-use Rattle.scene_structures.specs.Hands.{node_in}
-use Rattle.scene_structures.proofs.Hands.{hands_first, hands_given, hands_got}
+use Rattle.std.proofs.Common.{[], ◌∷◌, subst, arith}
+use Rattle.scene_structures.proofs.Prelude.{AddsEvent, calls_keep_latest, Cell, does_both}
+use Rattle.scene_structures.proofs.Prelude.{IsParting, node_in, shared_cell, Swap}
+use Rattle.scene_structures.proofs.Hands.{hands_first, hands_given, hands_got, holds_first}
 use Rattle.scene_structures.proofs.Pruned.{passes}
-use Rattle.scene_structures.proofs.Sites.{cell_these, open_now, these_after, these_both, these_over}
+use Rattle.scene_structures.proofs.Sites.{cell_these, open_now, these_after, these_both}
+use Rattle.scene_structures.proofs.Sites.{these_over}
 use Rattle.scene_structures.proofs.Others.{others_both, others_call}
-use Rattle.std.proofs.Common.{arith}
 use Rattle.scene_structures.proofs.Kept.{same_call, same_then, carries_call, granted, open_held}
-use Rattle.scene_structures.proofs.Hands.{holds_first}
 use Rattle.scene_structures.proofs.Orders.{order_both, order_event}
 use Rattle.scene_structures.proofs.lists.pruning.pass.Goals as goal
 

@@ -1,20 +1,10 @@
-use Rattle.std.proofs.Common.{refl, sym, ap, subst, ◌∙◌}
-use Rattle.control_word.specs.Handles.{object_of}
-use Rattle.control_word.specs.declared.model.event.Cell.{Cell}
-use Rattle.control_word.specs.declared.model.handle.NumberedHandle.{NumberedHandle}
-use Rattle.control_block.specs.Own.{Does}
-use Rattle.control_block.specs.declared.handles.Shared.{Shared}
-use Rattle.shared_handle.specs.Endings.{IsWithin}
-use Rattle.scene_structures.specs.Hands.{SameNode, node_in}
-use Rattle.scene_structures.specs.Puts.{PutsOnly}
-use Rattle.scene_structures.specs.Stacks.{NextOf, Rises}
-use Rattle.atomic_cells.specs.Sites.{shared_cell}
+use Rattle.std.proofs.Common.{sym, refl, ap, ◌∙◌, subst, arith}
+use Rattle.scene_structures.proofs.Prelude.{Cell, Does, does_both, does_none, IsWithin, NextOf}
+use Rattle.scene_structures.proofs.Prelude.{node_in, NumberedHandle, object_of, PutsOnly, Rises}
+use Rattle.scene_structures.proofs.Prelude.{same_both, same_desk, SameNode, Shared, shared_cell}
 use Rattle.scene_structures.proofs.Pushes.{rises_later}
 use Rattle.scene_structures.proofs.Sites.{cell_these, open_same, these_both}
-use Rattle.shared_handle.proofs.Goings.{does_both, does_none}
-use Rattle.shared_handle.proofs.Piles.{same_both, same_desk}
 use Rattle.scene_structures.proofs.Others.{others_both, others_none}
-use Rattle.std.proofs.Common.{arith}
 use Rattle.scene_structures.proofs.Kept.{same_then}
 use Rattle.scene_structures.proofs.Orders.{order_both, order_none}
 use Rattle.scene_structures.proofs.lists.pushing.raise.Goals as goal

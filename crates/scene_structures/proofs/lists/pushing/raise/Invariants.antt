@@ -1,14 +1,7 @@
-use Rattle.std.proofs.Common.{◌≡◌, [], ◌∷◌, List}
-use Rattle.control_word.specs.Handles.{object_of}
-use Rattle.control_word.specs.declared.model.handle.NumberedHandle.{NumberedHandle}
-use Rattle.control_block.specs.Desks.{IsSameDesk}
-use Rattle.control_block.specs.Own.{Does}
-use Rattle.scene_structures.specs.Hands.{HasHands, KeepsThese, SameNode, node_in}
-use Rattle.shared_handle.specs.Piles.{Carries}
-use Rattle.scene_structures.specs.Others.{KeepsOthers}
-use Rattle.scene_structures.specs.Orders.{EndsInOrder}
-use Rattle.scene_structures.specs.Puts.{PutsOnly}
-use Rattle.scene_structures.specs.Stacks.{NextOf}
+use Rattle.std.proofs.Common.{◌≡◌, List, [], ◌∷◌}
+use Rattle.scene_structures.proofs.Prelude.{Carries, Does, EndsInOrder, HasHands, IsSameDesk}
+use Rattle.scene_structures.proofs.Prelude.{KeepsOthers, KeepsThese, NextOf, node_in}
+use Rattle.scene_structures.proofs.Prelude.{NumberedHandle, object_of, PutsOnly, SameNode}
 use Rattle.scene_structures.proofs.lists.pushing.raise.Given as goal
 
 abbrev pub invariant-loop : goal.invariant-loop

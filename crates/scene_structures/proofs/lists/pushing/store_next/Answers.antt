@@ -1,12 +1,8 @@
-use Rattle.shared_handle.proofs.Piles.{carries_kept}
+use Rattle.std.proofs.Common.{ap, ◌∙◌}
+use Rattle.scene_structures.proofs.Prelude.{bag_of, carries_kept, first_out, Owner, without_handle}
 use Rattle.scene_structures.proofs.Pushes.{fills, held_stored}
 use Rattle.scene_structures.proofs.Others.{others_both, others_call}
-use Rattle.std.proofs.Common.{◌∙◌, ap}
 use Rattle.scene_structures.proofs.Kept.{open_held}
-use Rattle.control_block.specs.CellCalls.{without_handle}
-use Rattle.control_word.specs.declared.model.handle.Kind.TheVariants.{Owner}
-use Rattle.control_block.specs.Desks.{bag_of}
-use Rattle.shared_handle.proofs.Callers.{first_out}
 use Rattle.scene_structures.proofs.Orders.{order_both, order_event}
 use Rattle.scene_structures.proofs.lists.pushing.store_next.Goals as goal
 

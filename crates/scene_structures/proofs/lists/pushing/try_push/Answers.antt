@@ -1,27 +1,17 @@
-use Rattle.std.proofs.Common.{[], ◌∷◌, true, subst, sym, ◌∙◌}
-use Rattle.control_word.specs.Handles.{object_of}
-use Rattle.control_word.specs.declared.model.event.Cell.{Cell}
-use Rattle.control_word.specs.declared.model.event.Event.TheVariants.{Compare}
-use Rattle.control_word.specs.declared.model.handle.NumberedHandle.{NumberedHandle}
-use Rattle.control_word.specs.declared.model.handle.Kind.TheVariants.{Owner}
-use Rattle.control_block.specs.CellCalls.{handle_in}
-use Rattle.control_block.specs.Desks.{AddsEvent}
-use Rattle.control_block.specs.declared.handles.Shared.{Shared}
-use Rattle.atomic_cells.specs.Sites.{shared_cell}
-use Rattle.shared_handle.proofs.Piles.{carries_kept}
-use Rattle.shared_handle.specs.Piles.{IsParting}
-use Rattle.scene_structures.specs.Hands.{HasHands, node_in}
-use Rattle.scene_structures.specs.Stacks.{Fills, NextOf}
-use Rattle.control_block.proofs.Latest.{calls_keep_latest}
-use Rattle.shared_handle.proofs.Goings.{does_both}
-use Rattle.scene_structures.proofs.Hands.{first_lists, hands_copied, hands_first, hands_got, hands_second, hands_swapped, holds_first, holds_second}
-use Rattle.scene_structures.proofs.Hands.{holds_third}
-use Rattle.scene_structures.proofs.Hands.{second_lists}
-use Rattle.scene_structures.proofs.Pushes.{differs_back, differs_bag, differs_event, differs_held, rises, swapped_bag, swapped_event, swapped_held}
+use Rattle.std.proofs.Common.{true, [], ◌∷◌, sym, ◌∙◌, subst, arith}
+use Rattle.scene_structures.proofs.Prelude.{AddsEvent, calls_keep_latest, carries_kept, Cell}
+use Rattle.scene_structures.proofs.Prelude.{Compare, does_both, Fills, handle_in, HasHands}
+use Rattle.scene_structures.proofs.Prelude.{IsParting, NextOf, node_in, NumberedHandle, object_of}
+use Rattle.scene_structures.proofs.Prelude.{Owner, Shared, shared_cell}
+use Rattle.scene_structures.proofs.Hands.{first_lists, hands_copied, hands_first, hands_got}
+use Rattle.scene_structures.proofs.Hands.{hands_second, hands_swapped, holds_first, holds_second}
+use Rattle.scene_structures.proofs.Hands.{holds_third, second_lists}
+use Rattle.scene_structures.proofs.Pushes.{differs_back, differs_bag, differs_event, differs_held}
+use Rattle.scene_structures.proofs.Pushes.{rises, swapped_bag, swapped_event, swapped_held}
 use Rattle.scene_structures.proofs.Pushes.{same_left, same_node, shares_does, tries}
-use Rattle.scene_structures.proofs.Sites.{cell_these, open_now, these_after, these_both, these_over}
+use Rattle.scene_structures.proofs.Sites.{cell_these, open_now, these_after, these_both}
+use Rattle.scene_structures.proofs.Sites.{these_over}
 use Rattle.scene_structures.proofs.Others.{others_both, others_call}
-use Rattle.std.proofs.Common.{arith}
 use Rattle.scene_structures.proofs.Kept.{same_call, same_then, granted, unrefused}
 use Rattle.scene_structures.proofs.Orders.{order_both, order_event, order_shares}
 use Rattle.scene_structures.proofs.lists.pushing.try_push.Goals as goal

@@ -1,12 +1,9 @@
+use Rattle.std.proofs.Common.{ap, ◌∙◌, arith}
+use Rattle.scene_structures.proofs.Prelude.{bag_of, first_out, Owner, Weak, without_handle}
 use Rattle.scene_structures.proofs.Walks.{asked_latest, asks}
 use Rattle.scene_structures.proofs.Others.{others_both, others_call, others_kept}
-use Rattle.std.proofs.Common.{◌∙◌, ap, arith}
 use Rattle.scene_structures.proofs.Kept.{same_call, same_then, carries_call, carries_over, granted}
-use Rattle.control_block.specs.CellCalls.{without_handle}
-use Rattle.control_word.specs.declared.model.handle.Kind.TheVariants.{Owner, Weak}
-use Rattle.control_block.specs.Desks.{bag_of}
 use Rattle.scene_structures.proofs.Rooms.{holds_still}
-use Rattle.shared_handle.proofs.Callers.{first_out}
 use Rattle.scene_structures.proofs.Orders.{order_both, order_event, order_locks, order_weak}
 use Rattle.scene_structures.proofs.lists.walking.ask.Goals as goal
 

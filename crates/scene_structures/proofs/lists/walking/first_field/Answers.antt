@@ -1,23 +1,14 @@
-use Rattle.std.proofs.Common.{◌≡◌, Option, Some, refl, inl, inr, sym, subst, ◌∙◌, rules}
-use Rattle.control_word.specs.Events.{place_at}
-use Rattle.control_word.specs.declared.model.handle.Kind.TheVariants.{Owner}
-use Rattle.control_word.specs.declared.place.Block.{Block}
-use Rattle.control_word.specs.declared.place.Place.{Place}
-use Rattle.control_block.specs.CellCalls.{with_handle}
-use Rattle.control_block.specs.Desks.{bag_of}
-use Rattle.shared_handle.specs.Calls.{IsOfThis, SharesOwner}
-use Rattle.control_block.specs.CellCalls.{HoldsHandle}
-use Rattle.scene_structures.specs.Walks.{TellsField}
+use Rattle.std.proofs.Common.{◌≡◌, Some, Option, sym, refl, ap, ◌∙◌, subst, inl, inr, arith, rules}
+use Rattle.scene_structures.proofs.Prelude.{bag_of, Block, calls_keep_latest, first_out}
+use Rattle.scene_structures.proofs.Prelude.{HoldsHandle, IsOfThis, Owner, Place, place_at}
+use Rattle.scene_structures.proofs.Prelude.{SharesOwner, TellsField, with_handle, without_handle}
 use Rattle.scene_structures.proofs.Walks.{looked_call, tells, told_latest}
 use Rattle.scene_structures.proofs.Others.{others_both, others_call, others_none}
-use Rattle.std.proofs.Common.{ap, arith}
 use Rattle.scene_structures.proofs.Kept.{same_call, same_then, carries_call, granted}
-use Rattle.control_block.specs.CellCalls.{without_handle}
 use Rattle.scene_structures.proofs.Rooms.{holds_still}
-use Rattle.shared_handle.proofs.Callers.{first_out}
-use Rattle.scene_structures.proofs.Orders.{order_both, order_event, order_none, order_read, order_shares}
+use Rattle.scene_structures.proofs.Orders.{order_both, order_event, order_none, order_read}
+use Rattle.scene_structures.proofs.Orders.{order_shares}
 use Rattle.scene_structures.proofs.Latest.{keeps_same}
-use Rattle.control_block.proofs.Latest.{calls_keep_latest}
 use Rattle.scene_structures.proofs.lists.walking.first_field.Goals as goal
 
 pub returns-clause-latest : goal.returns-clause-latest

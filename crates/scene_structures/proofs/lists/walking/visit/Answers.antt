@@ -1,13 +1,13 @@
-use Rattle.std.proofs.Common.{[], ◌∷◌}
+use Rattle.std.proofs.Common.{[], ◌∷◌, arith}
+use Rattle.scene_structures.proofs.Prelude.{Owner}
 use Rattle.scene_structures.proofs.Hands.{first_lists, hands_got, hands_kept, hands_second}
+use Rattle.scene_structures.proofs.Hands.{hands_first}
 use Rattle.scene_structures.proofs.Looks.{no_member, within_held}
 use Rattle.scene_structures.proofs.Pushes.{same_left}
 use Rattle.scene_structures.proofs.Walks.{visits}
 use Rattle.scene_structures.proofs.Others.{others_both, others_call}
-use Rattle.std.proofs.Common.{arith}
-use Rattle.scene_structures.proofs.Kept.{same_call, same_then, carries_call, granted, open_held, open_up}
-use Rattle.scene_structures.proofs.Hands.{hands_first}
-use Rattle.control_word.specs.declared.model.handle.Kind.TheVariants.{Owner}
+use Rattle.scene_structures.proofs.Kept.{same_call, same_then, carries_call, granted, open_held}
+use Rattle.scene_structures.proofs.Kept.{open_up}
 use Rattle.scene_structures.proofs.Rooms.{holds_more, holds_still}
 use Rattle.scene_structures.proofs.Orders.{order_both, order_event}
 use Rattle.scene_structures.proofs.lists.walking.visit.Goals as goal

@@ -1,11 +1,8 @@
-use Rattle.std.proofs.Common.{[], ◌∷◌, ◌++◌, ◌∙◌, None, Some, refl, of_calls}
-use Rattle.shared_handle.proofs.Piles.{same_both, same_desk}
-use Rattle.scene_structures.specs.Hands.{node_in}
-use Rattle.scene_structures.specs.Walks.{told_of}
+use Rattle.std.proofs.Common.{[], ◌∷◌, ◌++◌, Some, None, refl, ◌∙◌, arith, of_calls}
+use Rattle.scene_structures.proofs.Prelude.{node_in, same_both, same_desk, told_of}
 use Rattle.scene_structures.proofs.Hands.{holds_first}
 use Rattle.scene_structures.proofs.Walks.{folded, looked_none, walks_on}
 use Rattle.scene_structures.proofs.Others.{others_both, others_none}
-use Rattle.std.proofs.Common.{arith}
 use Rattle.scene_structures.proofs.Kept.{same_then}
 use Rattle.scene_structures.proofs.Orders.{order_both, order_none}
 use Rattle.scene_structures.proofs.lists.walking.walk.Goals as goal

@@ -1,12 +1,7 @@
-use Rattle.std.proofs.Common.{◌≡◌, [], ◌∷◌, List}
-use Rattle.control_word.specs.declared.model.event.Event.{Event}
-use Rattle.control_word.specs.declared.model.handle.NumberedHandle.{NumberedHandle}
-use Rattle.control_block.specs.Desks.{IsSameDesk}
-use Rattle.shared_handle.specs.Piles.{Carries, FoldsBack}
-use Rattle.scene_structures.specs.Others.{KeepsOthers}
-use Rattle.scene_structures.specs.Orders.{EndsInOrder}
-use Rattle.scene_structures.specs.Hands.{HasHands, node_in}
-use Rattle.scene_structures.specs.Walks.{HasLooked, SeenNode, Walks, told_of}
+use Rattle.std.proofs.Common.{◌≡◌, List, [], ◌∷◌}
+use Rattle.scene_structures.proofs.Prelude.{Carries, EndsInOrder, Event, FoldsBack, HasHands}
+use Rattle.scene_structures.proofs.Prelude.{HasLooked, IsSameDesk, KeepsOthers, node_in}
+use Rattle.scene_structures.proofs.Prelude.{NumberedHandle, SeenNode, told_of, Walks}
 use Rattle.scene_structures.proofs.lists.walking.walk.Given as goal
 
 abbrev pub invariant-loop : goal.invariant-loop

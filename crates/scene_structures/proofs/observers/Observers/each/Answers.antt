@@ -1,22 +1,12 @@
-use Rattle.std.proofs.Common.{◌≡◌, ◌<◌, ap, subst, ◌∙◌, arith}
-use Rattle.control_word.specs.declared.model.event.Cell.{Cell}
-use Rattle.control_word.specs.declared.model.event.Cell.TheVariants.{Free}
-use Rattle.control_word.specs.declared.model.event.Event.TheVariants.{Load}
-use Rattle.control_word.specs.declared.shape.Shape.{Shape}
-use Rattle.control_block.specs.Desks.{AddsEvent, bag_of}
-use Rattle.control_block.specs.Rule.{opening_of}
-use Rattle.atomic_cells.specs.Sites.{shared_cell}
-use Rattle.scene_structures.specs.Hands.{node_in}
-use Rattle.scene_structures.specs.Stacks.{StackNow}
-use Rattle.scene_structures.specs.Walks.{WalksOver}
+use Rattle.std.proofs.Common.{◌≡◌, ◌<◌, ◌≤◌, sym, ap, ◌∙◌, subst, arith}
+use Rattle.scene_structures.proofs.Prelude.{AddsEvent, bag_of, Cell, endings_of, Free, IsOpenSite}
+use Rattle.scene_structures.proofs.Prelude.{KeepsEndings, Load, node_in, opening_of, Shape}
+use Rattle.scene_structures.proofs.Prelude.{shared_cell, StackNow, WalksOver}
 use Rattle.scene_structures.proofs.Calls.{hands_one}
 use Rattle.scene_structures.proofs.Told.{told_list}
-use Rattle.control_block.specs.Desks.{KeepsEndings, endings_of}
 use Rattle.scene_structures.proofs.Others.{all_others, others_both, others_call}
 use Rattle.scene_structures.proofs.observers.Observers.each.Given.{Over}
-use Rattle.std.proofs.Common.{sym, ◌≤◌}
 use Rattle.scene_structures.proofs.Kept.{same_call, same_then, carries_call, granted}
-use Rattle.atomic_cells.specs.Sites.{IsOpenSite}
 use Rattle.scene_structures.proofs.Rooms.{far, serves}
 use Rattle.scene_structures.proofs.Orders.{order_both, order_clear, order_event}
 use Rattle.scene_structures.proofs.observers.Observers.each.Goals as goal

@@ -1,16 +1,10 @@
-use Rattle.std.proofs.Common.{◌≡◌, ◌<◌, None, ap, subst, arith}
-use Rattle.control_word.specs.declared.model.event.Cell.TheVariants.{Free}
-use Rattle.control_word.specs.declared.shape.Shape.{Shape}
-use Rattle.control_block.specs.Rule.{opening_of}
-use Rattle.scene_structures.specs.Prunes.{Prunes}
-use Rattle.scene_structures.specs.Stacks.{StackNow}
+use Rattle.std.proofs.Common.{◌≡◌, ◌<◌, ◌≤◌, None, sym, refl, ap, subst, arith}
+use Rattle.scene_structures.proofs.Prelude.{bag_of, endings_of, Free, KeepsEndings, opening_of}
+use Rattle.scene_structures.proofs.Prelude.{Prunes, Shape, StackNow}
 use Rattle.scene_structures.proofs.Few.{exactly}
 use Rattle.scene_structures.proofs.Sifted.{pruned_list}
-use Rattle.control_block.specs.Desks.{KeepsEndings, endings_of}
 use Rattle.scene_structures.proofs.Others.{all_others}
 use Rattle.scene_structures.proofs.observers.Observers.prune.Given.{Over}
-use Rattle.std.proofs.Common.{refl, sym, ◌≤◌}
-use Rattle.control_block.specs.Desks.{bag_of}
 use Rattle.scene_structures.proofs.Rooms.{far, serves}
 use Rattle.scene_structures.proofs.Orders.{order_clear}
 use Rattle.scene_structures.proofs.observers.Observers.prune.Goals as goal

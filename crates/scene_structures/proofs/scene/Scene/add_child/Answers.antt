@@ -1,28 +1,21 @@
-use Rattle.std.proofs.Common.{◌≡◌, sym, ap, subst, ◌∙◌}
-use Rattle.control_block.specs.Desks.{bag_of}
-use Rattle.shared_handle.proofs.Piles.{carries_kept}
-use Rattle.shared_handle.specs.Piles.{Carries}
-use Rattle.shared_handle.specs.declared.pile.Pile.{Pile}
-use Rattle.scene_structures.specs.Hands.{Lists, node_in}
-use Rattle.scene_structures.specs.Scenes.{Adopts}
-use Rattle.scene_structures.specs.Stacks.{NextOf}
-use Rattle.control_block.proofs.Latest.{calls_keep_latest}
+use Rattle.std.proofs.Common.{◌≡◌, false, length, sym, ap, ◌∙◌, subst, arith}
+use Rattle.scene_structures.proofs.Prelude.{Adopts, bag_of, calls_keep_latest, Carries}
+use Rattle.scene_structures.proofs.Prelude.{carries_kept, EndsInOrder, iff_false, KeepsOthers}
+use Rattle.scene_structures.proofs.Prelude.{Lists, NextOf, node_in, Pile}
 use Rattle.scene_structures.proofs.Adopted.{adopted}
-use Rattle.scene_structures.proofs.Adopting.{adopts, hands_over, makes_latest, node_on, parent_on, these_node}
+use Rattle.scene_structures.proofs.Adopting.{adopts, hands_over, makes_latest, node_on, parent_on}
+use Rattle.scene_structures.proofs.Adopting.{these_node}
 use Rattle.scene_structures.proofs.Watches.{endings_both, lists_of}
 use Rattle.scene_structures.proofs.Pushes.{shares_does}
 use Rattle.scene_structures.proofs.scene.Scene.add_child.Given.{Over}
-use Rattle.scene_structures.specs.Others.{KeepsOthers}
-use Rattle.scene_structures.specs.Orders.{EndsInOrder}
 use Rattle.scene_structures.proofs.Others.{others_both, others_call, others_kept}
-use Rattle.std.proofs.Common.{arith, false, length}
 use Rattle.scene_structures.proofs.Kept.{same_call, same_then, granted, open_listed, open_held}
 use Rattle.scene_structures.proofs.Hands.{lists_first, lists_under}
 use Rattle.scene_structures.proofs.Rooms.{far, fine, nil_of, made_within}
-use Rattle.std.proofs.lemmas.Bool.{iff_false}
 use Rattle.control_block.specs.Desks.{stock_of}
 use Rattle.scene_structures.proofs.Detached.{within_holds}
-use Rattle.scene_structures.proofs.Orders.{order_both, order_event, order_makes, order_shares, order_still}
+use Rattle.scene_structures.proofs.Orders.{order_both, order_event, order_makes, order_shares}
+use Rattle.scene_structures.proofs.Orders.{order_still}
 use Rattle.scene_structures.proofs.scene.Scene.add_child.Goals as goal
 
 pub raise-requires-clause-carries : goal.raise-requires-clause-carries

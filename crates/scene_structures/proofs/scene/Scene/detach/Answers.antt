@@ -1,34 +1,19 @@
-use Rattle.std.proofs.Common.{◌≡◌, [], ◌∷◌, Option, Some, refl, inl, inr, sym, ap, subst, ◌∙◌}
-use Rattle.control_word.specs.Events.{place_at}
-use Rattle.control_word.specs.Handles.{object_of}
-use Rattle.control_word.specs.declared.model.handle.Kind.TheVariants.{Owner}
-use Rattle.control_word.specs.declared.place.Block.{Block}
-use Rattle.control_word.specs.declared.place.Place.{Place}
-use Rattle.control_block.specs.Desks.{bag_of}
-use Rattle.control_block.specs.Own.{IsSole}
-use Rattle.shared_handle.proofs.Callers.{first_out}
-use Rattle.shared_handle.proofs.Goings.{does_both}
-use Rattle.shared_handle.proofs.Piles.{carries_kept}
-use Rattle.shared_handle.specs.Calls.{IsOfThis}
-use Rattle.control_block.specs.CellCalls.{without_handle}
-use Rattle.shared_handle.specs.Piles.{Carries}
-use Rattle.shared_handle.specs.declared.pile.Pile.{Pile}
-use Rattle.scene_structures.specs.Detaches.{Detaches, LeavesParent}
-use Rattle.scene_structures.specs.Hands.{HasHands, Lists, node_in}
-use Rattle.scene_structures.specs.Parents.{IsParent}
-use Rattle.scene_structures.specs.Puts.{PutsOnly, in_no_cell}
+use Rattle.std.proofs.Common.{◌≡◌, [], ◌∷◌, Some, Option, sym, refl, ap, ◌∙◌, subst, inl, inr}
+use Rattle.std.proofs.Common.{arith}
+use Rattle.scene_structures.proofs.Prelude
+use Prelude.{bag_of, Block, Carries, carries_kept, Detaches, does_both, EndsInOrder, first_out}
+use Prelude.{HasHands, in_no_cell, IsOfThis, IsParent, IsSole, KeepsOthers, LeavesParent, Lists}
+use Prelude.{node_in, object_of, Owner, Pile, Place, place_at, PutsOnly, without_handle}
 use Rattle.scene_structures.proofs.Adopting.{these_node}
 use Rattle.scene_structures.proofs.Detached.{puts_none}
-use Rattle.scene_structures.proofs.Unlinks.{detaches_none, detaches_some, leaves_later, parent_in_hand, same_parent}
+use Rattle.scene_structures.proofs.Unlinks.{detaches_none, detaches_some, leaves_later}
+use Rattle.scene_structures.proofs.Unlinks.{parent_in_hand, same_parent}
 use Rattle.scene_structures.proofs.Hands.{first_lists, lists_first, lists_under}
 use Rattle.scene_structures.proofs.Leaving.{detached}
 use Rattle.scene_structures.proofs.Pushes.{same_left, same_node, shares_does}
 use Rattle.scene_structures.proofs.Watches.{endings_both, lists_of}
 use Rattle.scene_structures.proofs.scene.Scene.detach.Given.{Over}
-use Rattle.scene_structures.specs.Others.{KeepsOthers}
-use Rattle.scene_structures.specs.Orders.{EndsInOrder}
 use Rattle.scene_structures.proofs.Others.{others_both, others_call, others_kept}
-use Rattle.std.proofs.Common.{arith}
 use Rattle.scene_structures.proofs.Kept.{same_call, same_then, granted}
 use Rattle.scene_structures.proofs.Rooms.{holds_more, far_off}
 use Rattle.scene_structures.proofs.Orders.{order_both, order_shares, order_up}

@@ -1,14 +1,12 @@
+use Rattle.std.proofs.Common.{[], ap, ◌∙◌, arith}
+use Rattle.scene_structures.proofs.Prelude.{bag_of, iff_false, Owner, Weak, with_handle}
+use Rattle.scene_structures.proofs.Prelude.{without_handle}
 use Rattle.scene_structures.proofs.Watches.{endings_both}
 use Rattle.scene_structures.proofs.Parents.{climb_latest, locks_up, parent_found}
-use Rattle.std.proofs.Common.{◌∙◌, [], ap, arith}
 use Rattle.scene_structures.proofs.Kept.{same_call, same_then, granted, open_up}
 use Rattle.scene_structures.proofs.Hands.{holds_first}
 use Rattle.scene_structures.proofs.Calls.{hands_one}
-use Rattle.control_block.specs.CellCalls.{without_handle, with_handle}
-use Rattle.control_word.specs.declared.model.handle.Kind.TheVariants.{Owner, Weak}
-use Rattle.control_block.specs.Desks.{bag_of}
 use Rattle.scene_structures.proofs.Rooms.{far, holds_more}
-use Rattle.std.proofs.lemmas.Bool.{iff_false}
 use Rattle.shared_handle.proofs.Callers.{under_out}
 use Rattle.scene_structures.proofs.scene.Scene.parent.Goals as goal
 

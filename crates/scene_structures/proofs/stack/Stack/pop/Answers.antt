@@ -1,24 +1,13 @@
-use Rattle.std.proofs.Common.{◌≡◌, ◌<◌, ap, sym, subst, ◌∙◌, arith}
-use Rattle.control_word.specs.declared.model.event.Cell.{Cell}
-use Rattle.control_word.specs.declared.model.event.Cell.TheVariants.{Free}
-use Rattle.control_word.specs.declared.model.event.Event.TheVariants.{Load}
-use Rattle.control_word.specs.declared.shape.Shape.{Shape}
-use Rattle.control_block.specs.Desks.{AddsEvent, bag_of}
-use Rattle.control_block.specs.Rule.{opening_of}
-use Rattle.atomic_cells.specs.Sites.{shared_cell}
-use Rattle.scene_structures.specs.Hands.{node_in}
-use Rattle.scene_structures.specs.Stacks.{FindsNone, Looks, StackNow}
-use Rattle.scene_structures.specs.Pops.{TakesNode}
-use Rattle.std.specs.Prelude.{MatchOption}
+use Rattle.std.proofs.Common.{◌≡◌, ◌<◌, ◌≤◌, MatchOption, sym, ap, ◌∙◌, subst, arith}
+use Rattle.scene_structures.proofs.Prelude.{AddsEvent, bag_of, Cell, endings_of, FindsNone, Free}
+use Rattle.scene_structures.proofs.Prelude.{IsOpenSite, KeepsEndings, Load, Looks, node_in}
+use Rattle.scene_structures.proofs.Prelude.{opening_of, Shape, shared_cell, StackNow, TakesNode}
 use Rattle.scene_structures.proofs.Calls.{got_lists, hands_one, popped_or_bare}
 use Rattle.scene_structures.proofs.Looks.{looks_first}
-use Rattle.control_block.specs.Desks.{KeepsEndings, endings_of}
 use Rattle.scene_structures.proofs.Others.{all_others, others_both, others_call}
 use Rattle.scene_structures.proofs.stack.Stack.pop.Given.{Over}
 use Rattle.scene_structures.proofs.Kept.{same_call, same_then, carries_call, granted}
-use Rattle.atomic_cells.specs.Sites.{IsOpenSite}
 use Rattle.scene_structures.proofs.Rooms.{far, serves, bag_taken, holds_taken, held_taken}
-use Rattle.std.proofs.Common.{◌≤◌}
 use Rattle.scene_structures.proofs.Orders.{order_both, order_clear, order_event}
 use Rattle.scene_structures.proofs.stack.Stack.pop.Goals as goal
 

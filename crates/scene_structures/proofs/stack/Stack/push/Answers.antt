@@ -1,26 +1,14 @@
-use Rattle.std.proofs.Common.{◌≡◌, ◌<◌, ap, subst, arith}
-use Rattle.control_word.specs.declared.model.event.Cell.TheVariants.{Free}
-use Rattle.control_word.specs.declared.shape.Shape.{Shape}
-use Rattle.control_block.specs.Rule.{opening_of}
-use Rattle.control_word.specs.declared.model.event.Cell.{Cell}
-use Rattle.atomic_cells.specs.Sites.{shared_cell}
-use Rattle.atomic_cells.specs.declared.sites.SharedSite.{SharedSite}
-use Rattle.scene_structures.specs.Hands.{IsOpenBy, node_in}
+use Rattle.std.proofs.Common.{◌≡◌, ◌<◌, ◌≤◌, false, [], ◌∷◌, sym, ap, ◌∙◌, subst, arith}
+use Rattle.scene_structures.proofs.Prelude.{bag_of, Cell, endings_of, Free, iff_false, IsOpenBy}
+use Rattle.scene_structures.proofs.Prelude.{IsOpenSite, KeepsEndings, node_in, opening_of, Rises}
+use Rattle.scene_structures.proofs.Prelude.{Shape, shared_cell, SharedSite, StackNow}
 use Rattle.scene_structures.proofs.Hands.{hands_got}
-use Rattle.std.proofs.Common.{[], ◌∷◌, false, sym, ◌∙◌}
-use Rattle.control_block.specs.Desks.{bag_of}
-use Rattle.scene_structures.proofs.Calls.{hands_one}
-use Rattle.scene_structures.specs.Stacks.{Rises, StackNow}
-use Rattle.scene_structures.proofs.Calls.{pushes}
+use Rattle.scene_structures.proofs.Calls.{hands_one, pushes}
 use Rattle.scene_structures.proofs.Sole.{pushed_list}
-use Rattle.control_block.specs.Desks.{KeepsEndings, endings_of}
 use Rattle.scene_structures.proofs.Others.{all_others, others_both, others_call, others_kept}
 use Rattle.scene_structures.proofs.stack.Stack.push.Given.{Over}
 use Rattle.scene_structures.proofs.Kept.{same_call, same_then, carries_call, carries_over, granted}
-use Rattle.atomic_cells.specs.Sites.{IsOpenSite}
 use Rattle.scene_structures.proofs.Rooms.{far, made_within, serves}
-use Rattle.std.proofs.lemmas.Bool.{iff_false}
-use Rattle.std.proofs.Common.{◌≤◌}
 use Rattle.scene_structures.proofs.Orders.{order_both, order_clear, order_event, order_makes}
 use Rattle.scene_structures.proofs.stack.Stack.push.Goals as goal
 

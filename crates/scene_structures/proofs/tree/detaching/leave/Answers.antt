@@ -1,12 +1,11 @@
-use Rattle.std.proofs.Common.{[], ◌∷◌, ◌∙◌, ap, subst, sym}
-use Rattle.control_word.specs.Handles.{object_of}
-use Rattle.shared_handle.proofs.Goings.{does_none}
-use Rattle.scene_structures.specs.Hands.{Lists, node_in, stacked}
-use Rattle.scene_structures.specs.Puts.{PutsOnly, in_no_cell}
+use Rattle.std.proofs.Common.{[], ◌∷◌, sym, ap, ◌∙◌, subst}
+use Rattle.scene_structures.proofs.Prelude.{does_none, in_no_cell, Lists, node_in, object_of}
+use Rattle.scene_structures.proofs.Prelude.{PutsOnly, stacked}
 use Rattle.scene_structures.proofs.Adopting.{these_node}
 use Rattle.scene_structures.proofs.Detached.{hands_above, these_fewer, within_holds}
 use Rattle.scene_structures.proofs.Unlinks.{unlinks_same}
-use Rattle.scene_structures.proofs.Hands.{first_lists, hands_first, hands_kept, holds_first, lists_first, lists_under}
+use Rattle.scene_structures.proofs.Hands.{first_lists, hands_first, hands_kept, holds_first}
+use Rattle.scene_structures.proofs.Hands.{lists_first, lists_under}
 use Rattle.scene_structures.proofs.Leaving.{node_lives}
 use Rattle.scene_structures.proofs.Pushes.{same_left}
 use Rattle.scene_structures.proofs.Pruned.{hands_below}

@@ -1,14 +1,10 @@
-use Rattle.std.proofs.Common.{◌≡◌, Bool, sym, ap, subst, ◌∙◌}
-use Rattle.control_word.specs.Handles.{object_of}
-use Rattle.control_block.specs.Desks.{DeskNow, bag_of}
-use Rattle.scene_structures.specs.Detaches.{UnlinksIf}
-use Rattle.scene_structures.specs.Hands.{Lists, node_in}
+use Rattle.std.proofs.Common.{◌≡◌, Bool, sym, ap, ◌∙◌, subst, arith}
+use Rattle.scene_structures.proofs.Prelude.{allowance_of, bag_of, DeskNow, endings_of, Lists}
+use Rattle.scene_structures.proofs.Prelude.{node_in, object_of, UnlinksIf}
 use Rattle.scene_structures.proofs.Detached.{holds_kept, within_holds}
 use Rattle.scene_structures.proofs.Unlinks.{unlinked_latest, unlinks}
 use Rattle.scene_structures.proofs.Watches.{lists_of}
 use Rattle.scene_structures.proofs.Others.{others_both, others_counted, others_kept, others_none}
-use Rattle.std.proofs.Common.{arith}
-use Rattle.control_block.specs.Desks.{allowance_of, endings_of}
 use Rattle.scene_structures.proofs.Orders.{order_both, order_counted, order_none, order_still}
 use Rattle.scene_structures.proofs.tree.detaching.unlink.Goals as goal
 

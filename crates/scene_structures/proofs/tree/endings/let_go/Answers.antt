@@ -1,6 +1,4 @@
-use Rattle.control_word.specs.declared.model.handle.Kind.TheVariants.{Owner}
-use Rattle.shared_handle.proofs.Goings.{does_both}
-use Rattle.shared_handle.specs.Piles.{IsParting}
+use Rattle.scene_structures.proofs.Prelude.{does_both, IsParting, Owner}
 use Rattle.scene_structures.proofs.Latest.{held_both, keeps_rest, left_latest}
 use Rattle.scene_structures.proofs.Others.{others_both, others_left}
 use Rattle.scene_structures.proofs.Orders.{order_left}

@@ -1,8 +1,7 @@
-use Rattle.std.proofs.Common.{rules, refl, ◌∙◌, arith}
-use Rattle.shared_handle.proofs.Piles.{same_both, same_desk}
+use Rattle.std.proofs.Common.{◌+◌, refl, ◌∙◌, arith, rules}
+use Rattle.scene_structures.proofs.Prelude.{same_both, same_desk}
 use Rattle.scene_structures.proofs.RunsDown.{runs_none, runs_on, runs_over}
 use Rattle.scene_structures.proofs.Others.{others_both, others_none, others_round}
-use Rattle.std.proofs.Common.{◌+◌}
 use Rattle.scene_structures.proofs.tree.rounds.run_down.Goals as goal
 
 pub loop-pile-init : goal.loop-pile-init

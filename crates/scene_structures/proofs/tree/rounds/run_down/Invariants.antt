@@ -1,8 +1,6 @@
-use Rattle.std.proofs.Common.{◌≡◌, ◌≤◌, ◌+◌, ◌*◌, ◌-◌, length}
-use Rattle.control_block.specs.Desks.{IsSameDesk, bag_of}
-use Rattle.shared_handle.specs.Piles.{Carries}
-use Rattle.scene_structures.specs.Others.{KeepsOthers}
-use Rattle.scene_structures.specs.Teardowns.{HasRoomForEnds, MakesRounds, empty_slots}
+use Rattle.std.proofs.Common.{◌≡◌, ◌+◌, ◌-◌, ◌*◌, ◌≤◌, length}
+use Rattle.scene_structures.proofs.Prelude.{bag_of, Carries, empty_slots, HasRoomForEnds}
+use Rattle.scene_structures.proofs.Prelude.{IsSameDesk, KeepsOthers, MakesRounds}
 use Rattle.scene_structures.proofs.tree.rounds.run_down.Given as goal
 
 abbrev pub invariant-loop-pile : goal.invariant-loop-pile

@@ -1,10 +1,6 @@
-use Rattle.std.proofs.Common.{◌≡◌, ◌+◌, ◌++◌, ◌∙◌, [], ap, refl, sym, subst}
-use Rattle.std.proofs.lemmas.List.{append-nil}
-use Rattle.control_block.specs.Own.{IsSole}
-use Rattle.shared_handle.specs.Piles.{Drops}
-use Rattle.shared_handle.specs.declared.pile.Gone.{Gone}
+use Rattle.std.proofs.Common.{◌≡◌, ◌+◌, [], ◌++◌, sym, refl, ap, ◌∙◌, subst, append-nil}
+use Rattle.scene_structures.proofs.Prelude.{Drops, Gone, HasRoomForEnds, IsSole, TearsDown}
 use Rattle.shared_handle.specs.declared.pile.Gone.TheVariants.{Empty, Others}
-use Rattle.scene_structures.specs.Teardowns.{HasRoomForEnds, TearsDown}
 use Rattle.scene_structures.specs.declared.tree.ended.Ended.{Ended}
 use Rattle.scene_structures.proofs.RunsDown.{out_rest, out_root, tears_down}
 use Rattle.scene_structures.proofs.Settles.{none_left}

@@ -1,5 +1,4 @@
-use Rattle.std.proofs.Common.{◌++◌, ◌∙◌, length, ap, arith, ◌∷◌, []}
-use Rattle.std.proofs.lemmas.List.{length-append}
+use Rattle.std.proofs.Common.{[], ◌∷◌, ◌++◌, length, ap, ◌∙◌, arith, length-append}
 use Rattle.scene_structures.proofs.Slots.{turned, turned_none}
 use Rattle.scene_structures.proofs.tree.ended.Ended.into_values.Goals as goal
 

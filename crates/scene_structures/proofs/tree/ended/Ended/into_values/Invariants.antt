@@ -1,5 +1,5 @@
-use Rattle.std.proofs.Common.{◌≡◌, ◌++◌, ◌+◌, ◌≤◌, length, reverse, vec_capacity}
-use Rattle.scene_structures.specs.Teardowns.{filled_values}
+use Rattle.std.proofs.Common.{◌≡◌, ◌+◌, ◌≤◌, ◌++◌, reverse, length, vec_capacity}
+use Rattle.scene_structures.proofs.Prelude.{filled_values}
 use Rattle.scene_structures.proofs.tree.ended.Ended.into_values.Given as goal
 
 abbrev pub invariant-loop-slot : goal.invariant-loop-slot
