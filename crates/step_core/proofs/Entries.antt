@@ -1,28 +1,15 @@
 -- What acts of threads add to the history, as functions of the state.
-use Rattle.std.specs.Prelude.{ℕ, Bool, cond, ◌∷◌, Option, Some, None, option_map}
-use Rattle.control_word.specs.Histories.{entry, leads}
-use Rattle.control_word.specs.State.{Opening, State}
-use Rattle.step_threads.specs.declared.programs.act.Act.{Act}
-use Rattle.step_threads.specs.declared.programs.act.Act.TheVariants.{Make, Share, Downgrade, Lock, Put, Leave, Clear}
-use Rattle.step_threads.specs.declared.programs.act.Act.TheVariants.{Count}
-use Rattle.step_threads.specs.declared.programs.act.Act.TheVariants.{Expired, Read, FromThis, Alias, Move, Ask, Offer}
-use Rattle.step_threads.specs.declared.programs.act.Act.TheVariants.{Swap}
-use Rattle.step_threads.specs.declared.programs.act.Act.TheVariants.{Exchange, Load, Compare, Holds, Drop, OnShelf}
-use Rattle.step_table.specs.declared.memory.form.Form.{Form}
-use Rattle.step_threads.specs.declared.programs.call.CellName.{CellName}
-use Rattle.control_word.specs.declared.handle.Handle.{Handle}
-use Rattle.step_table.specs.declared.memory.ghost_history.AtomicStep.{AtomicStep}
+use Rattle.std.proofs.Common.{ℕ, Bool, cond, ◌∷◌, Some, None, Option, option_map}
+use Rattle.step_core.proofs.Prelude
+use Prelude.{Act, Alias, alias, aliased, Ask, AtomicStep, cell_of_name, CellName, Clear, Compare}
+use Prelude.{compare_of, Count, Downgrade, downgrade, Drop, entry, event_added, event_of, Exchange}
+use Prelude.{Expired, Form, FromThis, give, going, hand, Handle, History, Holds, inside}
+use Prelude.{is_enabled, is_there, leads, least, Leave, leave, Load, load_of, Lock, lock}
+use Prelude.{locked_pointer, Make, may_go, Move, Offer, offered, on_going, OnShelf, Opening, other}
+use Prelude.{owner_slot, place_in, Put, Read, read_atomic_step, same_of, Share, share, shelf_block}
+use Prelude.{shelf_step, slot_pointer, slot_value, Slots, State, Swap, swap_of, tell_count}
+use Prelude.{tell_expired, Telling}
 use Rattle.step_table.specs.declared.memory.ghost_history.AtomicStep.TheVariants as atomic_step
-use Rattle.step_table.specs.Contents.{compare_of, load_of, same_of, swap_of}
-use Rattle.step_threads.specs.Rows.{may_go}
-use Rattle.step_table.specs.AtomicSteps.{Telling, alias, aliased, downgrade, give, is_enabled, leave, lock}
-use Rattle.step_table.specs.AtomicSteps.{read_atomic_step, share}
-use Rattle.step_table.specs.AtomicSteps.{tell_count, tell_expired}
-use Rattle.step_table.specs.Registers.{Slots, inside, owner_slot, place_in, slot_pointer, slot_value}
-use Rattle.step_table.specs.GhostStates.{event_added, event_of}
-use Rattle.step_threads.specs.Shelving.{least, shelf_block, shelf_step}
-use Rattle.step_threads.specs.Entries.{History}
-use Rattle.step_threads.specs.Frames.{cell_of_name, going, hand, is_there, locked_pointer, offered, on_going, other}
 
 -- the history after an atomic step of desk d, if any
 abbrev pub does : Opening → ℕ → History → Option AtomicStep → History

@@ -1,19 +1,11 @@
 -- One more thread of a world at its start.
-use Rattle.std.proofs.Common.{◌≡◌, ℕ, zero, suc, ◌+◌, ◌<◌, ◌⊎◌, List, [], ◌∷◌, ◌++◌, length, map, take, get_or}
-use Rattle.std.proofs.Common.{refl, sym, ap, subst, ◌∙◌, inl, inr, ⊎_elim}
-use Rattle.std.specs.Prelude.{Some, slice_get}
-use Rattle.std.proofs.lemmas.List.{length_push, map_push, take_more}
-use Rattle.std.proofs.lemmas.Option.{same_Some}
-use Rattle.step_threads.specs.declared.programs.call.Actor.{Actor}
-use Rattle.step_threads.specs.declared.pending_call.PendingCall.{PendingCall}
-use Rattle.step_threads.specs.declared.pending_call.PendingCall.TheVariants.{Rest}
-use Rattle.step_threads.specs.declared.thread.Thread.{Thread}
-use Rattle.step_threads.specs.Frames.{frame_view}
-use Rattle.step_threads.specs.Programs.{Part, part_of}
-use Rattle.step_core.specs.Starts.{first_frame}
-use Rattle.step_table.specs.GhostStates.{GhostState}
-use Rattle.step_threads.specs.Threads.{FitsThread}
-use Rattle.step_core.specs.Worlds.{AllFit}
+use Rattle.std.proofs.Common.{◌≡◌, ℕ, zero, suc, ◌+◌, ◌<◌, ◌⊎◌, List, [], ◌∷◌, ◌++◌, map, length}
+use Rattle.std.proofs.Common.{get_or, take, slice_get, Some, sym, refl, ap, ◌∙◌, subst, inl, inr}
+use Rattle.std.proofs.Common.{⊎_elim}
+use Rattle.step_core.proofs.Prelude.{Actor, AllFit, first_frame, FitsThread, frame_view}
+use Rattle.step_core.proofs.Prelude.{GhostState, map_push, Part, part_of, PendingCall, Rest}
+use Rattle.step_core.proofs.Prelude.{same_Some, take_more, Thread}
+use Rattle.std.proofs.lemmas.List.{length_push}
 
 at_pushed : {A : Type 0} (xs : List A) (y a : A) (i : ℕ) → slice_get (xs ++ y ∷ []) i ≡ Some a → (slice_get xs i ≡ Some a) ⊎
     ((i ≡ length xs) × (y ≡ a))

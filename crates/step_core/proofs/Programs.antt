@@ -1,15 +1,13 @@
 -- What the tests of a program find.
-use Rattle.std.proofs.Common.{◌≡◌, ◌≢◌, ℕ, zero, suc, ◌+◌, ◌<◌, ◌≤◌, ◌&&◌, Bool, true, false, List, [], ◌∷◌, ◌++◌}
-use Rattle.std.proofs.Common.{length, map, take, get_or, refl, sym, ap, subst, ◌∙◌, ⊎_elim, arith}
-use Rattle.std.proofs.lemmas.Bool.{cases_eq}
-use Rattle.std.specs.Prelude.{All, IsTrue, Option, Some, sum_by}
-use Rattle.std.proofs.lemmas.List.{get_or-map, length-map, map_push, take-map, take_more}
-use Rattle.std.proofs.lemmas.List.Sums.{sum_by-take-le, sum_by_push}
-use Rattle.std.proofs.lemmas.List.Elements.{All-append, All-cons, All-head, All-nil, All-tail}
-use Rattle.step_threads.specs.declared.programs.call.Actor.{Actor}
-use Rattle.step_threads.specs.declared.programs.call.Call.{Call}
-use Rattle.control_word.specs.declared.model.handle.Kind.{Kind}
-use Rattle.step_threads.specs.Programs.{Asked, IsDeclared, IsWellNamed, Part, call_count, asked_list, names_of, part_of}
+use Rattle.std.proofs.Common.{◌≡◌, ℕ, zero, suc, ◌+◌, ◌<◌, ◌≤◌, Bool, true, false, ◌&&◌, ◌≢◌, List}
+use Rattle.std.proofs.Common.{[], ◌∷◌, ◌++◌, map, length, get_or, take, IsTrue, Some, All, sum_by}
+use Rattle.std.proofs.Common.{Option, sym, refl, ap, ◌∙◌, subst, ⊎_elim, arith}
+use Rattle.step_core.proofs.Prelude.{Actor, All-append, All-cons, All-head, All-nil, All-tail}
+use Rattle.step_core.proofs.Prelude.{Asked, asked_list, Call, call_count, cases_eq, get_or-map}
+use Rattle.step_core.proofs.Prelude.{IsDeclared, IsWellNamed, Kind, length-map, map_push, names_of}
+use Rattle.step_core.proofs.Prelude.{Part, part_of, sum_by-take-le, take_more}
+use Rattle.std.proofs.lemmas.List.{take-map}
+use Rattle.std.proofs.lemmas.List.Sums.{sum_by_push}
 
 not_true : IsTrue false → ⊥
 not_true t = cc

@@ -1,21 +1,19 @@
 -- At the start each block is in the store of the desk that it is given to.
-use Rattle.std.proofs.Common.{◌≡◌, ◌≢◌, ℕ, zero, suc, ◌+◌, ◌-◌, ◌*◌, ◌/◌, ◌<◌, ◌≤◌, ◌==◌, ◌⊎◌, Bool, false}
-use Rattle.std.proofs.Common.{cond, List, [], ◌∷◌, length, refl}
-use Rattle.std.proofs.Common.{sym, ap, ◌∙◌, inl, inr, ⊎_elim, arith, eq-eqb, ne_eqb}
-use Rattle.std.specs.Prelude.{nat_lt, IfOk, Result, Ok, Err}
-use Rattle.std.proofs.lemmas.Bool.{and_from, cases_eq, cases_lt, cond_both, cond-true, cond-false, le-ltb, lt-ltb}
+use Rattle.std.proofs.Common.{◌≡◌, ℕ, zero, suc, ◌+◌, ◌-◌, ◌*◌, ◌/◌, ◌<◌, ◌≤◌, Bool, false, cond}
+use Rattle.std.proofs.Common.{◌≢◌, ◌⊎◌, List, [], ◌∷◌, length, IfOk, nat_lt, ◌==◌, Ok, Err, Result}
+use Rattle.std.proofs.Common.{sym, refl, ap, ◌∙◌, inl, inr, ⊎_elim, arith, le-ltb, lt-ltb, eq-eqb}
+use Rattle.std.proofs.Common.{ne_eqb}
+use Rattle.step_core.proofs.Prelude.{and_from, cases_eq, cases_lt, cond-false, cond-true}
+use Rattle.step_core.proofs.Prelude.{cond_both, Extent, first_ghost, num, num_cons, Rest, Stored}
+use Rattle.step_core.proofs.Prelude.{stored, sum_by-cons}
 use Rattle.std.proofs.lemmas.List.Sorted.{sum_by-IsPermutation}
-use Rattle.std.proofs.lemmas.List.Sums.{sum_by-cons}
 use Rattle.std.proofs.lemmas.Nat.{le-div}
-use Rattle.std.proofs.Math.Nat.{div-lt_iff_lt-mul, div-mul-le_self, mul-le-mul_left, mul-suc, mul_comm, zero-mul}
+use Rattle.std.proofs.Math.Nat.{div-lt_iff_lt-mul, div-mul-le_self, mul-le-mul_left, mul-suc}
+use Rattle.std.proofs.Math.Nat.{mul_comm, zero-mul}
 use Rattle.std.specs.List.Sorted.{IsPermutation}
-use Rattle.control_word.proofs.lists.Tallies.{num, num_cons}
-use Rattle.control_word.specs.State.{Stored, all_stored, same_stored, stored}
-use Rattle.step_table.specs.declared.memory.extent.Extent.{Extent}
-use Rattle.step_threads.specs.declared.pending_call.PendingCall.TheVariants.{Rest}
+use Rattle.control_word.specs.State.{all_stored, same_stored}
 use Rattle.step_threads.specs.Actors.{Stocks, in_list}
 use Rattle.step_table.specs.Openings.{each_stock}
-use Rattle.step_core.specs.Starts.{first_ghost}
 use Rattle.step_threads.specs.Stocks.{StoreView as Blocks, from}
 
 -- numbers from f on

@@ -1,32 +1,23 @@
 -- A thread at its start fits the table.
+use Rattle.std.proofs.Common.{◌≡◌, ℕ, zero, suc, ◌+◌, ◌<◌, ◌≤◌, false, List, [], ◌∷◌, ◌++◌, length}
+use Rattle.std.proofs.Common.{get_or, replicate, slice_get, Some, None, All, Option, sym, refl, ap}
+use Rattle.std.proofs.Common.{◌∙◌, subst, inl, arith}
+use Rattle.step_core.proofs.Prelude
+use Prelude.{acts, All-append, All-cons, All-head, All-nil, All-tail, Asked, Call, CellName}
+use Prelude.{clearing, Ending, Extent, first_ghost, full, GhostState, hand, HasCell, HasCells}
+use Prelude.{HasFields, HoldsBag, Idle, IsDeclared, IsIn, IsPart, IsReady, IsWellNamed, Kind}
+use Prelude.{names_of, Nothing, numbered_tasks, NumberedHandle, other, Part, pending, plain, Shape}
+use Prelude.{Slot, slot_value, Slots, Task, tasks_from, TasksMayCome, View}
 use Rattle.step_threads.specs.declared.programs.act.Act.TheVariants as act
 use Rattle.step_threads.specs.declared.programs.act.ShelfAct.TheVariants as shelf
-use Rattle.std.proofs.Common.{◌≡◌, ℕ, zero, suc, ◌+◌, ◌<◌, ◌≤◌, false, List, [], ◌∷◌, ◌++◌, length, Option}
-use Rattle.std.proofs.Common.{get_or, replicate, refl, sym, ap, subst, ◌∙◌, inl, arith}
-use Rattle.std.specs.Prelude.{All, Some, None, slice_get}
 use Rattle.std.proofs.lemmas.List.{length-replicate}
-use Rattle.std.proofs.lemmas.List.Elements.{All-append, All-cons, All-head, All-nil, All-tail}
-use Rattle.control_word.specs.declared.model.handle.NumberedHandle.{NumberedHandle}
-use Rattle.control_word.specs.declared.model.view.Pending.TheVariants.{Idle}
-use Rattle.control_word.specs.declared.model.view.View.{View}
-use Rattle.control_word.specs.declared.shape.Shape.{Shape}
-use Rattle.step_threads.specs.declared.programs.act.Task.{Task}
-use Rattle.step_threads.specs.declared.programs.call.Call.{Call}
 use Rattle.step_threads.specs.declared.programs.call.Call.TheVariants as call
-use Rattle.step_threads.specs.declared.programs.call.CellName.{CellName}
 use Rattle.step_threads.specs.declared.programs.call.CellName.TheVariants as cell
-use Rattle.control_word.specs.declared.model.handle.Kind.{Kind}
 use Rattle.step_threads.specs.declared.programs.call.Name.{Name}
-use Rattle.step_threads.specs.declared.ending.Ending.{Ending}
-use Rattle.step_table.specs.declared.memory.extent.Extent.{Extent}
-use Rattle.step_table.specs.declared.slots.slot.Slot.{Slot}
-use Rattle.step_threads.specs.Acts.{acts, clearing, numbered_tasks, tasks_from}
-use Rattle.step_threads.specs.Frames.{HasCell, IsNamed, IsReady, TasksMayCome, hand, other}
-use Rattle.step_table.specs.Registers.{HoldsBag, IsSlot, Slots, full, owns, plain, slot_value}
-use Rattle.step_threads.specs.Programs.{Asked, HasCells, IsDeclared, IsNameFound, IsIn, IsPart, IsWellNamed, Part, as_in, either, names_of, owner_asked}
-use Rattle.step_threads.specs.Programs.{through, weak_asked}
-use Rattle.step_core.specs.Starts.{HasFields, first_ghost}
-use Rattle.step_table.specs.GhostStates.{Nothing, GhostState, pending}
+use Rattle.step_threads.specs.Frames.{IsNamed}
+use Rattle.step_table.specs.Registers.{IsSlot, owns}
+use Rattle.step_threads.specs.Programs.{IsNameFound, as_in, either, owner_asked, through}
+use Rattle.step_threads.specs.Programs.{weak_asked}
 use Rattle.step_table.proofs.tables.Start.{fresh_at}
 
 -- empty slots

@@ -1,48 +1,27 @@
 -- A step of one thread keeps all of them fitting the table.
-use Rattle.std.proofs.Common.{◌≡◌, ◌≢◌, ◌==◌, false, All, ◌≤◌, ℕ, ◌<◌, List, [], ◌∷◌, length, set, get_or, refl}
-use Rattle.std.proofs.Common.{sym, ap, subst, ◌∙◌, ⊎_elim, arith}
-use Rattle.std.specs.Prelude.{Option, None, Some, is_some, slice_get, map}
+use Rattle.std.proofs.Common.{◌≡◌, ℕ, ◌<◌, ◌≤◌, false, ◌≢◌, List, [], ◌∷◌, map, length, get_or}
+use Rattle.std.proofs.Common.{set, is_some, ◌==◌, slice_get, Some, None, All, Option, sym, refl}
+use Rattle.std.proofs.Common.{ap, ◌∙◌, subst, ⊎_elim, arith}
+use Rattle.step_core.proofs.Prelude
+use Prelude.{abstraction, Act, All-head, AllFit, answered, AtomicStep, Block, Brought, cases_eq}
+use Prelude.{cases_lt, Checking, Clearing, cond_both, Empty, EndsAll, Failing, false≢true}
+use Prelude.{FitsThread, Frame, frame_by, frame_of, frame_view, FrameView, Full, FundsAreHeld}
+use Prelude.{get_or-map, get_or_past, ghost_after, ghost_after_step, ghost_by, GhostState, Giving}
+use Prelude.{HasBegun, HasCell, HasStepped, HoldsBag, Idle, is_loading, IsAlone, IsInShape}
+use Prelude.{IsMatched, IsNext, IsProperPendingCall, IsSeen, IsStill, IsSwap, IsTidy, IsTried}
+use Prelude.{IsUnderWay, Kind, kind_in_state, Lacking, length-map, Locking, Making, Matched}
+use Prelude.{model_state, new_of, NextActLocks, Nothing, nowhere, owes, owing_for, owing_funds}
+use Prelude.{Pending, pending, pending_call_by, pending_call_of, PendingCall, PendingCallFits}
+use Prelude.{Place, Refill, Refilling, Rest, Returning, same_Some, Saw, Shape, slice_get_cases}
+use Prelude.{Slot, Slots, spot, Step, step_at, step_of, Stepped, Steps, TableInvariant, Task}
+use Prelude.{task_at, Thread, thread_frame, thread_pending, Turning, used_up, View, WorldState}
 use Rattle.std.proofs.Math.ListN.{drop_of_length-le}
-use Rattle.std.proofs.lemmas.List.{get_or-map, get_or_past, length-map, map-set}
-use Rattle.std.proofs.lemmas.Bool.{cases_eq, cases_lt, cond_both, false≢true}
-use Rattle.std.proofs.lemmas.List.Elements.{All-drop, All-head}
-use Rattle.control_word.specs.declared.shape.Shape.{Shape}
-use Rattle.std.proofs.lemmas.Option.{same_Some, slice_get-get_or, slice_get_cases}
-use Rattle.step_threads.specs.declared.programs.act.Task.{Task}
-use Rattle.step_threads.specs.declared.frame.Frame.{Frame}
-use Rattle.step_table.specs.declared.slots.slot.Slot.{Slot}
-use Rattle.step_table.specs.declared.slots.slot.Slot.TheVariants.{Empty, Full}
-use Rattle.step_table.specs.declared.cell_steps.refill.Stage.TheVariants.{Turning, Checking, Lacking, Refilling, Failing}
-use Rattle.control_word.specs.declared.model.handle.Kind.{Kind}
-use Rattle.control_word.specs.declared.place.Block.{Block}
-use Rattle.control_word.specs.declared.place.Place.{Place}
-use Rattle.control_word.specs.declared.model.view.Pending.{Pending}
-use Rattle.control_word.specs.declared.model.view.Pending.TheVariants.{Idle}
-use Rattle.control_word.specs.declared.model.view.View.{View}
-use Rattle.control_word.specs.Layout.{spot}
-use Rattle.control_word.specs.Views.{owes, used_up}
+use Rattle.std.proofs.lemmas.List.{map-set}
+use Rattle.std.proofs.lemmas.List.Elements.{All-drop}
+use Rattle.std.proofs.lemmas.Option.{slice_get-get_or}
 use Rattle.control_word.specs.Words.{slot as word_slot}
-use Rattle.step_threads.specs.declared.programs.act.Act.{Act}
-use Rattle.step_table.specs.CellAtomicSteps.{kind_in_state, owing_funds}
-use Rattle.step_table.specs.Contents.{owing_for}
-use Rattle.step_table.specs.Registers.{HoldsBag, Slots}
-use Rattle.step_table.specs.declared.memory.ghost_history.AtomicStep.{AtomicStep}
-use Rattle.step_threads.specs.declared.said.Stepped.{Stepped}
-use Rattle.step_threads.specs.declared.pending_call.PendingCall.{PendingCall}
-use Rattle.step_threads.specs.declared.pending_call.PendingCall.TheVariants.{Rest, Making, Locking, Giving, Brought, Saw, Matched, Refill, Returning, Clearing}
-use Rattle.step_threads.specs.declared.thread.Thread.{Thread}
-use Rattle.step_threads.specs.Actors.{PendingCallFits}
-use Rattle.step_threads.specs.Frames.{FrameStill, HasCell, FrameView, new_of, task_at, todo, frame_view}
-use Rattle.step_threads.specs.AbstractStates.{nowhere, frame_of}
-use Rattle.step_threads.specs.NextSteps.{answered, pending_call_by, step_at, ghost_after, ghost_by, frame_by}
-use Rattle.step_threads.specs.Steps.{Step}
-use Rattle.step_table.specs.GhostStates.{TableInvariant, Nothing, GhostState, ghost_after_step, pending, model_state}
-use Rattle.step_threads.specs.Endings.{EndsAll}
-use Rattle.step_threads.specs.Threads.{FitsThread, HasStepped, IsNext}
-use Rattle.step_core.specs.Turning.{HasBegun, IsAlone, IsInShape, NextActLocks, IsMatched, FundsAreHeld, IsProperPendingCall, IsSeen, IsStill, IsSwap, IsTried}
-use Rattle.step_core.specs.Turning.{IsUnderWay, OthersOwe}
-use Rattle.step_core.specs.Told.{IsTidy}
-use Rattle.step_core.specs.Worlds.{AllFit, WorldState, Steps, pending_call_of, is_loading, abstraction, step_of, thread_pending, thread_frame}
+use Rattle.step_threads.specs.Frames.{FrameStill, todo}
+use Rattle.step_core.specs.Turning.{OthersOwe}
 use Rattle.step_threads.proofs.Frames.{todo_at}
 use Rattle.step_threads.proofs.holding.PendingCalls.{pending_call_others}
 use Rattle.step_threads.proofs.holding.Others.{ends_others, stocks_others}

@@ -1,22 +1,12 @@
 -- Runs follow the statements of all threads.
-use Rattle.std.proofs.Common.{◌≡◌, ◌≢◌, ℕ, ◌-◌, List, [], ◌∷◌, ◌++◌, append_assoc, refl, sym, ap, subst, ◌∙◌, ⊎_elim, inl}
-use Rattle.std.proofs.Common.{inr}
-use Rattle.std.specs.Prelude.{Option}
-use Rattle.std.proofs.lemmas.List.{append-nil}
-use Rattle.std.proofs.lemmas.Bool.{cases_eq}
-use Rattle.control_word.specs.Histories.{leads}
-use Rattle.step_table.specs.declared.memory.extent.Extent.{Extent}
-use Rattle.step_table.specs.Openings.{opening}
-use Rattle.step_threads.specs.declared.said.Said.{Said}
-use Rattle.step_threads.specs.Frames.{FrameView}
-use Rattle.step_threads.specs.TraceLabels.{DoesNext, GoesThrough, onto, put_on, spoken}
-use Rattle.step_threads.specs.Entries.{History}
-use Rattle.step_threads.specs.AbstractStates.{AbstractState, frame_of}
-use Rattle.step_core.specs.declared.trace.TraceStep.{TraceStep}
-use Rattle.step_core.specs.Following.{ActsNext, Follows, PassesQuietly, lines_of, no_worth, said_by, spoken_by}
-use Rattle.step_core.specs.Runs.{IsRun}
-use Rattle.step_core.specs.WorldStates.{WorldState, abstraction}
-use Rattle.step_core.specs.Worlds.{Advances}
+use Rattle.std.proofs.Common.{◌≡◌, ℕ, ◌-◌, ◌≢◌, List, [], ◌∷◌, ◌++◌, Option, sym, refl, ap, ◌∙◌}
+use Rattle.std.proofs.Common.{subst, inl, inr, ⊎_elim, append_assoc, append-nil}
+use Rattle.step_core.proofs.Prelude.{abstraction, AbstractState, ActsNext, Advances, cases_eq}
+use Rattle.step_core.proofs.Prelude.{DoesNext, Extent, frame_of, FrameView, History, IsRun, leads}
+use Rattle.step_core.proofs.Prelude.{no_worth, opening, PassesQuietly, put_on, Said, said_by}
+use Rattle.step_core.proofs.Prelude.{spoken, spoken_by, TraceStep, WorldState}
+use Rattle.step_threads.specs.TraceLabels.{GoesThrough, onto}
+use Rattle.step_core.specs.Following.{Follows, lines_of}
 
 -- the lines of one step more
 lines_more : (xs : List TraceStep) (x : TraceStep) → lines_of (xs ++ x ∷ []) ≡ lines_of xs ++ spoken_by (x.actor - 1) (said_by x.stepped)

@@ -1,32 +1,17 @@
 -- A step that is an act, one that is none, and the steps of an object's end.
-use Rattle.std.proofs.Common.{◌≡◌, ℕ, ◌<◌, ◌==◌, Bool, false, cond, List, ◌∷◌, length, set, refl, sym, ap, subst, ◌∙◌, inl, inr}
-use Rattle.std.proofs.Common.{arith}
-use Rattle.std.specs.Prelude.{Option, Some, None}
-use Rattle.std.proofs.lemmas.Bool.{cond-false, cond_both, eqb-true, eqb-false}
-use Rattle.control_word.specs.declared.model.event.Event.{Event}
+use Rattle.std.proofs.Common.{◌≡◌, ℕ, ◌<◌, Bool, false, cond, List, ◌∷◌, length, set, ◌==◌, Some}
+use Rattle.std.proofs.Common.{None, Option, sym, refl, ap, ◌∙◌, subst, inl, inr, arith, eqb-true}
+use Rattle.step_core.proofs.Prelude
+use Prelude.{abstraction, Ahead, ahead, ahead_of, AnEnd, atomic_step_is_event, Clearing}
+use Prelude.{cond-false, cond_both, DoesAhead, DoesNext, empties, empty, Ending, ends_on, entry}
+use Prelude.{eqb-false, Event, frame_of, FrameView, ghost_after, GhostState, hand, is_full}
+use Prelude.{IsEndingAtStage, kind_of_member, Member, model_state, no_worth, Nothing}
+use Prelude.{NumberedHandle, object_of_block, Performs, put_on, Rest, said_by, silent, slot_of}
+use Prelude.{slot_pointer, spoken, spoken_by, staged, Step, Stepped, stepped, TableInvariant}
+use Prelude.{TraceLabel, weak, with_endings, within, word_of_cell, world_state_by, WorldState}
 use Rattle.control_word.specs.declared.model.event.Event.TheVariants as event
-use Rattle.control_word.specs.declared.model.handle.NumberedHandle.{NumberedHandle}
-use Rattle.control_word.specs.Handles.{empty}
-use Rattle.control_word.specs.Histories.{entry}
-use Rattle.control_word.specs.State.{kind_of_member, weak}
-use Rattle.control_word.specs.declared.site.Site.TheVariants.{Member}
 use Rattle.step_table.specs.declared.memory.ghost_history.AtomicStep.TheVariants as atomic_step
-use Rattle.step_table.specs.Cells.{word_of_cell}
-use Rattle.step_table.specs.Contents.{slot_of}
-use Rattle.step_table.specs.Registers.{is_full, slot_pointer}
-use Rattle.step_table.specs.GhostStates.{TableInvariant, Nothing, GhostState, object_of_block, model_state}
-use Rattle.step_threads.specs.declared.ending.Ending.{Ending}
-use Rattle.step_threads.specs.declared.pending_call.PendingCall.TheVariants.{Rest, Clearing}
-use Rattle.step_threads.specs.declared.said.Stepped.{Stepped}
 use Rattle.step_threads.specs.declared.said.Stepped.TheVariants as answered
-use Rattle.step_threads.specs.Frames.{FrameView, hand}
-use Rattle.step_threads.specs.TraceLabels.{Ahead, AnEnd, DoesNext, DoesAhead, TraceLabel, ahead, ahead_of, put_on, spoken}
-use Rattle.step_threads.specs.Endings.{IsEndingAtStage, staged}
-use Rattle.step_threads.specs.AbstractStates.{frame_of}
-use Rattle.step_threads.specs.NextSteps.{atomic_step_is_event, stepped, ghost_after}
-use Rattle.step_threads.specs.Steps.{Step, empties, ends_on, silent, with_endings, within}
-use Rattle.step_core.specs.Following.{Performs, no_worth, said_by, spoken_by}
-use Rattle.step_core.specs.Worlds.{WorldState, abstraction, world_state_by}
 use Rattle.step_core.proofs.turning.Ending.{same_frames, abstraction_as, frame_after}
 use Rattle.step_core.proofs.turning.Members.{seen_object, told_member}
 

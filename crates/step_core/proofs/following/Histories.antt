@@ -1,22 +1,13 @@
 -- What acts on cells and on the shelf do to the history is what their replies say.
-use Rattle.step_threads.specs.declared.programs.act.ShelfAct.TheVariants.{Shelve, Unshelve}
-use Rattle.step_threads.specs.Shelving.{shelf_step}
-use Rattle.std.proofs.Common.{◌≡◌, ◌&&◌, ℕ, Bool, true, false, cond, refl}
-use Rattle.std.specs.Prelude.{Option, Some, None, option_map}
-use Rattle.control_word.specs.declared.model.event.Event.{Event}
+use Rattle.std.proofs.Common.{◌≡◌, ℕ, Bool, true, false, cond, ◌&&◌, Some, None, Option}
+use Rattle.std.proofs.Common.{option_map, refl}
+use Rattle.step_core.proofs.Prelude.{Block, came, cell_of_name, CellName, Event, held_in, History}
+use Rattle.step_core.proofs.Prelude.{is_expected, leads, load_of, Nothing, on_going, Opening}
+use Rattle.step_core.proofs.Prelude.{put_on, same_of, shelf_step, Shelve, slot_value, Slots, State}
+use Rattle.step_core.proofs.Prelude.{swap_of, Unshelve, Where}
 use Rattle.control_word.specs.declared.model.event.Event.TheVariants as event
-use Rattle.control_word.specs.declared.place.Block.{Block}
-use Rattle.control_word.specs.Histories.{leads}
-use Rattle.control_word.specs.State.{Opening, State}
-use Rattle.step_table.specs.Contents.{held_in, load_of, same_of, swap_of}
-use Rattle.step_table.specs.Registers.{Slots, slot_value}
-use Rattle.step_table.specs.GhostStates.{Nothing}
-use Rattle.step_threads.specs.declared.programs.call.CellName.{CellName}
-use Rattle.step_threads.specs.Frames.{cell_of_name, on_going}
-use Rattle.step_threads.specs.TraceLabels.{IsLoadEvent, IsSameEvent, IsSwapEvent, Where, put_on}
-use Rattle.step_threads.specs.Entries.{History, is_expected}
+use Rattle.step_threads.specs.TraceLabels.{IsLoadEvent, IsSameEvent, IsSwapEvent}
 use Rattle.step_core.proofs.Entries.{does, history_asks, loads, history_swaps}
-use Rattle.step_threads.specs.AbstractStates.{came}
 
 module _ (z : Opening) (d : ℕ) (h : History) (l : Slots) where
   abbrev now : State

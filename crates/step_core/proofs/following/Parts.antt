@@ -1,21 +1,12 @@
 -- What stores and pointers tell in a state, as replies do.
-use Rattle.std.proofs.Common.{◌≡◌, ℕ, ◌==◌, Bool, true, false, cond, List, [], ◌∷◌, refl}
-use Rattle.std.specs.Prelude.{Option, Some, None, option_map}
-use Rattle.std.specs.List.{filter}
-use Rattle.control_word.specs.declared.model.event.Event.{Event}
+use Rattle.std.proofs.Common.{◌≡◌, ℕ, Bool, true, false, cond, List, [], ◌∷◌, ◌==◌, Some, None}
+use Rattle.std.proofs.Common.{Option, option_map, refl}
+use Rattle.step_core.proofs.Prelude
+use Prelude.{copies, ended_by, Event, event_of, field_of, filter, give, Handle, handle_of}
+use Prelude.{is_enabled, is_last, IsLeaveEvent, Kind, least, leave_as, leaves_as, lesser, Nothing}
+use Prelude.{On, on, owned, Owner, owner, place_at, share_as, State, Stored, Weak, weak_of}
 use Rattle.control_word.specs.declared.model.event.Event.TheVariants as event
-use Rattle.control_word.specs.declared.model.handle.Kind.{Kind}
-use Rattle.control_word.specs.declared.model.handle.Kind.TheVariants.{Owner, Weak}
-use Rattle.control_word.specs.Events.{place_at}
-use Rattle.control_word.specs.Handles.{owner, weak_of}
-use Rattle.control_word.specs.State.{State, Stored}
-use Rattle.control_word.specs.declared.handle.Handle.{Handle}
-use Rattle.step_table.specs.AtomicSteps.{field_of, give, handle_of, is_enabled, is_last, leave_as, on, owned, share_as}
-use Rattle.step_table.specs.GhostStates.{Nothing, event_of}
-use Rattle.step_threads.specs.TraceLabels.{IsLeaveEvent, On, copies, leaves_as}
-use Rattle.step_threads.specs.Entries.{least, lesser}
 use Rattle.step_core.proofs.Entries.{giving}
-use Rattle.step_threads.specs.AbstractStates.{ended_by}
 
 abbrev pub Events : Type 0
 Events = Option (Event Nothing)

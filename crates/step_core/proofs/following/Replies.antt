@@ -1,36 +1,25 @@
 -- What acts make of the history is what the replies that they get in the state say.
-use Rattle.step_threads.specs.declared.programs.act.ShelfAct.TheVariants.{Shelve, Unshelve}
-use Rattle.std.proofs.Common.{◌≡◌, ℕ, true, false, cond, List, refl, ap}
-use Rattle.std.specs.Prelude.{Option, Some, None, not, option_map}
-use Rattle.control_word.specs.declared.model.event.Event.{Event}
+use Rattle.std.proofs.Common.{◌≡◌, ℕ, true, false, cond, not, List, Some, None, Option, option_map}
+use Rattle.std.proofs.Common.{refl, ap}
+use Rattle.step_core.proofs.Prelude
+use Prelude.{Act, Alias, alias, aliased, Ask, AtomicStep, cell_of_name, Clear, Compare, compare_of}
+use Prelude.{copies, copy, Count, Downgrade, downgrade, Drop, Event, event_added, event_of}
+use Prelude.{Exchange, Expired, field_of, Form, frame_after_act, FrameView, FromThis, give, hand}
+use Prelude.{Handle, held_in, History, Holds, inside, is_expired, is_last, is_there, IsMakeEvent}
+use Prelude.{leads, least, Leave, leave, Load, load_of, Lock, lock, Make, may_go, Move, no_worth}
+use Prelude.{Nothing, Offer, offered, OnShelf, Opening, other, Owner, owner_slot, place_at}
+use Prelude.{place_in, Put, put_on, Read, read_atomic_step, reply_in, row_in, Share, share, Shelve}
+use Prelude.{slot_pointer, slot_value, State, Swap, Task, tell_count, tell_expired, Telling}
+use Prelude.{Unshelve, Weak, weak_slot, went}
 use Rattle.control_word.specs.declared.model.event.Event.TheVariants as event
-use Rattle.control_word.specs.declared.model.handle.Kind.TheVariants.{Owner, Weak}
-use Rattle.control_word.specs.Events.{place_at}
-use Rattle.control_word.specs.Histories.{leads}
-use Rattle.control_word.specs.State.{Opening, State}
-use Rattle.step_table.specs.declared.memory.form.Form.{Form}
-use Rattle.control_word.specs.declared.handle.Handle.{Handle}
-use Rattle.step_table.specs.declared.memory.ghost_history.AtomicStep.{AtomicStep}
-use Rattle.step_table.specs.Contents.{compare_of, held_in, load_of}
-use Rattle.step_table.specs.AtomicSteps.{Telling, alias, aliased, downgrade, field_of, give, is_expired, is_last, leave, lock, read_atomic_step, share}
-use Rattle.step_table.specs.AtomicSteps.{tell_count}
-use Rattle.step_table.specs.AtomicSteps.{tell_expired}
-use Rattle.step_table.specs.Registers.{inside, owner_slot, place_in, slot_pointer, slot_value, weak_slot}
-use Rattle.step_table.specs.GhostStates.{Nothing, event_added, event_of}
-use Rattle.step_threads.specs.declared.programs.act.Act.{Act}
-use Rattle.step_threads.specs.declared.programs.act.Act.TheVariants.{Make, Share, Downgrade, Lock, Put, Leave, Clear, Count, Expired, Read, FromThis, Alias}
-use Rattle.step_threads.specs.declared.programs.act.Act.TheVariants.{Move, Ask, Offer, Swap, Exchange, Load, Compare, Holds, Drop, OnShelf}
-use Rattle.step_threads.specs.declared.programs.act.Task.{Task}
-use Rattle.step_threads.specs.Frames.{FrameView, cell_of_name, hand, is_there, offered, other}
-use Rattle.step_threads.specs.TraceLabels.{IsMakeEvent, copies, copy, put_on}
-use Rattle.step_threads.specs.Entries.{History, least}
 use Rattle.step_core.proofs.Entries.{acted, does, giving, make_step}
-use Rattle.step_threads.specs.Rows.{Found, frame_after_act, may_go}
-use Rattle.step_threads.specs.AbstractStates.{reply_in, row_in, went}
-use Rattle.step_core.specs.Following.{no_worth}
-use Rattle.step_core.proofs.following.Parts.{counting, expiring, gives, leave_makes, leaving_event, left}
-use Rattle.step_core.proofs.following.Parts.{locking, none_stored, on_pointer, read_makes, reading, shared, this_makes}
-use Rattle.step_core.proofs.following.Histories.{load_history, load_makes, same_event, same_history, same_makes, shelve_history, shelving, swap_event, swap_history, swap_makes}
+use Rattle.step_threads.specs.Rows.{Found}
+use Rattle.step_core.proofs.following.Parts.{counting, expiring, gives, leave_makes, leaving_event}
+use Rattle.step_core.proofs.following.Parts.{left, locking, none_stored, on_pointer, read_makes}
+use Rattle.step_core.proofs.following.Parts.{reading, shared, this_makes}
+use Rattle.step_core.proofs.following.Histories.{load_history, load_makes, same_event}
+use Rattle.step_core.proofs.following.Histories.{same_history, same_makes, shelve_history}
+use Rattle.step_core.proofs.following.Histories.{shelving, swap_event, swap_history, swap_makes}
 use Rattle.step_core.proofs.following.Histories.{unshelve_history}
 
 -- where a thread goes doesn't depend on the number that a count is told

@@ -1,36 +1,18 @@
 -- A step on the way of an act says nothing.
-use Rattle.std.proofs.Common.{◌≡◌, ℕ, ◌==◌, true, cond, List, refl, sym, ◌∙◌}
-use Rattle.std.specs.Prelude.{Option, Some, None, is_some}
-use Rattle.std.proofs.lemmas.Bool.{cond_both, false≢true}
-use Rattle.control_word.specs.declared.packed.cell.CellWord.{CellWord}
-use Rattle.control_word.specs.declared.model.handle.Kind.{Kind}
-use Rattle.control_word.specs.declared.place.Block.{Block}
-use Rattle.control_word.specs.Packing.{cell_bits}
-use Rattle.control_word.specs.declared.site.Site.{Site}
+use Rattle.std.proofs.Common.{◌≡◌, ℕ, true, cond, List, is_some, ◌==◌, Some, None, Option, sym}
+use Rattle.std.proofs.Common.{refl, ◌∙◌}
+use Rattle.step_core.proofs.Prelude
+use Prelude.{Act, Alias, Ask, asks, begins, Block, brings, cell_bits, cell_of_name, CellName}
+use Prelude.{CellWord, Checking, Clear, Compare, Compared, compared_in, comparing, cond_both}
+use Prelude.{Count, Downgrade, Drop, Exchange, Expired, Failing, false≢true, first, FrameView}
+use Prelude.{FromThis, GhostState, Giving, Going, going, Handle, Holds, inside, is_acting}
+use Prelude.{is_enabled, is_spent, is_there, Kind, kind_at, Lacking, least, Leave, Load, Lock}
+use Prelude.{lock, locked_pointer, looks, Make, model_state, Move, Offer, on, on_going, OnShelf}
+use Prelude.{owner_word, Put, Read, Refill, Refilling, refills_on, Rest, same_value, Saw, seen}
+use Prelude.{sends, Share, silent, Site, slot_pointer, Stage, Step, step_of_act, step_of_look}
+use Prelude.{step_of_swap, Swap, Task, trying, Turning, within, word_of_cell}
 use Rattle.step_table.specs.declared.cell_steps.cell_step.CellStep.TheVariants as cell_step
-use Rattle.step_table.specs.declared.cell_steps.cell_step.Compared.{Compared}
-use Rattle.control_word.specs.declared.handle.Handle.{Handle}
 use Rattle.step_table.specs.declared.memory.ghost_history.AtomicStep.TheVariants as atomic_step
-use Rattle.step_table.specs.declared.cell_steps.refill.Stage.{Stage}
-use Rattle.step_table.specs.declared.cell_steps.refill.Stage.TheVariants.{Turning, Checking, Lacking, Refilling, Failing}
-use Rattle.step_table.specs.Cells.{word_of_cell}
-use Rattle.step_table.specs.Contents.{compared_in, is_spent, same_value, seen}
-use Rattle.step_table.specs.AtomicSteps.{is_enabled, lock, on, owner_word}
-use Rattle.step_table.specs.Registers.{inside, slot_pointer}
-use Rattle.step_table.specs.GhostStates.{GhostState, model_state}
-use Rattle.step_threads.specs.declared.programs.act.Act.{Act}
-use Rattle.step_threads.specs.declared.programs.act.Act.TheVariants.{Make, Share, Downgrade, Lock, Put, Leave, Clear, Count, Expired, Read, FromThis, Alias}
-use Rattle.step_threads.specs.declared.programs.act.Act.TheVariants.{Move, Ask}
-use Rattle.step_threads.specs.declared.programs.act.Act.TheVariants.{Offer, Swap, Exchange, Load, Compare, Holds, Drop, OnShelf}
-use Rattle.step_threads.specs.declared.programs.act.Task.{Task}
-use Rattle.step_threads.specs.declared.programs.call.CellName.{CellName}
-use Rattle.step_threads.specs.declared.pending_call.PendingCall.TheVariants.{Rest, Giving, Refill, Saw}
-use Rattle.step_threads.specs.Frames.{Going, FrameView, cell_of_name, comparing, going, is_there, locked_pointer, on_going}
-use Rattle.step_threads.specs.Entries.{least}
-use Rattle.step_threads.specs.Programs.{kind_at}
-use Rattle.step_threads.specs.NextSteps.{first}
-use Rattle.step_threads.specs.Steps.{Step, step_of_act, asks, begins, brings, looks, refills_on, step_of_look, sends, silent, step_of_swap, trying, within}
-use Rattle.step_core.specs.Turning.{is_acting}
 use Rattle.step_core.proofs.turning.Swapping.{no_more}
 
 module _ (v : GhostState) (d : ℕ) (w : FrameView) (k : ℕ) (ts : List Task) where

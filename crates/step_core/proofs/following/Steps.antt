@@ -1,30 +1,17 @@
 -- Each step is an act, or on the way of one.
-use Rattle.std.proofs.Common.{◌≡◌, ◌≢◌, ℕ, ◌<◌, Bool, true, false, List, [], ◌∷◌, length, set, refl, sym, ap, subst, ◌∙◌}
-use Rattle.std.proofs.Common.{⊎_elim, inl}
+use Rattle.std.proofs.Common.{◌≡◌, ℕ, ◌<◌, Bool, true, false, ◌≢◌, List, [], ◌∷◌, length, set}
+use Rattle.std.proofs.Common.{Some, Option, option_map, sym, refl, ap, ◌∙◌, subst, inl, ⊎_elim}
 use Rattle.std.proofs.Common.{get_or-set_same}
-use Rattle.std.specs.Prelude.{Option, Some, option_map}
-use Rattle.std.proofs.lemmas.Bool.{cond-false, cond-true}
-use Rattle.step_table.specs.Registers.{is_full, slot_pointer}
-use Rattle.step_table.specs.Openings.{opening}
-use Rattle.step_table.specs.Refills.{RefillFits}
-use Rattle.step_table.specs.GhostStates.{model_state}
-use Rattle.step_threads.specs.declared.programs.act.Act.TheVariants.{Leave}
-use Rattle.step_threads.specs.declared.programs.act.Task.{Task}
-use Rattle.step_threads.specs.declared.ending.Ending.{Ending}
-use Rattle.step_threads.specs.declared.pending_call.PendingCall.{PendingCall}
-use Rattle.step_threads.specs.declared.pending_call.PendingCall.TheVariants.{Rest, Making, Locking, Giving, Brought, Saw, Matched, Refill, Returning, Clearing}
-use Rattle.step_threads.specs.declared.said.Stepped.{Stepped}
-use Rattle.step_threads.specs.declared.said.Stepped.TheVariants.{Waited}
-use Rattle.step_threads.specs.Frames.{hand}
-use Rattle.step_threads.specs.TraceLabels.{Ahead, AnAct, DoesAhead, ahead, ahead_of}
-use Rattle.step_threads.specs.Endings.{EndsAll}
-use Rattle.step_threads.specs.AbstractStates.{AbstractState, nowhere, reply_in, frame_of, went}
-use Rattle.step_threads.specs.NextSteps.{at_rest, emptied, first, step_at, stepped, ghost_after, waits}
-use Rattle.step_threads.specs.Steps.{Step, empties, ends_on, refills_on, returns, silent as silently}
-use Rattle.step_threads.specs.Threads.{IsClearingMember}
-use Rattle.step_core.specs.Following.{Performs, no_worth}
-use Rattle.step_core.specs.Turning.{HasBegun, FundsAreHeld, IsTried, is_acting}
-use Rattle.step_core.specs.Worlds.{WorldState, Steps, pending_call_of, abstraction, world_state_by, step_of}
+use Rattle.step_core.proofs.Prelude
+use Prelude.{abstraction, AbstractState, Ahead, ahead, ahead_of, AnAct, at_rest, Brought, Clearing}
+use Prelude.{cond-false, cond-true, DoesAhead, emptied, empties, Ending, ends_on, EndsAll, first}
+use Prelude.{frame_of, FundsAreHeld, ghost_after, Giving, hand, HasBegun, is_acting, is_full}
+use Prelude.{IsClearingMember, IsTried, Leave, Locking, Making, Matched, model_state, no_worth}
+use Prelude.{nowhere, opening, pending_call_of, PendingCall, Performs, Refill, RefillFits}
+use Prelude.{refills_on, reply_in, Rest, Returning, returns, Saw, slot_pointer, Step, step_at}
+use Prelude.{step_of, Stepped, stepped, Steps, Task, Waited, waits, went, world_state_by}
+use Prelude.{WorldState}
+use Rattle.step_threads.specs.Steps.{silent as silently}
 use Rattle.step_core.proofs.following.Ending.{trace_label_of, ends_next, made, passed, takes_out}
 use Rattle.step_core.proofs.following.Replies.{goes_told, replied}
 use Rattle.step_core.proofs.following.Silence.{first_said, refills_said}

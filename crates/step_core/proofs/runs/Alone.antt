@@ -1,26 +1,14 @@
 -- What a step takes from the steps that its thread has left.
-use Rattle.std.proofs.Common.{◌≡◌, ℕ, ◌+◌, ◌*◌, ◌<◌, ◌≤◌, ◌==◌, Bool, true, false, cond, List, [], ◌∷◌, refl, ap, arith}
-use Rattle.std.specs.Prelude.{Option, Some, None, is_some, option_map}
-use Rattle.std.proofs.lemmas.Bool.{eq-eqb}
-use Rattle.control_word.specs.declared.model.handle.Kind.{Kind}
-use Rattle.control_word.specs.declared.model.handle.Kind.TheVariants.{Owner, Weak}
-use Rattle.step_threads.specs.declared.programs.act.Act.{Act}
-use Rattle.step_threads.specs.declared.programs.act.Task.{Task}
-use Rattle.step_threads.specs.declared.pending_call.PendingCall.{PendingCall}
-use Rattle.step_threads.specs.declared.pending_call.PendingCall.TheVariants.{Rest, Locking, Saw, Matched}
-use Rattle.control_word.specs.declared.handle.Handle.{Handle}
-use Rattle.step_table.specs.declared.memory.ghost_history.AtomicStep.{AtomicStep}
-use Rattle.step_threads.specs.declared.said.Stepped.{Stepped}
+use Rattle.std.proofs.Common.{◌≡◌, ℕ, ◌+◌, ◌*◌, ◌<◌, ◌≤◌, Bool, true, false, cond, List, [], ◌∷◌}
+use Rattle.std.proofs.Common.{is_some, ◌==◌, Some, None, Option, option_map, refl, ap, arith}
+use Rattle.std.proofs.Common.{eq-eqb}
+use Rattle.step_core.proofs.Prelude
+use Prelude.{Act, alone, AtomicStep, CellWord, ended_by, frame_steps, FrameView, ghost_after}
+use Prelude.{GhostState, Handle, is_last, is_prepared, Kind, leave, leave_as, lock_word, Locking}
+use Prelude.{Matched, model_state, owned, Owner, PendingCall, remains_as, Rest, Saw, shows_next}
+use Prelude.{spare, Step, step_ends, step_makes, step_of_act, Stepped, Task, Weak}
 use Rattle.step_threads.specs.declared.said.Stepped.TheVariants as stepped
-use Rattle.control_word.specs.declared.packed.cell.CellWord.{CellWord}
-use Rattle.step_core.specs.Bounds.{alone, lock_word, shows_next, spare, frame_steps}
-use Rattle.step_threads.specs.Frames.{FrameView}
-use Rattle.step_table.specs.AtomicSteps.{is_last, leave, leave_as, owned}
-use Rattle.step_threads.specs.AbstractStates.{ended_by, remains_as}
-use Rattle.step_threads.specs.NextSteps.{stepped as stepped_by, ghost_after}
-use Rattle.step_threads.specs.Steps.{Step, step_of_act}
-use Rattle.step_table.specs.GhostStates.{GhostState, model_state}
-use Rattle.step_core.specs.Told.{step_ends, is_prepared, step_makes}
+use Rattle.step_threads.specs.NextSteps.{stepped as stepped_by}
 use Rattle.step_core.proofs.telling.Leaves.{leaves_by}
 use Rattle.step_core.proofs.telling.Walking.{ends_at, went_plain}
 

@@ -1,24 +1,14 @@
 -- Threads that finish their calls.
-use Rattle.std.proofs.Common.{◌≡◌, ◌≢◌, ℕ, ◌+◌, ◌-◌, Bool, true, false, List, [], ◌∷◌, ◌++◌, length, refl, sym, ap, subst}
-use Rattle.std.proofs.Common.{◌∙◌, append_assoc, arith}
-use Rattle.std.proofs.Common.{ne_eqb}
-use Rattle.std.proofs.lemmas.Bool.{eqb-false, false≢true}
-use Rattle.std.specs.Prelude.{All, ◌==◌, ◌&&◌, ◌||◌, not, is_some}
-use Rattle.std.proofs.lemmas.List.{append-nil}
-use Rattle.std.proofs.lemmas.List.Elements.{All-nil}
-use Rattle.step_threads.specs.declared.programs.act.Task.{Task}
-use Rattle.step_threads.specs.declared.ending.Ending.{Ending}
-use Rattle.step_threads.specs.declared.pending_call.PendingCall.{PendingCall}
-use Rattle.step_threads.specs.declared.pending_call.PendingCall.TheVariants.{Rest, Making, Locking, Giving, Brought, Saw, Matched, Refill, Returning, Clearing}
-use Rattle.step_threads.specs.declared.said.Stepped.{Stepped}
-use Rattle.step_threads.specs.declared.said.Stepped.TheVariants.{Waited, Done}
-use Rattle.step_core.specs.declared.trace.TraceStep.{TraceStep}
-use Rattle.step_threads.specs.Frames.{FrameView}
-use Rattle.step_threads.specs.Endings.{first_of}
-use Rattle.step_threads.specs.AbstractStates.{frame_of}
-use Rattle.step_core.specs.Runs.{AddsRun, CallsOn, FinishesCall, IsRun, MovesOn, Settles, call_goes_on, call_under_way, is_calling, is_owing, next_statement}
-use Rattle.step_core.specs.Turning.{HasBegun}
-use Rattle.step_core.specs.Worlds.{Advances, WorldState, Steps, pending_call_of, abstraction}
+use Rattle.std.proofs.Common.{◌≡◌, ℕ, ◌+◌, ◌-◌, Bool, true, false, not, ◌&&◌, ◌||◌, ◌≢◌, List, []}
+use Rattle.std.proofs.Common.{◌∷◌, ◌++◌, length, is_some, ◌==◌, All, sym, refl, ap, ◌∙◌, subst}
+use Rattle.std.proofs.Common.{append_assoc, append-nil, arith, ne_eqb}
+use Rattle.step_core.proofs.Prelude
+use Prelude.{abstraction, AddsRun, Advances, All-nil, Brought, call_under_way, CallsOn, Clearing}
+use Prelude.{Done, Ending, eqb-false, false≢true, first_of, frame_of, FrameView, Giving, HasBegun}
+use Prelude.{is_calling, is_owing, IsRun, Locking, Making, Matched, MovesOn, pending_call_of}
+use Prelude.{PendingCall, Refill, Rest, Returning, Saw, Settles, Stepped, Steps, Task, TraceStep}
+use Prelude.{Waited, WorldState}
+use Rattle.step_core.specs.Runs.{FinishesCall, call_goes_on, next_statement}
 use Rattle.step_core.proofs.runs.Chains.{moves_more}
 use Rattle.step_core.proofs.runs.Measures.{at_end}
 

@@ -1,14 +1,10 @@
 -- Once each thread has finished the call that owed funds, nobody owes any.
-use Rattle.std.proofs.Common.{◌≡◌, ◌≢◌, ℕ, zero, suc, ◌<◌, ◌≤◌, ◌⊎◌, Bool, true, false, List, [], ◌∷◌, length, inl, inr, refl, sym}
-use Rattle.std.proofs.Common.{ap, subst, ◌∙◌, ⊎_elim, arith}
-use Rattle.std.proofs.lemmas.Bool.{cases_eq, cases_lt}
-use Rattle.std.proofs.lemmas.List.{get_or_past}
-use Rattle.step_threads.specs.declared.pending_call.PendingCall.TheVariants.{Rest}
-use Rattle.step_threads.specs.AbstractStates.{frame_of}
-use Rattle.step_core.specs.declared.trace.TraceStep.{TraceStep}
-use Rattle.step_core.specs.Runs.{CallsOn, NonePays, SettleInOrder, Settles, call_under_way, is_owing, is_paying}
-use Rattle.step_core.specs.WorldStates.{AllRestIdle}
-use Rattle.step_core.specs.Worlds.{WorldState, pending_call_of, abstraction, step_of}
+use Rattle.std.proofs.Common.{◌≡◌, ℕ, zero, suc, ◌<◌, ◌≤◌, Bool, true, false, ◌≢◌, ◌⊎◌, List, []}
+use Rattle.std.proofs.Common.{◌∷◌, length, sym, refl, ap, ◌∙◌, subst, inl, inr, ⊎_elim, arith}
+use Rattle.step_core.proofs.Prelude.{abstraction, AllRestIdle, call_under_way, CallsOn, cases_eq}
+use Rattle.step_core.proofs.Prelude.{cases_lt, frame_of, get_or_past, is_owing, is_paying}
+use Rattle.step_core.proofs.Prelude.{NonePays, pending_call_of, Rest, SettleInOrder, Settles}
+use Rattle.step_core.proofs.Prelude.{step_of, TraceStep, WorldState}
 use Rattle.step_core.proofs.runs.Calls.{rests}
 use Rattle.step_core.proofs.turning.Telling.{step_stays}
 

@@ -1,15 +1,11 @@
 -- Runs, one step or one part longer.
-use Rattle.std.proofs.Common.{◌≡◌, ◌≢◌, ℕ, zero, suc, ◌+◌, ◌-◌, ◌<◌, List, [], ◌∷◌, ◌++◌, length, map, take, get_or, refl}
-use Rattle.std.proofs.Common.{sym, ap, subst, ◌∙◌, append_assoc, arith}
-use Rattle.std.specs.Prelude.{All}
-use Rattle.std.proofs.lemmas.List.{map_push, take_more}
-use Rattle.std.proofs.lemmas.List.Elements.{All-append, All-cons, All-nil}
-use Rattle.step_threads.specs.declared.said.Stepped.{Stepped}
-use Rattle.step_threads.specs.declared.said.Stepped.TheVariants.{Waited, Done}
-use Rattle.step_core.specs.declared.trace.TraceStep.{TraceStep}
-use Rattle.step_core.specs.Runs.{AddsRun, InOrder, IsRun, IsStepOf, MovesOn, RunsToEnd}
-use Rattle.step_core.specs.WorldStates.{IsOver}
-use Rattle.step_core.specs.Worlds.{Advances, WorldState}
+use Rattle.std.proofs.Common.{◌≡◌, ℕ, zero, suc, ◌+◌, ◌-◌, ◌<◌, ◌≢◌, List, [], ◌∷◌, ◌++◌, map}
+use Rattle.std.proofs.Common.{length, get_or, take, All, sym, refl, ap, ◌∙◌, subst, append_assoc}
+use Rattle.std.proofs.Common.{arith}
+use Rattle.step_core.proofs.Prelude.{AddsRun, Advances, All-append, All-cons, All-nil, Done}
+use Rattle.step_core.proofs.Prelude.{IsOver, IsRun, IsStepOf, map_push, MovesOn, RunsToEnd}
+use Rattle.step_core.proofs.Prelude.{Stepped, take_more, TraceStep, Waited, WorldState}
+use Rattle.step_core.specs.Runs.{InOrder}
 
 pub run_joined : (u m w : WorldState) (xs ys : List TraceStep) → IsRun u xs m → IsRun m ys w → IsRun u (xs ++ ys) w
 run_joined u m w [] ys run on = subst (λ (z : WorldState). IsRun z ys w) run on

@@ -1,23 +1,15 @@
 -- How many steps the end of an object has left, step by step.
-use Rattle.std.proofs.Common.{◌≡◌, ℕ, ◌≤◌, ◌==◌, cond, List, [], ◌∷◌, arith}
-use Rattle.std.specs.Prelude.{Some, None}
-use Rattle.std.proofs.lemmas.Bool.{cond_both, eqb-false}
-use Rattle.control_word.specs.State.{kind_of_member, weak}
-use Rattle.control_word.specs.declared.site.Site.TheVariants.{Member}
+use Rattle.std.proofs.Common.{◌≡◌, ℕ, ◌≤◌, cond, List, [], ◌∷◌, ◌==◌, Some, None, arith}
+use Rattle.step_core.proofs.Prelude.{Clearing, cond_both, emptied, empties, Ending, ends_on}
+use Rattle.step_core.proofs.Prelude.{eqb-false, FrameView, ghost_after, GhostState}
+use Rattle.step_core.proofs.Prelude.{IsClearingMember, kind_of_member, Member, model_state}
+use Rattle.step_core.proofs.Prelude.{object_of_block, Rest, seen, silent, staged, Step, weak}
+use Rattle.step_core.proofs.Prelude.{with_endings, within, word_of_cell}
 use Rattle.step_table.specs.declared.memory.ghost_history.AtomicStep.TheVariants as atomic_step
-use Rattle.step_table.specs.Cells.{word_of_cell}
-use Rattle.step_table.specs.Contents.{seen}
-use Rattle.step_table.specs.GhostStates.{GhostState, object_of_block, model_state}
-use Rattle.step_threads.specs.declared.ending.Ending.{Ending}
-use Rattle.step_threads.specs.declared.pending_call.PendingCall.TheVariants.{Rest, Clearing}
-use Rattle.step_threads.specs.Frames.{FrameView}
-use Rattle.step_threads.specs.Endings.{staged}
-use Rattle.step_threads.specs.NextSteps.{emptied, ghost_after}
-use Rattle.step_threads.specs.Steps.{Step, empties, ends_on, silent, with_endings, within}
-use Rattle.step_threads.specs.Threads.{IsClearingMember}
 use Rattle.step_core.proofs.runs.Alone.{IsLess}
 use Rattle.step_core.proofs.runs.Trying.{alone_back}
-use Rattle.step_core.proofs.telling.Walking.{IsFree, carried_most, over_less, staged_less, taken_out}
+use Rattle.step_core.proofs.telling.Walking.{IsFree, carried_most, over_less, staged_less}
+use Rattle.step_core.proofs.telling.Walking.{taken_out}
 
 -- the ending begun last goes on
 pub end_less : (v : GhostState) (d : ℕ) (w : FrameView) (e : Ending) (es : List Ending) → w.endings ≡ e ∷ es → IsFree w.slots → e.stage ≤ 3

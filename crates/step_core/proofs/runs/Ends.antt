@@ -1,22 +1,12 @@
 -- What has come to its end stays there.
-use Rattle.std.proofs.Common.{◌≡◌, ◌≢◌, ℕ, zero, suc, ◌+◌, ◌-◌, ◌<◌, List, [], ◌∷◌, length, sym, ap, subst, ◌∙◌, ⊎_elim}
-use Rattle.std.proofs.Common.{arith}
-use Rattle.std.proofs.Common.{get_or-set_other}
-use Rattle.std.specs.Prelude.{All, None}
-use Rattle.std.proofs.lemmas.Bool.{cases_eq}
-use Rattle.std.proofs.lemmas.List.Elements.{All-from_get_or, All-head, All-tail}
-use Rattle.step_threads.specs.declared.pending_call.PendingCall.{PendingCall}
-use Rattle.step_threads.specs.declared.pending_call.PendingCall.TheVariants.{Rest}
-use Rattle.step_threads.specs.declared.said.Stepped.{Stepped}
-use Rattle.step_core.specs.declared.trace.TraceStep.{TraceStep}
-use Rattle.step_table.specs.Registers.{slot_pointer}
-use Rattle.step_threads.specs.Frames.{FrameView, other}
-use Rattle.step_core.specs.Runs.{IsRun, IsStepOf, RunInOrder}
-use Rattle.step_core.specs.WorldStates.{IsOver}
-use Rattle.step_threads.specs.AbstractStates.{nowhere, frame_of}
-use Rattle.step_threads.specs.NextSteps.{pending_call_by, frame_by}
-use Rattle.step_core.specs.Totals.{IsAtEnd}
-use Rattle.step_core.specs.Worlds.{WorldState, Steps, pending_call_of, abstraction, step_of}
+use Rattle.std.proofs.Common.{◌≡◌, ℕ, zero, suc, ◌+◌, ◌-◌, ◌<◌, ◌≢◌, List, [], ◌∷◌, length, None}
+use Rattle.std.proofs.Common.{All, sym, ap, ◌∙◌, subst, ⊎_elim, arith, get_or-set_other}
+use Rattle.step_core.proofs.Prelude.{abstraction, All-head, All-tail, cases_eq, frame_by, frame_of}
+use Rattle.step_core.proofs.Prelude.{FrameView, IsAtEnd, IsOver, IsRun, IsStepOf, nowhere, other}
+use Rattle.step_core.proofs.Prelude.{pending_call_by, pending_call_of, PendingCall, Rest}
+use Rattle.step_core.proofs.Prelude.{RunInOrder, slot_pointer, step_of, Stepped, Steps, TraceStep}
+use Rattle.step_core.proofs.Prelude.{WorldState}
+use Rattle.std.proofs.lemmas.List.Elements.{All-from_get_or}
 
 -- a step of another thread
 still_over : (d e : ℕ) (u u' : WorldState) (r : Stepped) → e ≢ d → Steps d u r u' → IsOver e u → IsOver e u'

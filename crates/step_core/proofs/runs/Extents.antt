@@ -1,13 +1,8 @@
 -- Steps leave the table as large as it was.
-use Rattle.std.proofs.Common.{◌≡◌, ℕ, ◌-◌, [], ◌∷◌, List, Option, Some, None, refl, ap, ◌∙◌}
-use Rattle.step_table.specs.declared.memory.ghost_history.AtomicStep.{AtomicStep}
-use Rattle.step_table.specs.GhostStates.{GhostState}
-use Rattle.step_threads.specs.declared.said.Stepped.{Stepped}
-use Rattle.step_threads.specs.NextSteps.{ghost_after, ghost_by}
-use Rattle.step_threads.specs.Steps.{Step}
-use Rattle.step_core.specs.declared.trace.TraceStep.{TraceStep}
-use Rattle.step_core.specs.Runs.{IsRun}
-use Rattle.step_core.specs.Worlds.{GoesTo, IsAsLarge, WorldState, Steps, StepsBy, step_of}
+use Rattle.std.proofs.Common.{◌≡◌, ℕ, ◌-◌, List, [], ◌∷◌, Some, None, Option, refl, ap, ◌∙◌}
+use Rattle.step_core.proofs.Prelude.{AtomicStep, ghost_after, ghost_by, GhostState, GoesTo, IsRun}
+use Rattle.step_core.proofs.Prelude.{Step, step_of, Stepped, Steps, StepsBy, TraceStep, WorldState}
+use Rattle.step_core.specs.Worlds.{IsAsLarge}
 
 extent_after : (v : GhostState) (d : ℕ) (x : Option AtomicStep) → (ghost_after v d x).extent ≡ v.extent
 extent_after v d None = refl

@@ -1,27 +1,19 @@
 -- Where each thread is at its end, no desk has a handle.
-use Rattle.std.proofs.Common.{◌≡◌, ◌≢◌, ℕ, zero, suc, ◌<◌, ◌≤◌, ◌==◌, Bool, false, List, [], ◌∷◌, length, get_or, map, refl}
-use Rattle.std.proofs.Common.{sym, ap, subst, ◌∙◌, inl, ⊎_elim, arith, eq-eqb}
-use Rattle.std.specs.List.{filter}
-use Rattle.std.specs.Prelude.{Some, None, nat_lt, slice_get}
-use Rattle.std.proofs.lemmas.Bool.{cases_eq, cases_lt, cond-false}
-use Rattle.std.proofs.lemmas.List.{length-map}
+use Rattle.std.proofs.Common.{◌≡◌, ℕ, zero, suc, ◌<◌, ◌≤◌, Bool, false, ◌≢◌, List, [], ◌∷◌, map}
+use Rattle.std.proofs.Common.{length, get_or, nat_lt, ◌==◌, slice_get, Some, None, sym, refl, ap}
+use Rattle.std.proofs.Common.{◌∙◌, subst, inl, ⊎_elim, arith, eq-eqb}
+use Rattle.step_core.proofs.Prelude
+use Prelude.{AllFit, cases_eq, cases_lt, cond-false, Empty, Ending, filter, FrameView, Full, full}
+use Prelude.{GhostState, hand, IsAtEnd, IsReady, length-map, model_state, nowhere, num, opening}
+use Prelude.{other, plain, pointer_of, Slot, slot_pointer, slot_value, Slots, TableInvariant, Task}
+use Prelude.{TasksMayCome, Thread, thread_frame, TotalsAreTold, world_state, WorldState}
 use Rattle.control_word.proofs.history.Allowances.{allowed}
-use Rattle.control_word.proofs.lists.Tallies.{num, num_has}
+use Rattle.control_word.proofs.lists.Tallies.{num_has}
 use Rattle.control_word.specs.State.{Held, bag_size}
-use Rattle.step_table.specs.declared.slots.slot.Slot.{Slot}
-use Rattle.step_table.specs.declared.slots.slot.Slot.TheVariants.{Empty, Full}
-use Rattle.step_table.specs.Registers.{Slots, full, slot_has_object, plain, pointer_of, slot_pointer, slot_value}
-use Rattle.step_table.specs.Openings.{opening, share_of}
-use Rattle.step_table.specs.GhostStates.{TableInvariant, GhostState, model_state}
-use Rattle.step_threads.specs.declared.programs.act.Task.{Task}
-use Rattle.step_threads.specs.declared.ending.Ending.{Ending}
-use Rattle.step_threads.specs.declared.thread.Thread.{Thread}
-use Rattle.step_threads.specs.Frames.{DropsInTime, IsReady, TasksMayCome, FrameView, hand, other}
-use Rattle.step_threads.specs.AbstractStates.{nowhere}
+use Rattle.step_table.specs.Registers.{slot_has_object}
+use Rattle.step_table.specs.Openings.{share_of}
+use Rattle.step_threads.specs.Frames.{DropsInTime}
 use Rattle.step_threads.proofs.Frames.{free_plain}
-use Rattle.step_core.specs.Told.{TotalsAreTold, world_state}
-use Rattle.step_core.specs.Totals.{IsAtEnd}
-use Rattle.step_core.specs.Worlds.{AllFit, WorldState, thread_frame}
 use Rattle.step_core.proofs.runs.Measures.{empty_names}
 
 not_full : (x : Slot) → pointer_of x ≡ None → slot_has_object x ≡ false

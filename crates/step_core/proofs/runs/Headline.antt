@@ -1,26 +1,18 @@
 -- What holds after each step of a run, and of each of its steps.
-use Rattle.std.proofs.Common.{◌≡◌, ℕ, ◌-◌, ◌<◌, ◌==◌, Bool, true, false, cond, List, [], ◌∷◌, length, refl, sym, ap, subst, ◌∙◌}
-use Rattle.std.proofs.Common.{inl, inr, arith}
-use Rattle.std.specs.Prelude.{not, ◌&&◌, ◌⊎◌, ◌↔◌}
-use Rattle.std.proofs.lemmas.Bool.{eqb-true, eqb-false, false≢true}
-use Rattle.control_word.specs.declared.model.event.Entry.{Entry}
-use Rattle.control_word.specs.declared.model.event.Event.{Event}
+use Rattle.std.proofs.Common.{◌≡◌, ℕ, ◌-◌, ◌<◌, Bool, true, false, cond, not, ◌&&◌, ◌⊎◌, ◌↔◌, List}
+use Rattle.std.proofs.Common.{[], ◌∷◌, length, ◌==◌, sym, refl, ap, ◌∙◌, subst, inl, inr, arith}
+use Rattle.std.proofs.Common.{eqb-true}
+use Rattle.step_core.proofs.Prelude.{count, ends_by, Entry, entry, eqb-false, Event, Extent}
+use Rattle.step_core.proofs.Prelude.{false≢true, given, given_over, is_event, is_last_leave}
+use Rattle.step_core.proofs.Prelude.{IsLegal, LastLeft, model_state, Nothing, NumberedHandle}
+use Rattle.step_core.proofs.Prelude.{object_of, opening, over, rests_exactly, TableInvariant}
+use Rattle.step_core.proofs.Prelude.{TakesStep, TraceStep, Was, WorldState}
 use Rattle.control_word.specs.declared.model.event.Event.TheVariants.{Leave, Lock}
-use Rattle.control_word.specs.declared.model.handle.NumberedHandle.{NumberedHandle}
 use Rattle.control_word.specs.Events.{Asks}
-use Rattle.control_word.specs.Handles.{object_of}
-use Rattle.control_word.specs.Histories.{IsLegal, ends_by, entry, given}
-use Rattle.control_word.specs.State.{count}
-use Rattle.control_word.proofs.history.Given.{given_over, live_while_owned, over}
+use Rattle.control_word.proofs.history.Given.{live_while_owned}
 use Rattle.control_word.proofs.history.Made.{gives_once}
-use Rattle.control_word.proofs.views.Resting.{rests_exactly}
-use Rattle.step_table.specs.declared.memory.extent.Extent.{Extent}
-use Rattle.step_core.specs.declared.trace.TraceStep.{TraceStep}
-use Rattle.step_core.specs.Headline.{ValueCameOut, CountsAtRest, LastLeft, LocksWhereOwned, ValuesAtLastLeave, ValuesOnce, Was}
-use Rattle.step_table.specs.Openings.{opening}
-use Rattle.step_table.specs.GhostStates.{TableInvariant, Nothing, model_state}
-use Rattle.step_core.specs.Totals.{is_last_leave}
-use Rattle.step_core.specs.WorldStates.{WorldState, TakesStep, is_event}
+use Rattle.step_core.specs.Headline.{ValueCameOut, CountsAtRest, LocksWhereOwned}
+use Rattle.step_core.specs.Headline.{ValuesAtLastLeave, ValuesOnce}
 
 -- a step of the run, with what was before it and what is after it
 pub record IsStep (u : WorldState) (x : TraceStep) (u' : WorldState) : Type 0 where

@@ -1,48 +1,34 @@
 -- How many steps a thread has left, step by step.
-use Rattle.step_threads.specs.Shelving.{shelf_block, shelf_step}
-use Rattle.std.proofs.Common.{◌≡◌, ℕ, ◌+◌, ◌<◌, ◌≤◌, ◌==◌, Bool, true, false, cond, List, [], ◌∷◌, get_or, refl, sym, ap}
+use Rattle.std.proofs.Common.{◌≡◌, ℕ, ◌+◌, ◌<◌, ◌≤◌, Bool, true, false, cond, List, [], ◌∷◌}
+use Rattle.std.proofs.Common.{get_or, is_some, ◌==◌, Some, None, Option, option_map, sym, refl, ap}
 use Rattle.std.proofs.Common.{◌∙◌, arith}
-use Rattle.std.specs.Prelude.{Option, Some, None, is_some, option_map}
-use Rattle.std.proofs.lemmas.Bool.{cond_both, eqb-false, false≢true}
-use Rattle.std.proofs.lemmas.List.Elements.{All-head}
-use Rattle.control_word.specs.declared.model.handle.Kind.{Kind}
-use Rattle.control_word.specs.declared.place.Block.{Block}
-use Rattle.step_threads.specs.declared.programs.act.Act.{Act}
-use Rattle.step_table.specs.declared.memory.form.Form.{Form}
-use Rattle.step_threads.specs.declared.programs.act.Act.TheVariants.{Make, Share, Downgrade, Lock, Put, Leave, Clear, Count, Expired, Read, FromThis, Alias}
-use Rattle.step_threads.specs.declared.programs.act.Act.TheVariants.{Move, Ask}
-use Rattle.step_threads.specs.declared.programs.act.Act.TheVariants.{Offer, Swap, Exchange, Load, Compare, Holds, Drop, OnShelf}
-use Rattle.step_threads.specs.declared.programs.act.Task.{Task}
-use Rattle.step_threads.specs.declared.ending.Ending.{Ending}
-use Rattle.step_threads.specs.declared.pending_call.PendingCall.{PendingCall}
-use Rattle.step_threads.specs.declared.pending_call.PendingCall.TheVariants.{Rest, Making, Locking, Giving, Brought, Saw, Matched, Refill, Returning, Clearing}
-use Rattle.control_word.specs.declared.handle.Handle.{Handle}
-use Rattle.step_threads.specs.Actors.{wanted}
-use Rattle.step_core.specs.Bounds.{alone, lock_word, spare, frame_steps, weight}
-use Rattle.step_table.specs.Contents.{seen}
-use Rattle.step_threads.specs.Programs.{kind_at}
-use Rattle.step_threads.specs.Frames.{Going, HasCell, FrameView, cell_of_name, form_of, going, hand, idle, locked_pointer, offered, on_going, other}
-use Rattle.step_threads.specs.Frames.{frame_settled}
-use Rattle.step_table.specs.AtomicSteps.{alias, aliased, downgrade, give, is_enabled, lock, owner_word, read_atomic_step, share, tell, tell_expired, on}
-use Rattle.step_threads.specs.Endings.{EndsAll, IsEndingAtStage}
-use Rattle.step_table.specs.Registers.{HoldsBag, inside, is_full, owner_slot, place_in, slot_pointer}
-use Rattle.step_threads.specs.Entries.{holds_step, least}
-use Rattle.step_threads.specs.AbstractStates.{went}
-use Rattle.step_threads.specs.Rows.{holding}
-use Rattle.step_threads.specs.NextSteps.{at_rest, begun, first, given_step, made_on}
-use Rattle.step_threads.specs.Steps.{Step, step_of_act, asks, begins, brings, claims, ends_on, looks, prepares}
-use Rattle.step_threads.specs.NextSteps.{sent, step_at, stepped as stepped_by, ghost_after, tried, waits, waits_at, waits_on}
-use Rattle.step_threads.specs.Steps.{sends, silent, step_of_swap, tries, trying}
-use Rattle.step_table.specs.GhostStates.{TableInvariant, GhostState, known_words, pending, model_state}
-use Rattle.step_core.specs.Told.{is_prepared}
-use Rattle.step_core.specs.Turning.{IsAlone, IsInShape, NextActLocks, FundsAreHeld, IsStill, IsSwap, IsTried, IsUnderWay}
+use Rattle.step_core.proofs.Prelude
+use Prelude.{Act, Alias, alias, aliased, All-head, alone, Ask, asks, at_rest, begins, begun, Block}
+use Prelude.{brings, Brought, cell_of_name, claims, Clear, Clearing, Compare, cond_both, Count}
+use Prelude.{Downgrade, downgrade, Drop, Ending, ends_on, EndsAll, eqb-false, Exchange, Expired}
+use Prelude.{false≢true, first, Form, form_of, frame_settled, frame_steps, FrameView, FromThis}
+use Prelude.{FundsAreHeld, ghost_after, GhostState, give, given_step, Giving, Going, going, hand}
+use Prelude.{Handle, HasCell, holding, Holds, holds_step, HoldsBag, idle, inside, is_enabled}
+use Prelude.{is_full, is_prepared, IsAlone, IsEndingAtStage, IsInShape, IsStill, IsSwap, IsTried}
+use Prelude.{IsUnderWay, Kind, kind_at, known_words, least, Leave, Load, Lock, lock, lock_word}
+use Prelude.{locked_pointer, Locking, looks, made_on, Make, Making, Matched, model_state, Move}
+use Prelude.{NextActLocks, Offer, offered, on, on_going, OnShelf, other, owner_slot, owner_word}
+use Prelude.{pending, PendingCall, place_in, prepares, Put, Read, read_atomic_step, Refill, Rest}
+use Prelude.{Returning, Saw, seen, sends, sent, Share, share, shelf_block, shelf_step, silent}
+use Prelude.{slot_pointer, spare, Step, step_at, step_of_act, step_of_swap, Swap, TableInvariant}
+use Prelude.{Task, tell, tell_expired, tried, tries, trying, waits, waits_at, waits_on, wanted}
+use Prelude.{weight, went}
+use Rattle.step_threads.specs.NextSteps.{stepped as stepped_by}
 use Rattle.step_core.proofs.runs.Clearing.{end_less, out_less}
 use Rattle.step_core.proofs.runs.Trying.{alone_back}
 use Rattle.step_core.proofs.telling.Leaves.{leaves_by}
-use Rattle.step_core.proofs.telling.Walking.{carried_leaves, settled_alone, frame_alone, weight_two, went_less}
+use Rattle.step_core.proofs.telling.Walking.{carried_leaves, settled_alone, frame_alone}
+use Rattle.step_core.proofs.telling.Walking.{weight_two, went_less}
 use Rattle.step_core.proofs.telling.Swapping.{went_swap}
-use Rattle.step_core.proofs.runs.Alone.{IsLess, Lessens, alone_of_lock, alone_other, alone_same, left_less, none_made, one_made, plain_less}
-use Rattle.step_core.proofs.runs.Looking.{compare_less, load_less, refill_less, seen_less, swapping_less}
+use Rattle.step_core.proofs.runs.Alone.{IsLess, Lessens, alone_of_lock, alone_other, alone_same}
+use Rattle.step_core.proofs.runs.Alone.{left_less, none_made, one_made, plain_less}
+use Rattle.step_core.proofs.runs.Looking.{compare_less, load_less, refill_less, seen_less}
+use Rattle.step_core.proofs.runs.Looking.{swapping_less}
 
 begun_less : (v : GhostState) (d k : ℕ) (w : FrameView) (t : Task) (ts : List Task) (o : Option ℕ) → w.endings ≡ [] → w.todo ≡ t ∷ ts
     → IsLess v d Rest w (Some (begins w k ts o))

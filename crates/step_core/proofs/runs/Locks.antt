@@ -1,34 +1,20 @@
 -- What locks answer, and what answers so.
-use Rattle.std.proofs.Common.{◌≡◌, ℕ, ◌-◌, Bool, true, false, List, ◌∷◌, refl, sym, ap, subst, ◌∙◌, ⊎_elim, inl, inr}
-use Rattle.std.specs.Prelude.{◌⊎◌, Option, Some, None}
-use Rattle.std.proofs.lemmas.Bool.{false≢true}
-use Rattle.std.proofs.lemmas.Option.{same_Some}
+use Rattle.std.proofs.Common.{◌≡◌, ℕ, ◌-◌, Bool, true, false, ◌⊎◌, List, ◌∷◌, Some, None, Option}
+use Rattle.std.proofs.Common.{sym, refl, ap, ◌∙◌, subst, inl, inr, ⊎_elim}
+use Rattle.step_core.proofs.Prelude
+use Prelude.{abstraction, AbstractState, Act, ActsNext, Ahead, ahead, AnAct, AnEnd, Answer}
+use Prelude.{answer_by, DoesAhead, Ended, false≢true, frame_of, FrameView, Got, hand, Handle}
+use Prelude.{IsLeaveEvent, IsMakeEvent, Kind, Leave, leaves_as, Lock, model_state, no_worth}
+use Prelude.{Nothing, NumberedHandle, On, Over, owned, Owner, PassesQuietly, Performs, put_on}
+use Prelude.{Reply, row, Said, same_Some, slot_pointer, State, statement_by, Task, TraceLabel}
+use Prelude.{TraceStep, Was, Weak, weak_of, weak_slot, WorldState}
 use Rattle.control_word.specs.declared.model.event.Event.TheVariants as event
-use Rattle.control_word.specs.declared.model.handle.NumberedHandle.{NumberedHandle}
-use Rattle.control_word.specs.declared.model.handle.Kind.{Kind}
-use Rattle.control_word.specs.declared.model.handle.Kind.TheVariants.{Owner, Weak}
-use Rattle.control_word.specs.Handles.{weak_of}
-use Rattle.control_word.specs.State.{State}
-use Rattle.step_table.specs.declared.memory.ended.Ended.{Ended}
-use Rattle.control_word.specs.declared.handle.Handle.{Handle}
-use Rattle.step_table.specs.AtomicSteps.{owned}
-use Rattle.step_table.specs.Registers.{slot_pointer, weak_slot}
-use Rattle.step_table.specs.GhostStates.{Nothing, model_state}
-use Rattle.step_threads.specs.declared.programs.act.Act.{Act}
-use Rattle.step_threads.specs.declared.programs.act.Act.TheVariants.{Lock, Leave}
-use Rattle.step_threads.specs.declared.programs.act.Task.{Task}
-use Rattle.step_threads.specs.declared.said.Answer.{Answer}
-use Rattle.step_threads.specs.declared.said.Said.{Said}
-use Rattle.step_threads.specs.Frames.{FrameView, hand}
-use Rattle.step_threads.specs.TraceLabels.{Ahead, Over, AnAct, AnEnd, DoesAhead, TraceLabel, IsLeaveEvent, IsMakeEvent, MakesAct, On, ahead, leaves_as, put_on}
-use Rattle.step_threads.specs.Rows.{Reply, Got, lock_answer, row}
-use Rattle.step_threads.specs.AbstractStates.{AbstractState, frame_of}
-use Rattle.step_core.specs.declared.trace.TraceStep.{TraceStep}
-use Rattle.step_core.specs.Following.{ActsNext, PassesQuietly, Performs, no_worth}
-use Rattle.step_core.specs.Headline.{LocksNext, LocksNone, TellsLocks, Was, answer_by, statement_by}
-use Rattle.step_core.specs.WorldStates.{WorldState, abstraction}
-use Rattle.step_core.proofs.runs.TraceLabels.{Events, IsDone, Locks, Leaves, Other, IsOther, ahead_task, each, is_of_lock, is_said, no_more, put, says_none}
-use Rattle.step_core.proofs.runs.TraceLabels.{sort_of}
+use Rattle.step_threads.specs.TraceLabels.{MakesAct}
+use Rattle.step_threads.specs.Rows.{lock_answer}
+use Rattle.step_core.specs.Headline.{LocksNext, LocksNone, TellsLocks}
+use Rattle.step_core.proofs.runs.TraceLabels.{Events, IsDone, Locks, Leaves, Other, IsOther}
+use Rattle.step_core.proofs.runs.TraceLabels.{ahead_task, each, is_of_lock, is_said, no_more, put}
+use Rattle.step_core.proofs.runs.TraceLabels.{says_none, sort_of}
 
 -- what an event gave that is a lock
 abbrev gave_by : Events → Option Bool

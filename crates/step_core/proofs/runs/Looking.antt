@@ -1,41 +1,22 @@
 -- How many steps a thread has left that has looked at a cell, or took a fund of it.
-use Rattle.std.proofs.Common.{◌≡◌, ℕ, ◌<◌, ◌==◌, Bool, true, false, List, [], ◌∷◌, refl, sym, ap, subst, ◌∙◌, arith}
-use Rattle.std.specs.Prelude.{◌&&◌, not, Option, Some, None, option_map}
-use Rattle.std.proofs.lemmas.Bool.{cond_both, false≢true}
-use Rattle.control_word.specs.declared.packed.cell.CellWord.{CellWord}
-use Rattle.control_word.specs.declared.model.handle.Kind.{Kind}
-use Rattle.control_word.specs.declared.place.Block.{Block}
-use Rattle.control_word.specs.declared.place.Place.{Place}
-use Rattle.control_word.specs.Packing.{cell_bits}
-use Rattle.step_threads.specs.declared.programs.act.Act.{Act}
-use Rattle.step_threads.specs.declared.programs.act.Act.TheVariants.{Make, Share, Downgrade, Lock, Put, Leave, Clear, Count, Expired, Read, FromThis, Alias}
-use Rattle.step_threads.specs.declared.programs.act.Act.TheVariants.{Move, Ask}
-use Rattle.step_threads.specs.declared.programs.act.Act.TheVariants.{Offer, Swap, Exchange, Load, Compare, Holds, Drop, OnShelf}
-use Rattle.step_threads.specs.declared.programs.act.Task.{Task}
-use Rattle.step_threads.specs.declared.programs.call.CellName.{CellName}
-use Rattle.step_threads.specs.declared.pending_call.PendingCall.TheVariants.{Rest, Saw, Matched, Refill}
-use Rattle.control_word.specs.declared.site.Site.{Site}
+use Rattle.std.proofs.Common.{◌≡◌, ℕ, ◌<◌, Bool, true, false, not, ◌&&◌, List, [], ◌∷◌, ◌==◌, Some}
+use Rattle.std.proofs.Common.{None, Option, option_map, sym, refl, ap, ◌∙◌, subst, arith}
+use Rattle.step_core.proofs.Prelude
+use Prelude.{Act, Alias, Ask, Block, cell_bits, cell_of_name, cell_open, CellName, CellWord, Clear}
+use Prelude.{Compare, compared_in, comparing, cond_both, Count, Downgrade, Drop, Exchange, Expired}
+use Prelude.{false≢true, fetches, first, FrameView, FromThis, ghost_after, GhostState, hand}
+use Prelude.{Handle, HasCell, Holds, HoldsBag, idle, is_of, is_spent, is_there, IsIn, IsInShape}
+use Prelude.{IsMatched, IsMatchedBy, IsOpenTo, IsSeen, IsSeenBy, IsStill, Kind, kind_at}
+use Prelude.{kind_in_state, Leave, Load, Lock, Make, Matched, matched, matched_on, model_state}
+use Prelude.{Move, Offer, OnShelf, Place, Put, Read, Refill, RefillFits, refills_on, Rest, Saw}
+use Prelude.{saw, saw_on, seen, Share, shows_next, shows_on, Site, slot_pointer, slot_value, Stage}
+use Prelude.{Step, step_of_act, step_of_look, Swap, TableInvariant, Task, waits_on, word_of_cell}
 use Rattle.step_table.specs.declared.cell_steps.cell_step.CellStep.TheVariants as cell_step
-use Rattle.control_word.specs.declared.handle.Handle.{Handle}
 use Rattle.step_table.specs.declared.memory.ghost_history.AtomicStep.TheVariants as atomic_step
-use Rattle.step_table.specs.declared.cell_steps.refill.Stage.{Stage}
-use Rattle.step_table.specs.CellAtomicSteps.{kind_in_state}
-use Rattle.step_table.specs.Cells.{IsOpenTo, word_of_cell}
-use Rattle.step_table.specs.Contents.{compared_in, is_of, is_spent, seen}
-use Rattle.step_table.specs.Registers.{HoldsBag, slot_pointer, slot_value}
-use Rattle.step_table.specs.Refills.{RefillFits}
-use Rattle.step_table.specs.GhostStates.{TableInvariant, GhostState, model_state}
-use Rattle.step_threads.specs.Frames.{HasCell, FrameView, cell_of_name, comparing, hand, idle, is_there}
-use Rattle.step_threads.specs.Programs.{IsIn, kind_at}
-use Rattle.step_threads.specs.NextSteps.{first, matched, matched_on, saw, saw_on, ghost_after, waits_on}
-use Rattle.step_threads.specs.Steps.{Step, step_of_act, fetches, refills_on, step_of_look}
-use Rattle.step_threads.proofs.CellNames.{cell_open}
 use Rattle.step_table.proofs.tables.Shown.{kept_cell, somewhere}
-use Rattle.step_core.specs.Bounds.{shows_next, shows_on}
-use Rattle.step_threads.specs.Threads.{IsMatchedBy, IsSeenBy}
-use Rattle.step_core.specs.Turning.{IsInShape, IsMatched, IsSeen, IsStill}
 use Rattle.step_core.proofs.runs.Alone.{IsLess, plain_less}
-use Rattle.step_core.proofs.runs.Trying.{compares_less, matched_less, refills_less, sees_less, settles_less, shows_seen, takes_less}
+use Rattle.step_core.proofs.runs.Trying.{compares_less, matched_less, refills_less, sees_less}
+use Rattle.step_core.proofs.runs.Trying.{settles_less, shows_seen, takes_less}
 use Rattle.step_core.proofs.watching.Blocks.{IsThere, bring_off, slot_there}
 use Rattle.step_core.proofs.watching.Cells.{block_there}
 

@@ -1,28 +1,17 @@
 -- Each step that isn't `Done` takes one from the steps that are left.
-use Rattle.std.proofs.Common.{◌≡◌, ◌≢◌, ℕ, ◌+◌, ◌*◌, ◌<◌, ◌≤◌, Bool, true, false, cond, List, [], length, refl, sym, ap, subst}
-use Rattle.std.proofs.Common.{◌∙◌, arith}
-use Rattle.std.proofs.Common.{get_or-set_same, length-set}
-use Rattle.std.specs.Prelude.{Option, Some, None, slice_set}
-use Rattle.std.proofs.lemmas.Bool.{cond_both}
-use Rattle.std.proofs.lemmas.List.{set-get_or}
-use Rattle.std.proofs.lemmas.List.Sums.{get_or-le-sum_by, sum_by-set}
-use Rattle.step_threads.specs.declared.pending_call.PendingCall.{PendingCall}
-use Rattle.step_threads.specs.declared.pending_call.PendingCall.TheVariants.{Rest}
-use Rattle.step_threads.specs.declared.said.Stepped.{Stepped}
-use Rattle.step_threads.specs.declared.said.Stepped.TheVariants.{Event, Quiet, Waited, Done}
-use Rattle.step_core.specs.Bounds.{alone, living, most_steps, spare, frame_steps}
-use Rattle.control_word.specs.declared.handle.Handle.{Handle}
-use Rattle.step_table.specs.Registers.{is_full, slot_pointer}
-use Rattle.step_threads.specs.Frames.{FrameView, other}
-use Rattle.step_table.specs.Openings.{opening}
-use Rattle.step_core.specs.WorldStates.{IsOver}
-use Rattle.step_threads.specs.AbstractStates.{nowhere, frame_of}
-use Rattle.step_threads.specs.NextSteps.{atomic_step_is_event, ghost_after, ghost_by, stepped, waits}
-use Rattle.step_threads.specs.Steps.{Step}
-use Rattle.step_table.specs.GhostStates.{TableInvariant, GhostState}
-use Rattle.step_core.specs.Told.{IsTidy, LeavesName, step_ends, step_makes}
-use Rattle.step_core.specs.Turning.{HasBegun}
-use Rattle.step_core.specs.Worlds.{WorldState, Steps, answer_at, pending_call_of, abstraction, world_state_by, step_of}
+use Rattle.std.proofs.Common.{◌≡◌, ℕ, ◌+◌, ◌*◌, ◌<◌, ◌≤◌, Bool, true, false, cond, ◌≢◌, List, []}
+use Rattle.std.proofs.Common.{length, slice_set, Some, None, Option, sym, refl, ap, ◌∙◌, subst}
+use Rattle.std.proofs.Common.{arith, length-set, get_or-set_same}
+use Rattle.step_core.proofs.Prelude
+use Prelude.{abstraction, alone, atomic_step_is_event, cond_both, Done, frame_of, frame_steps}
+use Prelude.{FrameView, ghost_after, ghost_by, GhostState, Handle, HasBegun, is_full, IsOver}
+use Prelude.{IsTidy, LeavesName, living, most_steps, nowhere, opening, other, pending_call_of}
+use Prelude.{PendingCall, Quiet, Rest, set-get_or, slot_pointer, spare, Step, step_ends}
+use Prelude.{step_makes, step_of, Stepped, stepped, Steps, sum_by-set, TableInvariant, Waited}
+use Prelude.{waits, world_state_by, WorldState}
+use Rattle.std.proofs.lemmas.List.Sums.{get_or-le-sum_by}
+use Rattle.step_threads.specs.declared.said.Stepped.TheVariants.{Event}
+use Rattle.step_core.specs.Worlds.{answer_at}
 use Rattle.step_core.proofs.runs.Alone.{IsLess}
 use Rattle.step_core.proofs.runs.Lessening.{less}
 use Rattle.step_core.proofs.telling.Counting.{counted}

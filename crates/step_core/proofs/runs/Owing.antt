@@ -1,24 +1,12 @@
 -- A thread's pending call has funds out just where its desk's half-done call owes them.
-use Rattle.std.proofs.Common.{◌≡◌, ℕ, ◌<◌, true, false, List, length, get_or, sym, ap}
-use Rattle.std.proofs.lemmas.Bool.{false≢true}
-use Rattle.control_word.specs.declared.model.view.Pending.{Pending}
-use Rattle.control_word.specs.State.{State}
-use Rattle.step_table.specs.declared.cell_steps.refill.Stage.TheVariants.{Turning, Checking, Lacking, Refilling, Failing}
-use Rattle.step_table.specs.declared.slots.slot.Slot.{Slot}
-use Rattle.step_table.specs.declared.slots.slot.Slot.TheVariants.{Empty, Full}
-use Rattle.step_table.specs.Contents.{owing_for}
-use Rattle.step_table.specs.GhostStates.{Nothing, GhostState, model_state, pending}
-use Rattle.step_table.specs.Registers.{is_full, pointer_of}
-use Rattle.step_threads.specs.declared.frame.Frame.{Frame}
-use Rattle.step_threads.specs.declared.pending_call.PendingCall.{PendingCall}
-use Rattle.step_threads.specs.declared.pending_call.PendingCall.TheVariants.{Rest, Making, Locking, Giving, Brought, Saw, Matched, Refill, Returning, Clearing}
-use Rattle.step_threads.specs.declared.thread.Thread.{Thread}
-use Rattle.step_threads.specs.Actors.{PendingCallFits}
-use Rattle.step_threads.specs.Frames.{new_of, task_at}
-use Rattle.step_threads.specs.Threads.{IsNext}
-use Rattle.step_core.specs.Runs.{is_owing, is_paying}
+use Rattle.std.proofs.Common.{◌≡◌, ℕ, ◌<◌, true, List, length, get_or, sym, ap}
+use Rattle.step_core.proofs.Prelude
+use Prelude.{AllFit, Brought, Checking, Clearing, Empty, Failing, false≢true, Frame, Full}
+use Prelude.{GhostState, Giving, is_full, is_owing, is_paying, IsNext, Lacking, Locking, Making}
+use Prelude.{Matched, model_state, new_of, Nothing, owing_for, Pending, pending, PendingCall}
+use Prelude.{PendingCallFits, pointer_of, Refill, Refilling, Rest, Returning, Saw, Slot, State}
+use Prelude.{task_at, Thread, Turning}
 use Rattle.step_core.specs.Turning.{has_funds_out}
-use Rattle.step_core.specs.Worlds.{AllFit}
 use Rattle.step_core.proofs.Worlds.{thread_at, world_state}
 
 -- what is brought for an object is owed

@@ -1,27 +1,16 @@
 -- What steps tell of objects that end.
-use Rattle.std.proofs.Common.{◌≡◌, ℕ, ◌-◌, Bool, true, false, refl, sym, ap, subst, ◌∙◌, ⊎_elim, inl, inr}
-use Rattle.std.specs.Prelude.{cond, Option, Some, None, MatchOption}
-use Rattle.std.proofs.lemmas.Bool.{eqb-true, false≢true}
+use Rattle.std.proofs.Common.{◌≡◌, ℕ, ◌-◌, Bool, true, false, cond, Some, None, Option}
+use Rattle.std.proofs.Common.{MatchOption, sym, refl, ap, ◌∙◌, subst, inl, inr, ⊎_elim, eqb-true}
+use Rattle.step_core.proofs.Prelude
+use Prelude.{abstraction, AbstractState, ActsNext, Ahead, ahead, AnAct, AnEnd, DoesAhead, Ended}
+use Prelude.{false≢true, frame_of, FrameView, Handle, IsLeaveEvent, Kind, LastLeft, leaves_as}
+use Prelude.{model_state, no_worth, Nothing, Over, owned, Owner, owner, PassesQuietly, Performs}
+use Prelude.{put_on, remains, remains_as, Reply, row, Said, State, step_ended, Task, TraceLabel}
+use Prelude.{TraceStep, Weak, WorldState}
 use Rattle.control_word.specs.declared.model.event.Event.TheVariants as event
-use Rattle.control_word.specs.declared.model.handle.Kind.{Kind}
-use Rattle.control_word.specs.declared.model.handle.Kind.TheVariants.{Owner, Weak}
-use Rattle.control_word.specs.Handles.{owner}
-use Rattle.control_word.specs.State.{State}
-use Rattle.step_table.specs.declared.memory.ended.Ended.{Ended}
-use Rattle.control_word.specs.declared.handle.Handle.{Handle}
-use Rattle.step_table.specs.AtomicSteps.{owned, remains}
-use Rattle.step_table.specs.GhostStates.{Nothing, model_state}
-use Rattle.step_threads.specs.declared.programs.act.Task.{Task}
-use Rattle.step_threads.specs.declared.said.Said.{Said}
-use Rattle.step_threads.specs.Frames.{FrameView}
-use Rattle.step_threads.specs.TraceLabels.{Ahead, Over, AnAct, AnEnd, DoesAhead, TraceLabel, IsLeaveEvent, ahead, leaves_as, put_on}
-use Rattle.step_threads.specs.Rows.{Reply, row}
-use Rattle.step_threads.specs.AbstractStates.{AbstractState, remains_as, frame_of}
-use Rattle.step_core.specs.declared.trace.TraceStep.{TraceStep}
-use Rattle.step_core.specs.Following.{ActsNext, PassesQuietly, Performs, no_worth}
-use Rattle.step_core.specs.Headline.{LastLeft, TellsWhatIsLeft, step_ended}
-use Rattle.step_core.specs.WorldStates.{WorldState, abstraction}
-use Rattle.step_core.proofs.runs.TraceLabels.{Events, Another, IsDone, Locks, Leaves, Other, each, is_last_in, is_said, put, says_none, sort_of}
+use Rattle.step_core.specs.Headline.{TellsWhatIsLeft}
+use Rattle.step_core.proofs.runs.TraceLabels.{Events, Another, IsDone, Locks, Leaves, Other, each}
+use Rattle.step_core.proofs.runs.TraceLabels.{is_last_in, is_said, put, says_none, sort_of}
 use Rattle.step_core.proofs.runs.Headline.{IsStep, asked}
 
 module _ (u : WorldState) (x : TraceStep) (u' : WorldState) (step : IsStep u x u') where

@@ -1,36 +1,18 @@
 -- What any step does to a world.
-use Rattle.std.proofs.Common.{◌≡◌, ◌≢◌, ℕ, ◌<◌, ◌≤◌, Bool, true, false, cond, List, [], ◌∷◌, length, get_or, map, refl, sym, ap}
-use Rattle.std.proofs.Common.{subst, ◌∙◌, ⊎_elim, inl, inr, arith}
-use Rattle.std.proofs.Common.{get_or-set_other}
-use Rattle.std.specs.Prelude.{Option, Some, None, is_some, slice_get}
-use Rattle.std.proofs.lemmas.Bool.{false≢true}
-use Rattle.std.proofs.lemmas.List.{get_or-map, get_or_past, length-map}
-use Rattle.std.proofs.lemmas.Option.{slice_get_cases}
-use Rattle.control_word.specs.declared.model.event.Entry.{Entry}
-use Rattle.control_word.specs.declared.model.event.Event.{Event}
-use Rattle.control_word.specs.declared.model.view.View.{View}
-use Rattle.control_word.specs.Histories.{entry}
-use Rattle.control_word.specs.Views.{used_up}
-use Rattle.step_table.specs.declared.memory.ghost_history.AtomicStep.{AtomicStep}
-use Rattle.step_table.specs.Registers.{HoldsBag}
-use Rattle.step_table.specs.GhostStates.{TableInvariant, Nothing, GhostState, event_added, event_of, model_state}
-use Rattle.step_threads.specs.declared.ending.Ending.{Ending}
-use Rattle.step_threads.specs.declared.programs.act.Task.{Task}
-use Rattle.step_threads.specs.declared.pending_call.PendingCall.{PendingCall}
-use Rattle.step_threads.specs.declared.pending_call.PendingCall.TheVariants.{Rest}
-use Rattle.step_threads.specs.declared.said.Said.{Said}
-use Rattle.step_threads.specs.declared.said.Stepped.{Stepped}
-use Rattle.step_threads.specs.declared.said.Stepped.TheVariants.{Event as Happened, Quiet, Waited, Done}
-use Rattle.step_threads.specs.declared.thread.Thread.{Thread}
-use Rattle.step_threads.specs.Actors.{PendingCallFits}
-use Rattle.step_threads.specs.Frames.{FrameView, task_at, frame_view}
-use Rattle.step_threads.specs.AbstractStates.{nowhere, frame_of}
-use Rattle.step_threads.specs.NextSteps.{answered, at_rest, begun, pending_call_by, atomic_step_is_event as is_done, stepped, ghost_after, ghost_by, waits_at}
-use Rattle.step_threads.specs.NextSteps.{frame_by}
-use Rattle.step_threads.specs.Steps.{Step}
-use Rattle.step_core.specs.WorldStates.{AllHold, AllRestIdle, WorldState, TakesStep, pending_call_of, is_event, abstraction}
-use Rattle.step_core.specs.Turning.{HasBegun}
-use Rattle.step_core.specs.Worlds.{Advances, AllFit, Steps, step_of, thread_pending, thread_frame}
+use Rattle.std.proofs.Common.{◌≡◌, ℕ, ◌<◌, ◌≤◌, Bool, true, false, cond, ◌≢◌, List, [], ◌∷◌, map}
+use Rattle.std.proofs.Common.{length, get_or, is_some, slice_get, Some, None, Option, sym, refl}
+use Rattle.std.proofs.Common.{ap, ◌∙◌, subst, inl, inr, ⊎_elim, arith, get_or-set_other}
+use Rattle.step_core.proofs.Prelude
+use Prelude.{abstraction, Advances, AllFit, AllHold, AllRestIdle, answered, at_rest, AtomicStep}
+use Prelude.{begun, Done, Ending, Entry, entry, Event, event_added, event_of, false≢true, frame_by}
+use Prelude.{frame_of, frame_view, FrameView, get_or-map, get_or_past, ghost_after, ghost_by}
+use Prelude.{GhostState, HasBegun, HoldsBag, is_event, length-map, model_state, Nothing, nowhere}
+use Prelude.{pending_call_by, pending_call_of, PendingCall, PendingCallFits, Quiet, Rest, Said}
+use Prelude.{slice_get_cases, Step, step_of, Stepped, stepped, Steps, TableInvariant, TakesStep}
+use Prelude.{Task, task_at, Thread, thread_frame, thread_pending, used_up, View, Waited, waits_at}
+use Prelude.{WorldState}
+use Rattle.step_threads.specs.declared.said.Stepped.TheVariants.{Event as Happened}
+use Rattle.step_threads.specs.NextSteps.{atomic_step_is_event as is_done}
 use Rattle.step_core.proofs.Worlds.{world_state}
 use Rattle.step_core.proofs.following.Steps.{performs}
 use Rattle.step_core.proofs.runs.Extents.{extent_step}

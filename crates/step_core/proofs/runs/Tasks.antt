@@ -1,15 +1,11 @@
 -- How many steps a world has left.
-use Rattle.std.proofs.Common.{◌≡◌, ℕ, ◌+◌, ◌-◌, ◌*◌, ◌≤◌, Bool, true, false, cond, List, [], ◌∷◌, length, map, arith}
-use Rattle.std.specs.Prelude.{Some, slice_get, sum_by}
-use Rattle.std.proofs.lemmas.List.{length-map}
-use Rattle.std.proofs.lemmas.List.Sums.{sum_by-cons}
-use Rattle.step_threads.specs.declared.pending_call.PendingCall.{PendingCall}
-use Rattle.step_threads.specs.declared.pending_call.PendingCall.TheVariants.{Rest, Making, Locking, Giving, Brought, Saw, Matched, Refill, Returning, Clearing}
-use Rattle.step_threads.specs.declared.thread.Thread.{Thread}
-use Rattle.step_core.specs.Bounds.{left_to_do, living, most_steps, spare, steps_of, frame_steps}
-use Rattle.step_table.specs.GhostStates.{TableInvariant, GhostState}
-use Rattle.step_core.specs.Told.{TotalsAreTold, world_state}
-use Rattle.step_core.specs.Worlds.{AllFit, thread_pending, thread_frame}
+use Rattle.std.proofs.Common.{◌≡◌, ℕ, ◌+◌, ◌-◌, ◌*◌, ◌≤◌, Bool, true, false, cond, List, [], ◌∷◌}
+use Rattle.std.proofs.Common.{map, length, slice_get, Some, sum_by, arith}
+use Rattle.step_core.proofs.Prelude.{AllFit, Brought, Clearing, frame_steps, GhostState, Giving}
+use Rattle.step_core.proofs.Prelude.{left_to_do, length-map, living, Locking, Making, Matched}
+use Rattle.step_core.proofs.Prelude.{most_steps, PendingCall, Refill, Rest, Returning, Saw, spare}
+use Rattle.step_core.proofs.Prelude.{steps_of, sum_by-cons, TableInvariant, Thread, thread_frame}
+use Rattle.step_core.proofs.Prelude.{thread_pending, TotalsAreTold, world_state}
 use Rattle.step_core.proofs.telling.Walking.{carried_most}
 
 pub all_steps : (threads : List Thread)

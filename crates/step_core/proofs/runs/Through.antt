@@ -1,14 +1,10 @@
 -- What holds all through a run.
-use Rattle.std.proofs.Common.{◌≡◌, ℕ, ◌-◌, List, [], ◌∷◌, length, sym, ap, subst, ◌∙◌}
-use Rattle.step_table.specs.declared.memory.extent.Extent.{Extent}
-use Rattle.step_table.specs.GhostStates.{TableInvariant, Seats}
-use Rattle.step_core.specs.declared.trace.TraceStep.{TraceStep}
+use Rattle.std.proofs.Common.{◌≡◌, ℕ, ◌-◌, List, [], ◌∷◌, length, sym, ap, ◌∙◌, subst}
+use Rattle.step_core.proofs.Prelude.{Advances, AllHold, AllRestIdle, Extent, IsRun, Performs}
+use Rattle.step_core.proofs.Prelude.{TableInvariant, TraceStep, WorldState}
+use Rattle.step_table.specs.GhostStates.{Seats}
 use Rattle.step_core.specs.Chains.{Through}
 use Rattle.step_core.specs.Headline.{AfterEach, OfEach}
-use Rattle.step_core.specs.Runs.{IsRun}
-use Rattle.step_core.specs.Following.{Performs}
-use Rattle.step_core.specs.WorldStates.{AllHold, AllRestIdle, WorldState}
-use Rattle.step_core.specs.Worlds.{Advances}
 use Rattle.step_core.proofs.runs.Locks.{tells_locks}
 use Rattle.step_core.proofs.runs.Headline.{IsStep, counts, last_leaves, locks, values}
 use Rattle.step_core.proofs.runs.Says.{tells}

@@ -1,45 +1,26 @@
 -- What an act's event, answer and end are by its reply: those of a lock, of a leave, or neither.
-use Rattle.std.proofs.Common.{◌≡◌, ℕ, Bool, true, false, List, [], ◌∷◌, length, refl, sym, ap, ◌∙◌, inl, inr, arith}
-use Rattle.std.specs.Prelude.{◌⊎◌, ◌||◌, cond, Option, Some, None, is_some, option_map}
-use Rattle.std.proofs.lemmas.Bool.{cond_both}
-use Rattle.std.proofs.lemmas.Option.{same_Some}
-use Rattle.control_word.specs.declared.model.event.Entry.{Entry}
-use Rattle.control_word.specs.declared.model.event.Event.{Event}
+use Rattle.std.proofs.Common.{◌≡◌, ℕ, Bool, true, false, cond, ◌||◌, ◌⊎◌, List, [], ◌∷◌, length}
+use Rattle.std.proofs.Common.{is_some, Some, None, Option, option_map, sym, refl, ap, ◌∙◌, inl}
+use Rattle.std.proofs.Common.{inr, arith}
+use Rattle.step_core.proofs.Prelude
+use Prelude.{Act, Ahead, ahead_of, Alias, aliased, AnAct, AnEnd, Answer, answer_by, Ask, CellName}
+use Prelude.{Clear, Compare, cond_both, copies, copy, Count, Downgrade, Drop, Ended, Ending, Entry}
+use Prelude.{entry, Event, Exchange, Expired, FromThis, Got, hand, Handle, Holds, inside, is_full}
+use Prelude.{is_last_leave, is_there, IsLeaveEvent, IsMakeEvent, Kind, Leave, Load, Lock, Make}
+use Prelude.{may_go, Move, no_worth, Nothing, Offer, offered, On, OnShelf, other, Over, owned}
+use Prelude.{Owner, owner_slot, Place, place_at, place_in, Put, put_on, Read, Reply, row, Said}
+use Prelude.{said_by, same_Some, Share, Shelve, slot_pointer, Slots, spoken_by, State}
+use Prelude.{statement_by, step_ended, Stepped, Swap, Task, Unshelve, Weak, weak_of, weak_slot}
+use Prelude.{Where}
 use Rattle.control_word.specs.declared.model.event.Event.TheVariants as event
-use Rattle.control_word.specs.declared.model.handle.Kind.{Kind}
-use Rattle.control_word.specs.declared.model.handle.Kind.TheVariants.{Owner, Weak}
-use Rattle.control_word.specs.declared.place.Place.{Place}
 use Rattle.control_word.specs.declared.refusal.Refusal.TheVariants.{BadWeak, NotEnabled}
-use Rattle.control_word.specs.Events.{place_at}
-use Rattle.control_word.specs.Handles.{weak_of}
-use Rattle.control_word.specs.Histories.{entry}
-use Rattle.control_word.specs.State.{State}
-use Rattle.step_table.specs.declared.memory.ended.Ended.{Ended}
-use Rattle.control_word.specs.declared.handle.Handle.{Handle}
-use Rattle.step_table.specs.AtomicSteps.{aliased, owned}
-use Rattle.step_table.specs.Registers.{Slots, inside, is_full, owner_slot, place_in, slot_pointer, weak_slot}
-use Rattle.step_table.specs.GhostStates.{Nothing}
-use Rattle.step_threads.specs.declared.ending.Ending.{Ending}
-use Rattle.step_threads.specs.declared.programs.act.Act.{Act}
-use Rattle.step_threads.specs.declared.programs.act.Act.TheVariants.{Make, Share, Downgrade, Lock, Put, Leave, Clear, Count, Expired, Read, FromThis, Alias}
-use Rattle.step_threads.specs.declared.programs.act.Act.TheVariants.{Move, Ask, Offer, Swap, Exchange, Load, Compare, Holds, Drop, OnShelf}
 use Rattle.step_threads.specs.declared.programs.act.Question.{Question}
 use Rattle.step_threads.specs.declared.programs.act.Question.TheVariants as question
-use Rattle.step_threads.specs.declared.programs.act.ShelfAct.TheVariants.{Shelve, Unshelve}
-use Rattle.step_threads.specs.declared.programs.act.Task.{Task}
-use Rattle.step_threads.specs.declared.programs.call.CellName.{CellName}
 use Rattle.step_threads.specs.declared.programs.call.CellName.TheVariants as cell
-use Rattle.step_threads.specs.declared.said.Answer.{Answer}
 use Rattle.step_threads.specs.declared.said.Answer.TheVariants as answer
-use Rattle.step_threads.specs.declared.said.Said.{Said}
-use Rattle.step_threads.specs.declared.said.Stepped.{Stepped}
 use Rattle.step_threads.specs.declared.said.Stepped.TheVariants as stepped
-use Rattle.step_threads.specs.Frames.{hand, is_there, offered, other}
-use Rattle.step_threads.specs.TraceLabels.{Ahead, Over, AnAct, AnEnd, IsLeaveEvent, IsMakeEvent, On, Where, ahead_of, copies, copy, put_on}
-use Rattle.step_threads.specs.Rows.{Reply, Plain, Found, Got, Told, Came, Compared, Left, may_go, outside, refusal, row, unless}
-use Rattle.step_core.specs.Following.{no_worth, said_by, spoken_by}
-use Rattle.step_core.specs.Headline.{answer_by, statement_by, step_ended}
-use Rattle.step_core.specs.Totals.{is_last_leave}
+use Rattle.step_threads.specs.Rows.{Plain, Found, Told, Came, Compared, Left, outside, refusal}
+use Rattle.step_threads.specs.Rows.{unless}
 
 abbrev pub Events : Type 0
 Events = Option (Event Nothing)

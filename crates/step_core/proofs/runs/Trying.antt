@@ -1,39 +1,22 @@
 -- How many steps a load and a compare have left, step by step.
-use Rattle.std.proofs.Common.{◌≡◌, ℕ, ◌+◌, ◌<◌, ◌≤◌, ◌==◌, Bool, true, false, cond, List, [], ◌∷◌, refl, sym, ap, ◌∙◌}
-use Rattle.std.proofs.Common.{arith}
+use Rattle.std.proofs.Common.{◌≡◌, ℕ, ◌+◌, ◌<◌, ◌≤◌, Bool, true, false, cond, not, ◌&&◌, List, []}
+use Rattle.std.proofs.Common.{◌∷◌, is_some, ◌==◌, Some, None, Option, sym, refl, ap, ◌∙◌, arith}
 use Rattle.std.proofs.Common.{eq-eqb}
-use Rattle.std.specs.Prelude.{◌&&◌, not, Option, Some, None, is_some}
-use Rattle.std.proofs.lemmas.Bool.{cond_both, false≢true}
-use Rattle.control_word.specs.declared.packed.cell.CellWord.{CellWord}
-use Rattle.control_word.specs.declared.place.Block.{Block}
-use Rattle.control_word.specs.Packing.{cell_bits}
-use Rattle.step_threads.specs.declared.programs.act.Act.{Act}
-use Rattle.step_threads.specs.declared.programs.act.Task.{Task}
-use Rattle.step_threads.specs.declared.pending_call.PendingCall.{PendingCall}
-use Rattle.step_threads.specs.declared.pending_call.PendingCall.TheVariants.{Rest, Saw, Matched, Refill}
-use Rattle.control_word.specs.declared.site.Site.{Site}
+use Rattle.step_core.proofs.Prelude
+use Prelude.{Act, alone, Block, cell_bits, CellWord, Checking, Compared, cond_both, Failing}
+use Prelude.{false≢true, fetches, frame_steps, FrameView, ghost_after, GhostState, gives_back}
+use Prelude.{hand, Handle, is_drained, is_low, is_prepared, is_spent, IsOpenTo, Kind}
+use Prelude.{kind_in_state, Lacking, Matched, matches, missed, model_state, more_taken, on}
+use Prelude.{PendingCall, Refill, Refilling, refills_on, Rest, same_value, Saw, seen, seen_found}
+use Prelude.{settles, shows_next, shows_on, Site, slot_pointer, spare, Stage, Step, step_of_act}
+use Prelude.{step_of_compare, step_of_look, TableInvariant, takes, Task, Turning, weight, went}
+use Prelude.{within, word_of_cell}
 use Rattle.step_table.specs.declared.cell_steps.cell_step.CellStep.TheVariants as cell_step
-use Rattle.step_table.specs.declared.cell_steps.cell_step.Compared.{Compared}
-use Rattle.control_word.specs.declared.handle.Handle.{Handle}
 use Rattle.step_table.specs.declared.memory.ghost_history.AtomicStep.TheVariants as atomic_step
-use Rattle.step_table.specs.declared.cell_steps.refill.Stage.{Stage}
-use Rattle.step_table.specs.declared.cell_steps.refill.Stage.TheVariants.{Turning, Checking, Lacking, Refilling, Failing}
-use Rattle.step_table.specs.CellAtomicSteps.{kind_in_state}
-use Rattle.control_word.specs.declared.model.handle.Kind.{Kind}
-use Rattle.step_table.specs.Cells.{IsOpenTo, word_of_cell}
-use Rattle.step_table.specs.Contents.{is_spent, same_value, seen}
-use Rattle.step_table.specs.AtomicSteps.{on}
-use Rattle.step_table.specs.Registers.{slot_pointer}
-use Rattle.step_table.specs.Refills.{is_drained, is_low, more_taken}
-use Rattle.step_table.specs.GhostStates.{TableInvariant, GhostState, model_state}
-use Rattle.step_threads.specs.Frames.{FrameView, hand}
-use Rattle.step_threads.specs.AbstractStates.{went}
-use Rattle.step_threads.specs.NextSteps.{stepped as stepped_by, ghost_after}
-use Rattle.step_threads.specs.Steps.{Step, step_of_act, step_of_compare, fetches, gives_back, matches, missed, refills_on, step_of_look, settles, takes, within}
-use Rattle.step_table.proofs.contained.Coming.{seen_found}
-use Rattle.step_core.specs.Bounds.{alone, refill_steps, shows_next, shows_on, spare, frame_steps, weight}
-use Rattle.step_core.proofs.runs.Alone.{IsLess, Lessens, alone_matched, alone_saw, none_made, plain_less}
-use Rattle.step_core.specs.Told.{is_prepared}
+use Rattle.step_threads.specs.NextSteps.{stepped as stepped_by}
+use Rattle.step_core.specs.Bounds.{refill_steps}
+use Rattle.step_core.proofs.runs.Alone.{IsLess, Lessens, alone_matched, alone_saw, none_made}
+use Rattle.step_core.proofs.runs.Alone.{plain_less}
 use Rattle.step_core.proofs.telling.Leaves.{leaves_by}
 use Rattle.step_core.proofs.telling.Walking.{went_still}
 

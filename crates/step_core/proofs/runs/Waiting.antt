@@ -1,27 +1,17 @@
 -- A step that waits is no event.
-use Rattle.std.proofs.Common.{◌≡◌, ◌⊎◌, ℕ, Bool, true, false, cond, List, [], ◌∷◌, refl, sym, ap, subst, ◌∙◌, inl, inr}
-use Rattle.std.specs.Prelude.{◌&&◌, Some, None, not, is_some}
-use Rattle.std.proofs.lemmas.Bool.{false≢true}
-use Rattle.step_threads.specs.declared.programs.act.Act.{Act}
-use Rattle.step_threads.specs.declared.programs.act.Act.TheVariants.{Make, Share, Downgrade, Lock, Put, Leave, Clear, Count, Expired, Read, FromThis, Alias}
-use Rattle.step_threads.specs.declared.programs.act.Act.TheVariants.{Move, Ask}
-use Rattle.step_threads.specs.declared.programs.act.Act.TheVariants.{Offer, Swap, Exchange, Load, Compare, Holds, Drop, OnShelf}
-use Rattle.step_threads.specs.declared.programs.act.Task.{Task}
-use Rattle.step_threads.specs.declared.ending.Ending.{Ending}
-use Rattle.step_threads.specs.declared.pending_call.PendingCall.{PendingCall}
-use Rattle.step_threads.specs.declared.pending_call.PendingCall.TheVariants.{Rest, Making, Locking, Giving, Brought, Saw, Matched, Refill, Returning, Clearing}
-use Rattle.step_threads.specs.declared.said.Stepped.{Stepped}
-use Rattle.step_threads.specs.declared.said.Stepped.TheVariants.{Waited}
+use Rattle.std.proofs.Common.{◌≡◌, ℕ, Bool, true, false, cond, not, ◌&&◌, ◌⊎◌, List, [], ◌∷◌}
+use Rattle.std.proofs.Common.{is_some, Some, None, sym, refl, ap, ◌∙◌, subst, inl, inr}
+use Rattle.step_core.proofs.Prelude
+use Prelude.{abstraction, Act, Alias, as_word, Ask, at_rest, begun, Brought, cell_of_name, Clear}
+use Prelude.{Clearing, Compare, compared_in, comparing, Count, Downgrade, Drop, Ending, Exchange}
+use Prelude.{Expired, false≢true, first, frame_of, FrameView, FromThis, ghost_after, ghost_by}
+use Prelude.{GhostState, Giving, Holds, is_spent, is_there, Leave, Load, Lock, Locking, Make}
+use Prelude.{Making, Matched, model_state, Move, Offer, OnShelf, pending_call_of, PendingCall, Put}
+use Prelude.{Read, Refill, Rest, Returning, same_value, Saw, seen, Share, slot_value, Step}
+use Prelude.{step_at, step_of, step_of_act, Stepped, stepped, Steps, Swap, Task, Waited, waits}
+use Prelude.{waits_at, waits_on, within, WorldState}
 use Rattle.step_table.specs.declared.cell_steps.cell_step.CellStep.TheVariants as cell_step
 use Rattle.step_table.specs.declared.memory.ghost_history.AtomicStep.TheVariants as atomic_step
-use Rattle.step_table.specs.Contents.{as_word, compared_in, is_spent, same_value, seen}
-use Rattle.step_table.specs.Registers.{slot_value}
-use Rattle.step_table.specs.GhostStates.{GhostState, model_state}
-use Rattle.step_threads.specs.Frames.{FrameView, cell_of_name, comparing, is_there}
-use Rattle.step_threads.specs.AbstractStates.{frame_of}
-use Rattle.step_threads.specs.NextSteps.{at_rest, begun, first, step_at, stepped, ghost_after, ghost_by, waits, waits_at, waits_on}
-use Rattle.step_threads.specs.Steps.{Step, step_of_act, within}
-use Rattle.step_core.specs.Worlds.{WorldState, Steps, pending_call_of, abstraction, step_of}
 
 -- a thread that waits does nothing
 abbrev Quiet : GhostState → ℕ → Bool → GhostState → Type 0

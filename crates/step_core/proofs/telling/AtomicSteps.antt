@@ -1,33 +1,17 @@
 -- What an atomic step adds to the totals, and what is left by it.
-use Rattle.step_threads.specs.declared.programs.act.ShelfAct.{ShelfAct}
-use Rattle.step_threads.specs.declared.programs.act.ShelfAct.TheVariants.{Shelve, Unshelve}
-use Rattle.step_threads.specs.Shelving.{shelf_step}
-use Rattle.std.proofs.Common.{◌≡◌, ℕ, ◌+◌, ◌*◌, ◌≤◌, Bool, true, false, cond, refl, sym, ap, ◌∙◌, arith}
-use Rattle.std.specs.Prelude.{Option, Some, None, is_some, option_map}
+use Rattle.std.proofs.Common.{◌≡◌, ℕ, ◌+◌, ◌*◌, ◌≤◌, Bool, true, false, cond, is_some, Some, None}
+use Rattle.std.proofs.Common.{Option, option_map, sym, refl, ap, ◌∙◌, arith}
+use Rattle.step_core.proofs.Prelude
+use Prelude.{alias, Answer, CellWord, downgrade, ended_by, ended_in, entry, frame_by, frame_steps}
+use Prelude.{FrameView, ghost_by, GhostState, Handle, is_prepared, Kind, leave, leave_as, lock}
+use Prelude.{made_in, model_state, owned, Owner, PendingCall, Place, read_atomic_step, remains}
+use Prelude.{remains_as, Rest, share, share_as, shelf_step, ShelfAct, Shelve, silent, Site, Step}
+use Prelude.{step_ends, step_makes, stepped, tell, tell_expired, Unshelve, Weak}
 use Rattle.control_word.specs.declared.model.event.Event.TheVariants as event
-use Rattle.control_word.specs.declared.place.Place.{Place}
-use Rattle.control_word.specs.Histories.{entry}
-use Rattle.step_threads.specs.declared.pending_call.PendingCall.{PendingCall}
-use Rattle.step_threads.specs.declared.pending_call.PendingCall.TheVariants.{Rest}
-use Rattle.control_word.specs.declared.handle.Handle.{Handle}
-use Rattle.step_threads.specs.declared.said.Answer.{Answer}
-use Rattle.control_word.specs.declared.packed.cell.CellWord.{CellWord}
-use Rattle.control_word.specs.declared.site.Site.{Site}
 use Rattle.step_table.specs.declared.cell_steps.cell_step.CellStep.TheVariants as cell_step
 use Rattle.step_table.specs.declared.memory.ghost_history.AtomicStep.TheVariants as atomic_step
-use Rattle.step_core.specs.Bounds.{frame_steps}
-use Rattle.step_threads.specs.Frames.{FrameView}
-use Rattle.step_threads.specs.AbstractStates.{ended_by, remains_as}
-use Rattle.step_table.specs.AtomicSteps.{remains, read_atomic_step, downgrade, is_last as is_last_of, leave, leave_as, lock, owned, share, share_as, tell}
-use Rattle.step_table.specs.AtomicSteps.{tell_expired}
-use Rattle.step_table.specs.AtomicSteps.{alias}
-use Rattle.step_threads.specs.NextSteps.{stepped, ghost_by, frame_by}
-use Rattle.step_threads.specs.Steps.{Step, silent}
-use Rattle.control_word.specs.declared.model.handle.Kind.{Kind}
-use Rattle.control_word.specs.declared.model.handle.Kind.TheVariants.{Owner, Weak}
-use Rattle.step_table.specs.GhostStates.{GhostState, owner_in, model_state}
-use Rattle.step_core.specs.Told.{step_ends, is_prepared, step_makes}
-use Rattle.step_core.specs.Totals.{ended_in, made_in}
+use Rattle.step_table.specs.AtomicSteps.{is_last as is_last_of}
+use Rattle.step_table.specs.GhostStates.{owner_in}
 use Rattle.step_core.proofs.telling.Order.{ended_more}
 use Rattle.step_core.proofs.telling.Walking.{ends_at}
 

@@ -1,39 +1,24 @@
 -- The counts of a block, with the loads under way and without what a make has added, are exactly the handles on what is
 -- in it, also while an object ends.
-use Rattle.std.proofs.Common.{◌≡◌, ◌≢◌, ℕ, zero, suc, ◌+◌, ◌-◌, ◌/◌, ◌<◌, ◌≤◌, ◌==◌, ◌||◌, Bool, true, false, cond, List, [], ◌∷◌, length, map}
-use Rattle.std.proofs.Common.{get_or, refl, sym, ap, subst, ◌∙◌}
-use Rattle.std.proofs.Common.{◌⊎◌, ⊎_elim, inl, inr, arith, eq-eqb, ne_eqb}
-use Rattle.std.specs.Prelude.{All, Option, Some, None, nat_lt, slice_get, slice_index}
-use Rattle.std.specs.List.{list_any}
-use Rattle.std.proofs.lemmas.Bool.{cases_eq, cases_lt, cond-true, cond-false, eqb-true, lt-ltb}
-use Rattle.std.proofs.lemmas.List.{length-map}
-use Rattle.std.proofs.lemmas.List.Elements.{All-head, All-tail}
-use Rattle.control_word.proofs.history.Legal.{sound}
-use Rattle.control_word.proofs.history.Soundness.{IsBusy, OwnersFit, Sound}
+use Rattle.std.proofs.Common.{◌≡◌, ℕ, zero, suc, ◌+◌, ◌-◌, ◌/◌, ◌<◌, ◌≤◌, Bool, true, false, cond}
+use Rattle.std.proofs.Common.{◌||◌, ◌≢◌, ◌⊎◌, List, [], ◌∷◌, map, length, get_or, nat_lt, ◌==◌}
+use Rattle.std.proofs.Common.{slice_get, slice_index, Some, None, All, Option, sym, refl, ap, ◌∙◌}
+use Rattle.std.proofs.Common.{subst, inl, inr, ⊎_elim, arith, lt-ltb, eq-eqb, ne_eqb, eqb-true}
+use Rattle.step_core.proofs.Prelude
+use Prelude.{added, All-head, All-tail, AllFit, blocks_of, cases_eq, cases_lt, census_of, common}
+use Prelude.{cond-false, cond-true, count, Counts, Ending, ending, endings_in_block, ends_in}
+use Prelude.{FrameView, GhostState, gone, InShape, is_ending_in, IsBusy, IsEndingAtStage, Kind}
+use Prelude.{length-map, list_any, live, loads_on, makes_in, model_state, nowhere, number_of}
+use Prelude.{Opening, opening, owed, Owner, OwnersFit, Phase, slot, Sound, sound, spot, State}
+use Prelude.{TableInvariant, there, Thread, thread_frame, thread_pending, TotalsAreTold, unmade}
+use Prelude.{Weak, weak, weak_number, world_state, WorldState}
 use Rattle.control_word.proofs.words.Counting.{more_counts, number, number_tally}
 use Rattle.control_word.proofs.words.Rooms.{halves, number_room, owed_few}
-use Rattle.control_word.specs.Layout.{spot}
-use Rattle.control_word.specs.Packing.{number_of}
-use Rattle.control_word.specs.State.{InShape, Opening, Phase, State, common, count, ending, gone, live, unmade, weak, weak_number}
-use Rattle.control_word.specs.Views.{added, owed}
-use Rattle.control_word.specs.Words.{blocks_of, counts_at, slot}
-use Rattle.control_word.specs.declared.model.handle.Kind.{Kind}
-use Rattle.control_word.specs.declared.model.handle.Kind.TheVariants.{Owner, Weak}
-use Rattle.control_word.specs.declared.packed.counts.Counts.{Counts}
-use Rattle.step_table.specs.Openings.{opening}
-use Rattle.step_table.specs.GhostStates.{TableInvariant, GhostState, model_state}
-use Rattle.step_table.proofs.tables.Places.{there}
-use Rattle.step_threads.specs.declared.ending.Ending.{Ending}
-use Rattle.step_threads.specs.declared.thread.Thread.{Thread}
-use Rattle.step_threads.specs.Frames.{FrameView}
-use Rattle.step_threads.specs.Endings.{IsEndingAtStage, endings_in_block}
-use Rattle.step_threads.specs.AbstractStates.{nowhere}
+use Rattle.control_word.specs.Words.{counts_at}
 use Rattle.step_threads.proofs.holding.Ends.{one_more}
-use Rattle.step_core.specs.Showing.{counts_by, ends_in, is_ending_in, loads_on, makes_in}
-use Rattle.step_core.specs.Told.{TotalsAreTold, world_state}
-use Rattle.step_core.specs.Totals.{census_of}
-use Rattle.step_core.specs.Worlds.{AllFit, WorldState, thread_frame, thread_pending}
-use Rattle.step_core.proofs.telling.UnderWay.{added_few, added_makes, added_none, owed_loads, owed_none}
+use Rattle.step_core.specs.Showing.{counts_by}
+use Rattle.step_core.proofs.telling.UnderWay.{added_few, added_makes, added_none, owed_loads}
+use Rattle.step_core.proofs.telling.UnderWay.{owed_none}
 
 -- ---- a block's two numbers, with what calls under way owe them
 

@@ -1,17 +1,11 @@
 -- How many calls of a kind are under way, counted thread by thread.
-use Rattle.std.proofs.Common.{◌≡◌, ℕ, ◌+◌, ◌<◌, ◌≤◌, Bool, true, false, cond, List, [], ◌∷◌, length, map}
-use Rattle.std.proofs.Common.{get_or, refl, sym, ap, subst, ◌∙◌, arith, take}
-use Rattle.std.specs.Prelude.{sum_by}
+use Rattle.std.proofs.Common.{◌≡◌, ℕ, ◌+◌, ◌<◌, ◌≤◌, Bool, true, false, cond, List, [], ◌∷◌, map}
+use Rattle.std.proofs.Common.{length, get_or, take, sum_by, sym, refl, ap, ◌∙◌, subst, arith}
+use Rattle.step_core.proofs.Prelude.{cond_both, get_or-map, GhostState, length-map, PendingCall}
+use Rattle.step_core.proofs.Prelude.{Rest, sum_by-cons, sum_by-take-le, Thread, thread_pending}
+use Rattle.step_core.proofs.Prelude.{world_state, WorldState}
 use mir.Val.{bool_byte}
-use Rattle.std.proofs.lemmas.Bool.{cond_both}
-use Rattle.std.proofs.lemmas.List.{get_or-map, length-map}
-use Rattle.std.proofs.lemmas.List.Sums.{sum_by-cons, sum_by-take-le, sum_by_more}
-use Rattle.step_table.specs.GhostStates.{GhostState}
-use Rattle.step_threads.specs.declared.pending_call.PendingCall.{PendingCall}
-use Rattle.step_threads.specs.declared.pending_call.PendingCall.TheVariants.{Rest}
-use Rattle.step_threads.specs.declared.thread.Thread.{Thread}
-use Rattle.step_core.specs.Told.{world_state}
-use Rattle.step_core.specs.Worlds.{WorldState, thread_pending}
+use Rattle.std.proofs.lemmas.List.Sums.{sum_by_more}
 
 -- each thread has one call under way
 pub few_calls : (f : PendingCall → Bool) (hs : List PendingCall) → sum_by (λ (h : PendingCall). cond {A = ℕ} (f h) 1 0) hs ≤ length hs

@@ -1,37 +1,18 @@
 -- The steps of a load or a compare, case by case: what is so of each is so of all.
-use Rattle.std.proofs.Common.{◌≡◌, ℕ, ◌==◌, Bool, List, [], ◌∷◌, cond, refl}
-use Rattle.std.specs.Prelude.{Option, Some, None, is_some, option_map}
-use Rattle.std.proofs.lemmas.Bool.{cond_both}
-use Rattle.control_word.specs.declared.packed.cell.CellWord.{CellWord}
-use Rattle.control_word.specs.declared.model.handle.Kind.{Kind}
-use Rattle.control_word.specs.declared.place.Block.{Block}
-use Rattle.control_word.specs.declared.place.Place.{Place}
-use Rattle.control_word.specs.Packing.{cell_bits}
-use Rattle.control_word.specs.declared.site.Site.{Site}
+use Rattle.std.proofs.Common.{◌≡◌, ℕ, Bool, cond, List, [], ◌∷◌, is_some, ◌==◌, Some, None, Option}
+use Rattle.std.proofs.Common.{option_map, refl}
+use Rattle.step_core.proofs.Prelude
+use Prelude.{Act, Alias, Ask, Block, cell_bits, cell_of_name, CellName, CellWord, Checking, Clear}
+use Prelude.{Compare, Compared, compared_in, comparing, cond_both, Count, Downgrade, Drop}
+use Prelude.{Exchange, Expired, Failing, fetches, first, FrameView, FromThis, GhostState}
+use Prelude.{gives_back, hand, Handle, Holds, is_drained, is_low, is_spent, is_there, Kind}
+use Prelude.{kind_in_state, Lacking, Leave, Load, Lock, Make, matched, matched_on, matches, missed}
+use Prelude.{model_state, more_taken, Move, Offer, on, OnShelf, PendingCall, Place, Put, Read}
+use Prelude.{Refill, Refilling, refills_on, Rest, same_value, Saw, saw, saw_on, seen, settles}
+use Prelude.{Share, Site, slot_pointer, Stage, Step, step_of_act, step_of_compare, step_of_look}
+use Prelude.{Swap, takes, Task, Turning, within, word_of_cell}
 use Rattle.step_table.specs.declared.cell_steps.cell_step.CellStep.TheVariants as cell_step
-use Rattle.step_table.specs.declared.cell_steps.cell_step.Compared.{Compared}
-use Rattle.control_word.specs.declared.handle.Handle.{Handle}
 use Rattle.step_table.specs.declared.memory.ghost_history.AtomicStep.TheVariants as atomic_step
-use Rattle.step_table.specs.declared.cell_steps.refill.Stage.{Stage}
-use Rattle.step_table.specs.declared.cell_steps.refill.Stage.TheVariants.{Turning, Checking, Lacking, Refilling, Failing}
-use Rattle.step_threads.specs.declared.programs.act.Act.{Act}
-use Rattle.step_threads.specs.declared.programs.act.Act.TheVariants.{Make, Share, Downgrade, Lock, Put, Leave, Clear, Count, Expired, Read, FromThis, Alias}
-use Rattle.step_threads.specs.declared.programs.act.Act.TheVariants.{Move, Ask}
-use Rattle.step_threads.specs.declared.programs.act.Act.TheVariants.{Offer, Swap, Exchange, Load, Compare, Holds, Drop, OnShelf}
-use Rattle.step_threads.specs.declared.programs.act.Task.{Task}
-use Rattle.step_threads.specs.declared.programs.call.CellName.{CellName}
-use Rattle.step_threads.specs.declared.pending_call.PendingCall.{PendingCall}
-use Rattle.step_threads.specs.declared.pending_call.PendingCall.TheVariants.{Rest, Saw, Refill}
-use Rattle.step_table.specs.CellAtomicSteps.{kind_in_state}
-use Rattle.step_table.specs.Cells.{word_of_cell}
-use Rattle.step_table.specs.Contents.{compared_in, is_spent, same_value, seen}
-use Rattle.step_table.specs.AtomicSteps.{on}
-use Rattle.step_table.specs.Registers.{slot_pointer}
-use Rattle.step_table.specs.Refills.{is_drained, is_low, more_taken}
-use Rattle.step_table.specs.GhostStates.{GhostState, model_state}
-use Rattle.step_threads.specs.Frames.{FrameView, cell_of_name, comparing, hand, is_there}
-use Rattle.step_threads.specs.NextSteps.{first, matched, matched_on, saw, saw_on}
-use Rattle.step_threads.specs.Steps.{Step, step_of_act, step_of_compare, fetches, gives_back, matches, missed, refills_on, step_of_look, settles, takes, within}
 
 -- steps of a thread that rests or is within an act, so that nothing is done; that look at a cell, take a fund of it, or
 -- swap it; and those on funds

@@ -1,37 +1,19 @@
 -- Where nothing is half done, the counts of a block are exactly the handles on what is in it.
-use Rattle.std.proofs.Common.{◌≡◌, ◌≢◌, ℕ, zero, suc, ◌+◌, ◌-◌, ◌<◌, ◌≤◌, ◌==◌, cond, List, [], ◌∷◌, length, map}
-use Rattle.std.proofs.Common.{get_or, refl, sym, ap, subst, ◌∙◌}
-use Rattle.std.proofs.Common.{⊎_elim, arith, eq-eqb, ne_eqb}
-use Rattle.std.specs.Prelude.{All, Option, Some, None, slice_get, slice_index}
-use Rattle.std.proofs.lemmas.Bool.{cases_eq, cond-true, cond-false}
-use Rattle.std.proofs.lemmas.List.{length-map}
-use Rattle.std.proofs.lemmas.List.Elements.{All-tail}
-use Rattle.std.proofs.lemmas.Option.{same_Some}
+use Rattle.std.proofs.Common.{◌≡◌, ℕ, zero, suc, ◌+◌, ◌-◌, ◌<◌, ◌≤◌, cond, ◌≢◌, List, [], ◌∷◌, map}
+use Rattle.std.proofs.Common.{length, get_or, ◌==◌, slice_get, slice_index, Some, None, All}
+use Rattle.std.proofs.Common.{Option, sym, refl, ap, ◌∙◌, subst, ⊎_elim, arith, eq-eqb, ne_eqb}
+use Rattle.step_core.proofs.Prelude
+use Prelude.{All-tail, AllFit, cases_eq, census_of, common, cond-false, cond-true, count, Counts}
+use Prelude.{ending, endings_in_block, FrameView, GhostState, gone, Idle, InShape, IsAtEnd}
+use Prelude.{IsVacant, length-map, live, model_state, Nothing, nowhere, number_of, Opening}
+use Prelude.{opening, OwnersFit, Pending, pending, PendingCall, PendingCallFits, Phase, Rest}
+use Prelude.{rests_exactly, same_Some, Sound, sound, spot, State, TableInvariant, task_at, Thread}
+use Prelude.{thread_frame, thread_pending, TotalsAreTold, unmade, used_up, View, weak, weak_number}
+use Prelude.{world_state, WorldState}
 use mathlib.Core.Option.{some, some-injective, some-ne-none}
 use lib.ListN.{get_elem?}
-use Rattle.control_word.proofs.history.Legal.{sound}
-use Rattle.control_word.proofs.history.Soundness.{OwnersFit, Sound}
-use Rattle.control_word.proofs.views.Resting.{rests_exactly}
-use Rattle.control_word.specs.declared.packed.counts.Counts.{Counts}
-use Rattle.control_word.specs.declared.model.view.Pending.{Pending}
-use Rattle.control_word.specs.declared.model.view.Pending.TheVariants.{Idle}
-use Rattle.control_word.specs.declared.model.view.View.{View}
-use Rattle.control_word.specs.Layout.{spot}
-use Rattle.control_word.specs.Packing.{number_of}
-use Rattle.control_word.specs.State.{InShape, IsVacant, Opening, Phase, State, common, count, ending, gone, live, unmade, weak, weak_number}
-use Rattle.control_word.specs.Views.{IsAtRest, NamesBlock, used_up}
-use Rattle.step_threads.specs.declared.pending_call.PendingCall.{PendingCall}
-use Rattle.step_threads.specs.declared.pending_call.PendingCall.TheVariants.{Rest}
-use Rattle.step_threads.specs.declared.thread.Thread.{Thread}
-use Rattle.step_threads.specs.Actors.{PendingCallFits}
-use Rattle.step_threads.specs.Frames.{FrameView, task_at}
-use Rattle.step_table.specs.Openings.{opening}
-use Rattle.step_threads.specs.AbstractStates.{nowhere}
-use Rattle.step_table.specs.GhostStates.{TableInvariant, Nothing, GhostState, pending, model_state}
-use Rattle.step_threads.specs.Endings.{endings_in_block}
-use Rattle.step_core.specs.Told.{TotalsAreTold, world_state}
-use Rattle.step_core.specs.Totals.{IsAtEnd, census_of, counts_in}
-use Rattle.step_core.specs.Worlds.{AllFit, WorldState, thread_pending, thread_frame}
+use Rattle.control_word.specs.Views.{IsAtRest, NamesBlock}
+use Rattle.step_core.specs.Totals.{counts_in}
 
 pub at_view : (l : List (View Nothing)) (i : ℕ) (w : View Nothing) → get_elem? l i ≡ some w → (i < length l) × (get_or l i used_up ≡ w)
 at_view [] i w e = absurd (some-ne-none w (sym e))

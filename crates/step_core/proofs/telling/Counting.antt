@@ -1,47 +1,30 @@
 -- What a step adds to the totals, and what it takes from the tasks that are left.
-use Rattle.std.proofs.Common.{◌≡◌, ℕ, ◌≤◌, ◌==◌, Bool, true, false, cond, List, [], ◌∷◌, refl, ap, arith}
-use Rattle.std.specs.Prelude.{Option, Some, None, is_some, option_map}
-use Rattle.std.proofs.lemmas.Bool.{cond_both}
-use Rattle.control_word.specs.State.{weak}
-use Rattle.step_threads.specs.declared.programs.act.Act.{Act}
-use Rattle.step_threads.specs.declared.programs.act.Act.TheVariants.{Make, Share, Downgrade, Lock, Put, Leave, Clear, Count, Expired, Read, FromThis, Alias}
-use Rattle.step_threads.specs.declared.programs.act.Act.TheVariants.{Move, Ask, Offer, Swap, Exchange, Load, Compare, Holds, Drop, OnShelf}
-use Rattle.step_threads.specs.declared.programs.act.Task.{Task}
-use Rattle.step_threads.specs.declared.pending_call.PendingCall.{PendingCall}
-use Rattle.step_threads.specs.declared.pending_call.PendingCall.TheVariants.{Rest, Making, Locking, Giving, Brought, Saw, Matched, Refill, Returning, Clearing}
-use Rattle.control_word.specs.declared.handle.Handle.{Handle}
+use Rattle.std.proofs.Common.{◌≡◌, ℕ, ◌≤◌, Bool, true, false, cond, List, [], ◌∷◌, is_some, ◌==◌}
+use Rattle.std.proofs.Common.{Some, None, Option, option_map, refl, ap, arith}
+use Rattle.step_core.proofs.Prelude
+use Prelude.{Act, Alias, aliased, Answer, Ask, asks, at_rest, begins, begun, brings, Brought}
+use Prelude.{cell_of_name, Clear, Clearing, Compare, compared_in, comparing, cond_both, Count}
+use Prelude.{Downgrade, Drop, emptied, empties, Ended, Ending, ends_on, Exchange, Expired, first}
+use Prelude.{frame_settled, frame_steps, FrameView, FromThis, GhostState, give, given_step, Giving}
+use Prelude.{Going, going, hand, Handle, Holds, inside, is_enabled, is_full, is_prepared, IsAlone}
+use Prelude.{IsClearingMember, IsTried, IsUnderWay, Kind, least, Leave, Load, Lock, lock}
+use Prelude.{locked_pointer, Locking, looks, Make, Making, Matched, may_go, Member, model_state}
+use Prelude.{Move, object_of_block, Offer, offered, on, on_going, OnShelf, other, Owner}
+use Prelude.{owner_slot, owner_word, PendingCall, place_in, Put, Read, Refill, Rest, Returning}
+use Prelude.{Saw, seen, sends, sent, Share, shelf_block, silent, slot_pointer, staged, Step}
+use Prelude.{step_at, step_of_act, step_of_swap, Swap, Task, tried, tries, trying, Weak, weak}
+use Prelude.{went, with_endings, within, word_of_cell}
 use Rattle.step_table.specs.declared.memory.ghost_history.AtomicStep.TheVariants as atomic_step
-use Rattle.step_threads.specs.declared.said.Answer.{Answer}
-use Rattle.step_table.specs.declared.memory.ended.Ended.{Ended}
-use Rattle.step_threads.specs.declared.ending.Ending.{Ending}
-use Rattle.step_core.specs.Bounds.{frame_steps}
-use Rattle.step_threads.specs.Frames.{Going, FrameView, cell_of_name, comparing, going, hand, locked_pointer, offered, on_going, other, frame_settled}
-use Rattle.step_threads.specs.Endings.{staged}
-use Rattle.control_word.specs.declared.site.Site.TheVariants.{Member}
-use Rattle.step_table.specs.Cells.{word_of_cell}
-use Rattle.step_table.specs.Contents.{compared_in, seen}
-use Rattle.step_table.specs.Registers.{inside, is_full, owner_slot, place_in, slot_pointer}
-use Rattle.step_threads.specs.Entries.{least}
-use Rattle.step_table.specs.AtomicSteps.{on, give, is_enabled, lock, owner_word, aliased}
-use Rattle.step_threads.specs.AbstractStates.{went}
-use Rattle.step_threads.specs.Rows.{may_go}
-use Rattle.step_threads.specs.NextSteps.{at_rest, begun, emptied, first, given_step, sent, step_at, tried}
-use Rattle.step_threads.specs.Steps.{Step, step_of_act, asks, begins, brings, empties, ends_on, looks, sends, silent, step_of_swap}
-use Rattle.step_threads.specs.Steps.{tries, trying, with_endings, within}
-use Rattle.control_word.specs.declared.model.handle.Kind.{Kind}
-use Rattle.control_word.specs.declared.model.handle.Kind.TheVariants.{Owner, Weak}
-use Rattle.step_table.specs.GhostStates.{GhostState, object_of_block, model_state}
-use Rattle.step_threads.specs.Threads.{IsClearingMember}
-use Rattle.step_core.specs.Told.{is_prepared}
-use Rattle.step_core.specs.Turning.{IsAlone, IsTried, IsUnderWay}
-use Rattle.step_core.proofs.telling.Walking.{IsFree, carried_leaves, carried_most, over_less, settled_alone, staged_most, taken_out, frame_alone, went_less}
+use Rattle.step_core.proofs.telling.Walking.{IsFree, carried_leaves, carried_most, over_less}
+use Rattle.step_core.proofs.telling.Walking.{settled_alone, staged_most, taken_out, frame_alone}
+use Rattle.step_core.proofs.telling.Walking.{went_less, went_plain}
 use Rattle.step_core.proofs.telling.Leaves.{ends_by, leaves_by, none_ends}
-use Rattle.step_core.proofs.telling.Walking.{went_plain}
 use Rattle.step_core.proofs.telling.Swapping.{swapping, went_swap}
-use Rattle.step_core.proofs.telling.Looking.{compares_one, counted_match, counted_refill, counted_saw, load_one}
-use Rattle.step_core.proofs.telling.AtomicSteps.{IsCounted, aliased_by, downgraded, expired, left, locked_by, plus_none, quiet, read_one, shared, told}
-use Rattle.step_core.proofs.telling.AtomicSteps.{held_one, moved_one}
-use Rattle.step_threads.specs.Shelving.{shelf_block}
+use Rattle.step_core.proofs.telling.Looking.{compares_one, counted_match, counted_refill}
+use Rattle.step_core.proofs.telling.Looking.{counted_saw, load_one}
+use Rattle.step_core.proofs.telling.AtomicSteps.{IsCounted, aliased_by, downgraded, expired, left}
+use Rattle.step_core.proofs.telling.AtomicSteps.{locked_by, plus_none, quiet, read_one, shared}
+use Rattle.step_core.proofs.telling.AtomicSteps.{told, held_one, moved_one}
 use Rattle.step_core.proofs.telling.Making.{counted_make}
 
 begun_in : (v : GhostState) (d k : ℕ) (w : FrameView) (t : Task) (ts : List Task) (o : Option ℕ) → w.endings ≡ [] → w.todo ≡ t ∷ ts

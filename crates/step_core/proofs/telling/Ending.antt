@@ -1,54 +1,31 @@
 -- Which objects end in whose hands, after a step.
-use Rattle.step_core.proofs.telling.Still.{done_asking, done_shelf}
-use Rattle.step_threads.specs.Shelving.{shelf_block}
-use Rattle.std.proofs.Common.{◌≡◌, ◌≢◌, ℕ, suc, ◌+◌, ◌<◌, ◌==◌, Bool, true, false, cond, List, [], ◌∷◌, get_or, refl, sym, ap}
-use Rattle.std.proofs.Common.{subst, ◌∙◌, ⊎_elim, eq-eqb, ne_eqb, arith}
-use Rattle.std.specs.Prelude.{Option, Some, None, option_map}
-use Rattle.std.proofs.lemmas.Bool.{cases_eq, cond_both}
-use Rattle.std.proofs.lemmas.List.Sums.{sum_by-cons}
-use Rattle.control_word.proofs.history.Legal.{sound}
-use Rattle.control_word.specs.declared.model.handle.Kind.{Kind}
-use Rattle.control_word.specs.declared.model.handle.Kind.TheVariants.{Owner, Weak}
-use Rattle.control_word.specs.declared.place.Block.{Block}
-use Rattle.control_word.specs.declared.model.handle.NumberedHandle.{NumberedHandle}
-use Rattle.control_word.specs.Handles.{empty}
-use Rattle.control_word.specs.State.{Object, common, ending, gone, kind_of_member, live, put, weak}
-use Rattle.step_threads.specs.declared.programs.act.Act.{Act}
-use Rattle.step_table.specs.declared.memory.form.Form.{Form}
-use Rattle.step_threads.specs.declared.programs.act.Act.TheVariants.{Make, Share, Downgrade, Lock, Put, Leave, Clear, Count, Expired, Read, FromThis, Alias}
-use Rattle.step_threads.specs.declared.programs.act.Act.TheVariants.{Move, Ask}
-use Rattle.step_threads.specs.declared.programs.act.Act.TheVariants.{Offer, Swap, Exchange, Load, Compare, Holds, Drop, OnShelf}
-use Rattle.step_threads.specs.declared.programs.act.Task.{Task}
-use Rattle.step_threads.specs.declared.ending.Ending.{Ending}
-use Rattle.step_threads.specs.declared.pending_call.PendingCall.{PendingCall}
-use Rattle.step_threads.specs.declared.pending_call.PendingCall.TheVariants.{Rest, Making, Locking, Giving, Brought, Saw, Matched, Refill, Returning, Clearing}
-use Rattle.control_word.specs.declared.handle.Handle.{Handle}
-use Rattle.control_word.specs.declared.site.Site.TheVariants.{Member}
-use Rattle.step_table.specs.declared.memory.ghost_history.AtomicStep.{AtomicStep}
+use Rattle.std.proofs.Common.{◌≡◌, ℕ, suc, ◌+◌, ◌<◌, Bool, true, false, cond, ◌≢◌, List, [], ◌∷◌}
+use Rattle.std.proofs.Common.{get_or, ◌==◌, Some, None, Option, option_map, sym, refl, ap, ◌∙◌}
+use Rattle.std.proofs.Common.{subst, ⊎_elim, arith, eq-eqb, ne_eqb}
+use Rattle.step_core.proofs.Prelude
+use Prelude.{Act, Alias, alias, aliased, AllEndInThreads, Ask, at_rest, AtomicStep, begins, begun}
+use Prelude.{Block, Brought, cases_eq, cell_of_name, claims, Clear, Clearing, common, Compare}
+use Prelude.{compared_in, comparing, cond_both, Count, Downgrade, downgrade, Drop, emptied}
+use Prelude.{empties, empty, Ending, ending, ending_as, endings_in_block, ends_on, Exchange}
+use Prelude.{Expired, first, Form, form_of, FrameView, FromThis, ghost_after_step, ghost_by}
+use Prelude.{GhostState, Giving, going, gone, hand, Handle, holding, Holds, inside, is_full}
+use Prelude.{is_last, Kind, kind_of_member, known_words, least, Leave, leave, leave_as, live, Load}
+use Prelude.{Lock, locked_pointer, Locking, made_on, Make, Making, Matched, may_go, Member}
+use Prelude.{model_state, Move, NumberedHandle, Object, object_of_block, Offer, offered, OnShelf}
+use Prelude.{opening, other, Owner, owner_slot, pending, PendingCall, place_in, prepares, Put, put}
+use Prelude.{Read, read_atomic_step, Refill, Rest, Returning, Said, Saw, seen, Share, share}
+use Prelude.{shelf_block, silent, slot_pointer, sound, staged, Step, step_at, sum_by-cons, Swap}
+use Prelude.{TableInvariant, Task, tell, tell_expired, there, wanted, Weak, weak, went, with_end}
+use Prelude.{with_endings, within, word_of_cell}
+use Rattle.step_core.proofs.telling.Still.{done_asking, done_shelf, IsAlike, Lists, Right, alike}
+use Rattle.step_core.proofs.telling.Still.{asked, done_on, end_put, given_on, going_in, looked}
+use Rattle.step_core.proofs.telling.Still.{passes, plain, put_alike, same, sent_on, shared}
+use Rattle.step_core.proofs.telling.Still.{tried_on, within as on_the_way}
 use Rattle.step_table.specs.declared.memory.ghost_history.AtomicStep.TheVariants as atomic_step
-use Rattle.step_threads.specs.declared.said.Said.{Said}
-use Rattle.step_threads.specs.Actors.{wanted}
 use Rattle.step_table.specs.declared.cell_steps.cell_step.CellStep.TheVariants as cell_step
-use Rattle.step_table.specs.Cells.{word_of_cell}
-use Rattle.step_table.specs.Contents.{compared_in, seen}
-use Rattle.step_threads.specs.Frames.{FrameView, cell_of_name, comparing, form_of, going, hand, locked_pointer, offered, other}
-use Rattle.step_table.specs.AtomicSteps.{alias, aliased, downgrade, is_last, leave, leave_as, read_atomic_step, share, tell, tell_expired}
-use Rattle.step_threads.specs.Endings.{endings_in_block, staged}
-use Rattle.step_table.specs.Registers.{inside, is_full, owner_slot, place_in, slot_pointer}
-use Rattle.step_table.specs.Openings.{opening}
-use Rattle.step_threads.specs.Entries.{least}
-use Rattle.step_threads.specs.AbstractStates.{went}
-use Rattle.step_threads.specs.Rows.{ending_as, holding, may_go, with_end}
-use Rattle.step_threads.specs.NextSteps.{at_rest, begun, emptied, first, made_on, step_at, ghost_by}
-use Rattle.step_threads.specs.Steps.{Step, begins, claims, empties, ends_on, prepares, silent, with_endings, within}
-use Rattle.step_table.specs.GhostStates.{TableInvariant, GhostState, ghost_after_step, known_words, object_of_block, pending, model_state}
-use Rattle.step_core.specs.Told.{AllEndInThreads}
-use Rattle.step_table.proofs.tables.Places.{owner_busy, there}
+use Rattle.step_table.proofs.tables.Places.{owner_busy}
 use Rattle.step_core.proofs.telling.Trying.{compares_on, load_on, matched_on, refill_on, saw_on}
 use Rattle.step_core.proofs.telling.Leaves.{act_endings, begun_by, settled_endings}
-use Rattle.step_core.proofs.telling.Still.{IsAlike, Lists, Right, alike, asked, done_on, end_put, given_on, going_in, looked, passes, plain, put_alike, same}
-use Rattle.step_core.proofs.telling.Still.{sent_on, shared, tried_on}
-use Rattle.step_core.proofs.telling.Still.{within as on_the_way}
 
 -- an owner leaves
 left_by : (v : GhostState) (d k : ℕ) (w x : FrameView) (a : Said) (f : Lists) → f d ≡ w.endings → AllEndInThreads (model_state v) f → TableInvariant v

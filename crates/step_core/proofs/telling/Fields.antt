@@ -1,21 +1,13 @@
 -- The fields that are read in a block are those of the object in it.
-use Rattle.std.proofs.Common.{◌≡◌, ◌≢◌, ℕ, ◌==◌, Bool, true, false, not, [], ◌∷◌, length, get_or, sym, ap, subst, ◌∙◌, ⊎_elim}
-use Rattle.std.proofs.Common.{arith}
-use Rattle.std.proofs.Common.{eq-eqb, ne_eqb}
-use Rattle.std.specs.Prelude.{Option, Some, None, is_some}
-use Rattle.std.proofs.lemmas.Bool.{cases_eq, cond-true, cond-false, false≢true}
-use Rattle.std.proofs.lemmas.List.{ext_get_or}
-use Rattle.control_word.proofs.history.Legal.{sound}
-use Rattle.control_word.proofs.history.Soundness.{IsBusy}
-use Rattle.control_word.specs.declared.packed.counts.Counts.{Counts}
-use Rattle.control_word.specs.declared.place.Block.{Block}
-use Rattle.control_word.specs.Layout.{spot}
-use Rattle.control_word.specs.State.{count, weak, weak_number}
-use Rattle.step_table.specs.Openings.{opening}
-use Rattle.step_table.specs.GhostStates.{TableInvariant, GhostState, object_of_block, model_state}
+use Rattle.std.proofs.Common.{◌≡◌, ℕ, Bool, true, false, not, ◌≢◌, [], ◌∷◌, length, get_or}
+use Rattle.std.proofs.Common.{is_some, ◌==◌, Some, None, Option, sym, ap, ◌∙◌, subst, ⊎_elim}
+use Rattle.std.proofs.Common.{arith, ext_get_or, eq-eqb, ne_eqb}
+use Rattle.step_core.proofs.Prelude.{Block, cases_eq, census_of, cond-false, cond-true, count}
+use Rattle.step_core.proofs.Prelude.{Counts, false≢true, GhostState, IsBusy, model_state}
+use Rattle.step_core.proofs.Prelude.{object_of_block, opening, sound, spot, TableInvariant, weak}
+use Rattle.step_core.proofs.Prelude.{weak_number, WorldState}
 use Rattle.step_table.proofs.tables.Reading.{field_read, four_of}
-use Rattle.step_core.specs.Totals.{census_of, fields_of}
-use Rattle.step_core.specs.Worlds.{WorldState}
+use Rattle.step_core.specs.Totals.{fields_of}
 
 -- the object has four fields
 whole : (v : GhostState) (b : Block) → TableInvariant v → IsBusy (model_state v) (object_of_block v b)

@@ -1,17 +1,10 @@
 -- What a thread's names hold at its start is left by its tasks.
-use Rattle.std.proofs.Common.{◌≡◌, ◌≢◌, inl, inr, ℕ, zero, suc, ◌+◌, ◌<◌, List, [], ◌∷◌, ◌++◌, length, get_or, map, replicate}
-use Rattle.std.proofs.Common.{refl, sym, ap, subst, ⊎_elim, arith}
-use Rattle.std.proofs.lemmas.Bool.{cases_eq}
-use Rattle.step_threads.specs.declared.programs.act.Act.{Act}
-use Rattle.step_threads.specs.declared.programs.act.Act.TheVariants.{Clear}
-use Rattle.step_threads.specs.declared.programs.act.Task.{Task}
-use Rattle.step_threads.specs.declared.programs.call.Call.{Call}
-use Rattle.step_table.specs.Registers.{plain, pointer_of}
-use Rattle.step_threads.specs.Acts.{acts as acts_of, clearing, numbered_tasks, tasks_from}
-use Rattle.step_threads.specs.Programs.{Part}
-use Rattle.step_threads.specs.AbstractStates.{nowhere}
-use Rattle.step_core.specs.Starts.{first_frame, no_slots}
-use Rattle.step_core.specs.Told.{IsTidy, LeavesName, LeavesAll}
+use Rattle.std.proofs.Common.{◌≡◌, ℕ, zero, suc, ◌+◌, ◌<◌, ◌≢◌, List, [], ◌∷◌, ◌++◌, map, length}
+use Rattle.std.proofs.Common.{get_or, replicate, sym, refl, ap, subst, inl, inr, ⊎_elim, arith}
+use Rattle.step_core.proofs.Prelude.{Act, Call, cases_eq, Clear, clearing, first_frame, IsTidy}
+use Rattle.step_core.proofs.Prelude.{LeavesAll, LeavesName, no_slots, nowhere, numbered_tasks}
+use Rattle.step_core.proofs.Prelude.{Part, plain, pointer_of, Task, tasks_from}
+use Rattle.step_threads.specs.Acts.{acts as acts_of}
 use Rattle.step_core.proofs.telling.Tidying.{fresh_tidy}
 
 leaves_clearing : (n i : ℕ) → i < n → LeavesName i (clearing n)

@@ -1,23 +1,11 @@
 -- What leaves and what ends by an act.
-use Rattle.std.proofs.Common.{◌≡◌, ℕ, Bool, false, List, [], ◌∷◌, refl, ap}
-use Rattle.std.proofs.Common.{◌∙◌}
-use Rattle.std.specs.Prelude.{Option, None}
-use Rattle.std.proofs.lemmas.Bool.{cond_both}
-use Rattle.control_word.specs.declared.place.Block.{Block}
-use Rattle.control_word.specs.State.{State}
-use Rattle.step_table.specs.GhostStates.{GhostState, model_state}
-use Rattle.step_threads.specs.declared.programs.act.Act.{Act}
-use Rattle.step_threads.specs.declared.programs.act.Act.TheVariants.{Put, Leave, Clear}
-use Rattle.step_threads.specs.declared.programs.act.Act.TheVariants.{Drop}
-use Rattle.step_threads.specs.declared.programs.act.Task.{Task}
-use Rattle.step_threads.specs.declared.ending.Ending.{Ending}
-use Rattle.control_word.specs.declared.handle.Handle.{Handle}
-use Rattle.step_threads.specs.Frames.{FrameView, idle, other, frame_settled, slots_idle, taken_idle}
-use Rattle.step_table.specs.declared.memory.ended.Ended.{Ended}
-use Rattle.step_table.specs.AtomicSteps.{Telling, by_word, exact, is_last, on}
-use Rattle.step_table.specs.Registers.{Slots, slot_pointer}
-use Rattle.step_threads.specs.Rows.{ending_by, with_end}
-use Rattle.step_threads.specs.AbstractStates.{ended_by, row_in, went}
+use Rattle.std.proofs.Common.{◌≡◌, ℕ, Bool, false, List, [], ◌∷◌, None, Option, refl, ap, ◌∙◌}
+use Rattle.step_core.proofs.Prelude.{Act, Block, by_word, Clear, cond_both, Drop, Ended, ended_by}
+use Rattle.step_core.proofs.Prelude.{Ending, exact, frame_settled, FrameView, GhostState, Handle}
+use Rattle.step_core.proofs.Prelude.{idle, is_last, Leave, model_state, on, other, Put, row_in}
+use Rattle.step_core.proofs.Prelude.{slot_pointer, Slots, slots_idle, State, taken_idle, Task}
+use Rattle.step_core.proofs.Prelude.{Telling, went, with_end}
+use Rattle.step_threads.specs.Rows.{ending_by}
 
 pub settled_endings : (slots : Slots) (taken : Bool) (es : List Ending) (ts : List Task) → (frame_settled slots taken es ts).endings ≡ es
 settled_endings slots taken es [] = refl

@@ -1,27 +1,15 @@
 -- What a step of a load or a compare adds to the totals: no object is made or ended by it.
-use Rattle.std.proofs.Common.{◌≡◌, ℕ, ◌+◌, ◌≤◌, Bool, false, cond, List, [], ◌∷◌, refl, ap, ◌∙◌, arith}
-use Rattle.std.specs.Prelude.{Option, Some, None, is_some}
-use Rattle.control_word.specs.declared.packed.cell.CellWord.{CellWord}
-use Rattle.control_word.specs.declared.site.Site.{Site}
+use Rattle.std.proofs.Common.{◌≡◌, ℕ, ◌+◌, ◌≤◌, Bool, false, cond, List, [], ◌∷◌, is_some, Some}
+use Rattle.std.proofs.Common.{None, Option, refl, ap, ◌∙◌, arith}
+use Rattle.step_core.proofs.Prelude.{Act, cell_of_name, CellName, CellWord, Compare, Compared}
+use Rattle.step_core.proofs.Prelude.{Ended, first, frame_steps, FrameView, GhostState, is_prepared}
+use Rattle.step_core.proofs.Prelude.{Load, Matched, matched, model_state, PendingCall, Refill}
+use Rattle.step_core.proofs.Prelude.{Rest, Saw, saw, Site, Stage, Step, step_at, step_of_act}
+use Rattle.step_core.proofs.Prelude.{step_of_compare, Task, went}
 use Rattle.step_table.specs.declared.cell_steps.cell_step.CellStep.TheVariants as cell_step
-use Rattle.step_table.specs.declared.cell_steps.cell_step.Compared.{Compared}
-use Rattle.step_table.specs.declared.memory.ended.Ended.{Ended}
 use Rattle.step_table.specs.declared.memory.ghost_history.AtomicStep.TheVariants as atomic_step
-use Rattle.step_table.specs.declared.cell_steps.refill.Stage.{Stage}
-use Rattle.step_threads.specs.declared.programs.act.Act.{Act}
-use Rattle.step_threads.specs.declared.programs.act.Act.TheVariants.{Load, Compare}
-use Rattle.step_threads.specs.declared.programs.act.Task.{Task}
-use Rattle.step_threads.specs.declared.programs.call.CellName.{CellName}
-use Rattle.step_threads.specs.declared.pending_call.PendingCall.{PendingCall}
-use Rattle.step_threads.specs.declared.pending_call.PendingCall.TheVariants.{Rest, Saw, Matched, Refill}
-use Rattle.step_core.specs.Bounds.{frame_steps}
-use Rattle.step_core.specs.Told.{is_prepared}
-use Rattle.step_table.specs.GhostStates.{GhostState, model_state}
-use Rattle.step_threads.specs.Frames.{FrameView, cell_of_name}
-use Rattle.step_threads.specs.AbstractStates.{went}
-use Rattle.step_threads.specs.NextSteps.{first, matched, saw, step_at}
-use Rattle.step_threads.specs.Steps.{Step, step_of_act, step_of_compare}
-use Rattle.step_core.proofs.telling.Cases.{IsEach, IsEachAct, each_compares, each_load, each_matched, each_refill, each_saw}
+use Rattle.step_core.proofs.telling.Cases.{IsEach, IsEachAct, each_compares, each_load}
+use Rattle.step_core.proofs.telling.Cases.{each_matched, each_refill, each_saw}
 use Rattle.step_core.proofs.telling.AtomicSteps.{IsCounted, plus_none, quiet}
 use Rattle.step_core.proofs.telling.Leaves.{ends_by, leaves_by, none_ends}
 use Rattle.step_core.proofs.telling.Walking.{went_plain}

@@ -1,22 +1,10 @@
 -- What the steps of a make add to the totals, and what they take from the tasks that are left.
-use Rattle.std.proofs.Common.{◌≡◌, ℕ, suc, ◌+◌, ◌==◌, Bool, true, false, cond, List, [], ◌∷◌, get_or, ap, arith}
-use Rattle.std.specs.Prelude.{Some}
-use Rattle.std.proofs.lemmas.Bool.{cond_both}
-use Rattle.control_word.specs.declared.place.Block.{Block}
-use Rattle.step_table.specs.declared.memory.form.Form.{Form}
-use Rattle.step_threads.specs.declared.programs.act.Act.TheVariants.{Make}
-use Rattle.step_threads.specs.declared.programs.act.Task.{Task}
-use Rattle.step_threads.specs.declared.pending_call.PendingCall.TheVariants.{Making}
-use Rattle.step_threads.specs.Actors.{wanted}
-use Rattle.step_threads.specs.declared.ending.Ending.{Ending}
-use Rattle.step_core.specs.Bounds.{frame_steps, weight}
-use Rattle.step_threads.specs.Frames.{FrameView, form_of, frame_settled}
-use Rattle.step_threads.specs.Rows.{holding}
-use Rattle.step_threads.specs.NextSteps.{made_on}
-use Rattle.step_threads.specs.Steps.{Step, claims, prepares}
-use Rattle.step_table.specs.GhostStates.{GhostState, known_words, pending}
-use Rattle.step_core.specs.Totals.{made_in}
-use Rattle.step_core.specs.Turning.{IsUnderWay}
+use Rattle.std.proofs.Common.{◌≡◌, ℕ, suc, ◌+◌, Bool, true, false, cond, List, [], ◌∷◌, get_or}
+use Rattle.std.proofs.Common.{◌==◌, Some, ap, arith}
+use Rattle.step_core.proofs.Prelude.{Block, claims, cond_both, Ending, Form, form_of}
+use Rattle.step_core.proofs.Prelude.{frame_settled, frame_steps, FrameView, GhostState, holding}
+use Rattle.step_core.proofs.Prelude.{IsUnderWay, known_words, made_in, made_on, Make, Making}
+use Rattle.step_core.proofs.Prelude.{pending, prepares, Step, Task, wanted, weight}
 use Rattle.step_core.proofs.telling.Walking.{settled_alone, frame_alone}
 use Rattle.step_core.proofs.telling.AtomicSteps.{IsCounted, plus_none}
 

@@ -1,43 +1,24 @@
 -- Names that hold something are left by a task to come, after each step.
-use Rattle.std.proofs.Common.{◌≡◌, ◌≢◌, ◌⊎◌, inl, inr, ℕ, ◌<◌, ◌==◌, Bool, true, false, cond, List, [], ◌∷◌, length, get_or}
-use Rattle.std.proofs.Common.{refl, sym, subst, ⊎_elim}
-use Rattle.std.proofs.Common.{get_or-set_other, get_or-set_same, length-set}
-use Rattle.std.specs.Prelude.{Option, Some, None, is_some, option_map, slice_set}
-use Rattle.std.proofs.lemmas.Bool.{cases_eq, cond_both}
-use Rattle.control_word.specs.declared.model.handle.Kind.{Kind}
-use Rattle.control_word.specs.declared.place.Block.{Block}
-use Rattle.step_threads.specs.declared.programs.act.Act.{Act}
-use Rattle.step_threads.specs.declared.programs.act.Act.TheVariants.{Make, Lock, Clear, FromThis, Swap, Exchange, Load, Compare, Leave}
-use Rattle.step_threads.specs.declared.programs.act.Task.{Task}
-use Rattle.step_threads.specs.declared.ending.Ending.{Ending}
-use Rattle.step_threads.specs.declared.pending_call.PendingCall.{PendingCall}
-use Rattle.step_threads.specs.declared.pending_call.PendingCall.TheVariants.{Rest, Making, Locking, Giving, Brought, Saw, Matched, Refill, Returning, Clearing}
-use Rattle.control_word.specs.declared.packed.cell.CellWord.{CellWord}
-use Rattle.control_word.specs.declared.site.Site.{Site}
-use Rattle.control_word.specs.declared.site.Site.TheVariants.{Member}
-use Rattle.step_table.specs.declared.memory.form.Form.{Form}
-use Rattle.control_word.specs.declared.handle.Handle.{Handle}
+use Rattle.std.proofs.Common.{◌≡◌, ℕ, ◌<◌, Bool, true, false, cond, ◌≢◌, ◌⊎◌, List, [], ◌∷◌}
+use Rattle.std.proofs.Common.{length, get_or, is_some, ◌==◌, slice_set, Some, None, Option}
+use Rattle.std.proofs.Common.{option_map, sym, refl, subst, inl, inr, ⊎_elim, length-set}
+use Rattle.std.proofs.Common.{get_or-set_other, get_or-set_same}
+use Rattle.step_core.proofs.Prelude
+use Prelude.{abstraction, Act, asks, at_rest, begins, begun, Block, brings, Brought, cases_eq}
+use Prelude.{cell_of_name, CellWord, claims, Clear, Clearing, Compare, compared_in, comparing}
+use Prelude.{cond_both, emptied, Ending, ends_on, Exchange, first, Form, form_of, frame_by}
+use Prelude.{frame_of, frame_settled, FrameView, FromThis, GhostState, given_step, Giving, Going}
+use Prelude.{going, hand, Handle, held_in, holding, inside, is_enabled, is_full, IsTidy}
+use Prelude.{IsUnderWay, Kind, known_words, least, Leave, LeavesAll, LeavesName, Load, Lock, lock}
+use Prelude.{locked_pointer, Locking, looks, made_on, Make, Making, Matched, matched, matched_on}
+use Prelude.{Member, model_state, nowhere, object_of_block, on, on_going, other, owner_word}
+use Prelude.{pending, pending_call_of, PendingCall, prepares, Refill, Rest, Returning, Saw, saw}
+use Prelude.{saw_on, seen, sends, sent, silent, Site, slot_of, slot_pointer, Slots, staged, Step}
+use Prelude.{step_at, step_of, step_of_act, step_of_swap, Swap, Task, tried, tries, trying, wanted}
+use Prelude.{weak, went, with_endings, within, word_of_cell, world_state_by, WorldState}
 use Rattle.step_table.specs.declared.memory.ghost_history.AtomicStep.TheVariants as atomic_step
-use Rattle.step_table.specs.Cells.{word_of_cell}
-use Rattle.step_table.specs.Contents.{compared_in, held_in, seen, slot_of}
-use Rattle.step_table.specs.AtomicSteps.{is_enabled, lock, on, owner_word}
-use Rattle.step_table.specs.Registers.{Slots, inside, is_full, slot_pointer}
-use Rattle.step_table.specs.GhostStates.{GhostState, known_words, object_of_block, pending, model_state}
-use Rattle.control_word.specs.State.{weak}
-use Rattle.step_threads.specs.Actors.{wanted}
-use Rattle.step_threads.specs.Frames.{Going, FrameView, cell_of_name, comparing, form_of, going, hand, locked_pointer, on_going, other, frame_settled}
-use Rattle.step_threads.specs.Endings.{staged}
-use Rattle.step_threads.specs.Entries.{least}
-use Rattle.step_threads.specs.AbstractStates.{nowhere, frame_of, went}
-use Rattle.step_threads.specs.Rows.{holding}
-use Rattle.step_threads.specs.NextSteps.{at_rest, begun, emptied, first, given_step, made_on, matched, matched_on, saw, saw_on, sent, step_at, tried, frame_by}
-use Rattle.step_threads.specs.Steps.{Step, step_of_act, asks, begins, brings, claims, ends_on, looks, prepares, sends, silent, step_of_swap, tries, trying}
-use Rattle.step_threads.specs.Steps.{with_endings}
-use Rattle.step_threads.specs.Steps.{within}
-use Rattle.step_core.specs.Told.{IsTidy, LeavesName, LeavesAll}
-use Rattle.step_core.specs.Turning.{IsUnderWay}
-use Rattle.step_core.specs.Worlds.{WorldState, pending_call_of, abstraction, world_state_by, step_of}
-use Rattle.step_core.proofs.telling.Cases.{IsEach, IsEachAct, each_compares, each_load, each_matched, each_refill, each_saw}
+use Rattle.step_core.proofs.telling.Cases.{IsEach, IsEachAct, each_compares, each_load}
+use Rattle.step_core.proofs.telling.Cases.{each_matched, each_refill, each_saw}
 use Rattle.step_core.proofs.telling.Tidying.{any_tidy, hand_tidy, left_tidy, make_tidy, went_tidy}
 
 -- the first step of an act leaves the frame as it is, is the act, or is refused

@@ -1,22 +1,19 @@
 -- No more objects are left by their last owners than were made.
-use Rattle.std.proofs.Common.{◌≡◌, ◌≢◌, ℕ, zero, suc, ◌+◌, ◌<◌, ◌≤◌, Bool, true, false, cond, List, [], ◌∷◌, length, refl, ap}
-use Rattle.std.proofs.Common.{◌∙◌, ⊎_elim, eq-eqb, arith}
-use Rattle.std.specs.List.{filter}
-use Rattle.std.proofs.lemmas.Bool.{cases_eq, cond-true, cond-false}
-use Rattle.control_word.proofs.history.Clearing.{was_made}
-use Rattle.control_word.proofs.history.Given.{given_over, over}
-use Rattle.control_word.proofs.history.Legal.{sound}
+use Rattle.std.proofs.Common.{◌≡◌, ℕ, zero, suc, ◌+◌, ◌<◌, ◌≤◌, Bool, true, false, cond, ◌≢◌, List}
+use Rattle.std.proofs.Common.{[], ◌∷◌, length, refl, ap, ◌∙◌, ⊎_elim, arith, eq-eqb}
+use Rattle.step_core.proofs.Prelude.{cases_eq, cond-false, cond-true, ended_in, ending, ends_by}
+use Rattle.step_core.proofs.Prelude.{Entry, Event, filter, given, given_over, gone, is_last_leave}
+use Rattle.step_core.proofs.Prelude.{IsLegal, leads, live, made_in, Nothing, object_of, Opening}
+use Rattle.step_core.proofs.Prelude.{over, Phase, sound, State, unmade, was_made}
 use Rattle.control_word.specs.declared.model.event.Cell.TheVariants.{Free, Member}
-use Rattle.control_word.specs.declared.model.event.Entry.{Entry}
-use Rattle.control_word.specs.declared.model.event.Event.{Event}
-use Rattle.control_word.specs.declared.model.event.Event.TheVariants.{ClearMember, Compare, Count, Expired, Finish, Join, Leave, Load, Lock, Make, Read}
-use Rattle.control_word.specs.declared.model.event.Event.TheVariants.{Same, Share, Shelve, Split, Swap, Unshelve, Visit, WeakLeave, WeakShare}
+use Rattle.control_word.specs.declared.model.event.Event.TheVariants.{ClearMember, Compare, Count}
+use Rattle.control_word.specs.declared.model.event.Event.TheVariants.{Expired, Finish, Join, Leave}
+use Rattle.control_word.specs.declared.model.event.Event.TheVariants.{Load, Lock, Make, Read, Same}
+use Rattle.control_word.specs.declared.model.event.Event.TheVariants.{Share, Shelve, Split, Swap}
+use Rattle.control_word.specs.declared.model.event.Event.TheVariants.{Unshelve, Visit, WeakLeave}
+use Rattle.control_word.specs.declared.model.event.Event.TheVariants.{WeakShare}
 use Rattle.control_word.specs.Events.{after}
-use Rattle.control_word.specs.Handles.{object_of}
-use Rattle.control_word.specs.Histories.{IsLegal, ends_by, given, leads}
-use Rattle.control_word.specs.State.{Opening, Phase, State, ending, gone, live, unmade}
-use Rattle.step_table.specs.GhostStates.{Nothing}
-use Rattle.step_core.specs.Totals.{ended_in, is_last_leave, is_make, made_in}
+use Rattle.step_core.specs.Totals.{is_make}
 
 made_after : (s : State) (d : ℕ) (a : Event Nothing) → (after s d a).made ≡ s.made + cond (is_make a) 1 0
 made_after s d (Make b enabled null fields val) = omega arith

@@ -1,28 +1,19 @@
 -- What a world keeps, at its start.
-use Rattle.std.proofs.Common.{◌≡◌, ℕ, zero, suc, ◌+◌, ◌*◌, ◌≤◌, List, [], ◌∷◌, ◌++◌, length, get_or, map, replicate, refl, sym}
-use Rattle.std.proofs.Common.{ap, subst, ◌∙◌, arith}
-use Rattle.std.specs.Prelude.{All, false, slice_index}
-use Rattle.std.proofs.lemmas.List.{length-map}
-use Rattle.std.proofs.lemmas.List.Elements.{All-head, All-tail}
-use Rattle.std.proofs.lemmas.List.Sums.{sum_by-cons}
+use Rattle.std.proofs.Common.{◌≡◌, ℕ, zero, suc, ◌+◌, ◌*◌, ◌≤◌, false, List, [], ◌∷◌, ◌++◌, map}
+use Rattle.std.proofs.Common.{length, get_or, replicate, slice_index, All, sym, refl, ap, ◌∙◌}
+use Rattle.std.proofs.Common.{subst, arith}
+use Rattle.step_core.proofs.Prelude.{Act, acts, All-head, All-tail, Call, call_count, clearing}
+use Rattle.step_core.proofs.Prelude.{ending, Extent, first_frame, first_ghost, frame_steps}
+use Rattle.step_core.proofs.Prelude.{FrameView, HasFields, IsPart, IsTidy, left_to_do, length-map}
+use Rattle.step_core.proofs.Prelude.{no_slots, nowhere, numbered_tasks, Part, sum_by-cons, Task}
+use Rattle.step_core.proofs.Prelude.{task_steps, tasks_from, Thread, thread_frame, thread_pending}
+use Rattle.step_core.proofs.Prelude.{TotalsAreTold, unmade, weight, world_state}
 use Rattle.control_word.specs.Layout.{table_size}
-use Rattle.control_word.specs.State.{ending, unmade}
-use Rattle.step_threads.specs.declared.programs.act.Act.{Act}
 use Rattle.step_threads.specs.declared.programs.act.Act.TheVariants as act
 use Rattle.step_threads.specs.declared.programs.act.ShelfAct.TheVariants as shelf
-use Rattle.step_threads.specs.declared.programs.act.Task.{Task}
-use Rattle.step_threads.specs.declared.programs.call.Call.{Call}
 use Rattle.step_threads.specs.declared.programs.call.Call.TheVariants as call
-use Rattle.step_table.specs.declared.memory.extent.Extent.{Extent}
-use Rattle.step_threads.specs.declared.thread.Thread.{Thread}
-use Rattle.step_threads.specs.Acts.{acts, clearing, numbered_tasks, tasks_from}
-use Rattle.step_core.specs.Bounds.{left_to_do, task_steps, frame_steps, weight}
-use Rattle.step_threads.specs.Frames.{FrameView}
-use Rattle.step_threads.specs.AbstractStates.{nowhere}
-use Rattle.step_threads.specs.Programs.{IsPart, IsProgram, Part, call_count}
-use Rattle.step_core.specs.Starts.{AllHaveFields, HasFields, first_ghost, first_frame, no_slots}
-use Rattle.step_core.specs.Told.{IsTidy, TotalsAreTold, world_state}
-use Rattle.step_core.specs.Worlds.{thread_pending, thread_frame}
+use Rattle.step_threads.specs.Programs.{IsProgram}
+use Rattle.step_core.specs.Starts.{AllHaveFields}
 use Rattle.step_core.proofs.watching.Worlds.{watched_start}
 use Rattle.step_core.proofs.telling.Firsts.{tidy_first}
 use Rattle.step_core.proofs.telling.Walking.{settled_alone}

@@ -1,20 +1,11 @@
 -- What a world keeps, after a step.
-use Rattle.std.proofs.Common.{◌≡◌, ℕ, ◌+◌, ◌<◌, length, refl, sym, ap, subst, ◌∙◌, arith, get_or-set_other, get_or-set_same, length-set}
-use Rattle.std.specs.Prelude.{Option, Some, None}
-use Rattle.std.proofs.lemmas.List.Sums.{sum_by-set}
-use Rattle.step_table.specs.declared.memory.extent.Extent.{Extent}
-use Rattle.step_table.specs.declared.memory.ghost_history.AtomicStep.{AtomicStep}
-use Rattle.step_threads.specs.declared.said.Stepped.{Stepped}
-use Rattle.step_core.specs.Bounds.{frame_steps}
-use Rattle.step_threads.specs.Frames.{FrameView}
-use Rattle.step_table.specs.Openings.{opening}
-use Rattle.step_threads.specs.AbstractStates.{nowhere, frame_of}
-use Rattle.step_threads.specs.NextSteps.{pending_call_by, ghost_after, ghost_by, stepped, frame_by}
-use Rattle.step_threads.specs.Steps.{Step}
-use Rattle.step_table.specs.GhostStates.{TableInvariant, GhostState}
-use Rattle.step_core.specs.Told.{TotalsAreTold, step_ends, step_makes}
-use Rattle.step_core.specs.Turning.{HasBegun}
-use Rattle.step_core.specs.Worlds.{WorldState, Steps, pending_call_of, abstraction, world_state_by, step_of}
+use Rattle.std.proofs.Common.{◌≡◌, ℕ, ◌+◌, ◌<◌, length, Some, None, Option, sym, refl, ap, ◌∙◌}
+use Rattle.std.proofs.Common.{subst, arith, length-set, get_or-set_other, get_or-set_same}
+use Rattle.step_core.proofs.Prelude
+use Prelude.{abstraction, AtomicStep, Extent, frame_by, frame_of, frame_steps, FrameView}
+use Prelude.{ghost_after, ghost_by, GhostState, HasBegun, nowhere, opening, pending_call_by}
+use Prelude.{pending_call_of, Step, step_ends, step_makes, step_of, Stepped, stepped, Steps}
+use Prelude.{sum_by-set, TableInvariant, TotalsAreTold, world_state_by, WorldState}
 use Rattle.step_core.proofs.watching.Worlds.{watched_step}
 use Rattle.step_core.proofs.telling.Waiting.{answered_adds}
 use Rattle.step_core.proofs.telling.Counting.{counted}

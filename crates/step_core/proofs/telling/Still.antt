@@ -1,45 +1,23 @@
 -- Steps by which no object begins to end, or comes to its end.
-use Rattle.step_threads.specs.declared.programs.act.ShelfAct.{ShelfAct}
-use Rattle.step_threads.specs.declared.programs.act.ShelfAct.TheVariants.{Shelve, Unshelve}
-use Rattle.step_threads.specs.Shelving.{shelf_step}
-use Rattle.std.proofs.Common.{◌≡◌, ◌≢◌, ℕ, ◌<◌, ◌==◌, Bool, true, false, cond, List, [], ◌∷◌, refl, sym, ap, subst, ◌∙◌}
-use Rattle.std.proofs.Common.{⊎_elim}
-use Rattle.std.specs.Prelude.{Option, Some, None, option_map}
-use Rattle.std.proofs.lemmas.Bool.{cases_eq, cond_both}
+use Rattle.std.proofs.Common.{◌≡◌, ℕ, ◌<◌, Bool, true, false, cond, ◌≢◌, List, [], ◌∷◌, ◌==◌, Some}
+use Rattle.std.proofs.Common.{None, Option, option_map, sym, refl, ap, ◌∙◌, subst, ⊎_elim}
+use Rattle.step_core.proofs.Prelude
+use Prelude.{Act, Alias, AllEndInThreads, as_word, Ask, asks, AtomicStep, brings, Brought}
+use Prelude.{cases_eq, cell_in, cell_of_name, CellWord, Clear, Compare, cond_both, Count}
+use Prelude.{Downgrade, Drop, Ending, ending, endings_in_block, Exchange, Expired, frame_by}
+use Prelude.{FrameView, FromThis, ghost_after, ghost_by, GhostState, give, given_step, gives_back}
+use Prelude.{Giving, Going, going, Handle, handle_told, Holds, is_enabled, Kind, kind_at, Leave}
+use Prelude.{Load, Lock, lock, locked_pointer, Locking, looks, Make, model_state, Move}
+use Prelude.{NumberedHandle, Object, Offer, on, on_going, OnShelf, Owner, owner_word, PendingCall}
+use Prelude.{Put, put, Read, Rest, seen, sends, sent, Share, share_as, shelf_step, ShelfAct}
+use Prelude.{Shelve, silent, Site, slot_pointer, slot_value, State, Step, step_of_act}
+use Prelude.{step_of_swap, Swap, TableInvariant, Task, tried, tries, trying, Unshelve, Weak, went}
 use Rattle.control_word.proofs.lists.Tallies.{put_cases}
 use Rattle.control_word.specs.declared.model.event.Cell.{Cell as Named}
 use Rattle.control_word.specs.declared.model.event.Cell.TheVariants.{Free, Member}
-use Rattle.control_word.specs.declared.model.handle.NumberedHandle.{NumberedHandle}
-use Rattle.control_word.specs.declared.model.handle.Kind.{Kind}
-use Rattle.control_word.specs.declared.model.handle.Kind.TheVariants.{Owner, Weak}
 use Rattle.control_word.specs.Events.{swaps as event_swaps}
-use Rattle.control_word.specs.State.{Object, State, ending, put}
-use Rattle.control_word.specs.declared.packed.cell.CellWord.{CellWord}
-use Rattle.control_word.specs.declared.site.Site.{Site}
-use Rattle.step_table.specs.CellAtomicSteps.{cell_in, handle_told}
-use Rattle.step_threads.specs.declared.programs.act.Act.{Act}
-use Rattle.step_threads.specs.declared.programs.act.Act.TheVariants.{Make, Share, Downgrade, Lock, Put, Leave, Clear, Count, Expired, Read, FromThis, Alias}
-use Rattle.step_threads.specs.declared.programs.act.Act.TheVariants.{Move, Ask}
-use Rattle.step_threads.specs.declared.programs.act.Act.TheVariants.{Offer, Swap, Exchange, Load, Compare, Holds, Drop, OnShelf}
-use Rattle.step_threads.specs.declared.programs.act.Task.{Task}
-use Rattle.step_threads.specs.declared.ending.Ending.{Ending}
-use Rattle.step_threads.specs.declared.pending_call.PendingCall.{PendingCall}
-use Rattle.step_threads.specs.declared.pending_call.PendingCall.TheVariants.{Rest, Locking, Giving, Brought}
-use Rattle.control_word.specs.declared.handle.Handle.{Handle}
-use Rattle.step_table.specs.declared.memory.ghost_history.AtomicStep.{AtomicStep}
 use Rattle.step_table.specs.declared.memory.ghost_history.AtomicStep.TheVariants as atomic_step
 use Rattle.step_table.specs.declared.cell_steps.cell_step.CellStep.TheVariants as cell_step
-use Rattle.step_table.specs.Contents.{as_word, seen}
-use Rattle.step_threads.specs.Programs.{kind_at}
-use Rattle.step_threads.specs.Frames.{Going, FrameView, cell_of_name, going, locked_pointer, on_going}
-use Rattle.step_table.specs.AtomicSteps.{give, is_enabled, lock, owner_word, share_as, on}
-use Rattle.step_threads.specs.Endings.{endings_in_block}
-use Rattle.step_table.specs.Registers.{slot_pointer, slot_value}
-use Rattle.step_threads.specs.AbstractStates.{went}
-use Rattle.step_threads.specs.NextSteps.{given_step, sent, ghost_after, ghost_by, tried, frame_by}
-use Rattle.step_threads.specs.Steps.{Step, step_of_act, asks, brings, gives_back, looks, sends, silent, step_of_swap, tries, trying}
-use Rattle.step_table.specs.GhostStates.{TableInvariant, GhostState, model_state}
-use Rattle.step_core.specs.Told.{AllEndInThreads}
 use Rattle.step_core.proofs.telling.Leaves.{act_endings, begun_by, leaves_by}
 use Rattle.step_core.proofs.telling.Swapping.{swapping}
 

@@ -1,16 +1,9 @@
 -- What an act takes that puts a value into a cell.
-use Rattle.std.proofs.Common.{◌≡◌, ℕ, ◌+◌, ◌≤◌, List, [], ◌∷◌, refl, ap, ◌∙◌, arith}
-use Rattle.std.specs.Prelude.{Some, None}
-use Rattle.control_word.specs.State.{State}
-use Rattle.step_threads.specs.declared.programs.act.Act.{Act}
-use Rattle.step_threads.specs.declared.programs.act.Act.TheVariants.{Make, Share, Downgrade, Lock, Put, Leave, Clear, Count, Expired, Read, FromThis, Alias}
-use Rattle.step_threads.specs.declared.programs.act.Act.TheVariants.{Move, Ask}
-use Rattle.step_threads.specs.declared.programs.act.Act.TheVariants.{Offer, Swap, Exchange, Load, Compare, Holds, Drop, OnShelf}
-use Rattle.step_threads.specs.declared.programs.act.Task.{Task}
-use Rattle.step_core.specs.Bounds.{frame_steps, weight}
-use Rattle.step_threads.specs.Frames.{Going, FrameView, going}
-use Rattle.step_table.specs.Registers.{Slots}
-use Rattle.step_threads.specs.AbstractStates.{went}
+use Rattle.std.proofs.Common.{◌≡◌, ℕ, ◌+◌, ◌≤◌, List, [], ◌∷◌, Some, None, refl, ap, ◌∙◌, arith}
+use Rattle.step_core.proofs.Prelude.{Act, Alias, Ask, Clear, Compare, Count, Downgrade, Drop}
+use Rattle.step_core.proofs.Prelude.{Exchange, Expired, frame_steps, FrameView, FromThis, Going}
+use Rattle.step_core.proofs.Prelude.{going, Holds, Leave, Load, Lock, Make, Move, Offer, OnShelf}
+use Rattle.step_core.proofs.Prelude.{Put, Read, Share, Slots, State, Swap, Task, weight, went}
 use Rattle.step_core.proofs.telling.Leaves.{leaves_by}
 use Rattle.step_core.proofs.telling.Walking.{went_still}
 

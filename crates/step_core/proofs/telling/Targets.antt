@@ -1,20 +1,12 @@
 -- The block that a cell's handle is on is one of the table's.
-use Rattle.std.proofs.Common.{◌≡◌, ℕ, ◌<◌, ◌≤◌, Option, Some, None, refl, sym, subst, arith}
-use Rattle.std.specs.Prelude.{IfSome}
-use Rattle.control_word.proofs.history.Clearing.{was_made}
-use Rattle.control_word.proofs.history.Legal.{sound}
-use Rattle.control_word.proofs.history.Soundness.{IsBusy}
+use Rattle.std.proofs.Common.{◌≡◌, ℕ, ◌<◌, ◌≤◌, IfSome, Some, None, Option, sym, refl, subst}
+use Rattle.std.proofs.Common.{arith}
+use Rattle.step_core.proofs.Prelude.{Block, block_of, blocks_of, cell_in, Free, GhostState, IsBusy}
+use Rattle.step_core.proofs.Prelude.{Member, model_state, opening, Site, sound, TableInvariant}
+use Rattle.step_core.proofs.Prelude.{was_made, WorldState}
 use Rattle.control_word.proofs.words.Funds.{cell_busy, member_busy}
-use Rattle.control_word.specs.declared.place.Block.{Block}
 use Rattle.control_word.specs.Events.{cell_of}
-use Rattle.control_word.specs.Words.{block_of, blocks_of}
-use Rattle.control_word.specs.declared.site.Site.{Site}
-use Rattle.control_word.specs.declared.site.Site.TheVariants.{Free, Member}
-use Rattle.step_table.specs.CellAtomicSteps.{cell_in}
 use Rattle.step_table.specs.Cells.{IsCellInUse, target_of}
-use Rattle.step_table.specs.Openings.{opening}
-use Rattle.step_table.specs.GhostStates.{TableInvariant, GhostState, model_state}
-use Rattle.step_core.specs.Worlds.{WorldState}
 
 busy : (v : GhostState) (c : Site) → TableInvariant v → IsCellInUse v c → (o : ℕ) → (cell_of (model_state v) (cell_in (model_state v) c)).object ≡ Some o
     → IsBusy (model_state v) o

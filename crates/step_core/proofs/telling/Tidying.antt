@@ -1,27 +1,17 @@
 -- Names that hold something are left by a task to come, after each act.
-use Rattle.std.proofs.Common.{◌≡◌, ◌≢◌, ◌⊎◌, inl, inr, ℕ, ◌-◌, ◌<◌, Bool, true, false, cond, List, [], ◌∷◌, length, refl, sym}
-use Rattle.std.proofs.Common.{ap, subst, ◌∙◌, ⊎_elim, arith}
-use Rattle.std.proofs.Common.{get_or-set_other, get_or-set_same, length-set}
-use Rattle.std.specs.Prelude.{Option, Some, None, not, slice_set}
-use Rattle.std.proofs.lemmas.Bool.{cases_eq, cond_both, false≢true}
-use Rattle.control_word.specs.State.{State}
-use Rattle.step_threads.specs.declared.programs.act.Act.{Act}
-use Rattle.step_threads.specs.declared.programs.act.Act.TheVariants.{Make, Share, Downgrade, Lock, Put, Leave, Clear, FromThis, Alias, Move, Offer, Swap}
-use Rattle.step_threads.specs.declared.programs.act.Act.TheVariants.{Exchange, Load}
-use Rattle.step_threads.specs.declared.programs.act.Act.TheVariants.{Compare, Drop}
-use Rattle.step_threads.specs.declared.programs.act.Task.{Task}
-use Rattle.step_threads.specs.declared.ending.Ending.{Ending}
-use Rattle.step_table.specs.declared.memory.form.Form.{Form}
-use Rattle.control_word.specs.declared.handle.Handle.{Handle}
-use Rattle.step_table.specs.declared.slots.slot.Slot.{Slot}
+use Rattle.std.proofs.Common.{◌≡◌, ℕ, ◌-◌, ◌<◌, Bool, true, false, cond, not, ◌≢◌, ◌⊎◌, List, []}
+use Rattle.std.proofs.Common.{◌∷◌, length, slice_set, Some, None, Option, sym, refl, ap, ◌∙◌}
+use Rattle.std.proofs.Common.{subst, inl, inr, ⊎_elim, arith, length-set, get_or-set_other}
+use Rattle.std.proofs.Common.{get_or-set_same}
+use Rattle.step_core.proofs.Prelude
+use Prelude.{Act, Alias, came, cases_eq, Clear, Compare, cond_both, Downgrade, Drop, Ending, exact}
+use Prelude.{Exchange, false≢true, Form, frame_settled, FrameView, FromThis, hand, Handle, holding}
+use Prelude.{idle, is_expected, is_full, is_there, IsTidy, least, Leave, LeavesAll, LeavesName}
+use Prelude.{Load, Lock, Make, may_go, Move, Offer, other, placed, plain, pointer_of, Put, row_in}
+use Prelude.{Share, Slot, slot_pointer, slot_value, Slots, slots_idle, State, Swap, taken_idle}
+use Prelude.{Task, went, with_end}
 use Rattle.step_table.specs.Contents.{slots_swapped}
-use Rattle.step_table.specs.AtomicSteps.{exact}
-use Rattle.step_table.specs.Registers.{Slots, is_full, plain, pointer_of, slot_pointer, slot_value}
-use Rattle.step_threads.specs.Frames.{FrameView, hand, idle, is_there, other, placed, frame_settled, slots_idle, taken_idle}
-use Rattle.step_threads.specs.Entries.{is_expected, least}
-use Rattle.step_threads.specs.AbstractStates.{came, row_in, went}
-use Rattle.step_threads.specs.Rows.{Hands, compared, holding, may_go, taking, with_end}
-use Rattle.step_core.specs.Told.{IsTidy, LeavesName, LeavesAll}
+use Rattle.step_threads.specs.Rows.{Hands, compared, taking}
 
 set_twice : (slots : Slots) (i j : ℕ) (x y : Slot) → length (slice_set (slice_set slots i x) j y) ≡ length slots
 set_twice slots i j x y = length-set (slice_set slots i x) j y ∙ length-set slots i x

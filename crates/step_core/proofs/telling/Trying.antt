@@ -1,26 +1,16 @@
 -- By loads and compares no object begins to end.
-use Rattle.std.proofs.Common.{◌≡◌, ℕ, List, refl}
-use Rattle.std.specs.Prelude.{Option, Some, None}
-use Rattle.control_word.specs.declared.packed.cell.CellWord.{CellWord}
-use Rattle.control_word.specs.declared.site.Site.{Site}
+use Rattle.std.proofs.Common.{◌≡◌, ℕ, List, Some, None, Option, refl}
+use Rattle.step_core.proofs.Prelude
+use Prelude.{Act, AllEndInThreads, cell_in, cell_of_name, CellName, CellWord, Compare, Compared}
+use Prelude.{first, FrameView, ghost_after, GhostState, handle_told, Load, Matched, matched}
+use Prelude.{model_state, Refill, Rest, saw, Site, Stage, Step, step_at, step_of_compare, Task}
 use Rattle.step_table.specs.declared.cell_steps.cell_step.CellStep.TheVariants as cell_step
-use Rattle.step_table.specs.declared.cell_steps.cell_step.Compared.{Compared}
 use Rattle.step_table.specs.declared.memory.ghost_history.AtomicStep.TheVariants as atomic_step
-use Rattle.step_table.specs.declared.cell_steps.refill.Stage.{Stage}
-use Rattle.step_threads.specs.declared.programs.act.Act.{Act}
-use Rattle.step_threads.specs.declared.programs.act.Act.TheVariants.{Load, Compare}
-use Rattle.step_threads.specs.declared.programs.act.Task.{Task}
-use Rattle.step_threads.specs.declared.programs.call.CellName.{CellName}
-use Rattle.step_threads.specs.declared.pending_call.PendingCall.TheVariants.{Rest, Matched, Refill}
-use Rattle.step_table.specs.CellAtomicSteps.{cell_in, handle_told}
-use Rattle.step_table.specs.GhostStates.{GhostState, model_state}
-use Rattle.step_threads.specs.Frames.{FrameView, cell_of_name}
-use Rattle.step_threads.specs.NextSteps.{first, matched, saw, step_at, ghost_after}
-use Rattle.step_threads.specs.Steps.{Step, step_of_compare}
-use Rattle.step_core.specs.Told.{AllEndInThreads}
-use Rattle.step_core.proofs.telling.Cases.{IsEach, IsEachAct, each_compares, each_load, each_matched, each_refill, each_saw}
+use Rattle.step_core.proofs.telling.Cases.{IsEach, IsEachAct, each_compares, each_load}
+use Rattle.step_core.proofs.telling.Cases.{each_matched, each_refill, each_saw}
 use Rattle.step_core.proofs.telling.Leaves.{leaves_by}
-use Rattle.step_core.proofs.telling.Still.{Lists, Right, fills_alike, plain, plain_alike, same, within}
+use Rattle.step_core.proofs.telling.Still.{Lists, Right, fills_alike, plain, plain_alike, same}
+use Rattle.step_core.proofs.telling.Still.{within}
 
 still_looked : (v : GhostState) (d : ℕ) (c : Site) (x : CellWord) (y : Option Compared)
     → (model_state (ghost_after v d (Some (atomic_step.OnCell (cell_step.Look c x y))))).object ≡ (model_state v).object

@@ -1,44 +1,20 @@
 -- What calls under way owe the numbers of a block, and what they have added to them: the threads' loads and makes.
-use Rattle.std.proofs.Common.{◌≡◌, ◌≢◌, ℕ, suc, ◌<◌, ◌≤◌, ◌==◌, ◌&&◌, Bool, true, false, cond, List, [], ◌∷◌, length, map}
-use Rattle.std.proofs.Common.{get_or, refl, sym, ap, subst, ◌∙◌, ⊎_elim, arith, eq-eqb, ne_eqb}
-use Rattle.std.specs.Prelude.{Option, Some, sum_by}
-use Rattle.std.proofs.lemmas.Bool.{cases_eq, cond-false}
-use Rattle.std.proofs.lemmas.List.{length-map}
-use Rattle.std.proofs.lemmas.List.Sums.{sum_by-cons}
-use Rattle.control_word.proofs.history.Soundness.{IsBusy}
+use Rattle.std.proofs.Common.{◌≡◌, ℕ, suc, ◌<◌, ◌≤◌, Bool, true, false, cond, ◌&&◌, ◌≢◌, List, []}
+use Rattle.std.proofs.Common.{◌∷◌, map, length, get_or, ◌==◌, Some, sum_by, Option, sym, refl, ap}
+use Rattle.std.proofs.Common.{◌∙◌, subst, ⊎_elim, arith, eq-eqb, ne_eqb}
+use Rattle.step_core.proofs.Prelude
+use Prelude.{Act, added, AllFit, Block, Brought, cases_eq, CellWord, Checking, Clearing}
+use Prelude.{cond-false, Empty, Failing, Full, GhostState, Giving, handle_busy, Idle, is_load_on}
+use Prelude.{is_loading, is_make_in, IsBusy, Kind, kind_in_state, Lacking, length-map, loads_on}
+use Prelude.{Locking, makes_in, Making, Matched, model_state, new_of, Nothing, owed, owes}
+use Prelude.{owing_for, owing_funds, Owner, Pending, pending, PendingCall, PendingCallFits, Place}
+use Prelude.{Refill, RefillFits, Refilling, Rest, Returning, Saw, Site, Slot, slot, Slots, spot}
+use Prelude.{Stage, State, sum_by-cons, TableInvariant, task_at, there, Thread, thread_pending}
+use Prelude.{Turning, used_up, View, Weak}
 use Rattle.control_word.proofs.words.Frames.{spot_apart, total_none}
 use Rattle.control_word.specs.Handles.{same_kind}
-use Rattle.control_word.specs.Layout.{spot}
-use Rattle.control_word.specs.State.{State}
-use Rattle.control_word.specs.Views.{added, adds, owed, owes, total, used_up}
-use Rattle.control_word.specs.Words.{slot}
-use Rattle.control_word.specs.declared.model.handle.Kind.{Kind}
-use Rattle.control_word.specs.declared.model.handle.Kind.TheVariants.{Owner, Weak}
-use Rattle.control_word.specs.declared.model.view.Pending.{Pending}
-use Rattle.control_word.specs.declared.model.view.Pending.TheVariants.{Idle}
-use Rattle.control_word.specs.declared.model.view.View.{View}
-use Rattle.control_word.specs.declared.packed.cell.CellWord.{CellWord}
-use Rattle.control_word.specs.declared.place.Block.{Block}
-use Rattle.control_word.specs.declared.place.Place.{Place}
-use Rattle.control_word.specs.declared.site.Site.{Site}
-use Rattle.step_table.specs.declared.cell_steps.refill.Stage.{Stage}
-use Rattle.step_table.specs.declared.cell_steps.refill.Stage.TheVariants.{Turning, Checking, Lacking, Refilling, Failing}
-use Rattle.step_table.specs.declared.slots.slot.Slot.{Slot}
-use Rattle.step_table.specs.declared.slots.slot.Slot.TheVariants.{Empty, Full}
-use Rattle.step_table.specs.CellAtomicSteps.{kind_in_state, owing_funds}
-use Rattle.step_table.specs.Contents.{owing_for}
-use Rattle.step_table.specs.GhostStates.{TableInvariant, Nothing, GhostState, pending, model_state}
-use Rattle.step_table.specs.Refills.{RefillFits}
-use Rattle.step_table.specs.Registers.{Slots}
-use Rattle.step_table.proofs.tables.Places.{handle_busy, there}
-use Rattle.step_threads.specs.declared.pending_call.PendingCall.{PendingCall}
-use Rattle.step_threads.specs.declared.pending_call.PendingCall.TheVariants.{Rest, Making, Locking, Giving, Brought, Saw, Matched, Refill, Returning, Clearing}
-use Rattle.step_threads.specs.declared.programs.act.Act.{Act}
-use Rattle.step_threads.specs.declared.thread.Thread.{Thread}
-use Rattle.step_threads.specs.Actors.{PendingCallFits}
-use Rattle.step_threads.specs.Frames.{new_of, task_at}
-use Rattle.step_core.specs.Showing.{is_load_on, is_make_in, is_on_block, loads_on, makes_in}
-use Rattle.step_core.specs.Worlds.{AllFit, is_loading, thread_pending}
+use Rattle.control_word.specs.Views.{adds, total}
+use Rattle.step_core.specs.Showing.{is_on_block}
 use Rattle.step_core.proofs.Worlds.{pending_call_owes}
 use Rattle.step_core.proofs.telling.CallCounts.{few_calls}
 use Rattle.step_core.proofs.telling.Census.{at_thread, at_view, pending_call_at}

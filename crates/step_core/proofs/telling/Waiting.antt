@@ -1,25 +1,18 @@
 -- A step that waits adds nothing to the totals, as it is no event; and one that doesn't says so.
-use Rattle.std.proofs.Common.{◌≡◌, ◌≢◌, ℕ, Bool, true, false, not, ◌&&◌, cond, List, [], ◌∷◌, refl, sym, ap, ◌∙◌}
-use Rattle.std.specs.Prelude.{Option, Some, None, is_some}
+use Rattle.std.proofs.Common.{◌≡◌, ℕ, Bool, true, false, cond, not, ◌&&◌, ◌≢◌, List, [], ◌∷◌}
+use Rattle.std.proofs.Common.{is_some, Some, None, Option, sym, refl, ap, ◌∙◌}
+use Rattle.step_core.proofs.Prelude
+use Prelude.{Act, Alias, answered, as_word, Ask, at_rest, atomic_step_is_event, begun, Brought}
+use Prelude.{cell_of_name, Clear, Clearing, Compare, compared_in, comparing, Count, Downgrade}
+use Prelude.{Drop, Ending, Exchange, Expired, first, FrameView, FromThis, GhostState, Giving}
+use Prelude.{Holds, is_spent, is_there, Leave, Load, Lock, Locking, Make, Making, Matched}
+use Prelude.{model_state, Move, Offer, OnShelf, PendingCall, Put, Quiet, Read, Refill, Rest}
+use Prelude.{Returning, same_value, Saw, seen, Share, slot_value, Step, step_at, step_ends}
+use Prelude.{step_makes, step_of_act, Stepped, stepped, Swap, Task, Waited, waits, waits_at}
+use Prelude.{waits_on, within}
 use Rattle.step_table.specs.declared.cell_steps.cell_step.CellStep.TheVariants as cell_step
 use Rattle.step_table.specs.declared.memory.ghost_history.AtomicStep.TheVariants as atomic_step
-use Rattle.step_threads.specs.declared.programs.act.Act.{Act}
-use Rattle.step_threads.specs.declared.programs.act.Act.TheVariants.{Make, Share, Downgrade, Lock, Put, Leave, Clear, Count, Expired, Read, FromThis, Alias}
-use Rattle.step_threads.specs.declared.programs.act.Act.TheVariants.{Move, Ask}
-use Rattle.step_threads.specs.declared.programs.act.Act.TheVariants.{Offer, Swap, Exchange, Load, Compare, Holds, Drop, OnShelf}
-use Rattle.step_threads.specs.declared.programs.act.Task.{Task}
-use Rattle.step_threads.specs.declared.ending.Ending.{Ending}
-use Rattle.step_threads.specs.declared.pending_call.PendingCall.{PendingCall}
-use Rattle.step_threads.specs.declared.pending_call.PendingCall.TheVariants.{Rest, Making, Locking, Giving, Brought, Saw, Matched, Refill, Returning, Clearing}
-use Rattle.step_threads.specs.declared.said.Stepped.{Stepped}
-use Rattle.step_threads.specs.declared.said.Stepped.TheVariants.{Event, Quiet, Waited}
-use Rattle.step_table.specs.Contents.{as_word, compared_in, is_spent, same_value, seen}
-use Rattle.step_table.specs.Registers.{slot_value}
-use Rattle.step_table.specs.GhostStates.{GhostState, model_state}
-use Rattle.step_threads.specs.Frames.{FrameView, cell_of_name, comparing, is_there}
-use Rattle.step_threads.specs.NextSteps.{answered, at_rest, begun, first, atomic_step_is_event, step_at, stepped, waits, waits_at, waits_on}
-use Rattle.step_threads.specs.Steps.{Step, step_of_act, within}
-use Rattle.step_core.specs.Told.{step_ends, step_makes}
+use Rattle.step_threads.specs.declared.said.Stepped.TheVariants.{Event}
 
 -- two answers of a step of a thread at rest that add as much
 abbrev Adds : Stepped → Stepped → Type 0

@@ -1,28 +1,18 @@
 -- What an act takes from the steps that a thread has left.
-use Rattle.std.proofs.Common.{◌≡◌, ℕ, ◌+◌, ◌*◌, ◌<◌, ◌≤◌, Bool, true, false, cond, List, [], ◌∷◌, length, refl, sym, ap, subst}
-use Rattle.std.proofs.Common.{◌∙◌, ◌≢◌, ⊎_elim, arith, get_or-set_other, get_or-set_same, length-set}
-use Rattle.std.specs.Prelude.{Option, Some, None, is_some, slice_set, sum_by}
-use Rattle.std.proofs.lemmas.Bool.{cases_eq, cond_both}
-use Rattle.std.proofs.lemmas.List.Sums.{sum_by-cons}
-use Rattle.control_word.specs.declared.model.handle.Kind.{Kind}
-use Rattle.control_word.specs.declared.model.handle.Kind.TheVariants.{Owner, Weak}
-use Rattle.control_word.specs.State.{State}
-use Rattle.step_threads.specs.declared.programs.act.Act.{Act}
-use Rattle.step_threads.specs.declared.programs.act.Act.TheVariants.{Make, Share, Downgrade, Lock, Put, Leave, Clear, Count, Expired, Read, FromThis, Alias}
-use Rattle.step_threads.specs.declared.programs.act.Act.TheVariants.{Move, Ask}
-use Rattle.step_threads.specs.declared.programs.act.Act.TheVariants.{Offer, Swap, Exchange, Load, Compare, Holds, Drop, OnShelf}
-use Rattle.step_threads.specs.declared.programs.act.Task.{Task}
-use Rattle.step_threads.specs.declared.ending.Ending.{Ending}
-use Rattle.control_word.specs.declared.handle.Handle.{Handle}
-use Rattle.step_core.specs.Bounds.{carried, task_steps, frame_steps, weight}
-use Rattle.step_threads.specs.Endings.{ending_steps, staged}
-use Rattle.step_threads.specs.Frames.{FrameView, hand, idle, other, placed, frame_settled, slots_idle, taken_idle}
-use Rattle.step_table.specs.AtomicSteps.{exact, is_last, owned}
-use Rattle.step_table.specs.declared.slots.slot.Slot.{Slot}
-use Rattle.step_threads.specs.Steps.{with_endings}
-use Rattle.step_table.specs.Registers.{Slots, is_full, plain, pointer_of, slot_pointer, slot_value}
-use Rattle.step_threads.specs.Rows.{ending_as, with_end}
-use Rattle.step_threads.specs.AbstractStates.{ended_by, remains_as, row_in, went}
+use Rattle.std.proofs.Common.{◌≡◌, ℕ, ◌+◌, ◌*◌, ◌<◌, ◌≤◌, Bool, true, false, cond, ◌≢◌, List, []}
+use Rattle.std.proofs.Common.{◌∷◌, length, is_some, slice_set, Some, None, sum_by, Option, sym}
+use Rattle.std.proofs.Common.{refl, ap, ◌∙◌, subst, ⊎_elim, arith, length-set, get_or-set_other}
+use Rattle.std.proofs.Common.{get_or-set_same}
+use Rattle.step_core.proofs.Prelude
+use Prelude.{Act, Alias, Ask, cases_eq, Clear, Compare, cond_both, Count, Downgrade, Drop}
+use Prelude.{ended_by, Ending, ending_as, exact, Exchange, Expired, frame_settled, frame_steps}
+use Prelude.{FrameView, FromThis, hand, Handle, Holds, idle, is_full, is_last, Kind, Leave, Load}
+use Prelude.{Lock, Make, Move, Offer, OnShelf, other, owned, Owner, placed, plain, pointer_of, Put}
+use Prelude.{Read, remains_as, row_in, Share, Slot, slot_pointer, slot_value, Slots, slots_idle}
+use Prelude.{staged, State, sum_by-cons, Swap, taken_idle, Task, task_steps, Weak, weight, went}
+use Prelude.{with_end, with_endings}
+use Rattle.step_core.specs.Bounds.{carried}
+use Rattle.step_threads.specs.Endings.{ending_steps}
 use Rattle.step_core.proofs.telling.Leaves.{act_endings, begun_by, leaves_by, settled_endings}
 
 -- what settling passes over has no steps left

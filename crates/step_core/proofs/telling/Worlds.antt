@@ -1,17 +1,10 @@
 -- What a world keeps, after a step of one of its threads.
-use Rattle.std.proofs.Common.{◌≡◌, ◌≢◌, ℕ, ◌+◌, ◌<◌, List, length, set, get_or, sym, ap, subst, ◌∙◌, arith}
-use Rattle.std.proofs.lemmas.List.{get_or-map, length-map}
-use Rattle.step_threads.specs.declared.pending_call.PendingCall.{PendingCall}
-use Rattle.step_threads.specs.declared.pending_call.PendingCall.TheVariants.{Rest}
-use Rattle.step_threads.specs.declared.said.Stepped.{Stepped}
-use Rattle.step_threads.specs.declared.said.Stepped.TheVariants.{Waited}
-use Rattle.step_threads.specs.declared.thread.Thread.{Thread}
-use Rattle.step_threads.specs.AbstractStates.{frame_of}
-use Rattle.step_table.specs.GhostStates.{TableInvariant, GhostState}
-use Rattle.step_threads.specs.Threads.{HasStepped}
-use Rattle.step_core.specs.Told.{TotalsAreTold, step_ends, step_makes, world_state}
-use Rattle.step_core.specs.Turning.{HasBegun}
-use Rattle.step_core.specs.Worlds.{pending_call_of, abstraction, thread_pending, thread_frame}
+use Rattle.std.proofs.Common.{◌≡◌, ℕ, ◌+◌, ◌<◌, ◌≢◌, List, length, get_or, set, sym, ap, ◌∙◌}
+use Rattle.std.proofs.Common.{subst, arith}
+use Rattle.step_core.proofs.Prelude
+use Prelude.{abstraction, frame_of, get_or-map, GhostState, HasBegun, HasStepped, length-map}
+use Prelude.{pending_call_of, PendingCall, Rest, step_ends, step_makes, Stepped, TableInvariant}
+use Prelude.{Thread, thread_frame, thread_pending, TotalsAreTold, Waited, world_state}
 use Rattle.step_core.proofs.telling.Stepping.{told_by}
 use Rattle.step_core.proofs.telling.Waiting.{never_waits}
 use Rattle.step_core.proofs.watching.Worlds.{unwatched}

@@ -1,7 +1,6 @@
 -- Steps of a thread, one after another.
 use Rattle.std.proofs.Common.{ℕ, List, [], ◌∷◌, refl, subst}
-use Rattle.step_threads.specs.declared.said.Stepped.{Stepped}
-use Rattle.step_core.specs.Worlds.{Advances, GoesTo, WorldState, StepsBy}
+use Rattle.step_core.proofs.Prelude.{Advances, GoesTo, Stepped, StepsBy, WorldState}
 
 pub one_step : (d : ℕ) (u v : WorldState) (r : Stepped) → Advances d u r v → GoesTo d u v
 one_step d u v r advances = (r ∷ [], (v, advances, refl))

@@ -1,27 +1,14 @@
 -- What an act is replied is what the machine chooses.
-use Rattle.std.proofs.Common.{◌≡◌, ℕ, Bool, true, false, cond, refl}
-use Rattle.std.specs.Prelude.{Option, Some, None, option_map}
-use Rattle.control_word.specs.declared.model.event.Event.{Event}
+use Rattle.std.proofs.Common.{◌≡◌, ℕ, Bool, true, false, cond, Some, None, Option, option_map}
+use Rattle.std.proofs.Common.{refl}
+use Rattle.step_core.proofs.Prelude
+use Prelude.{Act, Alias, Ask, Clear, Compare, copies, Count, Downgrade, Drop, Event, exact}
+use Prelude.{Exchange, Expired, FrameView, FromThis, hand, Handle, handle_of, History, Holds}
+use Prelude.{inside, is_there, IsChosen, Kind, leads, least, Leave, leaves_as, Load, Lock, Make}
+use Prelude.{may_go, Move, Nothing, NumberedHandle, Offer, offered, OnShelf, Opening, other, Owner}
+use Prelude.{owner_slot, Place, Put, Read, Share, Shelve, slot_pointer, State, Swap, Telling}
+use Prelude.{Unshelve, Weak, weak_slot}
 use Rattle.control_word.specs.declared.model.event.Event.TheVariants as event
-use Rattle.control_word.specs.declared.model.handle.NumberedHandle.{NumberedHandle}
-use Rattle.control_word.specs.declared.model.handle.Kind.{Kind}
-use Rattle.control_word.specs.declared.model.handle.Kind.TheVariants.{Owner, Weak}
-use Rattle.control_word.specs.declared.place.Place.{Place}
-use Rattle.control_word.specs.Histories.{leads}
-use Rattle.control_word.specs.State.{Opening, State}
-use Rattle.control_word.specs.declared.handle.Handle.{Handle}
-use Rattle.step_table.specs.AtomicSteps.{Telling, exact, handle_of}
-use Rattle.step_table.specs.Registers.{inside, owner_slot, slot_pointer, weak_slot}
-use Rattle.step_table.specs.GhostStates.{Nothing}
-use Rattle.step_threads.specs.declared.programs.act.Act.{Act}
-use Rattle.step_threads.specs.declared.programs.act.Act.TheVariants.{Make, Share, Downgrade, Lock, Put, Leave, Clear, Count, Expired, Read, FromThis, Alias}
-use Rattle.step_threads.specs.declared.programs.act.Act.TheVariants.{Move, Ask, Offer, Swap, Exchange, Load, Compare, Holds, Drop, OnShelf}
-use Rattle.step_threads.specs.declared.programs.act.ShelfAct.TheVariants.{Shelve, Unshelve}
-use Rattle.step_threads.specs.Frames.{FrameView, hand, is_there, offered, other}
-use Rattle.step_threads.specs.TraceLabels.{copies, leaves_as}
-use Rattle.step_threads.specs.Entries.{History, least}
-use Rattle.step_threads.specs.Rows.{may_go}
-use Rattle.step_core.specs.Turns.{IsChosen}
 use Rattle.step_core.proofs.Entries.{giving}
 use Rattle.step_core.proofs.following.Replies.{replied}
 

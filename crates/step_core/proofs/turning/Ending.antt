@@ -1,40 +1,23 @@
 -- The endings of a thread, step by step.
-use Rattle.std.proofs.Common.{◌≡◌, ◌⊎◌, inl, ℕ, ◌-◌, ◌<◌, ◌==◌, true, false, cond, List, [], ◌∷◌, ⊎_elim}
-use Rattle.std.proofs.Common.{length, set, refl, sym, ap, ◌∙◌, arith}
-use Rattle.std.proofs.Common.{get_or-set_same}
-use Rattle.std.specs.Prelude.{Option, Some, None, is_some}
-use Rattle.std.proofs.lemmas.Bool.{cond-false, cond-true, cond_both, eqb-true, eqb-false}
-use Rattle.std.proofs.lemmas.List.{set-get_or, set-set}
-use Rattle.control_word.specs.declared.packed.cell.CellWord.{CellWord}
+use Rattle.std.proofs.Common.{◌≡◌, ℕ, ◌-◌, ◌<◌, true, false, cond, ◌⊎◌, List, [], ◌∷◌, length, set}
+use Rattle.std.proofs.Common.{is_some, ◌==◌, Some, None, Option, sym, refl, ap, ◌∙◌, inl, ⊎_elim}
+use Rattle.std.proofs.Common.{arith, get_or-set_same, set-set, eqb-true}
+use Rattle.step_core.proofs.Prelude
+use Prelude.{abstraction, AbstractState, Block, CellWord, Clearing, cond-false, cond-true}
+use Prelude.{cond_both, empties, Ending, ends_on, entry, eqb-false, frame_by, frame_of, FrameView}
+use Prelude.{gives_back, hand, handle_as, has_object, held_in, History, is_full, IsEndingAtStage}
+use Prelude.{kind_of_member, Member, model_state, nowhere, NumberedHandle, object_of_block}
+use Prelude.{Opening, opening, pending_call_by, pending_call_of, PendingCall, Rest, rested}
+use Prelude.{returned, seen, set-get_or, silent, slot_of, slot_pointer, staged, Step}
+use Prelude.{TableInvariant, unwound, weak, with_endings, within, word_of_cell, world_state_by}
+use Prelude.{WorldState, Wound}
 use Rattle.control_word.specs.declared.model.event.Event.TheVariants as event
-use Rattle.control_word.specs.declared.model.handle.NumberedHandle.{NumberedHandle}
-use Rattle.control_word.specs.declared.place.Block.{Block}
-use Rattle.control_word.specs.Handles.{has_object}
-use Rattle.control_word.specs.Histories.{entry}
-use Rattle.control_word.specs.State.{Opening, kind_of_member, weak}
-use Rattle.step_threads.specs.declared.ending.Ending.{Ending}
-use Rattle.step_threads.specs.declared.pending_call.PendingCall.{PendingCall}
-use Rattle.step_threads.specs.declared.pending_call.PendingCall.TheVariants.{Rest, Clearing}
-use Rattle.control_word.specs.declared.site.Site.TheVariants.{Member}
 use Rattle.step_table.specs.declared.cell_steps.cell_step.CellStep.TheVariants as cell_step
 use Rattle.step_table.specs.declared.memory.ghost_history.AtomicStep.TheVariants as atomic_step
-use Rattle.step_threads.specs.Frames.{FrameView, hand}
-use Rattle.step_threads.specs.Endings.{IsEndingAtStage, staged}
-use Rattle.step_table.specs.CellAtomicSteps.{handle_as}
-use Rattle.step_table.specs.Cells.{word_of_cell}
-use Rattle.step_table.specs.Contents.{held_in, seen, slot_of}
-use Rattle.step_table.specs.Registers.{is_full, slot_pointer}
-use Rattle.step_table.specs.Openings.{opening}
-use Rattle.step_threads.specs.Entries.{History}
-use Rattle.step_threads.specs.AbstractStates.{AbstractState, nowhere, put_frame, rested, rested_frame, frame_of}
-use Rattle.step_threads.specs.Unwinding.{Wound, unwound}
-use Rattle.step_threads.specs.NextSteps.{pending_call_by, frame_by}
-use Rattle.step_threads.specs.Steps.{Step, empties, ends_on, gives_back, silent, with_endings, within}
-use Rattle.step_table.specs.GhostStates.{TableInvariant, object_of_block, model_state}
-use Rattle.step_core.specs.Turning.{returned}
-use Rattle.step_core.specs.Worlds.{WorldState, pending_call_of, abstraction, world_state_by}
+use Rattle.step_threads.specs.AbstractStates.{put_frame, rested_frame}
 use Rattle.step_core.proofs.turning.Members.{seen_object, told_member, zero_member}
-use Rattle.step_core.proofs.turning.Unwinding.{hand_out, unwound_empty, unwound_finish, unwound_full}
+use Rattle.step_core.proofs.turning.Unwinding.{hand_out, unwound_empty, unwound_finish}
+use Rattle.step_core.proofs.turning.Unwinding.{unwound_full}
 
 -- what the thread has begun after its step
 pub pending_call_after : (d : ℕ) (u : WorldState) (x : Option Step) → d < length u.pending_calls → pending_call_of (world_state_by d u x) d ≡ pending_call_by

@@ -1,30 +1,18 @@
 -- The first step of each act: it is the act, or it only begins it.
-use Rattle.std.proofs.Common.{◌≡◌, ℕ, ◌==◌, true, false, List, refl}
-use Rattle.std.specs.Prelude.{Option, Some, None}
-use Rattle.std.proofs.lemmas.Bool.{cond_both, false≢true}
-use Rattle.step_threads.specs.declared.programs.act.Act.{Act}
-use Rattle.step_threads.specs.declared.programs.act.Act.TheVariants.{Make, Share, Downgrade, Lock, Put, Leave, Clear, Count, Expired, Read, FromThis, Alias}
-use Rattle.step_threads.specs.declared.programs.act.Act.TheVariants.{Move, Ask}
-use Rattle.step_threads.specs.declared.programs.act.Act.TheVariants.{Offer, Swap, Exchange, Load, Compare, Holds, Drop, OnShelf}
-use Rattle.step_threads.specs.declared.programs.act.Task.{Task}
-use Rattle.step_threads.specs.declared.pending_call.PendingCall.TheVariants.{Rest, Giving}
-use Rattle.control_word.specs.declared.handle.Handle.{Handle}
-use Rattle.control_word.specs.declared.model.handle.Kind.{Kind}
-use Rattle.step_threads.specs.Frames.{going, locked_pointer}
-use Rattle.step_table.specs.AtomicSteps.{is_enabled, lock, owner_word, on}
-use Rattle.step_table.specs.Registers.{inside, slot_pointer}
-use Rattle.step_threads.specs.Entries.{least}
-use Rattle.step_threads.specs.AbstractStates.{frame_of}
-use Rattle.step_threads.specs.NextSteps.{first, waits_on}
-use Rattle.step_threads.specs.Steps.{Step, step_of_act, asks, begins, looks, silent, trying}
-use Rattle.step_table.specs.GhostStates.{model_state}
-use Rattle.step_core.specs.Turning.{is_acting}
-use Rattle.step_core.specs.Worlds.{WorldState, abstraction, world_state_by}
+use Rattle.std.proofs.Common.{◌≡◌, ℕ, true, false, List, ◌==◌, Some, None, Option, refl}
+use Rattle.step_core.proofs.Prelude
+use Prelude.{abstraction, Act, Alias, Ask, asks, begins, Clear, Compare, cond_both, Count}
+use Prelude.{Downgrade, Drop, Exchange, Expired, false≢true, first, frame_of, FromThis, Giving}
+use Prelude.{going, Handle, Holds, inside, is_acting, is_enabled, Kind, least, Leave, Load, Lock}
+use Prelude.{lock, locked_pointer, looks, Make, model_state, Move, Offer, on, OnShelf, owner_word}
+use Prelude.{Put, Read, Rest, Share, silent, slot_pointer, Step, step_of_act, Swap, Task, trying}
+use Prelude.{waits_on, world_state_by, WorldState}
 use Rattle.step_core.proofs.turning.Ending.{same_frames, abstraction_as}
 use Rattle.step_core.proofs.turning.Saying.{Acts, asks_so, begins_so, does_so, looks_so}
 use Rattle.step_core.proofs.turning.Swapping.{goes_same, goes_so}
 use Rattle.step_core.proofs.turning.Holding.{holds_so}
-use Rattle.step_core.proofs.turning.Looking.{CanLook, compare_first, compare_same, load_first, load_same}
+use Rattle.step_core.proofs.turning.Looking.{CanLook, compare_first, compare_same, load_first}
+use Rattle.step_core.proofs.turning.Looking.{load_same}
 
 -- each act
 pub acts_so : (d : ℕ) (u : WorldState) (k : ℕ) (ts : List Task) (a : Act) → CanLook d u a → waits_on u.ghost_state (frame_of (abstraction u) d) a ≡ false

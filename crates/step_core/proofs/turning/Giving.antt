@@ -1,24 +1,12 @@
 -- What the step does by which an object gives a pointer to itself.
-use Rattle.std.proofs.Common.{◌≡◌, ℕ, true, List, ◌∷◌, inl, set, refl, sym, ap, subst, ◌∙◌}
-use Rattle.std.specs.Prelude.{Option, Some, None, option_map}
-use Rattle.std.proofs.lemmas.Bool.{cond-true}
-use Rattle.control_word.specs.declared.model.handle.Kind.{Kind}
-use Rattle.control_word.specs.declared.model.handle.Kind.TheVariants.{Owner, Weak}
-use Rattle.step_threads.specs.declared.programs.act.Act.{Act}
-use Rattle.step_threads.specs.declared.programs.act.Act.TheVariants.{FromThis}
-use Rattle.step_threads.specs.declared.programs.act.Task.{Task}
-use Rattle.step_threads.specs.declared.pending_call.PendingCall.TheVariants.{Rest, Giving}
-use Rattle.control_word.specs.declared.handle.Handle.{Handle}
-use Rattle.step_table.specs.AtomicSteps.{give, is_enabled}
-use Rattle.step_table.specs.Registers.{inside, slot_pointer}
-use Rattle.step_table.specs.Openings.{opening}
+use Rattle.std.proofs.Common.{◌≡◌, ℕ, true, List, ◌∷◌, set, Some, None, Option, option_map, sym}
+use Rattle.std.proofs.Common.{refl, ap, ◌∙◌, subst, inl}
+use Rattle.step_core.proofs.Prelude.{abstraction, Act, cond-true, frame_of, FromThis, give}
+use Rattle.step_core.proofs.Prelude.{given_step, Giving, Handle, inside, is_enabled, IsUnderWay}
+use Rattle.step_core.proofs.Prelude.{Kind, model_state, opening, Owner, Rest, slot_pointer}
+use Rattle.step_core.proofs.Prelude.{step_of_act, Task, Weak, went, WorldState}
 use Rattle.step_core.proofs.Entries.{does, giving}
-use Rattle.step_threads.specs.AbstractStates.{frame_of, went}
-use Rattle.step_threads.specs.NextSteps.{given_step, atomic_step_is_event as is_done}
-use Rattle.step_threads.specs.Steps.{step_of_act}
-use Rattle.step_table.specs.GhostStates.{model_state}
-use Rattle.step_core.specs.Turning.{IsUnderWay}
-use Rattle.step_core.specs.Worlds.{WorldState, abstraction}
+use Rattle.step_threads.specs.NextSteps.{atomic_step_is_event as is_done}
 use Rattle.step_core.proofs.turning.Saying.{Acts}
 use Rattle.step_core.proofs.turning.Trials.{Next, Outcome}
 

@@ -1,26 +1,14 @@
 -- An act that asks whether a cell holds what a name does.
-use Rattle.std.proofs.Common.{◌≡◌, ℕ, Bool, true, false, cond, List, Option, Some, None, refl, ap, set, ◌∙◌}
-use Rattle.std.proofs.lemmas.Bool.{and_parts}
-use Rattle.control_word.specs.declared.model.event.Event.{Event}
+use Rattle.std.proofs.Common.{◌≡◌, ℕ, Bool, true, false, cond, List, set, Some, None, Option, refl}
+use Rattle.std.proofs.Common.{ap, ◌∙◌}
+use Rattle.step_core.proofs.Prelude.{abstraction, and_parts, as_word, cell_of_name, CellName}
+use Rattle.step_core.proofs.Prelude.{Event, event_added, frame_of, GhostState, goes_in, History}
+use Rattle.step_core.proofs.Prelude.{Holds, holds_step, is_expected, is_of, is_there, IsIn}
+use Rattle.step_core.proofs.Prelude.{kind_at, may_go, model_state, Nothing, opening, Rest}
+use Rattle.step_core.proofs.Prelude.{slot_value, Slots, step_of_act, Task, went, WorldState}
 use Rattle.step_table.specs.declared.cell_steps.cell_step.CellStep.TheVariants as cell_step
 use Rattle.step_table.specs.declared.memory.ghost_history.AtomicStep.TheVariants as atomic_step
-use Rattle.step_table.specs.Contents.{as_word, is_of}
-use Rattle.step_table.specs.GhostStates.{Nothing, GhostState, event_added, model_state}
-use Rattle.step_table.specs.Openings.{opening}
-use Rattle.step_table.specs.Registers.{Slots, slot_value}
 use Rattle.step_table.proofs.contained.Holding.{holds_tells}
-use Rattle.step_threads.specs.declared.programs.act.Act.TheVariants.{Holds}
-use Rattle.step_threads.specs.declared.programs.act.Task.{Task}
-use Rattle.step_threads.specs.declared.programs.call.CellName.{CellName}
-use Rattle.step_threads.specs.AbstractStates.{frame_of, went}
-use Rattle.step_threads.specs.Entries.{History, holds_step, is_expected}
-use Rattle.step_threads.specs.Frames.{cell_of_name, is_there}
-use Rattle.step_threads.specs.Programs.{IsIn, kind_at}
-use Rattle.step_threads.specs.Rows.{may_go}
-use Rattle.step_threads.specs.Steps.{step_of_act}
-use Rattle.step_threads.specs.declared.pending_call.PendingCall.TheVariants.{Rest}
-use Rattle.step_threads.proofs.CellNames.{goes_in}
-use Rattle.step_core.specs.Worlds.{WorldState, abstraction}
 use Rattle.step_core.proofs.Entries.{does, history_asks}
 use Rattle.step_core.proofs.turning.Looking.{CanLook}
 use Rattle.step_core.proofs.turning.Saying.{Acts, does_so}

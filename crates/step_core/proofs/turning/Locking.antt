@@ -1,20 +1,10 @@
 -- What a step of a lock does.
-use Rattle.std.proofs.Common.{◌≡◌, ℕ, ◌==◌, ◌||◌, Bool, true, false, List, inl, inr, refl, sym, ap, ◌∙◌}
-use Rattle.std.specs.Prelude.{Option, Some, None}
-use Rattle.std.proofs.lemmas.Bool.{cond_both, false≢true}
-use Rattle.step_threads.specs.declared.programs.act.Act.{Act}
-use Rattle.step_threads.specs.declared.programs.act.Act.TheVariants.{Lock}
-use Rattle.step_threads.specs.declared.programs.act.Task.{Task}
-use Rattle.step_threads.specs.declared.pending_call.PendingCall.{PendingCall}
-use Rattle.step_threads.specs.declared.pending_call.PendingCall.TheVariants.{Rest, Locking}
-use Rattle.control_word.specs.declared.handle.Handle.{Handle}
-use Rattle.step_threads.specs.Frames.{locked_pointer}
-use Rattle.step_table.specs.AtomicSteps.{lock, owner_word, on}
-use Rattle.step_table.specs.Registers.{is_full}
-use Rattle.step_threads.specs.AbstractStates.{frame_of}
-use Rattle.step_threads.specs.Steps.{step_of_act, looks, tries, trying}
-use Rattle.step_table.specs.GhostStates.{model_state}
-use Rattle.step_core.specs.Worlds.{WorldState, abstraction}
+use Rattle.std.proofs.Common.{◌≡◌, ℕ, Bool, true, false, ◌||◌, List, ◌==◌, Some, None, Option, sym}
+use Rattle.std.proofs.Common.{refl, ap, ◌∙◌, inl, inr}
+use Rattle.step_core.proofs.Prelude.{abstraction, Act, cond_both, false≢true, frame_of, Handle}
+use Rattle.step_core.proofs.Prelude.{is_full, Lock, lock, locked_pointer, Locking, looks}
+use Rattle.step_core.proofs.Prelude.{model_state, on, owner_word, PendingCall, Rest, step_of_act}
+use Rattle.step_core.proofs.Prelude.{Task, tries, trying, WorldState}
 use Rattle.step_core.proofs.turning.Saying.{lock_so}
 use Rattle.step_core.proofs.turning.Trials.{Outcome, is_at_cell, is_looking, is_on}
 

@@ -1,39 +1,18 @@
 -- The first step of a load or a compare, and its event.
-use Rattle.std.proofs.Common.{◌≡◌, ℕ, ◌<◌, Bool, true, false, cond, not, ◌&&◌, List, [], ◌∷◌, set, refl, sym, ap, subst, ◌∙◌}
-use Rattle.std.specs.Prelude.{Option, Some, None, is_some}
-use Rattle.std.proofs.lemmas.Bool.{and_parts, cond_both, false≢true}
-use Rattle.control_word.specs.declared.packed.cell.CellWord.{CellWord}
-use Rattle.control_word.specs.declared.model.event.Event.{Event}
-use Rattle.control_word.specs.declared.site.Site.{Site}
-use Rattle.step_table.specs.declared.cell_steps.cell_step.CellStep.TheVariants.{Look}
-use Rattle.step_table.specs.declared.cell_steps.cell_step.Compared.{Compared}
-use Rattle.step_table.specs.declared.memory.ghost_history.AtomicStep.{AtomicStep}
-use Rattle.step_table.specs.declared.memory.ghost_history.AtomicStep.TheVariants.{OnCell}
-use Rattle.step_table.specs.CellAtomicSteps.{kind_in_state}
-use Rattle.step_table.specs.Cells.{IsOpenTo}
-use Rattle.step_table.specs.Contents.{as_word, compare_of, compared_in, is_of, is_spent, load_of, same_value, seen}
-use Rattle.step_table.specs.Registers.{HoldsBag, slot_value}
-use Rattle.step_table.specs.Openings.{opening}
-use Rattle.step_table.specs.GhostStates.{TableInvariant, Nothing, event_added, event_of, model_state}
-use Rattle.step_table.proofs.contained.Coming.{seen_found}
-use Rattle.step_table.proofs.contained.Telling.{look_tells, unlike_tells}
-use Rattle.step_table.proofs.tables.Shown.{Found}
-use Rattle.step_threads.specs.declared.programs.act.Act.{Act}
-use Rattle.step_threads.specs.declared.programs.act.Act.TheVariants.{Compare, Load}
-use Rattle.step_threads.specs.declared.programs.act.Task.{Task}
-use Rattle.step_threads.specs.declared.programs.call.CellName.{CellName}
-use Rattle.step_threads.specs.declared.ending.Ending.{Ending}
-use Rattle.step_threads.specs.declared.pending_call.PendingCall.{PendingCall}
-use Rattle.step_threads.specs.declared.pending_call.PendingCall.TheVariants.{Rest, Saw}
-use Rattle.step_threads.specs.Programs.{kind_at}
-use Rattle.step_threads.specs.Frames.{HasCell, cell_of_name, comparing, hand, idle, is_offered, is_there}
+use Rattle.std.proofs.Common.{◌≡◌, ℕ, ◌<◌, Bool, true, false, cond, not, ◌&&◌, List, [], ◌∷◌, set}
+use Rattle.std.proofs.Common.{is_some, Some, None, Option, sym, refl, ap, ◌∙◌, subst}
+use Rattle.step_core.proofs.Prelude
+use Prelude.{abstraction, AbstractState, Act, and_parts, as_word, AtomicStep, cell_of_name}
+use Prelude.{cell_open, CellName, CellWord, Compare, compare_of, Compared, compared_in, comparing}
+use Prelude.{cond_both, Ending, Event, event_added, event_of, false≢true, first, Found, frame_of}
+use Prelude.{goes_in, hand, HasBegun, HasCell, HoldsBag, idle, is_acting, is_of, is_offered}
+use Prelude.{is_spent, is_there, IsInShape, IsOpenTo, IsStill, kind_at, kind_in_state, Load}
+use Prelude.{load_of, Look, look_tells, model_state, Nothing, OnCell, opening, pending_call_of}
+use Prelude.{PendingCall, Rest, same_value, Saw, seen, seen_found, Site, slot_value, Step}
+use Prelude.{step_of_act, step_of_look, TableInvariant, Task, waits, waits_at, waits_on, went}
+use Prelude.{within, world_state_by, WorldState}
+use Rattle.step_table.proofs.contained.Telling.{unlike_tells}
 use Rattle.step_core.proofs.Entries.{loads}
-use Rattle.step_threads.specs.AbstractStates.{AbstractState, frame_of, went}
-use Rattle.step_threads.specs.NextSteps.{first, waits, waits_at, waits_on}
-use Rattle.step_threads.specs.Steps.{Step, step_of_act, step_of_look, within}
-use Rattle.step_core.specs.Turning.{HasBegun, IsInShape, IsStill, is_acting}
-use Rattle.step_core.specs.Worlds.{WorldState, pending_call_of, abstraction, world_state_by}
-use Rattle.step_threads.proofs.CellNames.{cell_open, goes_in}
 use Rattle.step_core.proofs.turning.Ending.{same_frames, abstraction_as}
 use Rattle.step_core.proofs.turning.Saying.{Acts}
 

@@ -1,26 +1,11 @@
 -- What a step of a make does.
-use Rattle.std.proofs.Common.{◌≡◌, ℕ, ◌+◌, ◌==◌, Bool, true, false, cond, List, ◌∷◌, inl, inr, get_or, set, refl, sym, ap}
-use Rattle.std.proofs.Common.{◌∙◌}
-use Rattle.std.specs.Prelude.{Option, Some, None, option_map}
-use Rattle.std.proofs.lemmas.Bool.{cond_both}
-use Rattle.control_word.specs.declared.place.Block.{Block}
-use Rattle.step_threads.specs.declared.programs.act.Act.{Act}
-use Rattle.step_threads.specs.declared.programs.act.Act.TheVariants.{Make}
-use Rattle.step_threads.specs.declared.programs.act.Task.{Task}
-use Rattle.step_threads.specs.declared.pending_call.PendingCall.{PendingCall}
-use Rattle.step_threads.specs.declared.pending_call.PendingCall.TheVariants.{Making}
-use Rattle.step_table.specs.Openings.{opening}
-use Rattle.step_threads.specs.Actors.{wanted}
-use Rattle.step_threads.specs.Frames.{form_of, frame_settled}
-use Rattle.step_threads.specs.Entries.{least}
+use Rattle.std.proofs.Common.{◌≡◌, ℕ, ◌+◌, Bool, true, false, cond, List, ◌∷◌, get_or, set, ◌==◌}
+use Rattle.std.proofs.Common.{Some, None, Option, option_map, sym, refl, ap, ◌∙◌, inl, inr}
+use Rattle.step_core.proofs.Prelude.{abstraction, Act, Block, claims, cond_both, form_of, frame_of}
+use Rattle.step_core.proofs.Prelude.{frame_settled, full_answer, holding, IsUnderWay, known_words}
+use Rattle.step_core.proofs.Prelude.{least, made_on, Make, Making, model_state, opening, pending}
+use Rattle.step_core.proofs.Prelude.{PendingCall, prepares, Task, wanted, WorldState}
 use Rattle.step_core.proofs.Entries.{does, make_step}
-use Rattle.step_threads.specs.AbstractStates.{frame_of}
-use Rattle.step_threads.specs.Rows.{full_answer, holding}
-use Rattle.step_threads.specs.NextSteps.{made_on}
-use Rattle.step_threads.specs.Steps.{claims, prepares}
-use Rattle.step_table.specs.GhostStates.{known_words, pending, model_state}
-use Rattle.step_core.specs.Turning.{IsUnderWay}
-use Rattle.step_core.specs.Worlds.{WorldState, abstraction}
 use Rattle.step_core.proofs.turning.Saying.{Acts, acted_said, acted_abstraction}
 use Rattle.step_core.proofs.turning.Trials.{Next, Outcome, Tried, is_on}
 

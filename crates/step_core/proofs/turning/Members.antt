@@ -1,23 +1,15 @@
 -- What a member of an ending object is seen to hold.
-use Rattle.std.proofs.Common.{◌≡◌, ℕ, ◌<◌, get_or, true, refl, sym, ap, subst, ◌∙◌}
-use Rattle.std.proofs.lemmas.Bool.{eqb-true}
-use Rattle.std.specs.Prelude.{Option, Some, None, is_some, ◌==◌}
-use Rattle.control_word.specs.declared.packed.cell.CellWord.{CellWord}
-use Rattle.control_word.specs.declared.model.handle.NumberedHandle.{NumberedHandle}
-use Rattle.control_word.specs.declared.place.Block.{Block}
-use Rattle.control_word.specs.Handles.{empty, has_object}
-use Rattle.control_word.specs.Packing.{cell_bits}
-use Rattle.control_word.specs.State.{ending, kind_of_member}
-use Rattle.control_word.specs.Words.{block_of, blocks_of, shown}
-use Rattle.control_word.specs.declared.site.Site.TheVariants.{Member}
-use Rattle.step_table.specs.CellAtomicSteps.{cell_in, handle_as}
-use Rattle.step_table.specs.Cells.{word_of_cell}
-use Rattle.step_table.specs.Contents.{held_in, seen}
-use Rattle.step_table.specs.GhostStates.{TableInvariant, GhostState, object_of_block, model_state}
+use Rattle.std.proofs.Common.{◌≡◌, ℕ, ◌<◌, true, get_or, is_some, ◌==◌, Some, None, Option, sym}
+use Rattle.std.proofs.Common.{refl, ap, ◌∙◌, subst, eqb-true}
+use Rattle.step_core.proofs.Prelude.{Block, block_of, blocks_of, cell_bits, cell_in, CellWord}
+use Rattle.step_core.proofs.Prelude.{empty, ending, Found, GhostState, handle_as, has_object}
+use Rattle.step_core.proofs.Prelude.{held_in, kind_of_member, Member, model_state, NumberedHandle}
+use Rattle.step_core.proofs.Prelude.{object_of_block, seen, TableInvariant, word_of_cell}
+use Rattle.control_word.specs.Words.{shown}
 use Rattle.step_table.proofs.contained.Told.{shows_seen}
 use Rattle.step_table.proofs.tables.Cells.{decoded}
 use Rattle.step_table.proofs.tables.Endings.{member_shows}
-use Rattle.step_table.proofs.tables.Shown.{Found, cell_there, found_in}
+use Rattle.step_table.proofs.tables.Shown.{cell_there, found_in}
 use Rattle.step_table.proofs.tables.Swaps.{ending_cell}
 
 module _ (v : GhostState) (d : ℕ) (b : Block) (m : ℕ) (kept : TableInvariant v) (lt : d < v.extent.actors)

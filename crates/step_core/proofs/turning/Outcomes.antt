@@ -1,38 +1,23 @@
 -- What each step of a load or a compare does, and the first of a lock.
-use Rattle.std.proofs.Common.{◌≡◌, inr, ℕ, ◌==◌, Bool, true, false, not, ◌&&◌, List, refl, sym, ap, subst, ◌∙◌}
-use Rattle.std.specs.Prelude.{Option, Some, None}
-use Rattle.std.proofs.lemmas.Bool.{cond-true, cond_both, eqb-true, false≢true}
-use Rattle.control_word.specs.declared.packed.cell.CellWord.{CellWord}
-use Rattle.control_word.specs.Packing.{IsCellWord, cell_bits}
-use Rattle.step_table.specs.declared.cell_steps.cell_step.CellStep.TheVariants.{CompareSwap, Look, Take}
-use Rattle.control_word.specs.declared.handle.Handle.{Handle}
-use Rattle.step_table.specs.declared.memory.ghost_history.AtomicStep.TheVariants.{OnCell}
-use Rattle.step_table.specs.CellAtomicSteps.{kind_in_state}
-use Rattle.step_table.specs.Cells.{word_of_cell}
-use Rattle.step_table.specs.Contents.{as_word, compared_in, is_spent, same_value, seen}
-use Rattle.step_table.specs.AtomicSteps.{on}
-use Rattle.step_table.specs.Registers.{slot_pointer, slot_value}
-use Rattle.step_table.specs.declared.cell_steps.refill.Stage.TheVariants.{Turning}
-use Rattle.step_table.specs.Refills.{more_taken}
-use Rattle.step_table.specs.GhostStates.{model_state}
+use Rattle.std.proofs.Common.{◌≡◌, ℕ, Bool, true, false, not, ◌&&◌, List, ◌==◌, Some, None, Option}
+use Rattle.std.proofs.Common.{sym, refl, ap, ◌∙◌, subst, inr, eqb-true}
+use Rattle.step_core.proofs.Prelude
+use Prelude.{abstraction, Act, Alias, as_word, Ask, cell_bits, cell_of_name, CellName, CellWord}
+use Prelude.{Clear, Compare, compared_in, CompareSwap, comparing, cond-true, cond_both, Count}
+use Prelude.{Downgrade, Drop, Exchange, Expired, false≢true, fetches, first, frame_of, FromThis}
+use Prelude.{gives_back, hand, Handle, Holds, is_spent, is_there, IsCellWord, IsMatchedBy}
+use Prelude.{IsSeenBy, kind_in_state, Leave, Load, Lock, locked_pointer, Look, look_tells, Make}
+use Prelude.{matched_on, matches, model_state, more_taken, Move, Offer, on, OnCell, OnShelf, Put}
+use Prelude.{Read, Refill, Rest, same_value, Saw, saw_on, seen, settles, Share, slot_pointer}
+use Prelude.{slot_value, step_of_act, step_of_look, Swap, Take, takes, Task, Turning, waits_on}
+use Prelude.{within, word_of_cell, WorldState}
 use Rattle.step_table.proofs.contained.Coming.{open_found}
-use Rattle.step_table.proofs.contained.Telling.{compare_swap_tells, differing_tells, look_tells, take_tells}
-use Rattle.step_threads.specs.declared.programs.act.Act.{Act}
-use Rattle.step_threads.specs.declared.programs.act.Act.TheVariants.{Make, Share, Downgrade, Lock, Put, Leave, Clear, Count, Expired, Read, FromThis, Alias}
-use Rattle.step_threads.specs.declared.programs.act.Act.TheVariants.{Move, Ask}
-use Rattle.step_threads.specs.declared.programs.act.Act.TheVariants.{Offer, Swap, Exchange, Load, Compare, Holds, Drop, OnShelf}
-use Rattle.step_threads.specs.declared.programs.act.Task.{Task}
-use Rattle.step_threads.specs.declared.programs.call.CellName.{CellName}
-use Rattle.step_threads.specs.declared.pending_call.PendingCall.TheVariants.{Rest, Saw, Refill}
-use Rattle.step_threads.specs.Frames.{cell_of_name, comparing, hand, is_there, locked_pointer}
-use Rattle.step_threads.specs.AbstractStates.{frame_of}
-use Rattle.step_threads.specs.NextSteps.{first, matched_on, saw_on, waits_on}
-use Rattle.step_threads.specs.Steps.{step_of_act, fetches, gives_back, matches, step_of_look, settles, takes, within}
-use Rattle.step_threads.specs.Threads.{IsMatchedBy, IsSeenBy}
-use Rattle.step_core.specs.Worlds.{WorldState, abstraction}
-use Rattle.step_core.proofs.turning.Looking.{CanLook, cell_now, compare_so, found_now, load_so, may_compare, unlike_so}
+use Rattle.step_table.proofs.contained.Telling.{compare_swap_tells, differing_tells, take_tells}
+use Rattle.step_core.proofs.turning.Looking.{CanLook, cell_now, compare_so, found_now, load_so}
+use Rattle.step_core.proofs.turning.Looking.{may_compare, unlike_so}
 use Rattle.step_core.proofs.turning.Saying.{Acts}
-use Rattle.step_core.proofs.turning.Trials.{Next, Outcome, is_looking, matches_out, sees_out, takes_out}
+use Rattle.step_core.proofs.turning.Trials.{Next, Outcome, is_looking, matches_out, sees_out}
+use Rattle.step_core.proofs.turning.Trials.{takes_out}
 use Rattle.step_core.proofs.turning.Locking.{lock_rest}
 
 module _ (d : ℕ) (u : WorldState) (k : ℕ) (ts : List Task) (c : CellName) where

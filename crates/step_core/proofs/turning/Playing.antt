@@ -1,27 +1,16 @@
 -- An act, and what it says.
-use Rattle.std.proofs.Common.{◌≡◌, ◌≢◌, ℕ, ◌<◌, true, false, List, [], ◌∷◌, length, set, refl, sym, ap, subst, ◌∙◌}
-use Rattle.std.specs.Prelude.{Option, Some, None}
-use Rattle.std.proofs.lemmas.Bool.{cond-true, false≢true}
-use Rattle.step_threads.specs.declared.programs.act.Act.TheVariants.{Leave}
-use Rattle.step_threads.specs.declared.programs.act.Task.{Task}
-use Rattle.step_threads.specs.declared.ending.Ending.{Ending}
-use Rattle.step_threads.specs.declared.pending_call.PendingCall.{PendingCall}
-use Rattle.step_threads.specs.declared.pending_call.PendingCall.TheVariants.{Rest, Making, Locking, Giving, Brought, Saw, Matched, Refill, Returning, Clearing}
-use Rattle.step_threads.specs.declared.said.Stepped.{Stepped}
-use Rattle.step_threads.specs.declared.said.Stepped.TheVariants.{Waited}
-use Rattle.step_threads.specs.declared.said.Turned.{Turned}
-use Rattle.step_threads.specs.Frames.{hand}
-use Rattle.control_word.specs.Histories.{IsLegal}
-use Rattle.step_table.specs.GhostStates.{TableInvariant}
-use Rattle.step_table.specs.Openings.{opening}
-use Rattle.step_table.specs.Registers.{is_full, slot_pointer}
-use Rattle.step_threads.specs.AbstractStates.{next, next_of, rest_of, rested, state_in, frame_of}
-use Rattle.step_threads.specs.NextSteps.{at_rest, begun, first, step_at, stepped, waits}
-use Rattle.step_threads.specs.Steps.{Step, ends_on}
-use Rattle.step_core.specs.Turning.{HasBegun, Plays, has_rest, is_acting, is_clearing, is_ending, is_refilling, is_returning, returned, turned_by}
-use Rattle.step_core.specs.Turns.{TurnIs}
-use Rattle.step_core.specs.Worlds.{CountsAll, WorldState, Steps, pending_call_of, abstraction, world_state_by, step_of}
-use Rattle.step_core.proofs.turning.Ending.{pending_call_after, pending_calls_after, rested_none, same_frames, abstraction_as}
+use Rattle.std.proofs.Common.{◌≡◌, ℕ, ◌<◌, true, false, ◌≢◌, List, [], ◌∷◌, length, set, Some}
+use Rattle.std.proofs.Common.{None, Option, sym, refl, ap, ◌∙◌, subst}
+use Rattle.step_core.proofs.Prelude
+use Prelude.{abstraction, at_rest, begun, Brought, Clearing, cond-true, CountsAll, Ending, ends_on}
+use Prelude.{false≢true, first, frame_of, Giving, hand, has_rest, HasBegun, is_acting, is_clearing}
+use Prelude.{is_ending, is_full, is_refilling, is_returning, IsLegal, Leave, Locking, Making}
+use Prelude.{Matched, next, next_of, opening, pending_call_of, PendingCall, Plays, Refill, Rest}
+use Prelude.{rest_of, rested, returned, Returning, Saw, slot_pointer, state_in, Step, step_at}
+use Prelude.{step_of, Stepped, stepped, Steps, TableInvariant, Task, Turned, turned_by, TurnIs}
+use Prelude.{Waited, waits, world_state_by, WorldState}
+use Rattle.step_core.proofs.turning.Ending.{pending_call_after, pending_calls_after, rested_none}
+use Rattle.step_core.proofs.turning.Ending.{same_frames, abstraction_as}
 use Rattle.step_core.proofs.turning.Resting.{carried, none_left}
 use Rattle.step_core.proofs.turning.Firsts.{acts_so, first_same}
 use Rattle.step_core.proofs.turning.Saying.{LegalBy, does_so, plays_as, plays_next}

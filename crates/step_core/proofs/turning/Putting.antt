@@ -1,12 +1,7 @@
 -- What the step does by which a value goes into a cell.
-use Rattle.std.proofs.Common.{◌≡◌, ℕ, List, ◌∷◌, true, inl, refl, ap}
-use Rattle.std.specs.Prelude.{is_some, option_map}
-use Rattle.step_threads.specs.declared.programs.act.Task.{Task}
-use Rattle.step_threads.specs.Frames.{Going, going}
-use Rattle.step_threads.specs.AbstractStates.{frame_of}
-use Rattle.step_threads.specs.NextSteps.{sent}
-use Rattle.step_threads.specs.Steps.{step_of_swap}
-use Rattle.step_core.specs.Worlds.{WorldState, abstraction}
+use Rattle.std.proofs.Common.{◌≡◌, ℕ, true, List, ◌∷◌, is_some, option_map, refl, ap, inl}
+use Rattle.step_core.proofs.Prelude.{abstraction, frame_of, Going, going, sent, step_of_swap, Task}
+use Rattle.step_core.proofs.Prelude.{WorldState}
 use Rattle.step_core.proofs.turning.Swapping.{CanPut, some_of, swap_over, swaps_so}
 use Rattle.step_core.proofs.turning.Trials.{Next}
 

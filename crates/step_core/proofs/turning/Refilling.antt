@@ -1,26 +1,11 @@
 -- Funds that are turned, put back or given back: steps that are no events.
-use Rattle.std.proofs.Common.{◌≡◌, ℕ, ◌==◌, refl}
-use Rattle.std.specs.Prelude.{Some, None}
-use Rattle.std.proofs.lemmas.Bool.{cond_both}
-use Rattle.control_word.specs.declared.packed.cell.CellWord.{CellWord}
-use Rattle.control_word.specs.declared.model.handle.Kind.{Kind}
-use Rattle.control_word.specs.declared.place.Block.{Block}
-use Rattle.control_word.specs.Packing.{cell_bits}
-use Rattle.control_word.specs.declared.site.Site.{Site}
+use Rattle.std.proofs.Common.{◌≡◌, ℕ, ◌==◌, Some, None, refl}
+use Rattle.step_core.proofs.Prelude.{Block, cell_bits, CellWord, Checking, cond_both, Failing}
+use Rattle.step_core.proofs.Prelude.{FrameView, ghost_after, GhostState, is_drained, is_low, Kind}
+use Rattle.step_core.proofs.Prelude.{Lacking, OnCell, PendingCall, Refill, Refilling, refills_on}
+use Rattle.step_core.proofs.Prelude.{Rest, returned, returns, seen, Site, Stage, Step, Turning}
+use Rattle.step_core.proofs.Prelude.{within, word_of_cell}
 use Rattle.step_table.specs.declared.cell_steps.cell_step.CellStep.TheVariants as cell_step
-use Rattle.step_table.specs.declared.memory.ghost_history.AtomicStep.TheVariants.{OnCell}
-use Rattle.step_table.specs.declared.cell_steps.refill.Stage.{Stage}
-use Rattle.step_table.specs.declared.cell_steps.refill.Stage.TheVariants.{Turning, Checking, Lacking, Refilling, Failing}
-use Rattle.step_table.specs.Cells.{word_of_cell}
-use Rattle.step_table.specs.Contents.{seen}
-use Rattle.step_table.specs.Refills.{is_drained, is_low}
-use Rattle.step_table.specs.GhostStates.{GhostState}
-use Rattle.step_threads.specs.declared.pending_call.PendingCall.{PendingCall}
-use Rattle.step_threads.specs.declared.pending_call.PendingCall.TheVariants.{Rest, Refill}
-use Rattle.step_threads.specs.Frames.{FrameView}
-use Rattle.step_threads.specs.NextSteps.{ghost_after}
-use Rattle.step_threads.specs.Steps.{Step, refills_on, returns, within}
-use Rattle.step_core.specs.Turning.{returned}
 
 -- a step on the way of funds, which the thread makes where it is
 pub record Pays (d : ℕ) (v : GhostState) (w : FrameView) (x : Step) : Type 0 where

@@ -1,35 +1,20 @@
 -- The rest of an act, step by step: funds are given back, and objects end.
-use Rattle.std.proofs.Common.{◌≡◌, inl, inr, ℕ, ◌||◌, ◌&&◌, not, Bool, true, false, List, [], ◌∷◌}
-use Rattle.std.proofs.Common.{length, set, refl, sym, ap, subst, ◌∙◌, arith, ⊎_elim}
-use Rattle.std.specs.Prelude.{Option, Some, is_some, option_map}
-use Rattle.std.proofs.lemmas.Bool.{cond-false, false≢true}
-use Rattle.std.proofs.lemmas.List.{set-set}
-use Rattle.std.proofs.lemmas.List.Elements.{All-head}
-use Rattle.step_threads.specs.declared.ending.Ending.{Ending}
-use Rattle.step_threads.specs.declared.pending_call.PendingCall.{PendingCall}
-use Rattle.step_threads.specs.declared.pending_call.PendingCall.TheVariants.{Rest, Making, Locking, Giving, Brought, Saw, Matched, Refill, Returning, Clearing}
-use Rattle.control_word.specs.declared.model.handle.Kind.{Kind}
-use Rattle.control_word.specs.declared.place.Block.{Block}
-use Rattle.step_threads.specs.declared.said.Stepped.{Stepped}
-use Rattle.step_threads.specs.Frames.{FrameView, hand}
-use Rattle.step_threads.specs.Endings.{EndsAll, IsEndingAtStage, first_of}
-use Rattle.step_table.specs.Registers.{is_full, slot_pointer}
-use Rattle.step_threads.specs.AbstractStates.{AbstractState, rested, frame_of}
-use Rattle.step_threads.specs.NextSteps.{at_rest, emptied, step_at, ghost_after}
-use Rattle.step_threads.specs.Steps.{Step, empties, ends_on, refills_on, returns}
-use Rattle.step_threads.specs.Threads.{IsClearingMember}
-use Rattle.control_word.specs.declared.packed.cell.CellWord.{CellWord}
-use Rattle.control_word.specs.declared.site.Site.{Site}
-use Rattle.step_table.specs.declared.cell_steps.refill.Stage.{Stage}
-use Rattle.step_table.specs.Refills.{RefillFits}
-use Rattle.step_table.specs.GhostStates.{GhostState}
-use Rattle.step_core.specs.Turning.{HasBegun, IsAlone, FundsAreHeld, IsTried, has_rest, is_clearing, is_ending, is_refilling, is_returning, returned}
-use Rattle.step_core.specs.WorldStates.{IsOver}
-use Rattle.step_core.specs.Worlds.{Advances, GoesTo, WorldState, Steps, pending_call_of, abstraction, world_state_by, step_of}
+use Rattle.std.proofs.Common.{◌≡◌, ℕ, Bool, true, false, not, ◌&&◌, ◌||◌, List, [], ◌∷◌, length}
+use Rattle.std.proofs.Common.{set, is_some, Some, Option, option_map, sym, refl, ap, ◌∙◌, subst}
+use Rattle.std.proofs.Common.{inl, inr, ⊎_elim, arith, set-set}
+use Rattle.step_core.proofs.Prelude
+use Prelude.{abstraction, AbstractState, Advances, All-head, at_rest, Block, Brought, CellWord}
+use Prelude.{Clearing, cond-false, emptied, empties, Ending, ends_on, EndsAll, false≢true}
+use Prelude.{first_of, frame_of, FrameView, FundsAreHeld, ghost_after, GhostState, Giving, GoesTo}
+use Prelude.{hand, has_rest, HasBegun, is_clearing, is_ending, is_full, is_refilling, is_returning}
+use Prelude.{IsAlone, IsClearingMember, IsEndingAtStage, IsOver, IsTried, Kind, Locking, Making}
+use Prelude.{Matched, pending_call_of, PendingCall, Refill, RefillFits, refills_on, Rest, rested}
+use Prelude.{returned, Returning, returns, Saw, Site, slot_pointer, Stage, Step, step_at, step_of}
+use Prelude.{Stepped, Steps, world_state_by, WorldState}
 use Rattle.step_core.proofs.turning.Refilling.{Pays, refills_so, returns_so}
 use Rattle.step_core.proofs.turning.Chains.{more_steps, one_step}
-use Rattle.step_core.proofs.turning.Ending.{IsRested, Same, end_step, pending_call_after, pending_calls_after, same_frames}
-use Rattle.step_core.proofs.turning.Ending.{take_step}
+use Rattle.step_core.proofs.turning.Ending.{IsRested, Same, end_step, pending_call_after}
+use Rattle.step_core.proofs.turning.Ending.{pending_calls_after, same_frames, take_step}
 
 -- how far the rest of an act has come
 pub record IsOn (d : ℕ) (u u' : WorldState) : Type 0 where

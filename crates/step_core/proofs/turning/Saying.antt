@@ -1,42 +1,25 @@
 -- What a step of an act says, and the turn that it is.
-use Rattle.std.proofs.Common.{◌≡◌, ℕ, ◌<◌, ◌==◌, Bool, true, false, cond, List, [], ◌∷◌, length, set, refl, sym, ap, subst, ◌∙◌}
-use Rattle.std.specs.Prelude.{Option, Some, None, option_map}
-use Rattle.std.proofs.lemmas.Bool.{cond_both, cond-false, false≢true}
-use Rattle.step_threads.specs.declared.programs.act.Act.{Act}
-use Rattle.step_table.specs.declared.memory.form.Form.{Form}
-use Rattle.step_threads.specs.declared.programs.act.Act.TheVariants.{Make, Share, Downgrade, Lock, Put, Leave, Clear, Count, Expired, Read, FromThis, Alias}
-use Rattle.step_threads.specs.declared.programs.act.Act.TheVariants.{Move, Ask}
-use Rattle.step_threads.specs.declared.programs.act.Act.TheVariants.{Offer, Swap, Exchange, Load, Compare, Holds, Drop, OnShelf}
-use Rattle.step_threads.specs.declared.programs.act.Task.{Task}
-use Rattle.step_threads.specs.declared.ending.Ending.{Ending}
-use Rattle.step_threads.specs.declared.pending_call.PendingCall.TheVariants.{Rest, Locking, Giving}
-use Rattle.control_word.specs.declared.handle.Handle.{Handle}
-use Rattle.step_table.specs.declared.memory.ghost_history.AtomicStep.{AtomicStep}
-use Rattle.step_threads.specs.declared.said.Said.{Said}
-use Rattle.step_threads.specs.declared.said.Stepped.{Stepped}
-use Rattle.step_threads.specs.declared.said.Stepped.TheVariants.{Event, Quiet}
-use Rattle.step_threads.specs.declared.said.Turned.{Turned}
-use Rattle.step_threads.specs.declared.said.Turned.TheVariants.{Acted}
-use Rattle.control_word.specs.declared.model.handle.Kind.{Kind}
-use Rattle.control_word.specs.Histories.{IsLegal}
-use Rattle.step_threads.specs.Frames.{FrameView, locked_pointer, frame_settled}
-use Rattle.step_table.specs.AtomicSteps.{give, is_enabled, lock, on, owner_word}
-use Rattle.step_table.specs.Registers.{inside, slot_pointer}
-use Rattle.step_table.specs.Openings.{opening}
-use Rattle.step_threads.specs.Entries.{History, least}
+use Rattle.std.proofs.Common.{◌≡◌, ℕ, ◌<◌, Bool, true, false, cond, List, [], ◌∷◌, length, set}
+use Rattle.std.proofs.Common.{◌==◌, Some, None, Option, option_map, sym, refl, ap, ◌∙◌, subst}
+use Rattle.step_core.proofs.Prelude
+use Prelude.{abstraction, AbstractState, Act, Acted, ActsNow, Alias, Ask, asks}
+use Prelude.{atomic_step_is_event, AtomicStep, begins, Clear, Compare, cond-false, cond_both}
+use Prelude.{Count, CountsAll, Downgrade, Drop, Ending, Exchange, Expired, false≢true, Form}
+use Prelude.{frame_after_act, frame_of, frame_settled, FrameView, FromThis, full_answer}
+use Prelude.{ghost_after, ghost_by, GhostState, give, Giving, Handle, History, holding, Holds}
+use Prelude.{inside, is_acting, is_enabled, IsLegal, Kind, least, Leave, Load, Lock, lock}
+use Prelude.{locked_pointer, Locking, looks, Make, model_state, Move, next, next_of, Offer, on}
+use Prelude.{OnShelf, opening, owner_word, Plays, Put, put_on, Quiet, Read, reply_in, Rest}
+use Prelude.{rest_of, rested, row, row_in, Said, said_by_row, Share, silent, slot_pointer}
+use Prelude.{state_in, Step, step_of, step_of_act, Stepped, stepped, Swap, Task, trying, Turned}
+use Prelude.{turned_by, TurnIs, went, world_state_by, WorldState}
+use Rattle.step_threads.specs.declared.said.Stepped.TheVariants.{Event}
 use Rattle.step_core.proofs.Entries.{acted, does, giving, make_step}
-use Rattle.step_threads.specs.AbstractStates.{AbstractState, next, next_of, rest_of, rested, reply_in, row_in, state_in, frame_of, went}
-use Rattle.step_threads.specs.Rows.{frame_after_act, full_answer, holding, row, said_by_row}
-use Rattle.step_threads.specs.TraceLabels.{put_on}
-use Rattle.step_threads.specs.NextSteps.{atomic_step_is_event, stepped, ghost_after, ghost_by}
-use Rattle.step_threads.specs.Steps.{Step, step_of_act, asks, begins, looks, silent, trying}
-use Rattle.step_table.specs.GhostStates.{GhostState, model_state}
-use Rattle.step_core.specs.Turning.{Plays, is_acting, turned_by}
-use Rattle.step_core.specs.Turns.{ActsNow, TurnIs, abstraction_after}
-use Rattle.step_core.specs.Worlds.{CountsAll, WorldState, abstraction, world_state_by, step_of}
+use Rattle.step_core.specs.Turns.{abstraction_after}
 use Rattle.step_core.proofs.following.Replies.{goes_told, replied}
 use Rattle.step_core.proofs.turning.Choosing.{chosen}
-use Rattle.step_core.proofs.turning.Ending.{pending_call_after, pending_calls_after, moved, rested_moved}
+use Rattle.step_core.proofs.turning.Ending.{pending_call_after, pending_calls_after, moved}
+use Rattle.step_core.proofs.turning.Ending.{rested_moved}
 use Rattle.step_core.proofs.turning.Telling.{TellsCounts, tell_of}
 
 -- what a step of an act says is what the turn says

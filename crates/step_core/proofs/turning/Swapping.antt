@@ -1,40 +1,21 @@
 -- A swap of a cell.
-use Rattle.std.proofs.Common.{◌≡◌, ℕ, ◌<◌, ◌&&◌, Bool, true, false, List, set, refl, sym, ap, subst, ◌∙◌}
-use Rattle.std.specs.Prelude.{Option, Some, None, is_some}
-use Rattle.std.proofs.lemmas.Bool.{and_parts, cond-true, cond-false, false≢true}
-use Rattle.std.proofs.lemmas.Option.{same_Some}
-use Rattle.control_word.specs.declared.packed.cell.CellWord.{CellWord}
-use Rattle.control_word.specs.declared.model.event.Event.{Event}
-use Rattle.control_word.specs.declared.model.handle.Kind.{Kind}
-use Rattle.control_word.specs.declared.place.Block.{Block}
-use Rattle.control_word.specs.declared.shape.Shape.{Shape}
-use Rattle.control_word.specs.State.{Opening}
-use Rattle.step_threads.specs.declared.programs.act.Act.{Act}
-use Rattle.step_threads.specs.declared.programs.act.Act.TheVariants.{Make, Share, Downgrade, Lock, Put, Leave, Clear, Count, Expired, Read, FromThis, Alias}
-use Rattle.step_threads.specs.declared.programs.act.Act.TheVariants.{Move, Ask}
-use Rattle.step_threads.specs.declared.programs.act.Act.TheVariants.{Offer, Swap, Exchange, Load, Compare, Holds, Drop, OnShelf}
-use Rattle.step_threads.specs.declared.programs.act.Task.{Task}
-use Rattle.step_threads.specs.declared.programs.call.CellName.{CellName}
+use Rattle.std.proofs.Common.{◌≡◌, ℕ, ◌<◌, Bool, true, false, ◌&&◌, List, set, is_some, Some, None}
+use Rattle.std.proofs.Common.{Option, sym, refl, ap, ◌∙◌, subst}
+use Rattle.step_core.proofs.Prelude
+use Prelude.{abstraction, Act, Alias, and_parts, as_word, Ask, Block, brings, cell_of_name}
+use Prelude.{cell_open, CellName, CellWord, Clear, Compare, cond-false, cond-true, Count}
+use Prelude.{Downgrade, Drop, Event, event_added, Exchange, Expired, false≢true, frame_of}
+use Prelude.{FromThis, GhostState, gives_back, goes_in, Going, going, hand, Handle, HasCell}
+use Prelude.{History, Holds, HoldsBag, is_acting, is_of, is_there, IsIn, Kind, kind_at, Leave}
+use Prelude.{Load, Lock, Make, model_state, Move, Nothing, Offer, on, on_going, OnShelf, Opening}
+use Prelude.{opening, Put, Read, Reply, Rest, row, said_by_row, same_Some, seen, seen_found, sends}
+use Prelude.{Shape, Share, slot_pointer, slot_value, Slots, step_of_act, step_of_swap, Swap}
+use Prelude.{TableInvariant, Task, Telling, went, world_state_by, WorldState}
 use Rattle.step_table.specs.declared.cell_steps.cell_step.CellStep.TheVariants as cell_step
-use Rattle.step_threads.specs.declared.pending_call.PendingCall.TheVariants.{Rest}
-use Rattle.control_word.specs.declared.handle.Handle.{Handle}
 use Rattle.step_table.specs.declared.memory.ghost_history.AtomicStep.TheVariants as atomic_step
-use Rattle.step_table.specs.Contents.{as_word, is_of, seen}
-use Rattle.step_threads.specs.Frames.{Going, HasCell, cell_of_name, going, going_from, hand, is_there, on_going}
-use Rattle.step_threads.specs.Entries.{History}
+use Rattle.step_threads.specs.Frames.{going_from}
 use Rattle.step_core.proofs.Entries.{acted, history_swaps as swaps_in}
-use Rattle.step_table.specs.AtomicSteps.{Telling, on}
-use Rattle.step_table.specs.Registers.{HoldsBag, Slots, slot_pointer, slot_value}
-use Rattle.step_table.specs.Openings.{opening}
-use Rattle.step_threads.specs.Programs.{IsIn, kind_at}
-use Rattle.step_threads.specs.Rows.{Reply, row, said_by_row}
-use Rattle.step_threads.specs.AbstractStates.{frame_of, went}
-use Rattle.step_threads.specs.Steps.{step_of_act, brings, gives_back, sends, step_of_swap}
-use Rattle.step_table.specs.GhostStates.{TableInvariant, Nothing, GhostState, event_added, history_after, model_state}
-use Rattle.step_core.specs.Turning.{is_acting}
-use Rattle.step_core.specs.Worlds.{WorldState, abstraction, world_state_by}
-use Rattle.step_threads.proofs.CellNames.{cell_open, goes_in}
-use Rattle.step_table.proofs.contained.Coming.{seen_found}
+use Rattle.step_table.specs.GhostStates.{history_after}
 use Rattle.step_table.proofs.contained.Telling.{swap_tells}
 use Rattle.step_core.proofs.turning.Ending.{same_frames, abstraction_as}
 use Rattle.step_core.proofs.turning.Saying.{Acts}

@@ -1,33 +1,17 @@
 -- How counts are told in a turn.
-use Rattle.std.proofs.Common.{◌≡◌, ◌≢◌, ◌⊎◌, inl, inr, ℕ, Bool, true, false, List, [], ◌∷◌, get_or, set, refl, sym, ap, subst}
-use Rattle.std.proofs.Common.{◌∙◌, ⊎_elim}
+use Rattle.std.proofs.Common.{◌≡◌, ℕ, Bool, true, false, ◌≢◌, ◌⊎◌, List, [], ◌∷◌, get_or, set}
+use Rattle.std.proofs.Common.{Some, None, Option, sym, refl, ap, ◌∙◌, subst, inl, inr, ⊎_elim}
 use Rattle.std.proofs.Common.{get_or-set_other}
-use Rattle.std.specs.Prelude.{Option, Some, None}
-use Rattle.std.proofs.lemmas.Bool.{cond-false, cond-true}
-use Rattle.control_word.specs.declared.model.handle.NumberedHandle.{NumberedHandle}
-use Rattle.control_word.specs.declared.model.view.Pending.{Pending}
-use Rattle.control_word.specs.declared.model.view.Pending.TheVariants.{Idle}
-use Rattle.control_word.specs.Layout.{spot}
-use Rattle.control_word.specs.State.{State}
-use Rattle.control_word.specs.Views.{owes}
-use Rattle.control_word.specs.declared.handle.Handle.{Handle}
-use Rattle.step_table.specs.declared.memory.ghost_history.AtomicStep.{AtomicStep}
-use Rattle.step_table.specs.AtomicSteps.{Telling, by_word, exact, handle_of, owned}
-use Rattle.step_table.specs.Registers.{Slots, slot_pointer}
-use Rattle.step_table.specs.GhostStates.{Nothing, GhostState, model_state, pending}
+use Rattle.step_core.proofs.Prelude
+use Prelude.{abstraction, Act, AtomicStep, by_word, cond-false, cond-true, Count, CountsAll, exact}
+use Prelude.{frame_of, ghost_after, ghost_by, GhostState, GoesTo, Handle, handle_of, HasBegun}
+use Prelude.{Idle, is_loading, IsProperPendingCall, model_state, Nothing, NumberedHandle, owes}
+use Prelude.{owned, Pending, pending, pending_call_of, PendingCall, reply_in, Rest, slot_pointer}
+use Prelude.{Slots, spot, State, Step, step_of, Stepped, stepped, Steps, StepsBy, Telling, Waited}
+use Prelude.{waits, WorldState}
 use Rattle.step_table.proofs.holding.Counting.{tells}
 use Rattle.step_table.proofs.holding.Keeping.{same_pending}
-use Rattle.step_threads.specs.declared.programs.act.Act.{Act}
-use Rattle.step_threads.specs.declared.programs.act.Act.TheVariants.{Count}
-use Rattle.step_threads.specs.declared.pending_call.PendingCall.{PendingCall}
-use Rattle.step_threads.specs.declared.pending_call.PendingCall.TheVariants.{Rest}
-use Rattle.step_threads.specs.declared.said.Stepped.{Stepped}
-use Rattle.step_threads.specs.declared.said.Stepped.TheVariants.{Waited}
-use Rattle.step_threads.specs.AbstractStates.{reply_in, frame_of}
-use Rattle.step_threads.specs.NextSteps.{stepped, ghost_after, ghost_by, waits}
-use Rattle.step_threads.specs.Steps.{Step}
-use Rattle.step_core.specs.Turning.{HasBegun, IsProperPendingCall}
-use Rattle.step_core.specs.Worlds.{CountsAll, GoesTo, NoneLoads, NoneLoadsIt, WorldState, Steps, StepsBy, pending_call_of, is_loading, abstraction, step_of}
+use Rattle.step_core.specs.Worlds.{NoneLoads, NoneLoadsIt}
 
 -- a count is told by the word, and no other act tells any
 abbrev pub tell_of : GhostState → Act → Telling

@@ -1,33 +1,14 @@
 -- What a step of an act that takes more than one does: it is the act, or one on its way.
-use Rattle.std.proofs.Common.{◌≡◌, ◌⊎◌, inl, inr, ℕ, ◌==◌, ◌||◌, Bool, true, false, cond, List, refl}
-use Rattle.std.proofs.Common.{sym, ◌∙◌}
-use Rattle.std.specs.Prelude.{Option, Some, None, is_some}
-use Rattle.std.proofs.lemmas.Bool.{cond_both, false≢true}
-use Rattle.control_word.specs.declared.packed.cell.CellWord.{CellWord}
-use Rattle.control_word.specs.Packing.{cell_bits}
-use Rattle.control_word.specs.declared.site.Site.{Site}
-use Rattle.step_table.specs.declared.cell_steps.cell_step.CellStep.TheVariants.{CompareSwap, Look, Take}
-use Rattle.step_table.specs.declared.cell_steps.cell_step.Compared.{Compared}
-use Rattle.control_word.specs.declared.handle.Handle.{Handle}
-use Rattle.step_table.specs.declared.memory.ghost_history.AtomicStep.TheVariants.{OnCell}
-use Rattle.step_table.specs.CellAtomicSteps.{kind_in_state}
-use Rattle.step_table.specs.Cells.{word_of_cell}
-use Rattle.step_table.specs.Contents.{is_spent}
-use Rattle.step_table.specs.Registers.{Slots, is_full, slot_pointer}
-use Rattle.step_table.specs.declared.cell_steps.refill.Stage.TheVariants.{Turning}
-use Rattle.step_table.specs.Refills.{more_taken}
-use Rattle.step_table.specs.GhostStates.{GhostState, model_state}
-use Rattle.step_threads.specs.declared.programs.act.Act.{Act}
-use Rattle.step_threads.specs.declared.programs.act.Act.TheVariants.{Count, Load, Compare}
-use Rattle.step_threads.specs.declared.programs.act.Task.{Task}
-use Rattle.step_threads.specs.declared.pending_call.PendingCall.{PendingCall}
-use Rattle.step_threads.specs.declared.pending_call.PendingCall.TheVariants.{Rest, Saw, Refill, Returning, Clearing}
-use Rattle.step_threads.specs.Frames.{FrameView, hand, is_there, locked_pointer}
-use Rattle.step_threads.specs.AbstractStates.{frame_of}
-use Rattle.step_threads.specs.NextSteps.{atomic_step_is_event as is_done, ghost_after}
-use Rattle.step_threads.specs.Steps.{Step, step_of_act, gives_back, matches, missed, step_of_look, silent, takes, within}
-use Rattle.step_core.specs.Turning.{is_acting}
-use Rattle.step_core.specs.Worlds.{WorldState, abstraction}
+use Rattle.std.proofs.Common.{◌≡◌, ℕ, Bool, true, false, cond, ◌||◌, ◌⊎◌, List, is_some, ◌==◌}
+use Rattle.std.proofs.Common.{Some, None, Option, sym, refl, ◌∙◌, inl, inr}
+use Rattle.step_core.proofs.Prelude
+use Prelude.{abstraction, Act, cell_bits, CellWord, Clearing, Compare, Compared, CompareSwap}
+use Prelude.{cond_both, Count, false≢true, frame_of, FrameView, ghost_after, GhostState}
+use Prelude.{gives_back, hand, Handle, is_acting, is_full, is_spent, is_there, kind_in_state, Load}
+use Prelude.{locked_pointer, Look, matches, missed, model_state, more_taken, OnCell, PendingCall}
+use Prelude.{Refill, Rest, Returning, Saw, silent, Site, slot_pointer, Slots, Step, step_of_act}
+use Prelude.{step_of_look, Take, takes, Task, Turning, within, word_of_cell, WorldState}
+use Rattle.step_threads.specs.NextSteps.{atomic_step_is_event as is_done}
 use Rattle.step_core.proofs.turning.Saying.{Acts}
 use Rattle.step_core.proofs.turning.Swapping.{no_more}
 

@@ -1,27 +1,17 @@
 -- An act that is under way, step by step.
-use Rattle.std.proofs.Common.{◌≡◌, ◌≢◌, ℕ, Bool, true, false, cond, List, [], ◌∷◌, length, set, refl, sym, ap, subst, ◌∙◌}
-use Rattle.std.proofs.Common.{⊎_elim}
-use Rattle.std.specs.Prelude.{Some}
-use Rattle.std.proofs.lemmas.Bool.{false≢true}
-use Rattle.std.proofs.lemmas.List.{set-set}
-use Rattle.control_word.specs.Histories.{IsLegal}
-use Rattle.step_table.specs.GhostStates.{TableInvariant}
-use Rattle.step_table.specs.Openings.{opening}
-use Rattle.step_threads.specs.declared.programs.act.Act.{Act}
-use Rattle.step_threads.specs.declared.programs.act.Task.{Task}
-use Rattle.step_threads.specs.declared.pending_call.PendingCall.{PendingCall}
-use Rattle.step_threads.specs.declared.pending_call.PendingCall.TheVariants.{Rest, Making, Locking, Giving, Brought, Saw, Matched, Refill, Returning, Clearing}
-use Rattle.step_threads.specs.declared.said.Said.{Said}
-use Rattle.step_threads.specs.declared.said.Stepped.{Stepped}
-use Rattle.step_threads.specs.declared.said.Stepped.TheVariants.{Event, Quiet, Waited}
-use Rattle.step_threads.specs.Frames.{FrameView}
-use Rattle.step_threads.specs.AbstractStates.{AbstractState, frame_of}
-use Rattle.step_threads.specs.NextSteps.{atomic_step_is_event as is_done, stepped, ghost_after}
-use Rattle.step_core.specs.WorldStates.{is_event}
-use Rattle.step_core.specs.Turning.{HasBegun, Plays, turned_by}
-use Rattle.step_core.specs.Worlds.{Advances, GoesTo, WorldState, Steps, pending_call_of, abstraction, world_state_by, step_of}
+use Rattle.std.proofs.Common.{◌≡◌, ℕ, Bool, true, false, cond, ◌≢◌, List, [], ◌∷◌, length, set}
+use Rattle.std.proofs.Common.{Some, sym, refl, ap, ◌∙◌, subst, ⊎_elim, set-set}
+use Rattle.step_core.proofs.Prelude
+use Prelude.{abstraction, AbstractState, Act, Advances, Brought, Clearing, false≢true, frame_of}
+use Prelude.{FrameView, ghost_after, Giving, GoesTo, HasBegun, is_event, IsLegal, Locking, Making}
+use Prelude.{Matched, opening, pending_call_of, PendingCall, Plays, Quiet, Refill, Rest, Returning}
+use Prelude.{Said, Saw, step_of, Stepped, stepped, Steps, TableInvariant, Task, turned_by, Waited}
+use Prelude.{world_state_by, WorldState}
+use Rattle.step_threads.specs.declared.said.Stepped.TheVariants.{Event}
+use Rattle.step_threads.specs.NextSteps.{atomic_step_is_event as is_done}
 use Rattle.step_core.proofs.turning.Chains.{more_steps, one_step}
-use Rattle.step_core.proofs.turning.Ending.{pending_call_after, pending_calls_after, same_frames, frame_after}
+use Rattle.step_core.proofs.turning.Ending.{pending_call_after, pending_calls_after, same_frames}
+use Rattle.step_core.proofs.turning.Ending.{frame_after}
 use Rattle.step_core.proofs.turning.Resting.{abstraction_stays}
 use Rattle.step_core.proofs.turning.Saying.{plays_as}
 use Rattle.step_core.proofs.turning.Telling.{awake, tells_unless}

@@ -1,22 +1,12 @@
 -- Whole turns.
-use Rattle.std.proofs.Common.{◌≡◌, ℕ, List, set, sym, ap, subst, ◌∙◌}
-use Rattle.std.specs.Prelude.{Option, Some, None}
-use Rattle.std.proofs.lemmas.List.{set-set}
-use Rattle.control_word.specs.declared.model.event.Event.{Event}
+use Rattle.std.proofs.Common.{◌≡◌, ℕ, List, set, Some, None, Option, sym, ap, ◌∙◌, subst, set-set}
+use Rattle.step_core.proofs.Prelude.{abstraction, AbstractState, Acted, ActsNow, CountsAll, Event}
+use Rattle.step_core.proofs.Prelude.{GoesTo, IsChosen, Nothing, NumberedHandle, pending_call_of}
+use Rattle.step_core.proofs.Prelude.{PendingCall, Plays, Rest, rested, returned, Said, State}
+use Rattle.step_core.proofs.Prelude.{state_in, TakesWholeTurn, Task, Turned, TurnIs, WorldState}
 use Rattle.control_word.specs.declared.model.event.Event.TheVariants as event
-use Rattle.control_word.specs.declared.model.handle.NumberedHandle.{NumberedHandle}
-use Rattle.control_word.specs.State.{State}
-use Rattle.step_table.specs.GhostStates.{Nothing}
-use Rattle.step_threads.specs.declared.programs.act.Task.{Task}
-use Rattle.step_threads.specs.declared.pending_call.PendingCall.{PendingCall}
-use Rattle.step_threads.specs.declared.pending_call.PendingCall.TheVariants.{Rest}
-use Rattle.step_threads.specs.declared.said.Said.{Said}
-use Rattle.step_threads.specs.declared.said.Turned.{Turned}
-use Rattle.step_threads.specs.declared.said.Turned.TheVariants.{Acted, Waited, Done}
-use Rattle.step_threads.specs.AbstractStates.{AbstractState, rested, state_in}
-use Rattle.step_core.specs.Turning.{Plays, HasRested, returned}
-use Rattle.step_core.specs.Turns.{ActsNow, IsChosen, TurnIs}
-use Rattle.step_core.specs.Worlds.{CountsAll, GoesTo, WorldState, TakesWholeTurn, pending_call_of, abstraction}
+use Rattle.step_threads.specs.declared.said.Turned.TheVariants.{Waited, Done}
+use Rattle.step_core.specs.Turning.{HasRested}
 use Rattle.step_core.proofs.turning.Playing.{over_returned}
 use Rattle.step_core.proofs.turning.Telling.{counts_on}
 

@@ -1,23 +1,14 @@
 -- How endings come by themselves.
-use Rattle.std.proofs.Common.{◌≡◌, ℕ, suc, ◌+◌, ◌-◌, ◌<◌, ◌==◌, true, false, List, ◌∷◌}
-use Rattle.std.proofs.Common.{length, set, refl, sym, ap, ◌∙◌, arith}
-use Rattle.std.proofs.Common.{get_or-set_same}
-use Rattle.std.specs.Prelude.{Option, Some, None, is_some}
-use Rattle.std.proofs.lemmas.Bool.{cond-false, cond-true}
-use Rattle.std.proofs.lemmas.List.{length-set}
+use Rattle.std.proofs.Common.{◌≡◌, ℕ, suc, ◌+◌, ◌-◌, ◌<◌, true, false, List, ◌∷◌, length, set}
+use Rattle.std.proofs.Common.{is_some, ◌==◌, Some, None, Option, sym, refl, ap, ◌∙◌, arith}
+use Rattle.std.proofs.Common.{length-set, get_or-set_same}
+use Rattle.step_core.proofs.Prelude.{cond-false, cond-true, Ending, entry, hand, has_object}
+use Rattle.step_core.proofs.Prelude.{History, is_full, leads, NumberedHandle, Opening, plain}
+use Rattle.step_core.proofs.Prelude.{pointer_of, Slot, slot_of, slot_pointer, Slots, staged, State}
+use Rattle.step_core.proofs.Prelude.{unwound, weak, Wound}
 use Rattle.control_word.specs.declared.model.event.Event.TheVariants as event
-use Rattle.control_word.specs.declared.model.handle.NumberedHandle.{NumberedHandle}
-use Rattle.control_word.specs.Handles.{has_object}
-use Rattle.control_word.specs.Histories.{entry, leads}
-use Rattle.control_word.specs.State.{Opening, State, weak}
-use Rattle.step_threads.specs.declared.ending.Ending.{Ending}
-use Rattle.step_table.specs.declared.slots.slot.Slot.{Slot}
-use Rattle.step_threads.specs.Frames.{hand}
-use Rattle.step_threads.specs.Endings.{staged}
-use Rattle.step_table.specs.Contents.{slot_as, slot_of}
-use Rattle.step_table.specs.Registers.{Slots, is_full, plain, pointer_of, slot_pointer}
-use Rattle.step_threads.specs.Entries.{History}
-use Rattle.step_threads.specs.Unwinding.{Stop, Wound, history_clears, unwinds_on, stops, unwound}
+use Rattle.step_table.specs.Contents.{slot_as}
+use Rattle.step_threads.specs.Unwinding.{Stop, history_clears, unwinds_on, stops}
 
 -- how the endings go on, by how far the first comes
 abbrev goes : Opening → ℕ → Slots → Ending → List Ending → Stop → Wound

@@ -1,24 +1,14 @@
 -- A thread on the way of an act, and its next step.
-use Rattle.std.proofs.Common.{◌≡◌, inr, ℕ, Bool, true, false, List, [], ◌∷◌, refl, sym, ap, subst, ◌∙◌}
-use Rattle.std.specs.Prelude.{Option, Some, option_map}
-use Rattle.std.proofs.lemmas.Bool.{false≢true}
-use Rattle.control_word.specs.declared.packed.cell.CellWord.{CellWord}
-use Rattle.control_word.specs.declared.model.handle.Kind.{Kind}
-use Rattle.control_word.specs.declared.place.Block.{Block}
-use Rattle.control_word.specs.declared.handle.Handle.{Handle}
-use Rattle.step_table.specs.Registers.{Slots}
-use Rattle.step_threads.specs.declared.programs.act.Act.TheVariants.{Count}
-use Rattle.step_threads.specs.declared.programs.act.Task.{Task}
-use Rattle.step_threads.specs.declared.ending.Ending.{Ending}
-use Rattle.step_threads.specs.declared.pending_call.PendingCall.{PendingCall}
-use Rattle.step_threads.specs.declared.pending_call.PendingCall.TheVariants.{Rest, Making, Locking, Giving, Brought, Saw, Matched, Refill, Returning, Clearing}
-use Rattle.step_threads.specs.Frames.{FrameView, locked_pointer}
-use Rattle.step_threads.specs.AbstractStates.{frame_of}
-use Rattle.step_threads.specs.NextSteps.{at_rest, begun as begun_at, first, given_step, made_on, matched, matched_on, saw, saw_on, sent, step_at, tried, waits}
-use Rattle.step_threads.specs.Steps.{Step, returns, tries}
-use Rattle.step_core.specs.Turning.{HasBegun, IsAlone, IsInShape, NextActLocks, IsMatched, IsProperPendingCall, IsSeen, IsSwap, IsTried, IsUnderWay}
-use Rattle.step_core.specs.WorldStates.{IsOver}
-use Rattle.step_core.specs.Worlds.{WorldState, pending_call_of, abstraction, step_of}
+use Rattle.std.proofs.Common.{◌≡◌, ℕ, Bool, true, false, List, [], ◌∷◌, Some, Option, option_map}
+use Rattle.std.proofs.Common.{sym, refl, ap, ◌∙◌, subst, inr}
+use Rattle.step_core.proofs.Prelude
+use Prelude.{abstraction, at_rest, Block, Brought, CellWord, Clearing, Count, Ending, false≢true}
+use Prelude.{first, frame_of, FrameView, given_step, Giving, Handle, HasBegun, IsAlone, IsInShape}
+use Prelude.{IsMatched, IsOver, IsProperPendingCall, IsSeen, IsSwap, IsTried, IsUnderWay, Kind}
+use Prelude.{locked_pointer, Locking, made_on, Making, Matched, matched, matched_on, NextActLocks}
+use Prelude.{pending_call_of, PendingCall, Refill, Rest, Returning, returns, Saw, saw, saw_on}
+use Prelude.{sent, Slots, Step, step_at, step_of, Task, tried, tries, waits, WorldState}
+use Rattle.step_threads.specs.NextSteps.{begun as begun_at}
 use Rattle.step_core.proofs.turning.Giving.{giving_out}
 use Rattle.step_core.proofs.turning.Locking.{full_some, tries_out}
 use Rattle.step_core.proofs.turning.Looking.{awake_on, can_look}

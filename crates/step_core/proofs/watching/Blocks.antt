@@ -1,36 +1,23 @@
 -- Steps on the first words of blocks leave the words of cells.
-use Rattle.std.proofs.Common.{◌≡◌, ◌⊎◌, ℕ, suc, ◌+◌, ◌-◌, ◌*◌, ◌<◌, ◌≤◌, ◌==◌, Bool, true, false, cond, List, []}
-use Rattle.std.proofs.Common.{◌∷◌, refl, sym, subst, inl, inr, arith}
+use Rattle.std.proofs.Common.{◌≡◌, ℕ, suc, ◌+◌, ◌-◌, ◌*◌, ◌<◌, ◌≤◌, min, Bool, true, false, cond}
+use Rattle.std.proofs.Common.{not, ◌⊎◌, List, [], ◌∷◌, ◌==◌, slice_index, slice_set, Some, None}
+use Rattle.std.proofs.Common.{Option, option_map, sym, refl, subst, inl, inr, arith}
+use Rattle.step_core.proofs.Prelude
+use Prelude.{alias, AtomicStep, Block, cases_lt, CellName, cond_both, downgrade, ghost_after}
+use Prelude.{GhostState, give, Handle, handle_busy, HoldsBag, InShape, inside, is_expired, is_of}
+use Prelude.{is_there, IsSite, Kind, kind_at, least, leave_as, lesser, lock, model_state, offered}
+use Prelude.{opening, Owner, owner_slot, Place, plain, pointer_of, same_Some, share_as, Site}
+use Prelude.{site_place, slot_pointer, slot_value, Slots, spot, Stored, stored, TableInvariant}
+use Prelude.{there, Weak, weak_slot, word_of_cell}
 use Rattle.std.proofs.Math.Nat.{min-eq_left, min-eq_right}
-use Rattle.std.specs.Prelude.{Option, Some, None, option_map, min, not, slice_index, slice_set}
-use Rattle.std.proofs.lemmas.Bool.{cases_lt, cond_both}
-use Rattle.std.proofs.lemmas.Option.{same_Some}
-use Rattle.control_word.specs.declared.model.handle.Kind.{Kind}
-use Rattle.control_word.specs.declared.model.handle.Kind.TheVariants.{Owner, Weak}
-use Rattle.control_word.specs.declared.place.Block.{Block}
-use Rattle.control_word.specs.declared.place.Place.{Place}
-use Rattle.control_word.specs.Layout.{IsSite, site_place, spot}
-use Rattle.control_word.specs.State.{Has, InShape, Stored, stored}
+use Rattle.control_word.specs.State.{Has}
 use Rattle.control_word.specs.Words.{slot as slot_of_kind}
-use Rattle.control_word.specs.declared.site.Site.{Site}
 use Rattle.step_table.specs.declared.cell_steps.cell_step.CellStep.TheVariants as cell_step
-use Rattle.control_word.specs.declared.handle.Handle.{Handle}
-use Rattle.step_table.specs.declared.memory.ghost_history.AtomicStep.{AtomicStep}
 use Rattle.step_table.specs.declared.memory.ghost_history.AtomicStep.TheVariants as atomic_step
-use Rattle.step_table.specs.Cells.{word_of_cell}
-use Rattle.step_table.specs.Contents.{is_of}
-use Rattle.step_table.specs.AtomicSteps.{alias, downgrade, give, is_expired, leave_as, lock, share_as}
-use Rattle.step_table.specs.Registers.{HoldsBag, Slots, inside, owner_as, owner_slot, plain, pointer_of, slot_pointer, slot_value, weak_as, weak_slot}
-use Rattle.step_table.specs.Openings.{opening}
-use Rattle.step_table.specs.GhostStates.{TableInvariant, GhostState, model_state}
+use Rattle.step_table.specs.Registers.{owner_as, weak_as}
 use Rattle.step_table.proofs.holding.Inside.{inside_is}
 use Rattle.step_table.proofs.holding.Owning.{slot_held}
-use Rattle.step_table.proofs.tables.Places.{handle_busy, there, vacant_place}
-use Rattle.step_threads.specs.declared.programs.call.CellName.{CellName}
-use Rattle.step_threads.specs.Programs.{kind_at}
-use Rattle.step_threads.specs.Frames.{is_there, offered}
-use Rattle.step_threads.specs.Entries.{least, lesser}
-use Rattle.step_threads.specs.NextSteps.{ghost_after}
+use Rattle.step_table.proofs.tables.Places.{vacant_place}
 use Rattle.step_core.proofs.watching.Words.{block_off}
 
 -- the atomic step leaves the words of cells

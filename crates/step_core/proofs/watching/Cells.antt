@@ -1,38 +1,20 @@
 -- Steps on cells: where half of a cell's funds or more are taken, threads count that put them back.
+use Rattle.std.proofs.Common.{◌≡◌, ℕ, suc, ◌+◌, ◌-◌, ◌*◌, ◌<◌, ◌≤◌, Bool, true, false, cond, ◌&&◌}
+use Rattle.std.proofs.Common.{◌≢◌, List, length, ◌==◌, slice_index, slice_set, Some, None, Option}
+use Rattle.std.proofs.Common.{sym, refl, ap, ◌∙◌, subst, inl, inr, ⊎_elim, arith, get_or-set_other}
+use Rattle.std.proofs.Common.{get_or-set_same, ltb-false, eq-eqb, ne_eqb, eqb-true}
+use Rattle.step_core.proofs.Prelude
+use Prelude.{and_from, and_parts, AtomicStep, Block, cases_eq, cell_bits, CellWord, Checking}
+use Prelude.{cond_both, content, Failing, false≢true, FrameView, Free, ghost_after, GhostState}
+use Prelude.{handle_busy, is_drained, is_low, is_watching, IsCellOfShape, IsCellWord, IsSite}
+use Prelude.{kind_in_state, Lacking, Member, model_state, more_taken, opening, PendingCall, Refill}
+use Prelude.{RefillFits, Refilling, refills_on, Rest, same_Some, same_value, Saw, seen, seen_found}
+use Prelude.{Shape, Site, site_place, Stage, Step, TableInvariant, there, Turning, within}
+use Prelude.{word_of_cell}
 use Rattle.step_table.specs.declared.memory.shelf.ShelfStep.{ShelfStep}
-use Rattle.control_word.specs.Layout.{IsSite, site_place}
 use Rattle.control_word.specs.Words.{shelf_spot}
-use Rattle.step_table.specs.Openings.{opening}
-use Rattle.std.proofs.Common.{◌≡◌, ◌≢◌, ℕ, suc, ◌+◌, ◌-◌, ◌*◌, ◌<◌, ◌≤◌, ◌==◌, Bool, true, false, cond, List, length}
-use Rattle.std.proofs.Common.{refl, sym, ap, subst, ◌∙◌, ⊎_elim, inl, inr, arith}
-use Rattle.std.proofs.Common.{get_or-set_other, get_or-set_same, eq-eqb, ne_eqb, eqb-true}
-use Rattle.std.specs.Prelude.{◌&&◌, Option, Some, None, slice_index, slice_set}
-use Rattle.std.proofs.lemmas.Bool.{and_from, and_parts, cases_eq, cond_both, false≢true, ltb-false}
-use Rattle.std.proofs.lemmas.Option.{same_Some}
-use Rattle.control_word.specs.declared.packed.cell.CellWord.{CellWord}
-use Rattle.control_word.specs.declared.place.Block.{Block}
-use Rattle.control_word.specs.declared.shape.Shape.{Shape}
-use Rattle.control_word.specs.Packing.{IsCellWord, cell_bits}
-use Rattle.step_threads.specs.declared.pending_call.PendingCall.{PendingCall}
-use Rattle.step_threads.specs.declared.pending_call.PendingCall.TheVariants.{Rest, Saw, Refill}
-use Rattle.control_word.specs.declared.site.Site.{Site}
-use Rattle.control_word.specs.declared.site.Site.TheVariants.{Free, Member}
 use Rattle.step_table.specs.declared.cell_steps.cell_step.CellStep.TheVariants as cell_step
-use Rattle.step_table.specs.declared.memory.ghost_history.AtomicStep.{AtomicStep}
 use Rattle.step_table.specs.declared.memory.ghost_history.AtomicStep.TheVariants as atomic_step
-use Rattle.step_table.specs.declared.cell_steps.refill.Stage.{Stage}
-use Rattle.step_table.specs.declared.cell_steps.refill.Stage.TheVariants.{Turning, Checking, Lacking, Refilling, Failing}
-use Rattle.step_table.specs.CellAtomicSteps.{kind_in_state}
-use Rattle.step_table.specs.Cells.{word_of_cell}
-use Rattle.step_table.specs.Contents.{same_value, seen}
-use Rattle.step_table.specs.Refills.{RefillFits, is_drained, is_low, more_taken}
-use Rattle.step_table.specs.GhostStates.{TableInvariant, GhostState, model_state}
-use Rattle.step_table.proofs.contained.Coming.{seen_found}
-use Rattle.step_table.proofs.tables.Places.{handle_busy, there}
-use Rattle.step_threads.specs.Frames.{FrameView}
-use Rattle.step_threads.specs.NextSteps.{ghost_after}
-use Rattle.step_threads.specs.Steps.{Step, refills_on, within}
-use Rattle.step_core.specs.Watching.{IsCellOfShape, content, is_watching}
 use Rattle.step_core.proofs.watching.Blocks.{IsThere, StaysOff, bring_off, give_back_off, turn_off}
 use Rattle.step_core.proofs.watching.Words.{Watch, bit, flag, more_told, same_told, taken_told}
 

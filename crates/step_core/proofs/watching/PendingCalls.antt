@@ -1,51 +1,32 @@
 -- The next step of a thread, by what it has begun, and the funds that are taken of cells.
-use Rattle.std.proofs.Common.{◌≡◌, ℕ, ◌+◌, ◌<◌, ◌==◌, Bool, true, false, cond, List, [], ◌∷◌, get_or, refl, subst, inl, inr, arith}
-use Rattle.std.specs.Prelude.{Option, Some, None, option_map}
-use Rattle.std.proofs.lemmas.Bool.{cond_both, eqb-false}
-use Rattle.control_word.specs.declared.packed.cell.CellWord.{CellWord}
-use Rattle.control_word.specs.declared.model.handle.Kind.{Kind}
-use Rattle.control_word.specs.declared.place.Block.{Block}
-use Rattle.control_word.specs.declared.place.Place.{Place}
-use Rattle.control_word.specs.declared.model.view.Pending.{Pending}
+use Rattle.std.proofs.Common.{◌≡◌, ℕ, ◌+◌, ◌<◌, Bool, true, false, cond, List, [], ◌∷◌, get_or}
+use Rattle.std.proofs.Common.{◌==◌, Some, None, Option, option_map, refl, subst, inl, inr, arith}
+use Rattle.step_core.proofs.Prelude
+use Prelude.{Act, Alias, Ask, at_rest, begun, Block, Brought, cell_of_name, CellWord, claims}
+use Prelude.{Clear, Clearing, Compare, cond_both, Count, Downgrade, Drop, emptied, Ending, ends_on}
+use Prelude.{eqb-false, Exchange, Expired, first, form_of, FrameView, FromThis, FundsAreHeld}
+use Prelude.{ghost_after, ghost_by, GhostState, give, given_step, gives_back, Giving, going, hand}
+use Prelude.{Handle, handle_busy, Holds, HoldsBag, inside, is_full, IsCellWord}
+use Prelude.{IsProperPendingCall, IsTried, IsUnderWay, Kind, kind_of_member, known_words, Leave}
+use Prelude.{Load, Lock, locked_pointer, Locking, made_on, Make, Making, Matched, matched}
+use Prelude.{matched_on, Member, model_state, Move, Nothing, object_of_block, Offer, OnShelf}
+use Prelude.{opening, owing_funds, Pending, pending, PendingCall, Place, prepares, Put, Read}
+use Prelude.{Refill, refills_on, Rest, Returning, Saw, saw, saw_on, seen, sent, Share, silent}
+use Prelude.{Site, slot_pointer, Stage, staged, Step, step_at, Swap, TableInvariant, Task, there}
+use Prelude.{tried, wanted, weak, with_endings, within, word_of_cell}
 use Rattle.control_word.specs.Histories.{value as value_of}
-use Rattle.control_word.specs.Packing.{IsCellWord}
-use Rattle.control_word.specs.State.{kind_of_member, weak}
 use Rattle.control_word.specs.Steps.{me}
 use Rattle.control_word.specs.Views.{Fits}
-use Rattle.step_threads.specs.declared.programs.act.Act.{Act}
-use Rattle.step_threads.specs.declared.programs.act.Act.TheVariants.{Make, Share, Downgrade, Lock, Put, Leave, Clear, Count, Expired, Read, FromThis, Alias}
-use Rattle.step_threads.specs.declared.programs.act.Act.TheVariants.{Move, Ask}
-use Rattle.step_threads.specs.declared.programs.act.Act.TheVariants.{Offer, Swap, Exchange, Load, Compare, Holds, Drop, OnShelf}
-use Rattle.step_threads.specs.declared.programs.act.Task.{Task}
-use Rattle.step_threads.specs.declared.ending.Ending.{Ending}
-use Rattle.step_threads.specs.declared.pending_call.PendingCall.{PendingCall}
-use Rattle.step_threads.specs.declared.pending_call.PendingCall.TheVariants.{Rest, Making, Locking, Giving, Brought, Saw, Matched, Refill, Returning, Clearing}
-use Rattle.control_word.specs.declared.site.Site.{Site}
-use Rattle.control_word.specs.declared.site.Site.TheVariants.{Member}
 use Rattle.step_table.specs.declared.cell_steps.cell_step.CellStep.TheVariants as cell_step
-use Rattle.control_word.specs.declared.handle.Handle.{Handle}
 use Rattle.step_table.specs.declared.memory.ghost_history.AtomicStep.TheVariants as atomic_step
-use Rattle.step_table.specs.declared.cell_steps.refill.Stage.{Stage}
-use Rattle.step_threads.specs.Actors.{wanted}
-use Rattle.step_table.specs.CellAtomicSteps.{owing_funds}
-use Rattle.step_table.specs.Cells.{word_of_cell}
-use Rattle.step_table.specs.Contents.{seen}
-use Rattle.step_threads.specs.Frames.{FrameView, cell_of_name, form_of, going, hand, locked_pointer}
-use Rattle.step_table.specs.AtomicSteps.{give}
-use Rattle.step_threads.specs.Endings.{staged}
-use Rattle.step_table.specs.Registers.{HoldsBag, inside, is_full, slot_pointer}
-use Rattle.step_table.specs.Openings.{opening}
-use Rattle.step_threads.specs.NextSteps.{at_rest, begun, emptied, first, given_step}
-use Rattle.step_threads.specs.Steps.{Step, claims, ends_on, gives_back}
-use Rattle.step_threads.specs.NextSteps.{made_on, matched, matched_on, saw, saw_on, sent, step_at, ghost_after, ghost_by, tried}
-use Rattle.step_threads.specs.Steps.{prepares, refills_on, silent, with_endings, within}
-use Rattle.step_table.specs.GhostStates.{TableInvariant, Nothing, GhostState, known_words, object_of_block, pending, model_state, view_in}
-use Rattle.step_table.proofs.tables.Places.{ending_busy, handle_busy, there}
+use Rattle.step_table.specs.GhostStates.{view_in}
+use Rattle.step_table.proofs.tables.Places.{ending_busy}
 use Rattle.step_table.proofs.tables.Standing.{point, ready}
-use Rattle.step_core.specs.Turning.{FundsAreHeld, IsProperPendingCall, IsTried, IsUnderWay}
-use Rattle.step_core.proofs.watching.Blocks.{IsThere, claim_off, finish_off, give_back_off, give_off, inside_there, least_there, write_off}
+use Rattle.step_core.proofs.watching.Blocks.{IsThere, claim_off, finish_off, give_back_off}
+use Rattle.step_core.proofs.watching.Blocks.{give_off, inside_there, least_there, write_off}
 use Rattle.step_core.proofs.watching.Cells.{changed, refilled, still}
-use Rattle.step_core.proofs.watching.Steps.{IsWatch, first_watch, matches_watch, sent_watch, settles_watch, takes_watch, tries_watch}
+use Rattle.step_core.proofs.watching.Steps.{IsWatch, first_watch, matches_watch, sent_watch}
+use Rattle.step_core.proofs.watching.Steps.{settles_watch, takes_watch, tries_watch}
 
 module _ (v : GhostState) (d : ℕ) (w : FrameView) (kept : TableInvariant v) (seat : d < v.extent.actors) (holds : HoldsBag d w.slots v) where
   tried_watch : (word : ℕ) (ts : List Task) → IsWatch v d (Locking word) (tried v d w word ts)

@@ -1,52 +1,29 @@
 -- What each step does to the funds that are taken of cells.
-use Rattle.step_threads.specs.declared.programs.act.ShelfAct.{ShelfAct}
-use Rattle.step_threads.specs.declared.programs.act.ShelfAct.TheVariants.{Shelve, Unshelve}
+use Rattle.std.proofs.Common.{◌≡◌, ℕ, ◌<◌, Bool, true, false, cond, List, is_some, ◌==◌, Some}
+use Rattle.std.proofs.Common.{None, Option, option_map, refl, inl, arith, eqb-true}
+use Rattle.step_core.proofs.Prelude
+use Prelude.{Act, Alias, alias, aliased, as_word, Ask, asks, begins, Block, brings, Brought}
+use Prelude.{cell_bits, cell_of_name, CellName, CellWord, Clear, Compare, Compared, compared_in}
+use Prelude.{comparing, cond_both, Count, Downgrade, downgrade, Drop, Exchange, Expired, fetches}
+use Prelude.{first, FrameView, FromThis, GhostState, gives_back, Giving, Going, going, hand}
+use Prelude.{Handle, Holds, HoldsBag, inside, is_enabled, is_last, is_spent, is_there, IsCellWord}
+use Prelude.{Kind, kind_at, kind_in_state, least, Leave, leave, Load, Lock, lock, locked_pointer}
+use Prelude.{Locking, looks, Make, Making, Matched, matches, may_go, missed, model_state}
+use Prelude.{more_taken, Move, Offer, offered, on, on_going, OnShelf, other, owner_slot}
+use Prelude.{owner_word, PendingCall, place_in, Put, Read, read_atomic_step, Refill, Rest}
+use Prelude.{same_value, Saw, seen, sends, settles, Share, share, shelf_block, shelf_step}
+use Prelude.{ShelfAct, Shelve, silent, Site, slot_pointer, slot_value, Step, step_of_act}
+use Prelude.{step_of_compare, step_of_look, step_of_swap, Swap, TableInvariant, takes, Task, tell}
+use Prelude.{tell_expired, tries, trying, Turning, Unshelve, weak, weak_slot, within, word_of_cell}
 use Rattle.step_table.specs.declared.memory.shelf.ShelfStep.TheVariants as shelf
-use Rattle.step_threads.specs.Shelving.{shelf_block, shelf_step}
-use Rattle.step_core.proofs.watching.Cells.{shelf_off}
-use Rattle.std.proofs.Common.{◌≡◌, ℕ, ◌<◌, ◌==◌, Bool, true, false, cond, List, refl}
-use Rattle.std.proofs.Common.{eqb-true, inl, arith}
-use Rattle.std.specs.Prelude.{Option, Some, None, is_some, option_map}
-use Rattle.std.proofs.lemmas.Bool.{cond_both}
-use Rattle.control_word.specs.declared.packed.cell.CellWord.{CellWord}
-use Rattle.control_word.specs.declared.model.handle.Kind.{Kind}
-use Rattle.control_word.specs.declared.place.Block.{Block}
-use Rattle.control_word.specs.Packing.{IsCellWord, cell_bits}
-use Rattle.control_word.specs.State.{weak}
-use Rattle.step_threads.specs.declared.programs.act.Act.{Act}
-use Rattle.step_threads.specs.declared.programs.act.Act.TheVariants.{Make, Share, Downgrade, Lock, Put, Leave, Clear, Count, Expired, Read, FromThis, Alias}
-use Rattle.step_threads.specs.declared.programs.act.Act.TheVariants.{Move, Ask}
-use Rattle.step_threads.specs.declared.programs.act.Act.TheVariants.{Offer, Swap, Exchange, Load, Compare, Holds, Drop, OnShelf}
-use Rattle.step_threads.specs.declared.programs.act.Task.{Task}
-use Rattle.step_threads.specs.declared.programs.call.CellName.{CellName}
-use Rattle.step_threads.specs.declared.pending_call.PendingCall.{PendingCall}
-use Rattle.step_threads.specs.declared.pending_call.PendingCall.TheVariants.{Rest, Making, Locking, Giving, Brought, Saw, Matched, Refill}
-use Rattle.control_word.specs.declared.site.Site.{Site}
+use Rattle.step_core.proofs.watching.Cells.{shelf_off, IsQuiet, Watches, put_in, still, taken}
 use Rattle.step_table.specs.declared.cell_steps.cell_step.CellStep.TheVariants as cell_step
-use Rattle.step_table.specs.declared.cell_steps.cell_step.Compared.{Compared}
-use Rattle.control_word.specs.declared.handle.Handle.{Handle}
 use Rattle.step_table.specs.declared.memory.ghost_history.AtomicStep.TheVariants as atomic_step
-use Rattle.step_table.specs.declared.cell_steps.refill.Stage.TheVariants.{Turning}
-use Rattle.step_table.specs.CellAtomicSteps.{kind_in_state}
-use Rattle.step_table.specs.Cells.{word_of_cell}
-use Rattle.step_table.specs.Contents.{as_word, compared_in, is_spent, same_value, seen}
-use Rattle.step_table.specs.Refills.{more_taken}
-use Rattle.step_threads.specs.Programs.{kind_at}
-use Rattle.step_threads.specs.Frames.{Going, FrameView, cell_of_name, comparing, going, hand, is_there, locked_pointer, offered, on_going, other}
-use Rattle.step_table.specs.AtomicSteps.{alias, aliased, downgrade, is_enabled, is_last, leave, lock, owner_word, read_atomic_step, share, tell, tell_expired}
-use Rattle.step_table.specs.AtomicSteps.{on}
-use Rattle.step_threads.specs.Entries.{least}
-use Rattle.step_threads.specs.Rows.{may_go}
-use Rattle.step_table.specs.Registers.{HoldsBag, inside, owner_slot, place_in, slot_pointer, slot_value, weak_slot}
-use Rattle.step_threads.specs.NextSteps.{first}
-use Rattle.step_threads.specs.Steps.{Step, step_of_act, asks, begins, brings, step_of_compare, fetches, gives_back, looks, matches, missed, step_of_look, sends}
-use Rattle.step_threads.specs.Steps.{settles, silent}
-use Rattle.step_threads.specs.Steps.{step_of_swap, takes, tries, trying, within}
-use Rattle.step_table.specs.GhostStates.{TableInvariant, GhostState, model_state}
 use Rattle.step_table.proofs.contained.Told.{word_valid}
-use Rattle.step_core.proofs.watching.Blocks.{IsThere, alias_off, bring_off, downgrade_off, each_off, leave_off, least_there, lock_off, offered_there}
-use Rattle.step_core.proofs.watching.Blocks.{owner_there, prepare_off, share_off, slot_there, weak_there}
-use Rattle.step_core.proofs.watching.Cells.{IsQuiet, Watches, put_in, still, taken}
+use Rattle.step_core.proofs.watching.Blocks.{IsThere, alias_off, bring_off, downgrade_off}
+use Rattle.step_core.proofs.watching.Blocks.{each_off, leave_off, least_there, lock_off}
+use Rattle.step_core.proofs.watching.Blocks.{offered_there, owner_there, prepare_off, share_off}
+use Rattle.step_core.proofs.watching.Blocks.{slot_there, weak_there}
 
 -- so it is with a thread that has begun h
 abbrev pub IsWatch : GhostState → ℕ → PendingCall → Option Step → Type 0

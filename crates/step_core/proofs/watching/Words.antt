@@ -1,31 +1,20 @@
 -- Words of cells, and the threads that have funds to put back into them.
-use Rattle.std.proofs.Common.{◌≡◌, ◌≢◌, ◌⊎◌, ℕ, zero, suc, ◌+◌, ◌*◌, ◌/◌, ◌<◌, ◌≤◌, ◌==◌, Bool, true, false, cond}
-use Rattle.std.proofs.Common.{List, [], ◌∷◌, length, set}
-use Rattle.std.proofs.Common.{get_or, refl, sym, ap, subst, ◌∙◌, ⊎_elim, arith}
-use Rattle.std.proofs.Common.{get_or-set_other, eq-eqb}
-use Rattle.std.specs.List.{filter}
-use Rattle.std.specs.Prelude.{◌&&◌, Option, Some, None, slice_index, slice_set}
-use Rattle.std.proofs.lemmas.Bool.{and_from}
-use Rattle.control_word.proofs.lists.Tallies.{num, num_cons}
-use Rattle.control_word.proofs.packing.Cells.{block_fits, field_fits, owned_fits, same_block as one_block, same_place as one_place}
+use Rattle.std.proofs.Common.{◌≡◌, ℕ, zero, suc, ◌+◌, ◌*◌, ◌/◌, ◌<◌, ◌≤◌, Bool, true, false, cond}
+use Rattle.std.proofs.Common.{◌&&◌, ◌≢◌, ◌⊎◌, List, [], ◌∷◌, length, get_or, set, ◌==◌}
+use Rattle.std.proofs.Common.{slice_index, slice_set, Some, None, Option, sym, refl, ap, ◌∙◌}
+use Rattle.std.proofs.Common.{subst, ⊎_elim, arith, get_or-set_other, eq-eqb}
+use Rattle.step_core.proofs.Prelude
+use Prelude.{and_from, Block, Brought, cell_bits, CellWord, Clearing, content, filter, Free}
+use Prelude.{GhostState, Giving, InShape, is_low, is_watching, IsCellWord, IsSite, Locking, Making}
+use Prelude.{Matched, Member, more_taken, num, num_cons, opening, PendingCall, Place, Refill, Rest}
+use Prelude.{Returning, same_value, Saw, Site, site_place, spot, word_of_cell}
+use Rattle.control_word.proofs.packing.Cells.{block_fits, field_fits, owned_fits}
+use Rattle.control_word.proofs.packing.Cells.{same_block as one_block, same_place as one_place}
 use Rattle.control_word.proofs.packing.Fields.{same_parts}
-use Rattle.control_word.specs.declared.packed.cell.CellWord.{CellWord}
-use Rattle.control_word.specs.declared.place.Block.{Block}
-use Rattle.control_word.specs.declared.place.Place.{Place}
 use Rattle.control_word.specs.Handles.{same_place}
-use Rattle.control_word.specs.Layout.{IsSite, site_place, spot}
-use Rattle.control_word.specs.Packing.{IsCellWord, block_number, cell_bits, place_block, place_field}
-use Rattle.control_word.specs.State.{InShape}
-use Rattle.step_threads.specs.declared.pending_call.PendingCall.{PendingCall}
-use Rattle.step_threads.specs.declared.pending_call.PendingCall.TheVariants.{Rest, Making, Locking, Giving, Brought, Saw, Matched, Refill, Returning, Clearing}
-use Rattle.control_word.specs.declared.site.Site.{Site}
-use Rattle.control_word.specs.declared.site.Site.TheVariants.{Free, Member}
-use Rattle.step_table.specs.Cells.{word_of_cell}
-use Rattle.step_table.specs.Contents.{same_block, same_value}
-use Rattle.step_table.specs.Openings.{opening}
-use Rattle.step_table.specs.Refills.{is_low, more_taken}
-use Rattle.step_table.specs.GhostStates.{GhostState}
-use Rattle.step_core.specs.Watching.{content, is_watching, watchers}
+use Rattle.control_word.specs.Packing.{block_number, place_block, place_field}
+use Rattle.step_table.specs.Contents.{same_block}
+use Rattle.step_core.specs.Watching.{watchers}
 
 -- a thread counts once, where it has funds of the cell to put back
 abbrev pub bit : ℕ → ℕ → ℕ → PendingCall → ℕ

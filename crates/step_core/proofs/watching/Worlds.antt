@@ -1,40 +1,24 @@
 -- No step ever finds all funds of a cell taken.
-use Rattle.std.proofs.Common.{◌≡◌, ℕ, ◌/◌, ◌<◌, ◌≤◌, ◌==◌, Bool, true, false, List, [], ◌∷◌, length, set, get_or, refl, sym, ap}
-use Rattle.std.proofs.Common.{subst, ◌∙◌, arith}
-use Rattle.std.proofs.Common.{ne_eqb}
-use Rattle.std.specs.Prelude.{◌&&◌, Option, Some, None, is_some, not, slice_index}
-use Rattle.std.specs.List.{filter}
-use Rattle.std.proofs.lemmas.Bool.{and_parts, cond_both, not-false}
-use Rattle.std.proofs.lemmas.List.{set-get_or}
-use Rattle.step_threads.specs.declared.programs.act.Act.{Act}
-use Rattle.step_threads.specs.declared.programs.act.Act.TheVariants.{Make, Share, Downgrade, Lock, Put, Leave, Clear, Count, Expired, Read, FromThis, Alias}
-use Rattle.step_threads.specs.declared.programs.act.Act.TheVariants.{Move, Ask}
-use Rattle.step_threads.specs.declared.programs.act.Act.TheVariants.{Offer, Swap, Exchange, Load, Compare, Holds, Drop, OnShelf}
-use Rattle.step_threads.specs.declared.programs.act.Task.{Task}
-use Rattle.step_threads.specs.declared.programs.call.CellName.{CellName}
+use Rattle.std.proofs.Common.{◌≡◌, ℕ, ◌/◌, ◌<◌, ◌≤◌, Bool, true, false, not, ◌&&◌, List, [], ◌∷◌}
+use Rattle.std.proofs.Common.{length, get_or, set, is_some, ◌==◌, slice_index, Some, None, Option}
+use Rattle.std.proofs.Common.{sym, refl, ap, ◌∙◌, subst, arith, ne_eqb}
+use Rattle.step_core.proofs.Prelude
+use Prelude.{abstraction, Act, Alias, and_parts, as_word, Ask, AtomicStep, Brought, cell_of_name}
+use Prelude.{CellName, Clear, Clearing, Compare, cond_both, Count, Downgrade, Drop, Ending}
+use Prelude.{Exchange, Expired, filter, frame_of, FrameView, FromThis, ghost_after, ghost_by}
+use Prelude.{GhostState, Giving, hand, Handle, HasBegun, HasCell, Holds, HoldsBag, idle, inside}
+use Prelude.{is_full, is_of, is_offered, is_spent, is_there, is_watching, IsCellOfShape, IsIn}
+use Prelude.{IsInShape, IsStill, kind_at, Leave, Load, Lock, Locking, Make, Making, Matched}
+use Prelude.{Member, model_state, Move, Offer, on, OnShelf, pending_call_by, pending_call_of}
+use Prelude.{PendingCall, Put, Read, Refill, Rest, Returning, same_value, Saw, seen, set-get_or}
+use Prelude.{Share, Site, site_place, slot_pointer, slot_value, Slots, Step, step_of, Swap}
+use Prelude.{TableInvariant, Task, waits, waits_at, waits_on, word_of_cell, world_state_by}
+use Prelude.{WorldState}
+use Rattle.std.proofs.lemmas.Bool.{not-false}
 use Rattle.step_threads.specs.declared.programs.call.CellName.TheVariants as cell
-use Rattle.step_threads.specs.declared.ending.Ending.{Ending}
-use Rattle.step_threads.specs.declared.pending_call.PendingCall.{PendingCall}
-use Rattle.step_threads.specs.declared.pending_call.PendingCall.TheVariants.{Rest, Making, Locking, Giving, Brought, Saw, Matched, Refill, Returning, Clearing}
-use Rattle.control_word.specs.Layout.{site_place}
-use Rattle.control_word.specs.declared.site.Site.{Site}
-use Rattle.control_word.specs.declared.site.Site.TheVariants.{Member}
-use Rattle.control_word.specs.declared.handle.Handle.{Handle}
-use Rattle.step_table.specs.declared.memory.ghost_history.AtomicStep.{AtomicStep}
-use Rattle.step_table.specs.Cells.{word_of_cell}
-use Rattle.step_table.specs.Contents.{as_word, is_of, is_spent, same_value, seen}
-use Rattle.step_table.specs.AtomicSteps.{on}
-use Rattle.step_table.specs.Registers.{HoldsBag, Slots, inside, is_full, slot_pointer, slot_value}
-use Rattle.step_table.specs.GhostStates.{TableInvariant, GhostState, model_state}
 use Rattle.step_table.proofs.contained.Told.{shared_is}
-use Rattle.step_threads.specs.Frames.{HasCell, FrameView, cell_of_name, hand, idle, is_compared, is_offered, is_there}
-use Rattle.step_threads.specs.Programs.{IsIn, kind_at}
-use Rattle.step_threads.specs.AbstractStates.{frame_of}
-use Rattle.step_threads.specs.NextSteps.{pending_call_by, ghost_after, ghost_by, waits, waits_at, waits_on}
-use Rattle.step_threads.specs.Steps.{Step}
-use Rattle.step_core.specs.Turning.{HasBegun, IsInShape, IsStill}
-use Rattle.step_core.specs.Watching.{IsCellOfShape, IsWatched, is_watching}
-use Rattle.step_core.specs.Worlds.{WorldState, pending_call_of, abstraction, world_state_by, step_of}
+use Rattle.step_threads.specs.Frames.{is_compared}
+use Rattle.step_core.specs.Watching.{IsWatched}
 use Rattle.step_core.proofs.watching.Blocks.{inside_there}
 use Rattle.step_core.proofs.watching.Cells.{Watches, last_false}
 use Rattle.step_core.proofs.watching.PendingCalls.{each_watch}

@@ -1,9 +1,5 @@
-use Rattle.std.proofs.Common.{◌≡◌, true, false, refl, sym, subst, arith}
-use Rattle.std.specs.Prelude.{All}
-use Rattle.std.proofs.lemmas.List.Elements.{All-map}
-use Rattle.step_threads.specs.declared.programs.call.Actor.{Actor}
-use Rattle.step_threads.specs.Programs.{IsPart, Part, part_of}
-use Rattle.step_core.specs.Starts.{HasFields}
+use Rattle.std.proofs.Common.{◌≡◌, true, false, All, sym, refl, subst, arith}
+use Rattle.step_core.proofs.Prelude.{Actor, All-map, HasFields, IsPart, Part, part_of}
 use Rattle.step_core.proofs.Programs.{all_mapped, held_by_more}
 use Rattle.step_core.proofs.limits.are_parts.Goals as goal
 

@@ -1,8 +1,5 @@
-use Rattle.std.proofs.Common.{ℕ, ◌<◌, get_or}
-use Rattle.std.specs.Prelude.{All}
-use Rattle.step_threads.specs.declared.programs.call.Actor.{Actor}
-use Rattle.step_threads.specs.Programs.{IsPart, part_of}
-use Rattle.step_core.specs.Starts.{HasFields}
+use Rattle.std.proofs.Common.{ℕ, ◌<◌, get_or, All}
+use Rattle.step_core.proofs.Prelude.{Actor, HasFields, IsPart, part_of}
 use Rattle.step_core.proofs.limits.are_parts.Given as goal
 
 abbrev pub invariant-loop-actor : goal.invariant-loop-actor

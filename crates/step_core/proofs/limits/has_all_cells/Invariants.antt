@@ -1,6 +1,5 @@
 use Rattle.std.proofs.Common.{ℕ, ◌<◌, get_or}
-use Rattle.step_threads.specs.declared.programs.call.Call.{Call}
-use Rattle.step_threads.specs.Programs.{HasCells}
+use Rattle.step_core.proofs.Prelude.{Call, HasCells}
 use Rattle.step_core.proofs.limits.has_all_cells.Given as goal
 
 abbrev pub invariant-loop-call : goal.invariant-loop-call

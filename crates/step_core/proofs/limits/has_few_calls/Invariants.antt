@@ -1,5 +1,5 @@
 use Rattle.std.proofs.Common.{◌≡◌, ◌≤◌, map, take}
-use Rattle.step_threads.specs.Programs.{call_count, part_of}
+use Rattle.step_core.proofs.Prelude.{call_count, part_of}
 use Rattle.step_core.proofs.limits.has_few_calls.Given as goal
 
 abbrev pub invariant-loop-actor : goal.invariant-loop-actor

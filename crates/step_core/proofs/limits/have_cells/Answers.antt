@@ -1,7 +1,5 @@
-use Rattle.std.proofs.Common.{◌≡◌, true, false, refl, sym, subst, arith}
-use Rattle.std.proofs.lemmas.List.Elements.{All-map}
-use Rattle.step_threads.specs.declared.programs.call.Actor.{Actor}
-use Rattle.step_threads.specs.Programs.{AllHaveCells, part_of}
+use Rattle.std.proofs.Common.{◌≡◌, true, false, sym, refl, subst, arith}
+use Rattle.step_core.proofs.Prelude.{Actor, All-map, AllHaveCells, part_of}
 use Rattle.step_core.proofs.Programs.{all_mapped}
 use Rattle.step_core.proofs.limits.have_cells.Goals as goal
 

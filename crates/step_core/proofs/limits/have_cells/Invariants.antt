@@ -1,6 +1,5 @@
 use Rattle.std.proofs.Common.{ℕ, ◌<◌, get_or}
-use Rattle.step_threads.specs.declared.programs.call.Actor.{Actor}
-use Rattle.step_threads.specs.Programs.{AllHaveCells, part_of}
+use Rattle.step_core.proofs.Prelude.{Actor, AllHaveCells, part_of}
 use Rattle.step_core.proofs.limits.have_cells.Given as goal
 
 abbrev pub invariant-loop-actor : goal.invariant-loop-actor

@@ -1,9 +1,6 @@
 use Rattle.std.proofs.Common.{◌<◌, List, [], length, get_or, refl, subst}
-use Rattle.step_threads.specs.declared.programs.call.Call.{Call}
+use Rattle.step_core.proofs.Prelude.{Call, HasFields, IsApartFromCell, IsWellNamed, Kind}
 use Rattle.step_threads.specs.declared.programs.call.Call.TheVariants.{Make}
-use Rattle.control_word.specs.declared.model.handle.Kind.{Kind}
-use Rattle.step_threads.specs.Programs.{IsApartFromCell, IsWellNamed}
-use Rattle.step_core.specs.Starts.{HasFields}
 use Rattle.step_core.proofs.Programs.{held_by_more}
 use Rattle.step_core.proofs.limits.is_part.Goals as goal
 

@@ -1,7 +1,5 @@
 use Rattle.std.proofs.Common.{ℕ, ◌<◌, get_or}
-use Rattle.step_threads.specs.declared.programs.call.Call.{Call}
-use Rattle.step_threads.specs.Programs.{IsApartFromCell, IsWellNamed}
-use Rattle.step_core.specs.Starts.{HasFields}
+use Rattle.step_core.proofs.Prelude.{Call, HasFields, IsApartFromCell, IsWellNamed}
 use Rattle.step_core.proofs.limits.is_part.Given as goal
 
 abbrev pub invariant-loop-call : goal.invariant-loop-call

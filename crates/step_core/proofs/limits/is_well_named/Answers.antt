@@ -1,4 +1,4 @@
-use Rattle.step_threads.specs.Programs.{asked_list}
+use Rattle.step_core.proofs.Prelude.{asked_list}
 use Rattle.step_core.proofs.Programs.{three_named}
 use Rattle.step_core.proofs.limits.is_well_named.Goals as goal
 

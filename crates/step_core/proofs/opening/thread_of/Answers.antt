@@ -1,13 +1,7 @@
-use Rattle.std.proofs.Common.{◌≡◌, ◌≤◌, ◌+◌, ◌∙◌, ℕ, List, length, sym, ap, subst, arith}
-use Rattle.step_threads.specs.declared.programs.call.Call.{Call}
-use Rattle.step_threads.specs.Acts.{tasks_from}
-use Rattle.std.specs.Prelude.{All}
-use Rattle.step_threads.specs.declared.programs.act.Task.{Task}
-use Rattle.step_threads.specs.Frames.{HasCell}
+use Rattle.std.proofs.Common.{◌≡◌, ℕ, ◌+◌, ◌≤◌, List, length, All, sym, ap, ◌∙◌, subst, arith}
+use Rattle.step_core.proofs.Prelude.{Call, first_ghost, HasCell, HoldsBag, no_slots, part_of}
+use Rattle.step_core.proofs.Prelude.{Slots, Task, tasks_from}
 use Rattle.step_threads.specs.Endings.{Stack}
-use Rattle.step_table.specs.Registers.{HoldsBag, Slots}
-use Rattle.step_threads.specs.Programs.{part_of}
-use Rattle.step_core.specs.Starts.{first_ghost, no_slots}
 use Rattle.step_threads.proofs.holding.Ends.{ends_none}
 use Rattle.step_core.proofs.Starts.{holds_start, idle_start, ready_start, tasks_cells}
 use Rattle.step_core.proofs.opening.thread_of.Goals as goal

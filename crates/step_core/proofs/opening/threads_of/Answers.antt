@@ -1,8 +1,6 @@
-use Rattle.std.proofs.Common.{refl, sym, subst, arith}
-use Rattle.std.specs.Prelude.{All}
-use Rattle.step_threads.specs.declared.programs.call.Actor.{Actor}
-use Rattle.step_threads.specs.Programs.{AllHaveCells, IsPart, Part, part_of}
-use Rattle.step_core.specs.Starts.{HasFields, first_ghost}
+use Rattle.std.proofs.Common.{All, sym, refl, subst, arith}
+use Rattle.step_core.proofs.Prelude.{Actor, AllHaveCells, first_ghost, HasFields, IsPart, Part}
+use Rattle.step_core.proofs.Prelude.{part_of}
 use Rattle.step_core.proofs.Openings.{push_started}
 use Rattle.step_core.proofs.Programs.{all_mapped, more_calls}
 use Rattle.step_core.proofs.opening.threads_of.Goals as goal

@@ -1,4 +1,4 @@
-use Rattle.step_core.specs.Starts.{first_ghost}
+use Rattle.step_core.proofs.Prelude.{first_ghost}
 use Rattle.step_core.proofs.Openings.{AreStarted}
 use Rattle.step_core.proofs.opening.threads_of.Given as goal
 

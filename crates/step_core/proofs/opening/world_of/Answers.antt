@@ -1,11 +1,6 @@
 use Rattle.std.proofs.Common.{◌≡◌, length, sym, subst}
-use Rattle.std.proofs.lemmas.List.{length-map}
-use Rattle.step_table.specs.declared.memory.extent.Extent.{Extent}
-use Rattle.step_threads.specs.Programs.{part_of}
-use Rattle.step_core.specs.Starts.{first_ghost}
-use Rattle.step_table.specs.GhostStates.{GhostState}
-use Rattle.step_core.specs.Told.{TotalsAreTold, world_state}
-use Rattle.step_core.specs.Worlds.{AllFit}
+use Rattle.step_core.proofs.Prelude.{AllFit, Extent, first_ghost, GhostState, length-map, part_of}
+use Rattle.step_core.proofs.Prelude.{TotalsAreTold, world_state}
 use Rattle.step_core.proofs.telling.Starting.{told_start}
 use Rattle.step_core.proofs.opening.world_of.Goals as goal
 

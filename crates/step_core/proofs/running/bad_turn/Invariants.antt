@@ -1,5 +1,5 @@
 use Rattle.std.proofs.Common.{ℕ, ◌<◌, get_or}
-use Rattle.step_core.specs.Runs.{NamesActor}
+use Rattle.step_core.proofs.Prelude.{NamesActor}
 use Rattle.step_core.proofs.running.bad_turn.Given as goal
 
 abbrev pub invariant-loop-index : goal.invariant-loop-index

@@ -1,6 +1,5 @@
-use Rattle.std.proofs.Common.{◌≡◌, take}
-use Rattle.std.specs.Prelude.{sum_by}
-use Rattle.step_core.specs.Bounds.{steps_of}
+use Rattle.std.proofs.Common.{◌≡◌, take, sum_by}
+use Rattle.step_core.proofs.Prelude.{steps_of}
 use Rattle.step_core.proofs.running.steps_left.Given as goal
 
 abbrev pub invariant-loop-thread : goal.invariant-loop-thread

@@ -1,5 +1,5 @@
 use Rattle.std.proofs.Common.{◌≡◌, take}
-use Rattle.step_core.specs.Bounds.{task_steps}
+use Rattle.step_core.proofs.Prelude.{task_steps}
 use Rattle.step_core.proofs.running.task_steps.Given as goal
 
 abbrev pub invariant-loop-task : goal.invariant-loop-task

@@ -1,6 +1,5 @@
-use Rattle.std.proofs.Common.{◌∙◌, sym, subst}
-use Rattle.step_threads.specs.declared.said.Turned.{Turned}
-use Rattle.step_core.specs.Turning.{Plays}
+use Rattle.std.proofs.Common.{sym, ◌∙◌, subst}
+use Rattle.step_core.proofs.Prelude.{Plays, Turned}
 use Rattle.step_core.proofs.turning.Chains.{more_steps, one_step}
 use Rattle.step_core.proofs.turning.Playing.{begins_act, plays}
 use Rattle.step_core.proofs.turning.Turns.{plays_on}

@@ -1,10 +1,7 @@
-use Rattle.std.proofs.Common.{◌≡◌, ◌≢◌, ◌<◌, length, map, set, ap, sym, subst, ◌∙◌, arith}
-use Rattle.step_table.specs.declared.memory.extent.Extent.{Extent}
-use Rattle.std.proofs.lemmas.List.{length-map, length-set}
-use Rattle.step_threads.specs.declared.said.Stepped.TheVariants.{Waited}
-use Rattle.step_core.specs.WorldStates.{WorldState}
-use Rattle.step_core.specs.Turning.{HasBegun}
-use Rattle.step_core.specs.Worlds.{Advances, AllFit, Steps, thread_frame}
+use Rattle.std.proofs.Common.{◌≡◌, ◌<◌, ◌≢◌, map, length, set, sym, ap, ◌∙◌, subst, arith}
+use Rattle.std.proofs.Common.{length-set}
+use Rattle.step_core.proofs.Prelude.{Advances, AllFit, Extent, HasBegun, length-map, Steps}
+use Rattle.step_core.proofs.Prelude.{thread_frame, Waited, WorldState}
 use Rattle.step_core.proofs.Worlds.{all_fit, has_begun, world_state, steps, thread_at}
 use Rattle.step_core.proofs.runs.Extents.{extent_step}
 use Rattle.step_core.proofs.runs.Taking.{advances, all_hold, all_idle}

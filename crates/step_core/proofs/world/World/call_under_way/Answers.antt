@@ -1,6 +1,5 @@
 use Rattle.std.proofs.Common.{◌<◌, length, ap, arith}
-use Rattle.std.proofs.lemmas.List.{length-map}
-use Rattle.step_core.specs.Worlds.{WorldState, thread_frame}
+use Rattle.step_core.proofs.Prelude.{length-map, thread_frame, WorldState}
 use Rattle.step_core.proofs.Worlds.{thread_at}
 use Rattle.step_core.proofs.world.World.call_under_way.Goals as goal
 

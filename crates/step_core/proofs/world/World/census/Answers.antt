@@ -1,9 +1,5 @@
-use Rattle.std.proofs.Common.{◌≡◌, subst, sym}
-use Rattle.std.specs.Prelude.{None, Option}
-use Rattle.control_word.specs.declared.packed.counts.Counts.{Counts}
-use Rattle.control_word.specs.State.{IsVacant}
-use Rattle.step_table.specs.GhostStates.{TableInvariant, model_state}
-use Rattle.step_core.specs.Worlds.{WorldState}
+use Rattle.std.proofs.Common.{◌≡◌, None, Option, sym, subst}
+use Rattle.step_core.proofs.Prelude.{Counts, IsVacant, model_state, TableInvariant, WorldState}
 use Rattle.step_core.proofs.telling.Census.{census_now, none_vacant}
 use Rattle.step_core.proofs.world.World.census.Goals as goal
 

@@ -1,10 +1,5 @@
-use Rattle.std.proofs.Common.{◌+◌, ◌-◌, ◌∙◌, ap, arith, ℕ}
-use Rattle.std.specs.Prelude.{slice_index}
-use Rattle.control_word.specs.Layout.{spot}
-use Rattle.control_word.specs.Packing.{number_of}
-use Rattle.control_word.specs.declared.model.handle.Kind.TheVariants.{Weak}
-use Rattle.step_table.specs.GhostStates.{model_state}
-use Rattle.step_core.specs.Showing.{loads_on}
+use Rattle.std.proofs.Common.{ℕ, ◌+◌, ◌-◌, slice_index, ap, ◌∙◌, arith}
+use Rattle.step_core.proofs.Prelude.{loads_on, model_state, number_of, spot, Weak}
 use Rattle.step_core.proofs.telling.Between.{Shown, counts_now, few_now}
 use Rattle.step_core.proofs.world.World.counts.Goals as goal
 

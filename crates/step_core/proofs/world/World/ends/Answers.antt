@@ -1,8 +1,5 @@
-use Rattle.std.proofs.Common.{◌∙◌, List, ap}
-use Rattle.std.specs.List.{list_any}
-use Rattle.step_threads.specs.declared.thread.Thread.{Thread}
-use Rattle.step_core.specs.Showing.{ends_in, is_ending_in}
-use Rattle.step_core.specs.Worlds.{WorldState}
+use Rattle.std.proofs.Common.{List, ap, ◌∙◌}
+use Rattle.step_core.proofs.Prelude.{ends_in, is_ending_in, list_any, Thread, WorldState}
 use Rattle.step_core.proofs.telling.Between.{ends_map}
 use Rattle.step_core.proofs.world.World.ends.Goals as goal
 

@@ -1,5 +1,5 @@
 use Rattle.std.proofs.Common.{ap}
-use Rattle.step_core.specs.Worlds.{WorldState}
+use Rattle.step_core.proofs.Prelude.{WorldState}
 use Rattle.step_core.proofs.telling.Fields.{fields_now, no_fields}
 use Rattle.step_core.proofs.world.World.fields.Goals as goal
 

@@ -1,6 +1,5 @@
-use Rattle.std.proofs.Common.{◌≡◌, ◌+◌, ◌*◌, ◌≤◌, length, vec_capacity, vec_len}
-use Rattle.step_core.specs.Bounds.{most_steps}
-use Rattle.step_core.specs.Runs.{AddsRun, RunInOrder}
+use Rattle.std.proofs.Common.{◌≡◌, ◌+◌, ◌*◌, ◌≤◌, length, vec_len, vec_capacity}
+use Rattle.step_core.proofs.Prelude.{AddsRun, most_steps, RunInOrder}
 use Rattle.step_core.proofs.world.World.finish.Given as goal
 
 abbrev pub invariant-loop-number : goal.invariant-loop-number

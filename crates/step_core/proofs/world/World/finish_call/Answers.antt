@@ -1,5 +1,5 @@
 use Rattle.std.proofs.Common.{◌≡◌, ℕ, ◌<◌, true, length, sym, ap, ◌∙◌, arith}
-use Rattle.step_core.specs.Runs.{call_under_way, is_calling}
+use Rattle.step_core.proofs.Prelude.{call_under_way, is_calling}
 use Rattle.step_core.proofs.runs.Calls.{calling_on, going_more}
 use Rattle.step_core.proofs.runs.Measures.{Falls, before_end}
 use Rattle.step_core.proofs.world.World.finish_call.Goals as goal

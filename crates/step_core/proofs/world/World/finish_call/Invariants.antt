@@ -1,6 +1,5 @@
-use Rattle.std.proofs.Common.{◌+◌, ◌≤◌, vec_capacity, vec_len}
-use Rattle.step_core.specs.Bounds.{most_steps}
-use Rattle.step_core.specs.Runs.{call_under_way}
+use Rattle.std.proofs.Common.{◌+◌, ◌≤◌, vec_len, vec_capacity}
+use Rattle.step_core.proofs.Prelude.{call_under_way, most_steps}
 use Rattle.step_core.proofs.runs.Calls.{IsGoing}
 use Rattle.step_core.proofs.runs.Measures.{alone_of, left_of, spare_of}
 use Rattle.step_core.proofs.world.World.finish_call.Given as goal

@@ -1,8 +1,5 @@
 use Rattle.std.proofs.Common.{◌<◌, length, ap, arith}
-use Rattle.step_threads.specs.declared.pending_call.PendingCall.{PendingCall}
-use Rattle.step_core.specs.Bounds.{alone, most_steps, spare}
-use Rattle.step_threads.specs.AbstractStates.{frame_of}
-use Rattle.step_core.specs.Worlds.{abstraction}
+use Rattle.step_core.proofs.Prelude.{abstraction, alone, frame_of, most_steps, PendingCall, spare}
 use Rattle.step_core.proofs.runs.Chains.{on_end, on_more}
 use Rattle.step_core.proofs.runs.Measures.{Falls, at_end, before_end}
 use Rattle.step_core.proofs.world.World.finish_one.Goals as goal

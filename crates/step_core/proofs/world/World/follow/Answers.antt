@@ -1,8 +1,6 @@
-use Rattle.std.proofs.Common.{◌-◌, ℕ, List, get_or, length, subst, sym, ◌∙◌, arith}
+use Rattle.std.proofs.Common.{ℕ, ◌-◌, List, length, get_or, sym, ◌∙◌, subst, arith}
+use Rattle.step_core.proofs.Prelude.{Advances, IsRun, NamesActor, TraceStep}
 use Rattle.std.proofs.lemmas.List.Elements.{All-get_or}
-use Rattle.step_core.specs.declared.trace.TraceStep.{TraceStep}
-use Rattle.step_core.specs.Runs.{IsRun, NamesActor}
-use Rattle.step_core.specs.Worlds.{Advances}
 use Rattle.step_core.proofs.runs.Chains.{moves_more, number_more, run_more}
 use Rattle.step_core.proofs.runs.Measures.{never_more}
 use Rattle.step_core.proofs.world.World.follow.Goals as goal

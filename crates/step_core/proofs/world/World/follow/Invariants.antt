@@ -1,8 +1,5 @@
-use Rattle.std.proofs.Common.{◌≡◌, ◌+◌, ◌*◌, ◌≤◌, length, map, take, vec_capacity, vec_len}
-use Rattle.std.specs.Prelude.{All}
-use Rattle.step_core.specs.declared.trace.TraceStep.{TraceStep}
-use Rattle.step_core.specs.Bounds.{most_steps}
-use Rattle.step_core.specs.Runs.{IsRun, MovesOn}
+use Rattle.std.proofs.Common.{◌≡◌, ◌+◌, ◌*◌, ◌≤◌, map, length, take, vec_len, vec_capacity, All}
+use Rattle.step_core.proofs.Prelude.{IsRun, most_steps, MovesOn, TraceStep}
 use Rattle.step_core.proofs.world.World.follow.Given as goal
 
 abbrev pub invariant-loop-turn : goal.invariant-loop-turn

@@ -1,6 +1,5 @@
-use Rattle.std.proofs.Common.{◌∙◌, sym, subst, arith}
-use Rattle.step_threads.specs.declared.said.Turned.{Turned}
-use Rattle.step_core.specs.Turning.{Plays}
+use Rattle.std.proofs.Common.{sym, ◌∙◌, subst, arith}
+use Rattle.step_core.proofs.Prelude.{Plays, Turned}
 use Rattle.step_core.proofs.turning.Chains.{more_steps, one_step}
 use Rattle.step_core.proofs.turning.Trying.{trying_done, trying_on}
 use Rattle.step_core.proofs.turning.Ways.{tries_first}

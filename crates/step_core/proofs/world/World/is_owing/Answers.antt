@@ -1,7 +1,5 @@
-use Rattle.std.proofs.Common.{◌<◌, length, ap, arith, ◌∙◌}
-use Rattle.std.proofs.lemmas.List.{length-map}
-use Rattle.step_core.specs.Runs.{is_owing}
-use Rattle.step_core.specs.Worlds.{WorldState, thread_frame}
+use Rattle.std.proofs.Common.{◌<◌, length, ap, ◌∙◌, arith}
+use Rattle.step_core.proofs.Prelude.{is_owing, length-map, thread_frame, WorldState}
 use Rattle.step_core.proofs.runs.Owing.{owes}
 use Rattle.step_core.proofs.world.World.is_owing.Goals as goal
 

@@ -1,6 +1,5 @@
 use Rattle.std.proofs.Common.{subst}
-use Rattle.step_table.specs.GhostStates.{TableInvariant}
-use Rattle.step_core.specs.Worlds.{WorldState}
+use Rattle.step_core.proofs.Prelude.{TableInvariant, WorldState}
 use Rattle.step_core.proofs.runs.Hands.{hands_now}
 use Rattle.step_core.proofs.world.World.known_at_end.Goals as goal
 

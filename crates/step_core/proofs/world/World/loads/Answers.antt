@@ -1,6 +1,5 @@
 use Rattle.std.proofs.Common.{arith}
-use Rattle.step_table.specs.GhostStates.{model_state}
-use Rattle.step_core.specs.Showing.{is_load_on}
+use Rattle.step_core.proofs.Prelude.{is_load_on, model_state}
 use Rattle.step_core.proofs.telling.CallCounts.{fits_more, one_thread}
 use Rattle.step_core.proofs.world.World.loads.Goals as goal
 

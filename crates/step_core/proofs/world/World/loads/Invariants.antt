@@ -1,6 +1,5 @@
 use Rattle.std.proofs.Common.{◌≡◌, take}
-use Rattle.step_table.specs.GhostStates.{model_state}
-use Rattle.step_core.specs.Showing.{loads_on}
+use Rattle.step_core.proofs.Prelude.{loads_on, model_state}
 use Rattle.step_core.proofs.world.World.loads.Given as goal
 
 abbrev pub invariant-loop-thread : goal.invariant-loop-thread

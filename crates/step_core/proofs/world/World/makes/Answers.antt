@@ -1,5 +1,5 @@
 use Rattle.std.proofs.Common.{arith}
-use Rattle.step_core.specs.Showing.{is_make_in}
+use Rattle.step_core.proofs.Prelude.{is_make_in}
 use Rattle.step_core.proofs.telling.CallCounts.{fits_more, one_thread}
 use Rattle.step_core.proofs.world.World.makes.Goals as goal
 

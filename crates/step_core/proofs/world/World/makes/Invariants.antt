@@ -1,5 +1,5 @@
 use Rattle.std.proofs.Common.{◌≡◌, take}
-use Rattle.step_core.specs.Showing.{makes_in}
+use Rattle.step_core.proofs.Prelude.{makes_in}
 use Rattle.step_core.proofs.world.World.makes.Given as goal
 
 abbrev pub invariant-loop-thread : goal.invariant-loop-thread

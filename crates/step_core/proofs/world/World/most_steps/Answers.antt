@@ -1,8 +1,6 @@
-use Rattle.std.proofs.Common.{◌+◌, ◌-◌, ◌*◌, ◌≤◌, ◌≡◌, List, length, subst, sym, ap, ◌∙◌, arith}
-use Rattle.std.specs.Prelude.{Some, slice_get, sum_by}
-use Rattle.step_threads.specs.declared.thread.Thread.{Thread}
-use Rattle.step_core.specs.Bounds.{living, most_steps, steps_of}
-use Rattle.step_core.specs.Worlds.{WorldState}
+use Rattle.std.proofs.Common.{◌≡◌, ◌+◌, ◌-◌, ◌*◌, ◌≤◌, List, length, slice_get, Some, sum_by, sym}
+use Rattle.std.proofs.Common.{ap, ◌∙◌, subst, arith}
+use Rattle.step_core.proofs.Prelude.{living, most_steps, steps_of, Thread, WorldState}
 use Rattle.step_core.proofs.runs.Tasks.{enough, few_steps, few_threads, within}
 use Rattle.step_core.proofs.world.World.most_steps.Goals as goal
 

@@ -1,5 +1,5 @@
-use Rattle.step_core.proofs.turning.Resting.{on_step, rest_first}
 use Rattle.std.proofs.Common.{sym, ◌∙◌, arith}
+use Rattle.step_core.proofs.turning.Resting.{on_step, rest_first}
 use Rattle.step_core.proofs.runs.Measures.{before_end}
 use Rattle.step_core.proofs.world.World.rest.Goals as goal
 

@@ -1,15 +1,12 @@
-use Rattle.std.proofs.Common.{ℕ, List, ◌++◌, length, ap, subst, ◌∙◌, arith}
-use Rattle.step_core.specs.declared.trace.TraceStep.{TraceStep}
-use Rattle.step_core.specs.WorldStates.{AllRestIdle, WorldState}
+use Rattle.std.proofs.Common.{ℕ, List, ◌++◌, length, ap, ◌∙◌, subst, arith}
+use Rattle.step_core.proofs.Prelude.{AllRestIdle, IsAtEnd, IsRun, NonePays, RunInOrder, RunsToEnd}
+use Rattle.step_core.proofs.Prelude.{SettleInOrder, Settles, TableInvariant, TraceStep, WorldState}
 use Rattle.step_core.proofs.following.Chains.{follows}
 use Rattle.step_core.proofs.runs.Calls.{settled_run}
 use Rattle.step_core.proofs.runs.Calming.{all_calm, none_pays}
 use Rattle.step_core.proofs.runs.Chains.{moves_on, whole}
 use Rattle.step_core.proofs.runs.Ends.{at_end}
 use Rattle.step_core.proofs.runs.Extents.{extent_run}
-use Rattle.step_core.specs.Runs.{IsRun, NonePays, RunInOrder, RunsToEnd, SettleInOrder, Settles}
-use Rattle.step_table.specs.GhostStates.{TableInvariant}
-use Rattle.step_core.specs.Totals.{IsAtEnd}
 use Rattle.step_core.proofs.runs.Taking.{all_hold, all_idle}
 use Rattle.step_core.proofs.runs.Through.{Goes, through}
 use Rattle.step_core.proofs.telling.Census.{at_rest, still_now}

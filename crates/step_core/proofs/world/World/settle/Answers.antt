@@ -1,5 +1,5 @@
 use Rattle.std.proofs.Common.{◌∙◌, arith}
-use Rattle.step_core.specs.Runs.{Settles}
+use Rattle.step_core.proofs.Prelude.{Settles}
 use Rattle.step_core.proofs.runs.Chains.{adds_more}
 use Rattle.step_core.proofs.world.World.settle.Goals as goal
 

@@ -1,4 +1,4 @@
-use Rattle.std.proofs.Common.{◌∙◌, sym}
+use Rattle.std.proofs.Common.{sym, ◌∙◌}
 use Rattle.step_core.proofs.runs.Calls.{settled_none, settled_one}
 use Rattle.step_core.proofs.world.World.settle_one.Goals as goal
 

@@ -1,6 +1,5 @@
-use Rattle.std.proofs.Common.{◌-◌, ℕ, subst}
-use Rattle.step_core.specs.Following.{Performs}
-use Rattle.step_core.specs.WorldStates.{TakesStep}
+use Rattle.std.proofs.Common.{ℕ, ◌-◌, subst}
+use Rattle.step_core.proofs.Prelude.{Performs, TakesStep}
 use Rattle.step_core.proofs.runs.Extents.{extent_step}
 use Rattle.step_core.proofs.world.World.step.Goals as goal
 

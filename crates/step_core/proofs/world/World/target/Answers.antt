@@ -1,5 +1,5 @@
 use Rattle.std.proofs.Common.{ap}
-use Rattle.step_core.specs.Worlds.{WorldState}
+use Rattle.step_core.proofs.Prelude.{WorldState}
 use Rattle.step_core.proofs.telling.Targets.{target_now}
 use Rattle.step_core.proofs.world.World.target.Goals as goal
 

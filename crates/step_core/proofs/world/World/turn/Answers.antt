@@ -1,6 +1,5 @@
-use Rattle.std.proofs.Common.{◌-◌, ℕ, subst}
-use Rattle.step_core.specs.WorldStates.{AllHold}
-use Rattle.step_core.specs.Worlds.{GoesTo, TakesWholeTurn}
+use Rattle.std.proofs.Common.{ℕ, ◌-◌, subst}
+use Rattle.step_core.proofs.Prelude.{AllHold, GoesTo, TakesWholeTurn}
 use Rattle.step_core.proofs.runs.Extents.{extent_goes}
 use Rattle.step_core.proofs.runs.Taking.{all_hold}
 use Rattle.step_core.proofs.turning.Chains.{more_steps}
