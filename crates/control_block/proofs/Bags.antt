@@ -1,22 +1,13 @@
 -- A desk's bag, by blocks: what it was before a call tells what it is after.
-use Rattle.std.proofs.Common.{◌≡◌, ◌≢◌, ℕ, ◌==◌, ◌&&◌, Bool, true, List, [], ◌∷◌, ◌++◌, map, Option, Some, None, refl, sym, ap}
-use Rattle.std.proofs.Common.{subst, ◌∙◌, ⊎_elim, inl, inr, eq-eqb, ne_eqb}
-use Rattle.std.proofs.lemmas.Bool.{cases_eq, cond_both, cond-true, cond-false}
-use Rattle.control_word.proofs.history.Given.{names_an_object}
-use Rattle.control_word.proofs.history.Kept.{block_kept}
-use Rattle.control_word.proofs.history.Legal.{sound}
-use Rattle.control_word.proofs.history.Others.{held_made}
-use Rattle.control_word.proofs.lists.Parts.{part_has}
-use Rattle.control_word.proofs.lists.Tallies.{handle_self}
-use Rattle.control_word.specs.Handles.{handle, same_handle, same_kind, same_number, same_place}
-use Rattle.control_word.specs.Histories.{IsLegal, leads}
-use Rattle.control_word.specs.State.{Has, Held, Opening, State, bag, held, same_held, without}
-use Rattle.control_word.specs.Words.{blocks_of}
-use Rattle.control_word.specs.declared.model.event.Entry.{Entry}
-use Rattle.control_word.specs.declared.model.handle.NumberedHandle.{NumberedHandle}
-use Rattle.control_word.specs.declared.model.handle.Kind.{Kind}
-use Rattle.control_word.specs.declared.place.Place.{Place}
-use Rattle.control_block.specs.Desks.{by_block, in_block}
+use Rattle.std.proofs.Common.{◌≡◌, ℕ, Bool, true, ◌&&◌, ◌≢◌, List, [], ◌∷◌, ◌++◌, map, ◌==◌, Some}
+use Rattle.std.proofs.Common.{None, Option, sym, refl, ap, ◌∙◌, subst, inl, inr, ⊎_elim, eq-eqb}
+use Rattle.std.proofs.Common.{ne_eqb}
+use Rattle.control_block.proofs.Prelude
+use Prelude.{bag, block_kept, blocks_of, by_block, cases_eq, cond-false, cond-true, cond_both}
+use Prelude.{Entry, handle, handle_self, Has, Held, held, held_made, IsLegal, Kind, leads}
+use Prelude.{names_an_object, NumberedHandle, Opening, part_has, Place, same_handle, same_held}
+use Prelude.{same_kind, same_number, same_place, sound, State, without}
+use Rattle.control_block.specs.Desks.{in_block}
 
 -- what a bag is seen as
 abbrev pub seen_as : State → Held → NumberedHandle

@@ -1,39 +1,22 @@
 -- What the word of a cell tells of the cell, at a step on it.
-use Rattle.std.proofs.Common.{◌≡◌, ℕ, ◌+◌, ◌<◌, false, List, [], ◌∷◌, get_or, Option, Some, None, refl, sym, ap, subst, ◌∙◌, arith}
-use Rattle.std.proofs.Common.{true}
-use mathlib.Core.Option.{some}
-use lib.ListN.{get_elem?}
+use Rattle.std.proofs.Common.{◌≡◌, ℕ, ◌+◌, ◌<◌, true, false, List, [], ◌∷◌, get_or, Some, None}
+use Rattle.std.proofs.Common.{Option, sym, refl, ap, ◌∙◌, subst, arith}
+use Rattle.control_block.proofs.Prelude
+use Prelude.{after, block_fits, blocks_of, Cell, cell_bits, cell_busy, cell_of, cells_led}
+use Prelude.{CellWord, ClearMember, Compare, Count, Entry, Event, Expired, field_fits, Finish}
+use Prelude.{formed, Free, get_elem?, handle, IsBusy, IsCellAt, IsCellWord, IsOpen, Join, kind_in}
+use Prelude.{kind_of_free, leads, Leave, Load, Lock, Make, Member, member_busy, Opening}
+use Prelude.{opening_of, owned_fits, Owner, Read, Ruled, Same, SeatView, Shape, Share, Shelve}
+use Prelude.{shown, some, sound, Split, spot, State, Swap, Unshelve, Visit, WeakLeave, WeakShare}
 use Rattle.atomic_table.specs.Table as Table
 use Rattle.control_word.proofs.history.Clearing.{was_made}
-use Rattle.control_word.proofs.history.Formation.{formed}
-use Rattle.control_word.proofs.history.Kept.{cells_led}
-use Rattle.control_word.proofs.history.Legal.{sound}
-use Rattle.control_word.proofs.history.Soundness.{IsBusy}
-use Rattle.control_word.proofs.packing.Cells.{block_fits, field_fits, owned_fits, same_block, same_place}
+use Rattle.control_word.proofs.packing.Cells.{same_block, same_place}
 use Rattle.control_word.proofs.packing.Fields.{same_parts}
 use Rattle.control_word.proofs.steps.Standing.{kept_show}
 use Rattle.control_word.proofs.words.Banks.{IsKept, open_kept}
-use Rattle.control_word.proofs.words.Funds.{cell_busy, member_busy}
-use Rattle.control_word.specs.Events.{IsOpen, after, cell_of, kind_of}
-use Rattle.control_word.specs.Handles.{handle}
-use Rattle.control_word.specs.Histories.{leads}
-use Rattle.control_word.specs.Layout.{spot}
-use Rattle.control_word.specs.Packing.{IsCellWord, block_number, cell_bits, place_block, place_field}
-use Rattle.control_word.specs.State.{Opening, State, kind_of_free}
-use Rattle.control_word.specs.Words.{blocks_of, cell_at, shown}
-use Rattle.control_word.specs.declared.packed.cell.CellWord.{CellWord}
-use Rattle.control_word.specs.declared.model.event.Cell.{Cell}
-use Rattle.control_word.specs.declared.model.event.Cell.TheVariants.{Free, Member}
-use Rattle.control_word.specs.declared.model.event.Entry.{Entry}
-use Rattle.control_word.specs.declared.model.event.Event.{Event}
-use Rattle.control_word.specs.declared.model.event.Event.TheVariants.{ClearMember, Compare, Count, Expired, Finish, Join, Leave, Load, Lock, Make, Read}
-use Rattle.control_word.specs.declared.model.event.Event.TheVariants.{Share, Split, Swap, Visit, WeakLeave, WeakShare}
-use Rattle.control_word.specs.declared.model.event.Event.TheVariants.{Same, Shelve, Unshelve}
-use Rattle.control_word.specs.declared.model.handle.Kind.TheVariants.{Owner}
-use Rattle.control_word.specs.declared.shape.Shape.{Shape}
-use Rattle.control_block.specs.Rule.{Ruled, opening_of}
-use Rattle.control_block.specs.CellStepKinds.{IsCellAt, kind_in}
-use Rattle.control_block.specs.declared.table.SeatView.{SeatView}
+use Rattle.control_word.specs.Events.{kind_of}
+use Rattle.control_word.specs.Packing.{block_number, place_block, place_field}
+use Rattle.control_word.specs.Words.{cell_at}
 use Rattle.control_block.proofs.Passage.{held_there, point, ready}
 
 -- cells with one word are one

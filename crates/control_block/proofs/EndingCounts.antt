@@ -1,26 +1,16 @@
 -- How many objects end in a desk's hands.
-use Rattle.std.proofs.Common.{◌≡◌, ◌≢◌, ℕ, zero, suc, ◌+◌, ◌-◌, ◌<◌, ◌≤◌, ◌==◌, Bool, true, false, cond, List, []}
-use Rattle.std.proofs.Common.{◌∷◌, ◌++◌, refl, sym, ap, ◌∙◌}
-use Rattle.std.proofs.Common.{⊎_elim, arith, eq-eqb, ne_eqb}
-use Rattle.std.proofs.lemmas.Bool.{cases_eq, cond_both, cond-false, cond-true}
-use Rattle.control_word.proofs.history.Legal.{sound}
-use Rattle.control_word.proofs.history.Soundness.{Sound}
-use Rattle.control_word.proofs.lists.Tallies.{put_other, put_same}
-use Rattle.control_word.proofs.words.Banks.{sum_all, sum_set}
-use Rattle.control_word.specs.Events.{Asks, Holds, after, handed, leaves, moved_to, new_object, renamed}
-use Rattle.control_word.specs.Handles.{object_of}
-use Rattle.control_word.specs.Histories.{IsLegal, leads}
-use Rattle.control_word.specs.State.{Object, Opening, Phase, State, common, ending, gone, live, put, sum_below, unmade}
-use Rattle.control_word.specs.Views.{Names, NoneBy}
-use Rattle.control_word.specs.declared.model.event.Entry.{Entry}
-use Rattle.control_word.specs.declared.model.event.Event.{Event}
-use Rattle.control_word.specs.declared.model.event.Event.TheVariants.{ClearMember, Compare, Count, Expired, Finish, Join, Leave, Load, Lock, Make, Read}
-use Rattle.control_word.specs.declared.model.event.Event.TheVariants.{Share, Split, Swap, Visit, WeakLeave, WeakShare}
-use Rattle.control_word.specs.declared.model.event.Event.TheVariants.{Same, Shelve, Unshelve}
-use Rattle.control_word.specs.declared.model.handle.NumberedHandle.{NumberedHandle}
-use Rattle.control_word.specs.declared.model.handle.Kind.TheVariants.{Owner}
-use Rattle.control_word.specs.declared.place.Block.{Block}
-use Rattle.control_block.specs.Desks.{ends_with, many_ending}
+use Rattle.std.proofs.Common.{◌≡◌, ℕ, zero, suc, ◌+◌, ◌-◌, ◌<◌, ◌≤◌, Bool, true, false, cond, ◌≢◌}
+use Rattle.std.proofs.Common.{List, [], ◌∷◌, ◌++◌, ◌==◌, sym, refl, ap, ◌∙◌, ⊎_elim, arith, eq-eqb}
+use Rattle.std.proofs.Common.{ne_eqb}
+use Rattle.control_block.proofs.Prelude
+use Prelude.{after, Asks, Block, cases_eq, ClearMember, common, Compare, cond-false, cond-true}
+use Prelude.{cond_both, Count, ending, ends_with, Entry, Event, Expired, Finish, gone, handed}
+use Prelude.{Holds, IsLegal, Join, leads, Leave, live, Load, Lock, Make, many_ending, moved_to}
+use Prelude.{Names, new_object, NoneBy, NumberedHandle, Object, object_of, Opening, Owner, Phase}
+use Prelude.{put, put_other, put_same, Read, renamed, Same, Share, Shelve, Sound, sound, Split}
+use Prelude.{State, sum_all, sum_below, sum_set, Swap, unmade, Unshelve, Visit, WeakLeave}
+use Prelude.{WeakShare}
+use Rattle.control_word.specs.Events.{leaves}
 use Rattle.control_block.proofs.Endings.{owner_lives}
 use Rattle.control_block.proofs.Passage.{IsQuiet}
 

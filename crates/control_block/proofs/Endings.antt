@@ -1,27 +1,15 @@
 -- An object that ends in a desk's hands stays as it is, whatever the others do.
-use Rattle.std.proofs.Common.{◌≡◌, ◌≢◌, ℕ, suc, ◌<◌, ◌≤◌, Bool, true, false, cond, List, [], ◌∷◌, ◌++◌, Some, None, Option}
-use Rattle.std.proofs.Common.{refl, sym, ap, subst, ◌∙◌}
-use Rattle.std.proofs.Common.{⊎_elim, arith}
-use Rattle.std.proofs.lemmas.Bool.{cond-false}
-use Rattle.control_word.proofs.history.Legal.{sound, written}
-use Rattle.control_word.proofs.history.Moving.{counted_live, owner_counted}
+use Rattle.std.proofs.Common.{◌≡◌, ℕ, suc, ◌<◌, true, false, ◌≢◌, List, [], ◌∷◌, ◌++◌, Option, sym}
+use Rattle.std.proofs.Common.{refl, ap, ◌∙◌, subst, arith}
+use Rattle.control_block.proofs.Prelude
+use Prelude.{after, Asks, Cell, ClearMember, common, Compare, cond-false, Count, counted_live}
+use Prelude.{ending, Entry, Event, Expired, fills, Finish, Free, gone, handed, Holds, IsLegal}
+use Prelude.{IsOpen, Join, leads, Leave, live, Load, Lock, Make, Member, moved_to, Names}
+use Prelude.{new_object, NoneBy, NumberedHandle, Object, object_of, Opening, Owner, owner_counted}
+use Prelude.{Phase, put, put_cases, put_other, Read, Same, Share, Shelve, Sound, sound, Split}
+use Prelude.{State, Swap, unmade, Unshelve, value, valued, Visit, weak_number, WeakLeave}
+use Prelude.{WeakShare, written}
 use Rattle.control_word.proofs.history.Others.{valued_else}
-use Rattle.control_word.proofs.history.Soundness.{Sound}
-use Rattle.control_word.proofs.lists.Tallies.{put_cases, put_other}
-use Rattle.control_word.specs.Events.{Asks, Holds, IsOpen, after, fills, handed, moved_to, new_object}
-use Rattle.control_word.specs.Handles.{object_of}
-use Rattle.control_word.specs.Histories.{IsLegal, leads, value, valued}
-use Rattle.control_word.specs.State.{Object, Opening, Phase, State, common, ending, gone, live, put, unmade, weak_number}
-use Rattle.control_word.specs.Views.{Names, NoneBy}
-use Rattle.control_word.specs.declared.model.event.Cell.{Cell}
-use Rattle.control_word.specs.declared.model.event.Cell.TheVariants.{Free, Member}
-use Rattle.control_word.specs.declared.model.event.Entry.{Entry}
-use Rattle.control_word.specs.declared.model.event.Event.{Event}
-use Rattle.control_word.specs.declared.model.event.Event.TheVariants.{ClearMember, Compare, Count, Expired, Finish, Join, Leave, Load, Lock, Make, Read}
-use Rattle.control_word.specs.declared.model.event.Event.TheVariants.{Share, Split, Swap, Visit, WeakLeave, WeakShare}
-use Rattle.control_word.specs.declared.model.event.Event.TheVariants.{Same, Shelve, Unshelve}
-use Rattle.control_word.specs.declared.model.handle.NumberedHandle.{NumberedHandle}
-use Rattle.control_word.specs.declared.model.handle.Kind.TheVariants.{Owner}
 
 -- one object for another, but for its number
 pub record Alike (x y : Object) : Type 0 where

@@ -1,25 +1,19 @@
 -- Handles of a desk in a list, as handles come into the list and go out of it.
-use Rattle.std.proofs.Common.{◌≡◌, ℕ, suc, ◌+◌, ◌-◌, ◌<◌, ◌≤◌, Bool, true, cond, List, [], ◌∷◌, ◌++◌, map, length, Option}
-use Rattle.std.proofs.Common.{Some, None}
-use Rattle.std.proofs.Common.{refl, sym, ap, subst, ◌∙◌, inl, ⊎_elim, arith, length-append}
-use Rattle.std.proofs.lemmas.Bool.{cond_both, cond-false, cond-true}
-use Rattle.std.proofs.lemmas.List.{map-append}
-use Rattle.std.proofs.lemmas.List.Elements.{filter-append}
-use Rattle.std.proofs.lemmas.List.Sorted.{length_permutation, sum_by-IsPermutation}
+use Rattle.std.proofs.Common.{◌≡◌, ℕ, suc, ◌+◌, ◌-◌, ◌<◌, ◌≤◌, Bool, true, cond, List, [], ◌∷◌}
+use Rattle.std.proofs.Common.{◌++◌, map, length, Some, None, Option, sym, refl, ap, ◌∙◌, subst}
+use Rattle.std.proofs.Common.{inl, ⊎_elim, arith, length-append}
+use Rattle.control_block.proofs.Prelude
+use Prelude.{AreIn, as_listed, bag_of, Block, cond-false, cond-true, cond_both, DeskNow, filter}
+use Prelude.{filter-append, handle, handle_self, Has, has_object, HoldsAll, Kind}
+use Prelude.{length_permutation, listed, map-append, num, num_cons, NumberedHandle, Owner, Place}
+use Prelude.{same_handle, same_handle_true, sum_by-IsPermutation, Weak, with_handle, without}
+use Prelude.{without_all, without_handle}
 use Rattle.std.proofs.lemmas.List.Sums.{sum_by-cons}
-use Rattle.std.specs.List.{filter, sum_by}
-use Rattle.control_word.proofs.lists.Tallies.{handle_self, num, num_cons, same_handle_true}
-use Rattle.control_word.specs.Handles.{handle, has_object, same_handle}
-use Rattle.control_word.specs.State.{Has, without}
-use Rattle.control_word.specs.declared.model.handle.NumberedHandle.{NumberedHandle}
-use Rattle.control_word.specs.declared.model.handle.Kind.{Kind}
-use Rattle.control_word.specs.declared.model.handle.Kind.TheVariants.{Owner, Weak}
-use Rattle.control_word.specs.declared.place.Block.{Block}
-use Rattle.control_word.specs.declared.place.Place.{Place}
-use Rattle.control_block.specs.CellCalls.{with_handle, without_handle}
-use Rattle.control_block.specs.Desks.{DeskNow, bag_of}
-use Rattle.control_block.specs.HandleLists.{HoldsApart, HoldsBoth, HoldsEach, HoldsInOrder, HoldsLess, HoldsMore, HoldsNone, HoldsPart, HoldsRest, IsHeldByDesk}
-use Rattle.control_block.specs.Parting.{AreIn, HoldsAll, as_listed, listed, number_of_block, without_all}
+use Rattle.std.specs.List.{sum_by}
+use Rattle.control_block.specs.HandleLists.{HoldsApart, HoldsBoth, HoldsEach, HoldsInOrder}
+use Rattle.control_block.specs.HandleLists.{HoldsLess, HoldsMore, HoldsNone, HoldsPart, HoldsRest}
+use Rattle.control_block.specs.HandleLists.{IsHeldByDesk}
+use Rattle.control_block.specs.Parting.{number_of_block}
 use Rattle.control_block.specs.declared.handles.Held.{Held}
 use Rattle.control_block.specs.declared.handles.Held.TheVariants as held
 use Rattle.control_block.proofs.Bags.{taken_out}

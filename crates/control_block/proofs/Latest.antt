@@ -1,29 +1,17 @@
 -- A block in which a desk has a handle isn't used again.
-use Rattle.std.proofs.Common.{◌≡◌, ℕ, suc, true, false, List, ◌∷◌, ◌++◌, Some, refl, sym, ap, subst, ◌∙◌, inl}
+use Rattle.std.proofs.Common.{◌≡◌, ℕ, suc, true, false, List, ◌∷◌, ◌++◌, Some, Option, sym, refl}
+use Rattle.std.proofs.Common.{ap, ◌∙◌, subst, inl}
+use Rattle.control_block.proofs.Prelude
+use Prelude.{after, Asks, block_kept, ClearMember, Compare, Count, Entry, entry, Event, Expired}
+use Prelude.{Finish, Free, handle, Has, held, IsLegal, IsVacant, Join, Kind, Knows, leads, Leave}
+use Prelude.{legal_seen, Load, Lock, Make, Member, names_an_object, NoneBy, Opening, opening_of}
+use Prelude.{Place, put_other, Read, Same, same_kept, Shape, Share, Shelve, sound, Split, Swap}
+use Prelude.{Unshelve, Visit, WeakLeave, WeakShare}
 use Rattle.control_word.proofs.history.Endings.{stays_the_latest}
-use Rattle.control_word.proofs.history.Given.{legal_seen, names_an_object}
-use Rattle.control_word.proofs.history.Kept.{block_kept, has_same, same_kept}
-use Rattle.control_word.proofs.history.Legal.{sound}
-use Rattle.control_word.proofs.lists.Tallies.{put_other}
-use Rattle.control_word.specs.Events.{Asks, after}
-use Rattle.control_word.specs.Handles.{handle}
-use Rattle.control_word.specs.Histories.{IsLegal, entry, leads}
+use Rattle.control_word.proofs.history.Kept.{has_same}
 use Rattle.control_word.specs.Laws.{IsInHands}
-use Rattle.control_word.specs.State.{Has, IsVacant, Opening, held}
-use Rattle.control_word.specs.Views.{Knows, NoneBy}
-use Rattle.control_word.specs.declared.model.event.Cell.TheVariants.{Free, Member}
-use Rattle.control_word.specs.declared.model.event.Entry.{Entry}
-use Rattle.control_word.specs.declared.model.event.Event.{Event}
-use Rattle.control_word.specs.declared.model.event.Event.TheVariants.{ClearMember, Compare, Count, Expired, Finish, Join, Leave, Load, Lock, Make, Read}
-use Rattle.control_word.specs.declared.model.event.Event.TheVariants.{Share, Split, Swap, Visit, WeakLeave, WeakShare}
-use Rattle.control_word.specs.declared.model.event.Event.TheVariants.{Same, Shelve, Unshelve}
-use Rattle.control_word.specs.declared.model.handle.Kind.{Kind}
-use Rattle.control_word.specs.declared.place.Place.{Place}
-use Rattle.control_word.specs.declared.shape.Shape.{Shape}
-use Rattle.std.proofs.Common.{Option}
 use Rattle.control_block.proofs.Bags.{shown, shown_held}
 use Rattle.control_block.specs.Laws.{CallsKeepLatest, JoinsKeepLatest}
-use Rattle.control_block.specs.Rule.{opening_of}
 
 module _ {V : Type 0} where
   -- an event of any desk leaves what is latest in a block where some desk has a handle

@@ -1,3 +1,4 @@
+pub mod Prelude
 pub mod EndingCounts
 pub mod Endings
 pub mod Passage

@@ -1,16 +1,10 @@
 -- What a look at a word tells of the desks that made it.
-use Rattle.std.proofs.Common.{◌≡◌, ℕ, zero, suc, All, List, ◌∷◌, [], ◌∙◌, ap, sym, inl, refl, arith}
-use mathlib.Core.Option.{some}
-use lib.ListN.{get_elem?}
-use Rattle.control_word.specs.State.{Opening}
-use Rattle.control_word.specs.Views.{Stands}
-use Rattle.control_word.specs.declared.model.event.Entry.{Entry}
-use Rattle.control_word.specs.declared.model.view.View.{View}
-use Rattle.control_block.specs.Inside.{IsDesk, desk_now}
-use Rattle.control_block.specs.ObservationStepKinds.{Observed, ObservedBoth}
-use Rattle.control_block.specs.Observations.{HasSeen, ShowsOneHistory}
-use Rattle.control_block.specs.Rule.{opening_of}
-use Rattle.control_block.specs.declared.desk.Desk.TheInside.{Inside}
+use Rattle.std.proofs.Common.{◌≡◌, ℕ, zero, suc, List, [], ◌∷◌, All, sym, refl, ap, ◌∙◌, inl}
+use Rattle.std.proofs.Common.{arith}
+use Rattle.control_block.proofs.Prelude.{desk_now, Entry, get_elem?, Inside, IsDesk, Observed}
+use Rattle.control_block.proofs.Prelude.{ObservedBoth, Opening, opening_of, ShowsOneHistory, some}
+use Rattle.control_block.proofs.Prelude.{Stands, View}
+use Rattle.control_block.specs.Observations.{HasSeen}
 use Rattle.control_block.proofs.kept.Observation.{at_ease}
 
 all_of_one : {A : Type 0} (P : A → Type 0) (a : A) → P a → All P (a ∷ [])

@@ -1,20 +1,13 @@
 -- What the records of calls add to a desk's own events.
-use Rattle.std.proofs.Common.{◌≡◌, ◌≢◌, ℕ, ◌==◌, true, List, [], ◌∷◌, ◌++◌, refl, sym, ap, subst, ◌∙◌, append_assoc, arith}
-use Rattle.std.proofs.Common.{eq-eqb, ne_eqb}
-use Rattle.std.proofs.lemmas.Bool.{cond-false, cond-true, cond_both}
-use Rattle.control_word.proofs.history.Kept.{same_kept}
+use Rattle.std.proofs.Common.{◌≡◌, ℕ, true, ◌≢◌, List, [], ◌∷◌, ◌++◌, ◌==◌, sym, refl, ap, ◌∙◌}
+use Rattle.std.proofs.Common.{subst, append_assoc, arith, eq-eqb, ne_eqb}
+use Rattle.control_block.proofs.Prelude.{cond-false, cond-true, cond_both, Entry, entry, Event}
+use Rattle.control_block.proofs.Prelude.{events_of, in_history, IsLegal, Join, Knows, leads}
+use Rattle.control_block.proofs.Prelude.{NoneBy, opening_of, same_kept, Shape, Split, state_of}
 use Rattle.control_word.proofs.history.Names.{joined_is_quiet, unnamed_is_quiet}
-use Rattle.control_word.specs.Histories.{IsLegal, entry, leads}
-use Rattle.control_word.specs.Views.{Knows, NoneBy}
-use Rattle.control_word.specs.declared.model.event.Entry.{Entry}
-use Rattle.control_word.specs.declared.model.event.Event.{Event}
-use Rattle.control_word.specs.declared.model.event.Event.TheVariants.{Join, Split}
-use Rattle.control_word.specs.declared.shape.Shape.{Shape}
-use Rattle.control_block.specs.Desks.{state_of}
-use Rattle.control_block.specs.Laws.{CallsAdd, GoesAdd, GoesByCall, GoesByJoin, GoesByNone, GoesInTurn, JoinedRest, JoinsAdd, SplitsAdd}
-use Rattle.control_block.specs.Own.{events_of, own_of}
-use Rattle.control_block.specs.Parting.{in_history}
-use Rattle.control_block.specs.Rule.{opening_of}
+use Rattle.control_block.specs.Laws.{CallsAdd, GoesAdd, GoesByCall, GoesByJoin, GoesByNone}
+use Rattle.control_block.specs.Laws.{GoesInTurn, JoinedRest, JoinsAdd, SplitsAdd}
+use Rattle.control_block.specs.Own.{own_of}
 
 module _ {V : Type 0} where
   -- the newest event is the name's own, or another's

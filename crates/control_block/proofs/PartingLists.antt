@@ -1,13 +1,11 @@
 -- Things that go from one list to another.
-use Rattle.std.proofs.Common.{◌≡◌, ◌≢◌, ℕ, suc, ◌+◌, Bool, true, List, [], ◌∷◌, ◌++◌, map, length, refl, sym, ap, subst, ◌∙◌}
-use Rattle.std.proofs.Common.{inl, inr, ⊎_elim, arith}
-use Rattle.std.proofs.lemmas.Bool.{cond_both, cond-true}
-use Rattle.control_word.proofs.lists.Parts.{part, part_mine, part_other, part_without}
-use Rattle.control_word.proofs.lists.Tallies.{handle_self, has_before, same_handle_true}
-use Rattle.control_word.specs.declared.model.handle.NumberedHandle.{NumberedHandle}
-use Rattle.control_word.specs.Handles.{same_handle}
-use Rattle.control_word.specs.State.{Has, HasAll, passed, without}
-use Rattle.control_block.specs.Parting.{AreIn, without_all}
+use Rattle.std.proofs.Common.{◌≡◌, ℕ, suc, ◌+◌, Bool, true, ◌≢◌, List, [], ◌∷◌, ◌++◌, map, length}
+use Rattle.std.proofs.Common.{sym, refl, ap, ◌∙◌, subst, inl, inr, ⊎_elim, arith}
+use Rattle.control_block.proofs.Prelude.{AreIn, cond-true, cond_both, handle_self, Has, has_before}
+use Rattle.control_block.proofs.Prelude.{HasAll, NumberedHandle, part, part_mine, part_other}
+use Rattle.control_block.proofs.Prelude.{passed, same_handle, same_handle_true, without}
+use Rattle.control_block.proofs.Prelude.{without_all}
+use Rattle.control_word.proofs.lists.Parts.{part_without}
 use Rattle.control_block.proofs.partings.Parts.{part_without_mine}
 
 -- the list without the things that are given, each taken out once

@@ -1,27 +1,14 @@
 -- What the two desks of a split have.
-use Rattle.std.proofs.Common.{◌≡◌, ◌≢◌, ℕ, ◌+◌, ◌-◌, ◌<◌, ◌≤◌, ◌==◌, max, min, List, [], ◌∷◌, ◌++◌, map, length}
-use Rattle.std.proofs.Common.{refl, sym, ap, subst, ◌∙◌, arith}
+use Rattle.std.proofs.Common.{◌≡◌, ℕ, ◌+◌, ◌-◌, ◌<◌, ◌≤◌, min, max, ◌≢◌, List, [], ◌∷◌, ◌++◌, map}
+use Rattle.std.proofs.Common.{length, ◌==◌, sym, refl, ap, ◌∙◌, subst, arith}
+use Rattle.control_block.proofs.Prelude
+use Prelude.{as_listed, bag, bag_of, bag_size, Block, blocks_of, by_block, desk_now, Entry, entry}
+use Prelude.{filter, free_of, Has, has_object, HasAll, Held, held, held_of, held_self, held_true}
+use Prelude.{HoldsAll, in_history, Inside, IsDesk, IsLegal, known, leads, length-map, listed}
+use Prelude.{many_ending, MaySplit, num, num_length, NumberedHandle, opening_of, Parted, put_other}
+use Prelude.{put_same, same_held, same_stored, SeatView, Split, splits_off, State, stock, Stored}
+use Prelude.{stored, stored_self, stored_true, times, without_all}
 use Rattle.std.proofs.Math.Nat.{le-max_left, le-max_right}
-use Rattle.std.proofs.lemmas.List.{length-map}
-use Rattle.std.specs.List.{filter}
-use Rattle.control_word.proofs.lists.Sums.{num_length}
-use Rattle.control_word.proofs.lists.Tallies.{held_self, held_true, num, put_other, put_same, stored_self, stored_true}
-use Rattle.control_word.specs.Events.{splits_off}
-use Rattle.control_word.specs.Handles.{has_object}
-use Rattle.control_word.specs.Histories.{IsLegal, entry, leads}
-use Rattle.control_word.specs.State.{Has, HasAll, Held, State, Stored, bag, bag_size, held, passed, same_held, same_stored, stock, stored}
-use Rattle.control_word.specs.Words.{blocks_of}
-use Rattle.control_word.specs.declared.model.event.Entry.{Entry}
-use Rattle.control_word.specs.declared.model.event.Event.TheVariants.{Split}
-use Rattle.control_word.specs.declared.model.handle.NumberedHandle.{NumberedHandle}
-use Rattle.control_word.specs.declared.place.Block.{Block}
-use Rattle.control_block.specs.Desks.{bag_of, by_block, held_of, many_ending}
-use Rattle.control_block.specs.Inside.{IsDesk, desk_now}
-use Rattle.control_block.specs.Parting.{HoldsAll, Parted, as_listed, free_of, in_history, listed, times, without_all}
-use Rattle.control_block.specs.StepKinds.{MaySplit, known}
-use Rattle.control_block.specs.Rule.{opening_of}
-use Rattle.control_block.specs.declared.table.SeatView.{SeatView}
-use Rattle.control_block.specs.declared.desk.Desk.TheInside.{Inside}
 use Rattle.control_block.specs.declared.handles.Held.{Held as HeldValue}
 use Rattle.control_block.proofs.EndingCounts.{same_count}
 use Rattle.control_block.proofs.closings.EndingNames.{none_named}
@@ -29,7 +16,8 @@ use Rattle.control_block.proofs.partings.Parts.{all_from, all_to}
 use Rattle.control_block.proofs.partings.PartingDesks.{Reached, reached, shown_back}
 use Rattle.control_block.proofs.PartingLists.{all_back, all_map, length_less, less_all, less_map}
 use Rattle.control_block.proofs.PartingLists.{part_given, part_got}
-use Rattle.control_block.proofs.partings.PartingStates.{all_stored_of, none_stored, own_tally, tallies_split}
+use Rattle.control_block.proofs.partings.PartingStates.{all_stored_of, none_stored, own_tally}
+use Rattle.control_block.proofs.partings.PartingStates.{tallies_split}
 
 no_length : {A : Type 0} (l : List A) → length l ≡ 0 → l ≡ []
 no_length [] e = refl

@@ -1,40 +1,21 @@
 -- What a step makes of the rule.
-use Rattle.std.proofs.Common.{◌≡◌, ◌≢◌, ◌⊎◌, ℕ, ◌-◌, ◌<◌, ◌≤◌, Bool, false, true, List, ◌∷◌, ◌++◌, map, length}
-use Rattle.std.proofs.Common.{get_or, set, Option, Some, None}
-use Rattle.std.proofs.Common.{refl, sym, ap, subst, ◌∙◌, inl, inr, ⊎_elim, arith}
+use Rattle.std.proofs.Common.{◌≡◌, ℕ, ◌-◌, ◌<◌, ◌≤◌, Bool, true, false, ◌≢◌, ◌⊎◌, List, ◌∷◌, ◌++◌}
+use Rattle.std.proofs.Common.{map, length, get_or, set, Some, None, Option, sym, refl, ap, ◌∙◌}
+use Rattle.std.proofs.Common.{subst, inl, inr, ⊎_elim, arith}
+use Rattle.control_block.proofs.Prelude
+use Prelude.{Added, after, Allows, At, at_map, bag_size, Block, block_kept, Cell, ClearMember}
+use Prelude.{Compare, empty, ending, Ends, Entry, entry, Event, get_elem?, handle, Has, has_part}
+use Prelude.{HasRoomFor, Held, held, held_made, HoldingInBlock, InShape, IsBacked, IsLegal, IsOut}
+use Prelude.{IsSlotOf, keeps, kept, Kind, kind_of_member, known, Knows, leads, legal_seen, loses}
+use Prelude.{Member, Moved, NumberedHandle, Object, Opening, opening_of, part_has, Pending, Place}
+use Prelude.{Ready, Ruled, SeatView, seeing, sees_as, set_else, Shape, some, some-injective, sound}
+use Prelude.{Stands, State, Stored, Swap, until_gone, value, valued, view_of}
 use mathlib.Core.Logic.{dite}
-use mathlib.Core.Option.{some, some-injective}
 use native.Mathlib.Decide.{ℕ_discrete}
-use lib.ListN.{get_elem?}
 use Rattle.atomic_table.specs.Table as Table
-use Rattle.atomic_table.specs.Table.{Allows, keeps}
-use Rattle.atomic_table.proofs.Lists.{at_map, set_else}
-use Rattle.control_word.proofs.history.Given.{legal_seen}
-use Rattle.control_word.proofs.history.Kept.{Same, block_kept}
-use Rattle.control_word.proofs.history.Legal.{sound}
-use Rattle.control_word.proofs.history.Others.{held_made}
-use Rattle.control_word.proofs.lists.Parts.{has_part, part_has}
+use Rattle.control_word.proofs.history.Kept.{Same}
 use Rattle.control_word.proofs.views.Resting.{as_seen}
-use Rattle.control_word.specs.Events.{after, loses}
-use Rattle.control_word.specs.Handles.{empty, handle}
-use Rattle.control_word.specs.Histories.{IsLegal, entry, leads, value, valued}
-use Rattle.control_word.specs.State.{Has, Held, InShape, Object, Opening, State, Stored, bag_size, ending, held, kind_of_member}
-use Rattle.control_word.specs.Steps.{Point, Ready}
-use Rattle.control_word.specs.Views.{Knows, Stands, sees_as}
-use Rattle.control_word.specs.declared.model.event.Entry.{Entry}
-use Rattle.control_word.specs.declared.model.event.Cell.{Cell}
-use Rattle.control_word.specs.declared.model.event.Cell.TheVariants.{Member}
-use Rattle.control_word.specs.declared.model.event.Event.{Event}
-use Rattle.control_word.specs.declared.model.event.Event.TheVariants.{ClearMember, Compare, Swap}
-use Rattle.control_word.specs.declared.model.handle.NumberedHandle.{NumberedHandle}
-use Rattle.control_word.specs.declared.model.handle.Kind.{Kind}
-use Rattle.control_word.specs.declared.place.Block.{Block}
-use Rattle.control_word.specs.declared.place.Place.{Place}
-use Rattle.control_word.specs.declared.shape.Shape.{Shape}
-use Rattle.control_word.specs.declared.model.view.Pending.{Pending}
-use Rattle.control_block.specs.Rule.{opening_of, view_of, kept, until_gone, IsSlotOf, IsBacked, IsOut, Ruled, seeing}
-use Rattle.control_block.specs.StepKinds.{Added, At, Ends, HoldingInBlock, HasRoomFor, Moved, known}
-use Rattle.control_block.specs.declared.table.SeatView.{SeatView}
+use Rattle.control_word.specs.Steps.{Point}
 use Rattle.control_block.proofs.Endings.{Alike, fills_block, fills_latest, fills_phase, still_ends}
 use Rattle.control_block.proofs.words.Lists.{each_set, map_set, set_there}
 

@@ -1,40 +1,22 @@
 -- Blocks that go between a desk's store and the shelf.
-use Rattle.std.proofs.Common.{◌≡◌, ◌≢◌, ℕ, suc, ◌+◌, ◌-◌, ◌/◌, ◌%◌, ◌^◌, ◌<◌, ◌≤◌, Bool, true, false, cond}
-use Rattle.std.proofs.Common.{[], ◌∷◌, ◌++◌, map}
-use Rattle.std.proofs.Common.{length-append, None, Some, refl, sym, ap, subst, ◌∙◌, ⊎_elim, arith}
-use Rattle.std.proofs.lemmas.Bool.{cases_eq, cases_lt}
-use Rattle.std.proofs.lemmas.List.{map-append}
+use Rattle.std.proofs.Common.{◌≡◌, ℕ, suc, ◌+◌, ◌-◌, ◌/◌, ◌%◌, ◌^◌, ◌<◌, ◌≤◌, min, Bool, true}
+use Rattle.std.proofs.Common.{false, cond, ◌≢◌, [], ◌∷◌, ◌++◌, map, bit_and, Some, None, sym, refl}
+use Rattle.std.proofs.Common.{ap, ◌∙◌, subst, ⊎_elim, arith, length-append}
+use Rattle.control_block.proofs.Prelude
+use Prelude.{Added, AddsEvent, after, allowance_of, Belongs, bit_at, bit_at-lt, bit_not, bit_of}
+use Prelude.{Block, cases_eq, cases_lt, desk_now, DeskNow, DomainNow, Event, handle, Has, Idle}
+use Prelude.{Inside, IsDeskWith, IsLegal, IsSameDesk, IsSo, IsSole, KeepsEndings, known, leads}
+use Prelude.{map-append, nothing_unseen, on_shelf, opening_of, put, put_other, put_same, SeatView}
+use Prelude.{Shape, shelf_at, Shelve, Shelved, sound, State, state_of, sum_all, sum_below}
+use Prelude.{sum_zero, TableId, Unshelve, Unshelved, value, w64}
 use Rattle.std.proofs.lemmas.Nat.{and_le_l}
-use Rattle.std.proofs.lemmas.Nat.Bits.{bit_at-lt, bit_at-pow_other, bit_at-pow_same, bit_at_and, bit_at_not}
+use Rattle.std.proofs.lemmas.Nat.Bits.{bit_at-pow_other, bit_at-pow_same, bit_at_and, bit_at_not}
 use Rattle.std.proofs.Math.Pow.{pow-lt}
-use Rattle.std.specs.Int.{bit_at, bit_not, w64}
-use Rattle.std.specs.Prelude.{bit_and, min}
-use Rattle.atomic_table.specs.Seated.{TableId}
-use Rattle.control_word.proofs.history.Legal.{sound}
-use Rattle.control_word.proofs.history.Sole.{nothing_unseen}
-use Rattle.control_word.proofs.lists.Sums.{sum_put, sum_zero}
-use Rattle.control_word.proofs.lists.Tallies.{put_other, put_same}
-use Rattle.control_word.proofs.words.Banks.{sum_all}
-use Rattle.control_word.specs.Events.{after, unshelves}
-use Rattle.control_word.specs.Histories.{IsLegal, leads, value}
-use Rattle.control_word.specs.Layout.{bit_of}
-use Rattle.control_word.specs.Handles.{handle}
-use Rattle.control_word.specs.State.{Has, State, on_shelf, put, sum_below}
-use Rattle.control_word.specs.declared.model.event.Event.{Event}
-use Rattle.control_word.specs.declared.model.event.Event.TheVariants.{Shelve, Unshelve}
-use Rattle.control_word.specs.declared.place.Block.{Block}
-use Rattle.control_word.specs.declared.shape.Shape.{Shape}
-use Rattle.control_word.specs.declared.model.view.Pending.TheVariants.{Idle}
-use Rattle.control_block.specs.Desks.{AddsEvent, Belongs, DeskNow, DomainNow, IsSameDesk, KeepsEndings, allowance_of, state_of}
-use Rattle.control_block.specs.Inside.{IsDeskWith, desk_now}
-use Rattle.control_block.specs.Own.{IsSole}
-use Rattle.control_block.specs.StepKinds.{Added, known}
-use Rattle.control_block.specs.Rule.{opening_of}
-use Rattle.control_block.specs.Shelf.{ClearsShelf, Passes, Shelved, Unshelved, shelved_of}
-use Rattle.control_block.specs.ShelfStepKinds.{IsSo, shelf_at}
-use Rattle.control_block.specs.declared.table.SeatView.{SeatView}
-use Rattle.control_block.specs.declared.desk.Desk.TheInside.{Inside}
-use Rattle.control_block.proofs.desks.DeskBags.{IsCalm, adds_of, bag_stays, before, ends_still, legal_now, now_of, quiet_spares, same_desk}
+use Rattle.control_word.proofs.lists.Sums.{sum_put}
+use Rattle.control_word.specs.Events.{unshelves}
+use Rattle.control_block.specs.Shelf.{ClearsShelf, Passes, shelved_of}
+use Rattle.control_block.proofs.desks.DeskBags.{IsCalm, adds_of, bag_stays, before, ends_still}
+use Rattle.control_block.proofs.desks.DeskBags.{legal_now, now_of, quiet_spares, same_desk}
 use Rattle.control_block.proofs.desks.DeskSteps.{came, ending_same}
 use Rattle.control_block.proofs.Latest.{calls_keep_latest}
 use Rattle.control_block.proofs.Own.{goes_by_call, goes_by_none, goes_in_turn}

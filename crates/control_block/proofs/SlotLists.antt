@@ -1,9 +1,9 @@
 -- How many slots of a list have a handle.
-use Rattle.std.proofs.Common.{◌≡◌, ℕ, ◌+◌, ◌<◌, ◌≤◌, true, false, List, [], ◌∷◌, ◌++◌, length, take, get_or, Option, Some, None}
-use Rattle.std.proofs.Common.{refl, sym, ap, ◌∙◌, arith, length-append}
+use Rattle.std.proofs.Common.{◌≡◌, ℕ, ◌+◌, ◌<◌, ◌≤◌, true, false, List, [], ◌∷◌, ◌++◌, length}
+use Rattle.std.proofs.Common.{get_or, take, is_some, Some, None, Option, sym, refl, ap, ◌∙◌, arith}
+use Rattle.std.proofs.Common.{length-append}
+use Rattle.control_block.proofs.Prelude.{handles_in}
 use Rattle.std.proofs.lemmas.List.{take_more}
-use Rattle.std.specs.Prelude.{is_some}
-use Rattle.control_block.specs.SlotLists.{handles_in}
 use Rattle.control_block.specs.declared.handles.Held.{Held}
 
 pub filled_few : (l : List (Option Held)) → length (handles_in l) ≤ length l

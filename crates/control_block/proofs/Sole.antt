@@ -1,22 +1,14 @@
 -- A desk that has the whole allowance is alone: nothing of others' comes between its own events.
-use Rattle.std.proofs.Common.{◌≡◌, ℕ, ◌==◌, true, false, List, [], ◌∷◌, ◌++◌, map, refl, sym, ap, subst, ◌∙◌, eq-eqb}
-use Rattle.std.proofs.lemmas.Bool.{cond-true, cond_both}
+use Rattle.std.proofs.Common.{◌≡◌, ℕ, true, false, List, [], ◌∷◌, ◌++◌, map, ◌==◌, All, sym, refl}
+use Rattle.std.proofs.Common.{ap, ◌∙◌, subst, eq-eqb}
+use Rattle.control_block.proofs.Prelude
+use Prelude.{after, alone, ClearMember, Compare, cond-true, cond_both, Count, Entry, entry, Event}
+use Prelude.{events_of, Expired, Finish, Free, IsLegal, Join, leads, Leave, Load, Lock, Make}
+use Prelude.{Member, nothing_unseen, Opening, opening_of, Read, Same, Shape, Share, Shelve, Split}
+use Prelude.{State, Swap, Unshelve, Visit, WeakLeave, WeakShare}
 use Rattle.std.proofs.lemmas.List.Elements.{All-head, All-tail}
-use Rattle.std.specs.Prelude.{All}
-use Rattle.control_word.proofs.history.Sole.{alone, nothing_unseen}
-use Rattle.control_word.specs.Events.{after}
-use Rattle.control_word.specs.Histories.{IsLegal, entry, leads}
-use Rattle.control_word.specs.State.{Opening, State}
-use Rattle.control_word.specs.declared.model.event.Cell.TheVariants.{Free, Member}
-use Rattle.control_word.specs.declared.model.event.Entry.{Entry}
-use Rattle.control_word.specs.declared.model.event.Event.{Event}
-use Rattle.control_word.specs.declared.model.event.Event.TheVariants.{ClearMember, Compare, Count, Expired, Finish, Join, Leave, Load, Lock, Make, Read}
-use Rattle.control_word.specs.declared.model.event.Event.TheVariants.{Share, Split, Swap, Visit, WeakLeave, WeakShare}
-use Rattle.control_word.specs.declared.model.event.Event.TheVariants.{Same, Shelve, Unshelve}
-use Rattle.control_word.specs.declared.shape.Shape.{Shape}
 use Rattle.control_block.specs.Laws.{ComeInARow, ComesNext}
-use Rattle.control_block.specs.Own.{KeepsDesks, events_of}
-use Rattle.control_block.specs.Rule.{opening_of}
+use Rattle.control_block.specs.Own.{KeepsDesks}
 
 module _ {V : Type 0} where
   pub comes_next : ComesNext V

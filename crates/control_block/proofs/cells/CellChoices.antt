@@ -1,20 +1,9 @@
 -- What a compare leaves, where it swapped and where it differed.
-use Rattle.std.proofs.Common.{◌≡◌, ◌≢◌, ◌⊎◌, ℕ, ◌+◌, ◌<◌, ◌≤◌, Bool, true, false, not, cond, List, Option, None, refl, subst}
-use Rattle.std.proofs.Common.{inl, inr, arith}
-use Rattle.std.specs.Prelude.{IfSome}
-use mir.Val.{bool_byte}
-use Rattle.control_word.specs.Events.{after, loses}
-use Rattle.control_word.specs.State.{State}
-use Rattle.control_word.specs.declared.model.event.Cell.{Cell}
-use Rattle.control_word.specs.declared.model.event.Event.TheVariants.{Compare, Swap}
-use Rattle.control_word.specs.declared.model.handle.NumberedHandle.{NumberedHandle}
-use Rattle.control_word.specs.declared.model.handle.Kind.{Kind}
-use Rattle.control_word.specs.declared.place.Block.{Block}
-use Rattle.control_word.specs.declared.place.Place.{Place}
-use Rattle.control_block.specs.CellCalls.{HoldsHandle, without_handle}
-use Rattle.control_block.specs.Desks.{DeskNow}
-use Rattle.control_block.specs.StepKinds.{HoldingInBlock, known}
-use Rattle.control_block.specs.declared.table.SeatView.{SeatView}
+use Rattle.std.proofs.Common.{◌≡◌, ℕ, ◌+◌, ◌<◌, ◌≤◌, Bool, true, false, cond, not, ◌≢◌, ◌⊎◌, List}
+use Rattle.std.proofs.Common.{IfSome, None, Option, refl, subst, inl, inr, arith}
+use Rattle.control_block.proofs.Prelude
+use Prelude.{after, Block, bool_byte, Cell, Compare, DeskNow, HoldingInBlock, HoldsHandle, Kind}
+use Prelude.{known, loses, NumberedHandle, Place, SeatView, State, Swap, without_handle}
 use Rattle.control_block.proofs.cells.CellDesks.{in_seat, one}
 use Rattle.control_block.proofs.cells.CellTrades.{Trades, compare_trades, differ_trades}
 use Rattle.control_block.proofs.words.Hands.{fills_allowance, fills_stores}

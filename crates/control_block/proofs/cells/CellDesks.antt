@@ -1,43 +1,19 @@
 -- What a desk has after a call on a cell.
-use Rattle.std.proofs.Common.{◌≡◌, ℕ, suc, ◌+◌, ◌==◌, ◌<◌, ◌≤◌, List, [], ◌∷◌, ◌++◌, map, length, cond, false, Option, Some}
-use Rattle.std.proofs.Common.{None, refl, sym, ap, subst, ◌∙◌}
-use Rattle.std.proofs.Common.{◌⊎◌, arith, inl, inr, ⊎_elim}
-use Rattle.std.specs.List.{filter}
-use Rattle.std.specs.Prelude.{IfSome}
-use Rattle.std.proofs.lemmas.List.{length-map}
-use Rattle.std.proofs.lemmas.Bool.{cond_both}
-use Rattle.atomic_table.specs.Seated.{TableId}
-use Rattle.control_word.proofs.history.Given.{names_an_object}
-use Rattle.control_word.proofs.history.Formation.{are_formed}
-use Rattle.control_word.proofs.history.Kept.{same_kept}
-use Rattle.control_word.proofs.lists.Parts.{part_mine}
-use Rattle.control_word.proofs.lists.Tallies.{handle_self, has_before, held_self, held_true}
-use Rattle.control_word.specs.Events.{Asks, InHand, IsOpen, after, cell_of, gets, loses}
-use Rattle.control_word.specs.Handles.{IsFormed, IsPointer, handle, object_of, same_handle}
-use Rattle.control_word.specs.Histories.{IsLegal, entry, leads}
-use Rattle.control_word.specs.Packing.{IsCellWord, IsPlace}
-use Rattle.control_word.specs.State.{Has, Held, InShape, bag, bag_size, held, same_held, without}
-use Rattle.control_word.specs.Words.{blocks_of}
-use Rattle.control_word.specs.declared.packed.cell.CellWord.{CellWord}
-use Rattle.control_word.specs.declared.model.event.Event.{Event}
-use Rattle.control_word.specs.declared.model.handle.NumberedHandle.{NumberedHandle}
-use Rattle.control_word.specs.declared.model.handle.Kind.{Kind}
-use Rattle.control_word.specs.declared.place.Block.{Block}
-use Rattle.control_word.specs.declared.place.Place.{Place}
-use Rattle.control_word.specs.declared.model.view.Pending.TheVariants.{Idle}
+use Rattle.std.proofs.Common.{◌≡◌, ℕ, suc, ◌+◌, ◌<◌, ◌≤◌, ◌⊎◌, List, [], ◌∷◌, ◌++◌, map, length}
+use Rattle.std.proofs.Common.{IfSome, ◌==◌, Some, None, Option, sym, refl, ap, ◌∙◌, subst, inl}
+use Rattle.std.proofs.Common.{inr, ⊎_elim, arith}
+use Rattle.control_block.proofs.Prelude
+use Prelude.{Added, after, are_formed, Asks, bag, bag_of, bag_size, Block, blocks_of, CameOut}
+use Prelude.{Cell, cell_of, CellWord, cond_both, desk_now, DeskNow, entry, Event, filter, Free}
+use Prelude.{gets, handle, handle_self, Has, has_before, HasRoomFor, Held, held, held_self}
+use Prelude.{held_true, HoldingInBlock, HoldsHandle, Idle, InHand, InShape, Inside, IsCellWord}
+use Prelude.{IsCounted, IsDesk, IsLegal, IsOpen, IsPointer, IsProper, IsWordOf, Kind, known, leads}
+use Prelude.{length-map, loses, Member, names_an_object, NumberedHandle, object_by, object_of}
+use Prelude.{opening_of, part_mine, Place, same_handle, same_held, same_kept, SeatView, seeing}
+use Prelude.{TableId, with_handle, without, without_handle}
+use Rattle.control_word.specs.Handles.{IsFormed}
+use Rattle.control_word.specs.Packing.{IsPlace}
 use Rattle.control_word.specs.Laws.{IsCell}
-use Rattle.control_word.specs.declared.model.event.Cell.{Cell}
-use Rattle.control_word.specs.declared.model.event.Cell.TheVariants.{Free, Member}
-use Rattle.control_block.specs.CellCalls.{HoldsHandle, object_by, with_handle, without_handle}
-use Rattle.control_block.specs.CellStepKinds.{IsWordOf}
-use Rattle.control_block.specs.CellRetries.{CameOut, IsCounted}
-use Rattle.control_block.specs.Desks.{DeskNow, bag_of}
-use Rattle.control_block.specs.Handles.{IsProper}
-use Rattle.control_block.specs.Inside.{IsDesk, desk_now}
-use Rattle.control_block.specs.StepKinds.{Added, HasRoomFor, HoldingInBlock, known}
-use Rattle.control_block.specs.Rule.{opening_of, seeing}
-use Rattle.control_block.specs.declared.table.SeatView.{SeatView}
-use Rattle.control_block.specs.declared.desk.Desk.TheInside.{Inside}
 use Rattle.control_block.proofs.Bags.{alone_there, map_without, seen_as, shown, shown_later}
 use Rattle.control_block.proofs.cells.CellRetries.{came_holding, came_object, no_block}
 use Rattle.control_block.proofs.cells.CellTrades.{Trades, slot_low}

@@ -1,32 +1,19 @@
 -- What a desk has after a call by which a handle comes out of a cell, and one may go in.
-use Rattle.std.proofs.Common.{◌≡◌, ◌⊎◌, ℕ, ◌+◌, ◌<◌, ◌≤◌, [], min, cond, Bool, Option, None, refl, sym, ap, subst, ◌∙◌, arith, inl, inr}
-use Rattle.std.proofs.lemmas.List.{length-map}
-use Rattle.std.specs.Prelude.{IfSome}
-use Rattle.atomic_table.specs.Seated.{TableId}
-use Rattle.control_word.specs.Events.{Asks, IsOpen, after, cell_of}
-use Rattle.control_word.specs.Handles.{empty}
-use Rattle.control_word.specs.State.{State, bag, bag_size}
-use Rattle.control_word.specs.declared.model.event.Cell.{Cell}
-use Rattle.control_word.specs.declared.model.event.Event.{Event}
-use Rattle.control_word.specs.declared.model.event.Event.TheVariants.{Compare, Load, Swap}
-use Rattle.control_word.specs.declared.model.handle.NumberedHandle.{NumberedHandle}
-use Rattle.control_word.specs.declared.model.handle.Kind.{Kind}
-use Rattle.control_word.specs.declared.packed.cell.CellWord.{CellWord}
-use Rattle.control_word.specs.declared.place.Block.{Block}
-use Rattle.control_word.specs.declared.place.Place.{Place}
-use Rattle.control_block.specs.CellCalls.{HoldsHandle, handle_in, with_handle, without_handle}
-use Rattle.control_block.specs.CellRetries.{CameOut}
-use Rattle.control_block.specs.Desks.{AddsEvent, DeskNow, Keeps, bag_of}
-use Rattle.control_block.specs.Handles.{IsProper}
-use Rattle.control_block.specs.Inside.{IsDesk, desk_now}
-use Rattle.control_block.specs.StepKinds.{HoldingInBlock, known}
-use Rattle.control_block.specs.declared.table.SeatView.{SeatView}
-use Rattle.control_block.specs.declared.desk.Desk.TheInside.{Inside}
+use Rattle.std.proofs.Common.{◌≡◌, ℕ, ◌+◌, ◌<◌, ◌≤◌, min, Bool, cond, ◌⊎◌, [], IfSome, None}
+use Rattle.std.proofs.Common.{Option, sym, refl, ap, ◌∙◌, subst, inl, inr, arith}
+use Rattle.control_block.proofs.Prelude
+use Prelude.{AddsEvent, after, Asks, bag, bag_of, bag_size, Block, CameOut, Cell, cell_of}
+use Prelude.{CellWord, Compare, desk_now, DeskNow, empty, Event, handle_in, HoldingInBlock}
+use Prelude.{HoldsHandle, Inside, IsDesk, IsOpen, IsProper, Keeps, Kind, known, length-map, Load}
+use Prelude.{NumberedHandle, Place, SeatView, State, Swap, TableId, with_handle, without_handle}
 use Rattle.control_block.proofs.Bags.{seen_as, shown}
-use Rattle.control_block.proofs.cells.CellChoices.{allowances_of, has_of, mine_of, stores_of, swap_allowances, swap_stores, trades_of}
-use Rattle.control_block.proofs.cells.CellDesks.{bag_is, event_is, formed_out, holds_after, in_seat, lost_holding, lost_mine, one, size_is}
+use Rattle.control_block.proofs.cells.CellChoices.{allowances_of, has_of, mine_of, stores_of}
+use Rattle.control_block.proofs.cells.CellChoices.{swap_allowances, swap_stores, trades_of}
+use Rattle.control_block.proofs.cells.CellDesks.{bag_is, event_is, formed_out, holds_after}
+use Rattle.control_block.proofs.cells.CellDesks.{in_seat, lost_holding, lost_mine, one, size_is}
 use Rattle.control_block.proofs.cells.CellTrades.{Trades, load_trades, swap_trades}
-use Rattle.control_block.proofs.desks.DeskBags.{IsCalm, adds_of, calm, calm_compare, calm_swap, keeps_quietly, now_of}
+use Rattle.control_block.proofs.desks.DeskBags.{IsCalm, adds_of, calm, calm_compare, calm_swap}
+use Rattle.control_block.proofs.desks.DeskBags.{keeps_quietly, now_of}
 use Rattle.control_block.proofs.desks.DeskSteps.{came as came_at, ending_same, quiet_desk}
 
 module _ {V : Type 0} where

@@ -1,31 +1,12 @@
 -- What the steps of one call on a cell come to.
-use Rattle.std.proofs.Common.{◌≡◌, ◌≢◌, ℕ, ◌-◌, ◌&&◌, eq-eqb, [], true}
-use Rattle.std.proofs.Common.{false, true≢false, Option, Some, None, refl, sym, ap, subst, ◌∙◌}
-use Rattle.std.specs.Prelude.{IfSome, is_some}
-use Rattle.atomic_table.specs.Seated.{TableId}
-use Rattle.control_word.proofs.history.Given.{names_an_object}
-use Rattle.control_word.specs.Events.{InHand}
-use Rattle.control_word.specs.Handles.{equivalent, handle, same_number, same_place}
-use Rattle.control_word.specs.Histories.{IsLegal}
-use Rattle.control_word.specs.State.{Has, Held, held}
-use Rattle.control_word.specs.Words.{block_of, blocks_of}
-use Rattle.control_word.specs.declared.packed.cell.CellWord.{CellWord}
-use Rattle.control_word.specs.declared.model.event.Cell.{Cell}
-use Rattle.control_word.specs.declared.model.event.Cell.TheVariants.{Free, Member}
-use Rattle.control_word.specs.declared.model.event.Event.{Event}
-use Rattle.control_word.specs.declared.model.handle.NumberedHandle.{NumberedHandle}
-use Rattle.control_word.specs.declared.model.handle.Kind.{Kind}
-use Rattle.control_word.specs.declared.place.Block.{Block}
-use Rattle.control_word.specs.declared.place.Place.{Place}
-use Rattle.control_word.specs.declared.model.view.Pending.{Pending}
-use Rattle.control_word.specs.declared.model.view.Pending.TheVariants.{Idle}
-use Rattle.control_block.specs.CellStepKinds.{Gave, IsCellAt, IsWordOf, Took, debt, kind_in}
-use Rattle.control_block.specs.CellRetries.{CameOut, IsCounted}
-use Rattle.control_block.specs.FundStepKinds.{Owes, owing}
-use Rattle.control_block.specs.Inside.{IsSized}
-use Rattle.control_block.specs.StepKinds.{Added, At, HoldingInBlock, Rests, goes_on, in_call, known, tells}
-use Rattle.control_block.specs.Rule.{opening_of}
-use Rattle.control_block.specs.declared.table.SeatView.{SeatView}
+use Rattle.std.proofs.Common.{◌≡◌, ℕ, ◌-◌, true, false, ◌&&◌, ◌≢◌, [], is_some, IfSome, Some, None}
+use Rattle.std.proofs.Common.{Option, sym, refl, ap, ◌∙◌, subst, true≢false, eq-eqb}
+use Rattle.control_block.proofs.Prelude
+use Prelude.{Added, At, Block, block_of, blocks_of, CameOut, Cell, CellWord, debt, equivalent}
+use Prelude.{Event, Free, Gave, goes_on, handle, Has, Held, held, HoldingInBlock, Idle, in_call}
+use Prelude.{InHand, IsCellAt, IsCounted, IsLegal, IsSized, IsWordOf, Kind, kind_in, known, Member}
+use Prelude.{names_an_object, NumberedHandle, opening_of, Owes, owing, Pending, Place, Rests}
+use Prelude.{same_number, same_place, SeatView, TableId, tells, Took}
 use Rattle.control_block.proofs.words.Seats.{added_as}
 use Rattle.control_block.proofs.cells.CellTrades.{Trades, in_bag, came_inside}
 

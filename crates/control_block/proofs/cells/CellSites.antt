@@ -1,19 +1,12 @@
 -- Where the cell of a call is.
-use Rattle.std.proofs.Common.{◌≡◌, ℕ, ◌+◌, ◌<◌, refl, sym, ap, subst, ◌∙◌, arith}
-use Rattle.atomic_table.specs.Seated.{TableId}
-use Rattle.control_word.specs.Layout.{IsSite, cell_place, site_place}
-use Rattle.control_word.specs.declared.model.event.Cell.{Cell}
-use Rattle.control_word.specs.declared.model.handle.Kind.{Kind}
-use Rattle.control_word.specs.declared.model.handle.Kind.TheVariants.{Owner}
-use Rattle.control_word.specs.declared.shape.Shape.{Shape}
+use Rattle.std.proofs.Common.{◌≡◌, ℕ, ◌+◌, ◌<◌, sym, refl, ap, ◌∙◌, subst, arith}
+use Rattle.control_block.proofs.Prelude.{Cell, cell_place, desk_now, DeskNow, Inside, IsAim}
+use Rattle.control_block.proofs.Prelude.{IsCellAt, IsDesk, IsSized, Kind, kind_in, Owner, Shape}
+use Rattle.control_block.proofs.Prelude.{site_place, TableId}
+use Rattle.control_word.specs.Layout.{IsSite}
 use Rattle.control_block.specs.CellCalls.{IsOpenAt, cell_of_site}
-use Rattle.control_block.specs.CellStepKinds.{IsCellAt, kind_in}
-use Rattle.control_block.specs.CellRetries.{IsAim}
-use Rattle.control_block.specs.Desks.{DeskNow}
-use Rattle.control_block.specs.Inside.{IsDesk, IsSized, desk_now}
 use Rattle.control_word.specs.declared.site.Site.{Site}
 use Rattle.control_word.specs.declared.site.Site.TheVariants.{Free, Member}
-use Rattle.control_block.specs.declared.desk.Desk.TheInside.{Inside}
 use Rattle.control_block.proofs.desks.DeskBags.{holding_in}
 use Rattle.control_block.proofs.desks.DeskSteps.{word_inside}
 

@@ -1,35 +1,13 @@
 -- What an event on a cell trades: it hands a handle out, and takes one in.
-use Rattle.std.proofs.Common.{◌≡◌, ℕ, ◌+◌, ◌<◌, ◌∷◌, ◌++◌, Bool, true}
-use Rattle.std.proofs.Common.{false, List, Option, Some, None, cond, refl, sym, ap, subst, ◌∙◌, inl, inr, arith}
-use Rattle.std.proofs.lemmas.Bool.{cond_both}
-use Rattle.atomic_table.specs.Seated.{TableId}
-use Rattle.control_word.proofs.history.Given.{legal_seen, names_an_object}
-use Rattle.control_word.proofs.history.Kept.{block_kept, same_kept}
-use Rattle.control_word.proofs.history.Legal.{sound}
-use Rattle.control_word.proofs.history.Others.{held_made}
-use Rattle.control_word.proofs.lists.Parts.{has_part, part_has}
-use Rattle.control_word.specs.Events.{after, gets, loses}
-use Rattle.control_word.specs.Handles.{empty, handle, has_object}
-use Rattle.control_word.specs.Histories.{IsLegal, entry, leads}
-use Rattle.control_word.specs.Layout.{cell_place, spot}
-use Rattle.control_word.specs.State.{Has, Held, InShape, State, held}
-use Rattle.control_word.specs.Words.{slot}
-use Rattle.control_word.specs.declared.model.event.Cell.{Cell}
-use Rattle.control_word.specs.declared.model.event.Cell.TheVariants.{Free, Member}
-use Rattle.control_word.specs.declared.model.event.Event.{Event}
-use Rattle.control_word.specs.declared.model.event.Event.TheVariants.{ClearMember, Compare, Load, Swap}
-use Rattle.control_word.specs.declared.model.handle.NumberedHandle.{NumberedHandle}
-use Rattle.control_word.specs.declared.model.handle.Kind.{Kind}
-use Rattle.control_word.specs.declared.model.handle.Kind.TheVariants.{Owner, Weak}
-use Rattle.control_word.specs.declared.place.Block.{Block}
-use Rattle.control_word.specs.declared.place.Place.{Place}
-use Rattle.control_word.specs.declared.model.view.Pending.{Pending}
-use Rattle.control_word.specs.declared.model.view.Pending.TheVariants.{Idle}
-use Rattle.control_block.specs.CellStepKinds.{IsCellAt, kind_in}
-use Rattle.control_block.specs.Inside.{IsSized}
-use Rattle.control_block.specs.StepKinds.{Added, HoldingInBlock, known}
-use Rattle.control_block.specs.Rule.{opening_of}
-use Rattle.control_block.specs.declared.table.SeatView.{SeatView}
+use Rattle.std.proofs.Common.{◌≡◌, ℕ, ◌+◌, ◌<◌, Bool, true, false, cond, List, ◌∷◌, ◌++◌, Some}
+use Rattle.std.proofs.Common.{None, Option, sym, refl, ap, ◌∙◌, subst, inl, inr, arith}
+use Rattle.control_block.proofs.Prelude
+use Prelude.{Added, after, Block, block_kept, Cell, cell_place, ClearMember, Compare, cond_both}
+use Prelude.{empty, entry, Event, Free, gets, handle, Has, has_object, has_part, Held, held}
+use Prelude.{held_made, HoldingInBlock, Idle, InShape, IsCellAt, IsLegal, IsSized, Kind, kind_in}
+use Prelude.{known, leads, legal_seen, Load, loses, Member, names_an_object, NumberedHandle}
+use Prelude.{opening_of, Owner, part_has, Pending, Place, same_kept, SeatView, slot, sound, spot}
+use Prelude.{State, Swap, TableId, Weak}
 use Rattle.control_block.proofs.words.Hands.{fills_hands}
 
 pub slot_low : (k : Kind) → slot k < 16

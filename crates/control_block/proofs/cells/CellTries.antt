@@ -1,28 +1,15 @@
 -- What goes on from one try at a cell to the next.
-use Rattle.std.proofs.Common.{◌≡◌, ◌≢◌, ℕ, [], Bool, true, false, None, Option, Some, refl, sym, ap, subst, ◌∙◌}
-use Rattle.atomic_table.specs.Seated.{TableId}
-use Rattle.control_word.specs.Events.{InHand, after}
-use Rattle.control_word.specs.Handles.{equivalent, handle, same_number, same_place}
-use Rattle.control_word.proofs.lists.Tallies.{same_number_true, same_place_true}
-use Rattle.std.proofs.lemmas.Bool.{and_parts}
-use Rattle.control_word.specs.Words.{block_of, blocks_of}
-use Rattle.control_word.specs.Packing.{IsCellWord}
-use Rattle.control_word.specs.State.{Has, Held, State}
-use Rattle.control_word.specs.declared.model.event.Cell.{Cell}
-use Rattle.control_word.specs.declared.model.event.Event.{Event}
-use Rattle.control_word.specs.declared.model.handle.NumberedHandle.{NumberedHandle}
-use Rattle.control_word.specs.declared.model.handle.Kind.{Kind}
-use Rattle.control_word.specs.declared.model.view.Pending.{Pending}
-use Rattle.control_word.specs.declared.model.view.Pending.TheVariants.{Idle}
-use Rattle.control_word.specs.declared.packed.cell.CellWord.{CellWord}
-use Rattle.control_word.specs.declared.place.Block.{Block}
-use Rattle.control_word.specs.declared.place.Place.{Place}
-use Rattle.control_block.specs.CellStepKinds.{Gave, IsWordOf, Took, kind_in}
-use Rattle.control_block.specs.CellRetries.{IsAim, IsCounted, IsOffer, IsOut}
-use Rattle.control_block.specs.Inside.{IsSized}
-use Rattle.control_block.specs.StepKinds.{At, HasRoomFor, HoldingInBlock, Rests, goes_on, in_call, known, tells}
-use Rattle.control_block.specs.declared.table.SeatView.{SeatView}
-use Rattle.control_block.proofs.cells.CellRetries.{added_awake, came_empty, came_from, came_object, given_back, over_rests, took_inside, turned}
+use Rattle.std.proofs.Common.{◌≡◌, ℕ, Bool, true, false, ◌≢◌, [], Some, None, Option, sym, refl}
+use Rattle.std.proofs.Common.{ap, ◌∙◌, subst}
+use Rattle.control_block.proofs.Prelude
+use Prelude.{after, and_parts, At, Block, block_of, blocks_of, Cell, CellWord, equivalent, Event}
+use Prelude.{Gave, goes_on, handle, Has, HasRoomFor, Held, HoldingInBlock, Idle, in_call, InHand}
+use Prelude.{IsAim, IsCellWord, IsCounted, IsSized, IsWordOf, Kind, kind_in, known, NumberedHandle}
+use Prelude.{Pending, Place, Rests, same_number, same_number_true, same_place, same_place_true}
+use Prelude.{SeatView, State, TableId, tells, Took}
+use Rattle.control_block.specs.CellRetries.{IsOffer, IsOut}
+use Rattle.control_block.proofs.cells.CellRetries.{added_awake, came_empty, came_from, came_object}
+use Rattle.control_block.proofs.cells.CellRetries.{given_back, over_rests, took_inside, turned}
 use Rattle.control_block.proofs.cells.CellTrades.{Trades, cell_still}
 
 pub none_shown : {q : Option Block} {b : Block} → q ≡ Some b → q ≢ None

@@ -1,34 +1,19 @@
 -- What the words of cells are where no call is half done.
-use Rattle.std.proofs.Common.{◌≡◌, ℕ, ◌+◌, ◌*◌, ◌%◌, ◌<◌, ◌≤◌, Option, None, Some, List, map, false, refl}
-use Rattle.std.proofs.Common.{sym, ap, subst, ◌∙◌, ⊎_elim, arith}
-use Rattle.std.specs.Prelude.{slice_index}
-use mathlib.Core.Option.{some}
-use lib.ListN.{get_elem?}
+use Rattle.std.proofs.Common.{◌≡◌, ℕ, ◌+◌, ◌*◌, ◌%◌, ◌<◌, ◌≤◌, false, List, map, slice_index, Some}
+use Rattle.std.proofs.Common.{None, Option, sym, refl, ap, ◌∙◌, subst, ⊎_elim, arith}
+use Rattle.control_block.proofs.Prelude
+use Prelude.{added, adds, blocks_of, cell_busy, cells_led, CensusNow, Entry, get_elem?, Idle}
+use Prelude.{InShape, IsBusy, known, leads, member_busy, NumberedHandle, Opening, opening_of, owed}
+use Prelude.{owes, owned_bits, paid, pays, Place, Ruled, SeatView, Shape, slot, some, sound, spot}
+use Prelude.{Stands, TellsCells, View, view_of}
 use Rattle.atomic_table.specs.Table as Table
 use Rattle.control_word.proofs.history.Allowances.{opened}
-use Rattle.control_word.proofs.history.Kept.{cells_led}
-use Rattle.control_word.proofs.history.Legal.{sound}
-use Rattle.control_word.proofs.history.Soundness.{IsBusy}
 use Rattle.control_word.proofs.words.Banks.{bank_none}
 use Rattle.control_word.proofs.words.Frames.{spot_apart, spot_fits, total_none}
-use Rattle.control_word.proofs.words.Funds.{cell_busy, member_busy, slot_low}
+use Rattle.control_word.proofs.words.Funds.{slot_low}
 use Rattle.control_word.proofs.words.Members.{member_word}
-use Rattle.control_word.specs.Histories.{leads}
-use Rattle.control_word.specs.Layout.{spot}
-use Rattle.control_word.specs.State.{InShape, Opening}
-use Rattle.control_word.specs.Views.{Stands, added, adds, owed, owes, paid, pays}
-use Rattle.control_word.specs.Words.{blocks_of, cell_spot, owned_bits, packed, place_bits, slot}
-use Rattle.control_word.specs.declared.model.event.Entry.{Entry}
-use Rattle.control_word.specs.declared.model.handle.NumberedHandle.{NumberedHandle}
-use Rattle.control_word.specs.declared.place.Place.{Place}
-use Rattle.control_word.specs.declared.model.view.Pending.TheVariants.{Idle}
-use Rattle.control_word.specs.declared.model.view.View.{View}
-use Rattle.control_word.specs.declared.shape.Shape.{Shape}
-use Rattle.control_block.specs.Census.{CensusNow}
-use Rattle.control_block.specs.Holders.{TellsCells, owned_by}
-use Rattle.control_block.specs.StepKinds.{known}
-use Rattle.control_block.specs.Rule.{Ruled, opening_of, view_of}
-use Rattle.control_block.specs.declared.table.SeatView.{SeatView}
+use Rattle.control_word.specs.Words.{cell_spot, packed, place_bits}
+use Rattle.control_block.specs.Holders.{owned_by}
 use Rattle.control_block.proofs.closings.Closing.{all_idle, all_seen}
 
 low_part : (n : ℕ) (p : Option Place) (t : ℕ) → n < 65536 → (n + place_bits p + 17179869184 * t) % 65536 ≡ n

@@ -1,31 +1,19 @@
 -- What the words are once a sole desk closes its domain.
-use Rattle.std.proofs.Common.{◌≡◌, ◌≢◌, ℕ, zero, suc, ◌+◌, ◌-◌, ◌==◌, Bool, true, false, List, [], ◌∷◌, map, refl, sym, ap}
-use Rattle.std.proofs.Common.{subst, ◌∙◌, ⊎_elim, arith}
-use Rattle.std.proofs.Common.{cond, eq-eqb, ne_eqb}
-use Rattle.std.proofs.lemmas.Bool.{cases_eq, cond-true, cond-false}
-use Rattle.std.specs.Prelude.{slice_index}
-use mathlib.Core.Option.{some, some-injective, some-ne-none}
-use lib.ListN.{get_elem?}
+use Rattle.std.proofs.Common.{◌≡◌, ℕ, zero, suc, ◌+◌, ◌-◌, Bool, true, false, cond, ◌≢◌, List, []}
+use Rattle.std.proofs.Common.{◌∷◌, map, ◌==◌, slice_index, sym, refl, ap, ◌∙◌, subst, ⊎_elim}
+use Rattle.std.proofs.Common.{arith, eq-eqb, ne_eqb}
+use Rattle.control_block.proofs.Prelude
+use Prelude.{alone, at_map, cases_eq, CensusNow, common, cond-false, cond-true, ending, EndsNot}
+use Prelude.{Entry, get_elem?, gone, Idle, InShape, IsLegal, IsVacant, known, leads, live}
+use Prelude.{many_ending, number_of, Opening, opening_of, owners_in, Phase, Ruled, SeatView, Shape}
+use Prelude.{some, some-injective, some-ne-none, Sound, spot, State, TellsBlock, unmade, View}
+use Prelude.{view_of, weak_number}
 use Rattle.atomic_table.specs.Table as Table
-use Rattle.atomic_table.proofs.Lists.{at_map}
 use Rattle.control_word.proofs.history.Endings.{ends_in_hands}
-use Rattle.control_word.proofs.history.Sole.{alone}
-use Rattle.control_word.proofs.history.Soundness.{OwnersFit, Sound}
+use Rattle.control_word.proofs.history.Soundness.{OwnersFit}
 use Rattle.control_word.proofs.views.Resting.{rests_exactly, sole_has_seen_all}
-use Rattle.control_word.specs.Histories.{IsLegal, leads}
-use Rattle.control_word.specs.Layout.{spot}
-use Rattle.control_word.specs.Packing.{number_of}
-use Rattle.control_word.specs.State.{InShape, IsVacant, Opening, Phase, State, common, count, ending, gone, live, unmade, weak, weak_number}
+use Rattle.control_word.specs.State.{count, weak}
 use Rattle.control_word.specs.Views.{NamesBlock}
-use Rattle.control_word.specs.declared.model.event.Entry.{Entry}
-use Rattle.control_word.specs.declared.shape.Shape.{Shape}
-use Rattle.control_word.specs.declared.model.view.Pending.TheVariants.{Idle}
-use Rattle.control_word.specs.declared.model.view.View.{View}
-use Rattle.control_block.specs.Census.{CensusNow, EndsNot, TellsBlock, owners_in}
-use Rattle.control_block.specs.Desks.{many_ending}
-use Rattle.control_block.specs.StepKinds.{known}
-use Rattle.control_block.specs.Rule.{Ruled, opening_of, view_of}
-use Rattle.control_block.specs.declared.table.SeatView.{SeatView}
 use Rattle.control_block.proofs.EndingCounts.{some_ending}
 use Rattle.control_block.proofs.kept.Look as looks
 

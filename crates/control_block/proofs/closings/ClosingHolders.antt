@@ -1,31 +1,12 @@
 -- What the desk that closes tells of the handles of an object, in cells and in its own bag.
-use Rattle.std.proofs.Common.{◌≡◌, ℕ, ◌+◌, ◌<◌, ◌==◌, Bool, true, false}
-use Rattle.std.proofs.Common.{Some, List, map, refl, sym, subst, ◌∙◌, ⊎_elim}
-use Rattle.std.proofs.Common.{arith, eq-eqb}
-use Rattle.std.proofs.lemmas.Bool.{cases_lt}
-use Rattle.control_word.proofs.history.Allowances.{allowed}
-use Rattle.control_word.proofs.history.Formation.{formed}
-use Rattle.control_word.proofs.history.Kept.{cells_led}
-use Rattle.control_word.proofs.history.Legal.{held_busy, sound}
-use Rattle.control_word.proofs.history.Sole.{alone}
-use Rattle.control_word.proofs.history.Soundness.{IsBusy}
-use Rattle.control_word.proofs.lists.Tallies.{num_has, tally_append}
-use Rattle.control_word.specs.Handles.{handle}
-use Rattle.control_word.specs.Histories.{IsLegal, leads}
-use Rattle.control_word.specs.State.{Has, Held, Opening, bag, count, handles, held, in_cells}
-use Rattle.control_word.specs.State.{tally, weak}
-use Rattle.control_word.specs.Words.{blocks_of}
-use Rattle.control_word.specs.declared.model.event.Entry.{Entry}
-use Rattle.control_word.specs.declared.model.handle.Kind.{Kind}
-use Rattle.control_word.specs.declared.model.handle.Kind.TheVariants.{Owner, Weak}
-use Rattle.control_block.specs.Census.{CensusNow}
-use Rattle.control_block.specs.Desks.{by_block}
-use Rattle.control_block.specs.Holders.{TellsCells, TellsHolders, frees_in, holders_of}
-use Rattle.control_block.specs.Holders.{many_of}
-use Rattle.control_block.specs.Inside.{IsDesk, desk_now}
-use Rattle.control_block.specs.StepKinds.{known}
-use Rattle.control_block.specs.Rule.{opening_of}
-use Rattle.control_block.specs.declared.desk.Desk.TheInside.{Inside}
+use Rattle.std.proofs.Common.{◌≡◌, ℕ, ◌+◌, ◌<◌, Bool, true, false, List, map, ◌==◌, Some, sym}
+use Rattle.std.proofs.Common.{refl, ◌∙◌, subst, ⊎_elim, arith, eq-eqb}
+use Rattle.control_block.proofs.Prelude
+use Prelude.{allowed, alone, bag, blocks_of, by_block, cases_lt, cells_led, CensusNow, desk_now}
+use Prelude.{Entry, formed, frees_in, handle, Has, Held, held, held_busy, holders_of, in_cells}
+use Prelude.{Inside, IsBusy, IsDesk, IsLegal, Kind, known, leads, many_of, num_has, Opening}
+use Prelude.{opening_of, Owner, sound, tally, tally_append, TellsCells, TellsHolders, Weak}
+use Rattle.control_word.specs.State.{count, handles, weak}
 use Rattle.control_block.proofs.CellWords.{shared_led}
 use Rattle.control_block.proofs.closings.Holders.{in_all_cells, in_bag}
 

@@ -1,19 +1,12 @@
 -- Objects end in the hands of desks that there are.
-use Rattle.std.proofs.Common.{◌≡◌, ℕ, suc, ◌<◌, ◌≤◌, true, false, cond, List, [], ◌∷◌, refl, sym, subst, ◌∙◌}
-use Rattle.std.proofs.Common.{arith}
-use Rattle.std.proofs.lemmas.Bool.{cond_both}
-use Rattle.control_word.proofs.lists.Tallies.{put_cases}
-use Rattle.control_word.specs.Events.{after, handed, moved_to, new_object, renamed}
-use Rattle.control_word.specs.Handles.{object_of}
-use Rattle.control_word.specs.Histories.{IsLegal, leads}
-use Rattle.control_word.specs.State.{IsActing, Object, Opening, Phase, State, ending, gone, live, unmade}
-use Rattle.control_word.specs.declared.model.event.Cell.TheVariants.{Free, Member}
-use Rattle.control_word.specs.declared.model.event.Entry.{Entry}
-use Rattle.control_word.specs.declared.model.event.Event.{Event}
-use Rattle.control_word.specs.declared.model.event.Event.TheVariants.{ClearMember, Compare, Count, Expired, Finish, Join, Leave, Load, Lock, Make, Read}
-use Rattle.control_word.specs.declared.model.event.Event.TheVariants.{Share, Split, Swap, Visit, WeakLeave, WeakShare}
-use Rattle.control_word.specs.declared.model.event.Event.TheVariants.{Same, Shelve, Unshelve}
-use Rattle.control_block.specs.Desks.{many_ending}
+use Rattle.std.proofs.Common.{◌≡◌, ℕ, suc, ◌<◌, ◌≤◌, true, false, cond, List, [], ◌∷◌, sym, refl}
+use Rattle.std.proofs.Common.{◌∙◌, subst, arith}
+use Rattle.control_block.proofs.Prelude
+use Prelude.{after, ClearMember, Compare, cond_both, Count, ending, Entry, Event, Expired, Finish}
+use Prelude.{Free, gone, handed, IsActing, IsLegal, Join, leads, Leave, live, Load, Lock, Make}
+use Prelude.{many_ending, Member, moved_to, new_object, Object, object_of, Opening, Phase}
+use Prelude.{put_cases, Read, renamed, Same, Share, Shelve, Split, State, Swap, unmade, Unshelve}
+use Prelude.{Visit, WeakLeave, WeakShare}
 use Rattle.control_block.proofs.EndingCounts.{ends_there, sum_none}
 use Rattle.control_block.proofs.Endings.{fills_phase}
 

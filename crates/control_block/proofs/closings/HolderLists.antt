@@ -1,12 +1,9 @@
 -- The cells that hold an object, one after another.
-use Rattle.std.proofs.Common.{◌≡◌, ◌≢◌, ℕ, suc, ◌+◌, ◌%◌, ◌==◌, List, [], ◌∷◌, ◌++◌, refl, sym, ap, ◌∙◌, arith}
-use Rattle.control_word.specs.Layout.{site_place}
-use Rattle.std.proofs.Common.{eq-eqb, ne_eqb}
-use Rattle.std.proofs.lemmas.Bool.{cond-true, cond-false}
-use Rattle.std.specs.Prelude.{slice_index}
-use Rattle.control_block.specs.Census.{CensusNow}
-use Rattle.control_block.specs.Holders.{block_holders, free_cell, free_holders, if_holds, member_holders, owned_at}
-use Rattle.control_block.specs.declared.cell_calls.CellAt.{CellAt}
+use Rattle.std.proofs.Common.{◌≡◌, ℕ, suc, ◌+◌, ◌%◌, ◌≢◌, List, [], ◌∷◌, ◌++◌, ◌==◌, slice_index}
+use Rattle.std.proofs.Common.{sym, refl, ap, ◌∙◌, arith, eq-eqb, ne_eqb}
+use Rattle.control_block.proofs.Prelude.{block_holders, CellAt, CensusNow, cond-false, cond-true}
+use Rattle.control_block.proofs.Prelude.{free_cell, free_holders, if_holds, member_holders}
+use Rattle.control_block.proofs.Prelude.{owned_at, site_place}
 
 none_right : {A : Type 0} → (l : List A) → l ++ [] ≡ l
 none_right [] = refl

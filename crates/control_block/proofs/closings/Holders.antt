@@ -1,28 +1,19 @@
 -- Each handle of an object is in a cell that the census tells of, or in the bag of the desk that closes.
-use Rattle.std.proofs.Common.{◌≡◌, ◌≢◌, ℕ, zero, suc, ◌+◌, ◌-◌, ◌<◌, ◌≤◌, ◌==◌, Bool, true, false, cond, Option}
-use Rattle.std.proofs.Common.{None, Some, List, [], ◌∷◌, ◌++◌, map, length, refl, sym, ap, ◌∙◌, inl, inr, ⊎_elim}
-use Rattle.std.proofs.Common.{arith, eq-eqb, ne_eqb, length-append, nat_lt, lt-ltb, le-ltb}
-use Rattle.std.proofs.lemmas.Bool.{cases_eq, cases_lt, cond-true, cond-false}
-use Rattle.std.proofs.lemmas.List.Elements.{filter-append}
-use Rattle.std.specs.List.{filter}
-use Rattle.control_word.proofs.history.Soundness.{Formed, IsBusy, Sound}
-use Rattle.control_word.proofs.lists.Sums.{sum_zero}
-use Rattle.control_word.proofs.lists.Tallies.{tally_append, tally_cons}
-use Rattle.control_word.proofs.words.Banks.{sum_all, sum_set}
-use Rattle.control_word.proofs.words.Funds.{cell_busy, member_busy}
-use Rattle.control_word.specs.Handles.{empty, handle, same_kind}
-use Rattle.control_word.specs.State.{Has, Held, InShape, Object, Opening, State, common, in_cells}
-use Rattle.control_word.specs.State.{kind_of_free, kind_of_member, members, sum_below, tally, upto, weak_number}
-use Rattle.control_word.specs.Words.{blocks_of, owned_bits}
-use Rattle.control_word.specs.declared.model.handle.NumberedHandle.{NumberedHandle}
-use Rattle.control_word.specs.declared.model.handle.Kind.{Kind}
-use Rattle.control_word.specs.declared.model.handle.Kind.TheVariants.{Owner, Weak}
-use Rattle.control_word.specs.declared.place.Place.{Place}
-use Rattle.control_block.specs.Census.{CensusNow}
-use Rattle.control_block.specs.Desks.{by_block}
-use Rattle.control_block.specs.Holders.{TellsCells, block_holders, free_cell, free_holders, frees_in, holders_of, if_holds}
-use Rattle.control_block.specs.Holders.{many_of, member_cell, member_holders, owned_at}
-use Rattle.control_block.specs.declared.cell_calls.CellAt.{CellAt}
+use Rattle.std.proofs.Common.{◌≡◌, ℕ, zero, suc, ◌+◌, ◌-◌, ◌<◌, ◌≤◌, Bool, true, false, cond, ◌≢◌}
+use Rattle.std.proofs.Common.{List, [], ◌∷◌, ◌++◌, map, length, nat_lt, ◌==◌, Some, None, Option}
+use Rattle.std.proofs.Common.{sym, refl, ap, ◌∙◌, inl, inr, ⊎_elim, arith, length-append, le-ltb}
+use Rattle.std.proofs.Common.{lt-ltb, eq-eqb, ne_eqb}
+use Rattle.control_block.proofs.Prelude
+use Prelude.{block_holders, blocks_of, by_block, cases_eq, cases_lt, cell_busy, CellAt, CensusNow}
+use Prelude.{common, cond-false, cond-true, empty, filter, filter-append, free_cell, free_holders}
+use Prelude.{frees_in, handle, Has, Held, holders_of, if_holds, in_cells, InShape, IsBusy, Kind}
+use Prelude.{kind_of_free, kind_of_member, many_of, member_busy, member_holders, NumberedHandle}
+use Prelude.{Object, Opening, owned_at, owned_bits, Owner, Place, same_kind, Sound, State, sum_all}
+use Prelude.{sum_below, sum_set, sum_zero, tally, tally_append, TellsCells, Weak, weak_number}
+use Rattle.control_word.proofs.history.Soundness.{Formed}
+use Rattle.control_word.proofs.lists.Tallies.{tally_cons}
+use Rattle.control_word.specs.State.{members, upto}
+use Rattle.control_block.specs.Holders.{member_cell}
 
 -- lists of one or none
 counted : {A : Type 0} (t : Bool) (x : A) → length (cond t (x ∷ []) []) ≡ cond t 1 0

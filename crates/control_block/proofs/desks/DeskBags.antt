@@ -1,39 +1,19 @@
 -- What contracts see of a desk after a call: its bag, and what it keeps.
-use Rattle.std.proofs.Common.{◌≡◌, ◌≢◌, arith, ℕ, ◌+◌, ◌==◌, ◌↔◌, min, IsTrue, true≢false, ◌<◌, ◌⊎◌, ⊎_elim, Bool}
-use Rattle.std.proofs.Common.{true, false, List, ◌∷◌, ◌++◌, map, length, Option, Some, None, refl, sym, ap, subst, ◌∙◌}
-use Rattle.std.specs.List.{filter}
-use Rattle.atomic_table.specs.Seated.{TableId}
-use Rattle.control_word.proofs.history.Given.{names_an_object}
-use Rattle.control_word.proofs.history.Formation.{are_formed}
-use Rattle.control_word.proofs.history.Kept.{block_kept, same_kept}
-use Rattle.control_word.proofs.history.Legal.{sound}
-use Rattle.control_word.proofs.history.Others.{held_made}
-use Rattle.control_word.proofs.history.Soundness.{Sound}
-use Rattle.control_word.proofs.lists.Parts.{part_mine}
-use Rattle.control_word.proofs.lists.Tallies.{has_before, held_self, held_true}
-use Rattle.control_word.specs.Events.{Asks, IsOpen, after, fills, loses, place_at}
-use Rattle.control_word.specs.Handles.{IsPointer, handle, same_handle}
-use Rattle.control_word.specs.Histories.{IsLegal, entry, leads, value, valued}
-use Rattle.control_word.specs.State.{Held, InShape, Object, Opening, State, bag, ending, held, same_held, without}
-use Rattle.control_word.specs.Words.{blocks_of}
-use Rattle.control_word.specs.declared.model.event.Entry.{Entry}
-use Rattle.control_word.specs.declared.model.event.Cell.{Cell}
-use Rattle.control_word.specs.declared.model.event.Cell.TheVariants.{Free, Member}
-use Rattle.control_word.specs.declared.model.event.Event.{Event}
-use Rattle.control_word.specs.declared.model.event.Event.TheVariants.{Compare, Swap}
-use Rattle.control_word.specs.declared.model.handle.NumberedHandle.{NumberedHandle}
-use Rattle.control_word.specs.declared.model.handle.Kind.{Kind}
-use Rattle.control_word.specs.declared.model.handle.Kind.TheVariants.{Owner}
-use Rattle.control_word.specs.declared.place.Place.{Place}
-use Rattle.control_word.specs.declared.model.view.Pending.TheVariants.{Idle}
-use Rattle.control_block.specs.Desks.{AddsEvent, DeskNow, StaysEnding, HasHandle, IsEnding, IsSameDesk, Keeps, MayPoint, allowance_of, bag_of, by_block}
-use Rattle.control_block.specs.Desks.{held_of}
-use Rattle.control_block.specs.Inside.{IsDesk, IsDeskWith, desk_now}
-use Rattle.control_block.specs.StepKinds.{Added, HasRoomFor, HoldingInBlock, known}
-use Rattle.control_block.specs.Rule.{opening_of}
-use Rattle.control_block.specs.declared.table.SeatView.{SeatView}
-use Rattle.control_block.specs.declared.desk.Desk.TheInside.{Inside}
-use Rattle.control_block.proofs.Bags.{alone_there, map_without, seen_as, shown, shown_held, shown_later}
+use Rattle.std.proofs.Common.{◌≡◌, ℕ, ◌+◌, ◌<◌, min, Bool, true, false, ◌≢◌, ◌⊎◌, ◌↔◌, List, ◌∷◌}
+use Rattle.std.proofs.Common.{◌++◌, map, length, IsTrue, ◌==◌, Some, None, Option, sym, refl, ap}
+use Rattle.std.proofs.Common.{◌∙◌, subst, ⊎_elim, true≢false, arith}
+use Rattle.control_block.proofs.Prelude
+use Prelude.{Added, AddsEvent, after, allowance_of, are_formed, Asks, bag, bag_of, block_kept}
+use Prelude.{blocks_of, by_block, Cell, Compare, desk_now, DeskNow, ending, Entry, entry, Event}
+use Prelude.{fills, filter, Free, handle, has_before, HasHandle, HasRoomFor, Held, held, held_made}
+use Prelude.{held_of, held_self, held_true, HoldingInBlock, Idle, InShape, Inside, IsDesk}
+use Prelude.{IsDeskWith, IsEnding, IsLegal, IsOpen, IsPointer, IsSameDesk, Keeps, Kind, known}
+use Prelude.{leads, loses, Member, names_an_object, NumberedHandle, Object, Opening, opening_of}
+use Prelude.{Owner, part_mine, Place, place_at, same_handle, same_held, same_kept, SeatView, Sound}
+use Prelude.{sound, State, StaysEnding, Swap, TableId, value, valued, without}
+use Rattle.control_block.specs.Desks.{MayPoint}
+use Rattle.control_block.proofs.Bags.{alone_there, map_without, seen_as, shown, shown_held}
+use Rattle.control_block.proofs.Bags.{shown_later}
 use Rattle.control_block.proofs.desks.DeskSteps.{allowance_left, came, ending_same, stock_left}
 use Rattle.control_block.proofs.Endings.{not_filled, still_ends}
 use Rattle.control_block.proofs.partings.Parts.{part_without_mine}

@@ -1,19 +1,11 @@
 -- What a desk saw without owner stays so, and its locks of it give none.
-use Rattle.std.proofs.Common.{◌≡◌, ◌++◌, ℕ, Bool, false, not, Option, Some, None, refl, sym, ap, subst, ◌∙◌, eq-eqb}
+use Rattle.std.proofs.Common.{◌≡◌, ℕ, Bool, false, not, ◌++◌, Some, None, Option, sym, refl, ap}
+use Rattle.std.proofs.Common.{◌∙◌, subst, eq-eqb}
+use Rattle.control_block.proofs.Prelude.{Added, desk_now, DeskNow, handle, HasHandle, Idle, Inside}
+use Rattle.control_block.proofs.Prelude.{IsDesk, IsLegal, known, latest_of, leads, Lock, on_latest}
+use Rattle.control_block.proofs.Prelude.{opening_of, Place, SeatView, state_of, Weak}
 use Rattle.control_word.proofs.history.Given.{stays_expired}
-use Rattle.control_word.specs.Handles.{handle}
-use Rattle.control_word.specs.Histories.{IsLegal, leads}
 use Rattle.control_word.specs.State.{count}
-use Rattle.control_word.specs.declared.model.event.Event.TheVariants.{Lock}
-use Rattle.control_word.specs.declared.model.handle.Kind.TheVariants.{Weak}
-use Rattle.control_word.specs.declared.place.Place.{Place}
-use Rattle.control_word.specs.declared.model.view.Pending.TheVariants.{Idle}
-use Rattle.control_block.specs.Desks.{DeskNow, HasHandle, latest_of, on_latest, state_of}
-use Rattle.control_block.specs.Inside.{IsDesk, desk_now}
-use Rattle.control_block.specs.StepKinds.{Added, known}
-use Rattle.control_block.specs.Rule.{opening_of}
-use Rattle.control_block.specs.declared.table.SeatView.{SeatView}
-use Rattle.control_block.specs.declared.desk.Desk.TheInside.{Inside}
 use Rattle.control_block.proofs.desks.DeskBags.{holding_in}
 
 module _ {V : Type 0} where

@@ -1,38 +1,15 @@
 -- What a desk is after a call.
-use Rattle.std.proofs.Common.{◌≡◌, ◌≢◌, ℕ, suc, ◌+◌, ◌<◌, ◌≤◌, ◌==◌, ◌&&◌, min, Bool, true, false, List, [], ◌∷◌}
-use Rattle.std.proofs.Common.{◌++◌, length, Option, Some, None, refl, sym, ap}
-use Rattle.std.proofs.Common.{subst, ◌∙◌, ⊎_elim, arith, eq-eqb, ne_eqb}
-use Rattle.std.proofs.lemmas.Bool.{cases_eq, cond-true, cond-false}
-use Rattle.std.specs.List.{filter}
-use Rattle.std.proofs.lemmas.List.Elements.{filter-append}
-use Rattle.std.proofs.Common.{◌++◌, ◌&&◌, length-append, ne_eqb, ◌≢◌, ⊎_elim}
-use Rattle.std.proofs.lemmas.Bool.{cases_eq, cond-false, cond-true}
-use Rattle.std.specs.Prelude.{vec_capacity}
-use Rattle.atomic_table.specs.Seated.{TableId}
-use Rattle.control_word.proofs.history.Given.{names_an_object}
-use Rattle.control_word.proofs.words.Counting.{bag_one}
-use Rattle.control_word.proofs.lists.Tallies.{held_self, held_true, num_has, num_without}
-use Rattle.control_word.specs.Handles.{handle}
-use Rattle.control_word.specs.Layout.{spot}
-use Rattle.control_word.specs.declared.model.handle.NumberedHandle.{NumberedHandle}
-use Rattle.control_word.specs.declared.model.handle.Kind.{Kind}
-use Rattle.control_word.specs.declared.place.Place.{Place}
-use Rattle.control_word.proofs.history.Kept.{Same, block_kept, same_kept}
-use Rattle.control_word.proofs.history.Legal.{sound}
-use Rattle.control_word.proofs.history.Soundness.{Sound}
-use Rattle.control_word.specs.Events.{Asks, after}
-use Rattle.control_word.specs.Histories.{IsLegal, entry, leads}
-use Rattle.control_word.specs.State.{Has, Held, InShape, State, Stored, bag_size, held, same_held, same_stored, stock, stored, without}
-use Rattle.control_word.specs.declared.model.event.Event.{Event}
-use Rattle.control_word.specs.declared.place.Block.{Block}
-use Rattle.control_word.specs.declared.model.view.Pending.{Pending}
-use Rattle.control_word.specs.declared.model.view.Pending.TheVariants.{Idle}
-use Rattle.control_block.specs.Desks.{many_ending}
-use Rattle.control_block.specs.Inside.{IsDeskWith, IsSized}
-use Rattle.control_block.specs.StepKinds.{Added, HoldingInBlock, known}
-use Rattle.control_block.specs.Rule.{opening_of}
-use Rattle.control_block.specs.declared.table.SeatView.{SeatView}
-use Rattle.control_block.specs.declared.desk.Desk.TheInside.{Inside}
+use Rattle.std.proofs.Common.{◌≡◌, ℕ, suc, ◌+◌, ◌<◌, ◌≤◌, min, Bool, true, false, ◌&&◌, ◌≢◌, List}
+use Rattle.std.proofs.Common.{[], ◌∷◌, ◌++◌, length, ◌==◌, Some, None, vec_capacity, Option, sym}
+use Rattle.std.proofs.Common.{refl, ap, ◌∙◌, subst, ⊎_elim, arith, length-append, eq-eqb, ne_eqb}
+use Rattle.control_block.proofs.Prelude
+use Prelude.{Added, after, Asks, bag_one, bag_size, Block, block_kept, cases_eq, cond-false}
+use Prelude.{cond-true, entry, Event, filter, filter-append, handle, Has, Held, held, held_self}
+use Prelude.{held_true, HoldingInBlock, Idle, InShape, Inside, IsDeskWith, IsLegal, IsSized, Kind}
+use Prelude.{known, leads, many_ending, names_an_object, num_has, num_without, NumberedHandle}
+use Prelude.{opening_of, Pending, Place, same_held, same_kept, same_stored, SeatView, Sound, sound}
+use Prelude.{spot, State, stock, Stored, stored, TableId, without}
+use Rattle.control_word.proofs.history.Kept.{Same}
 use Rattle.control_block.proofs.EndingCounts.{quiet_count, same_count}
 use Rattle.control_block.proofs.Passage.{IsQuiet}
 

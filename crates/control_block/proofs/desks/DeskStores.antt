@@ -1,25 +1,13 @@
 -- A desk's store after a block is taken from it, or comes to it.
-use Rattle.std.proofs.Common.{◌≡◌, ◌≢◌, ℕ, ◌+◌, ◌<◌, ◌==◌, ◌&&◌, cond, Bool, true, false, List, [], ◌∷◌, ◌++◌, length}
-use Rattle.std.proofs.Common.{refl, sym, ap, ◌∙◌}
-use Rattle.std.proofs.Common.{⊎_elim, inl, inr, arith, eq-eqb, ne_eqb, length-append}
-use Rattle.std.proofs.lemmas.Bool.{cases_eq, cond-true, cond-false, cond_both}
-use Rattle.std.proofs.lemmas.List.Elements.{filter-append}
-use Rattle.std.specs.List.{filter}
-use Rattle.std.specs.Prelude.{vec_capacity}
+use Rattle.std.proofs.Common.{◌≡◌, ℕ, ◌+◌, ◌<◌, Bool, true, false, cond, ◌&&◌, ◌≢◌, List, [], ◌∷◌}
+use Rattle.std.proofs.Common.{◌++◌, length, ◌==◌, vec_capacity, sym, refl, ap, ◌∙◌, inl, inr}
+use Rattle.std.proofs.Common.{⊎_elim, arith, length-append, eq-eqb, ne_eqb}
+use Rattle.control_block.proofs.Prelude.{after, Block, cases_eq, cond-false, cond-true, cond_both}
+use Rattle.control_block.proofs.Prelude.{Event, filter, filter-append, Has, Inside, IsDeskWith}
+use Rattle.control_block.proofs.Prelude.{known, num_without, opening_of, same_stored, SeatView}
+use Rattle.control_block.proofs.Prelude.{sound, spot, State, stock, Stored, stored, stored_self}
+use Rattle.control_block.proofs.Prelude.{stored_true, TableId, without}
 use Rattle.control_word.proofs.history.Kept.{Same}
-use Rattle.control_word.proofs.history.Legal.{sound}
-use Rattle.control_word.proofs.lists.Tallies.{num_without, stored_self, stored_true}
-use Rattle.atomic_table.specs.Seated.{TableId}
-use Rattle.control_word.specs.Events.{after}
-use Rattle.control_word.specs.Layout.{spot}
-use Rattle.control_word.specs.State.{Has, State, Stored, same_stored, stock, stored, without}
-use Rattle.control_word.specs.declared.place.Block.{Block}
-use Rattle.control_word.specs.declared.model.event.Event.{Event}
-use Rattle.control_block.specs.Inside.{IsDeskWith}
-use Rattle.control_block.specs.StepKinds.{known}
-use Rattle.control_block.specs.Rule.{opening_of}
-use Rattle.control_block.specs.declared.table.SeatView.{SeatView}
-use Rattle.control_block.specs.declared.desk.Desk.TheInside.{Inside}
 use Rattle.control_block.proofs.desks.DeskSteps.{Came, pushed, same_tally}
 use Rattle.control_block.proofs.words.Stores.{stock_few}
 

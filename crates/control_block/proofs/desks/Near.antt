@@ -1,15 +1,10 @@
 -- An object that the desk may look at, by what its seat knows.
-use Rattle.std.proofs.Common.{◌≡◌, ℕ, zero, suc, ◌<◌, List, [], ◌∷◌, Option, inl, inr, ⊎_elim, arith}
-use Rattle.std.specs.Prelude.{slice_index}
-use Rattle.atomic_table.specs.Seated.{TableId}
-use Rattle.control_word.specs.Layout.{spot}
-use Rattle.control_word.specs.declared.model.handle.Kind.{Kind}
-use Rattle.control_word.specs.declared.place.Place.{Place}
+use Rattle.std.proofs.Common.{◌≡◌, ℕ, zero, suc, ◌<◌, List, [], ◌∷◌, slice_index, Option, inl, inr}
+use Rattle.std.proofs.Common.{⊎_elim, arith}
+use Rattle.control_block.proofs.Prelude.{desk_now, DeskNow, Ends, HasHandle, HoldingInBlock}
+use Rattle.control_block.proofs.Prelude.{Inside, IsDesk, IsEnding, IsNearObject, Kind, known}
+use Rattle.control_block.proofs.Prelude.{Place, spot, TableId}
 use Rattle.control_block.specs.Desks as Desks
-use Rattle.control_block.specs.Desks.{DeskNow, HasHandle, IsEnding}
-use Rattle.control_block.specs.Inside.{IsDesk, desk_now}
-use Rattle.control_block.specs.StepKinds.{Ends, HoldingInBlock, IsNearObject, known}
-use Rattle.control_block.specs.declared.desk.Desk.TheInside.{Inside}
 use Rattle.control_block.proofs.desks.DeskBags.{holding_in}
 use Rattle.control_block.proofs.desks.DeskSteps.{word_inside}
 use Rattle.control_block.proofs.desks.OwnEndings.{ends_in}

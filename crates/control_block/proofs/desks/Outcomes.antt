@@ -1,20 +1,10 @@
 -- What a desk has after a call with one event.
-use Rattle.std.proofs.Common.{◌≡◌, ℕ, ap, ◌∙◌}
-use Rattle.atomic_table.specs.Seated.{TableId}
-use Rattle.control_word.specs.Events.{after}
-use Rattle.control_word.specs.Histories.{leads}
-use Rattle.control_word.specs.State.{State}
-use Rattle.control_word.specs.declared.model.event.Event.{Event}
-use Rattle.control_word.specs.declared.model.view.Pending.TheVariants.{Idle}
-use Rattle.control_block.specs.Desks.{DeskNow, bag_of}
-use Rattle.control_block.specs.Inside.{IsDesk, desk_now}
+use Rattle.std.proofs.Common.{◌≡◌, ℕ, None, ap, ◌∙◌}
+use Rattle.control_block.proofs.Prelude.{Added, after, bag_of, desk_now, DeskNow, Event, Idle}
+use Rattle.control_block.proofs.Prelude.{Inside, IsDesk, leads, opening_of, SeatView, State}
+use Rattle.control_block.proofs.Prelude.{TableId}
 use Rattle.control_block.specs.Outcomes.{Outcome}
-use Rattle.control_block.specs.Rule.{opening_of}
-use Rattle.control_block.specs.StepKinds.{Added}
-use Rattle.control_block.specs.declared.table.SeatView.{SeatView}
-use Rattle.control_block.specs.declared.desk.Desk.TheInside.{Inside}
 use Rattle.control_block.proofs.desks.DeskBags.{IsCalm, bag_stays, before, keeps_quietly, now_of}
-use Rattle.std.proofs.Common.{None}
 
 module _ {V : Type 0} where
   -- of one that moves nothing

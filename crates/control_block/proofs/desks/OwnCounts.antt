@@ -1,17 +1,9 @@
 -- How a desk's own events change the number of objects that end in its hands.
-use Rattle.std.proofs.Common.{◌≡◌, ℕ, ◌+◌, ◌≤◌, ◌==◌, Bool, true, false, cond, List, refl, ap, ◌∙◌, None, eq-eqb, arith}
-use Rattle.std.proofs.lemmas.Bool.{cond-true}
-use mir.Val.{bool_byte}
-use Rattle.control_word.specs.declared.model.event.Event.TheVariants.{Finish, Leave, Make}
-use Rattle.control_word.specs.declared.model.handle.NumberedHandle.{NumberedHandle}
-use Rattle.control_word.specs.declared.place.Block.{Block}
-use Rattle.control_word.specs.declared.model.view.Pending.TheVariants.{Idle}
-use Rattle.control_block.specs.Desks.{many_ending}
-use Rattle.control_block.specs.Inside.{IsDeskWith}
-use Rattle.control_block.specs.StepKinds.{Added, known}
-use Rattle.control_block.specs.Rule.{opening_of}
-use Rattle.control_block.specs.declared.table.SeatView.{SeatView}
-use Rattle.control_block.specs.declared.desk.Desk.TheInside.{Inside}
+use Rattle.std.proofs.Common.{◌≡◌, ℕ, ◌+◌, ◌≤◌, Bool, true, false, cond, List, ◌==◌, None, refl}
+use Rattle.std.proofs.Common.{ap, ◌∙◌, arith, eq-eqb}
+use Rattle.control_block.proofs.Prelude.{Added, Block, bool_byte, cond-true, Finish, Idle, Inside}
+use Rattle.control_block.proofs.Prelude.{IsDeskWith, known, Leave, Make, many_ending}
+use Rattle.control_block.proofs.Prelude.{NumberedHandle, opening_of, SeatView}
 use Rattle.control_block.proofs.desks.DeskSteps.{came, ending_after}
 use Rattle.control_block.proofs.EndingCounts.{finish_count, leave_count, make_count}
 

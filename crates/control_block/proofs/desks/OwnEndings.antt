@@ -1,34 +1,13 @@
 -- What a desk's own events leave of the objects that end in its hands.
-use Rattle.std.proofs.Common.{◌≡◌, ◌≢◌, ℕ, suc, ◌<◌, ◌==◌, Bool, true, cond, List, ◌∷◌, Option, Some, None, refl, sym, ap, subst}
-use Rattle.std.proofs.Common.{◌∙◌, arith, ne_eqb}
-use Rattle.std.proofs.lemmas.Bool.{cond-false}
-use Rattle.std.specs.Prelude.{IfSome, is_some}
-use Rattle.atomic_table.specs.Seated.{TableId}
-use Rattle.control_word.proofs.history.Given.{names_an_object}
-use Rattle.control_word.proofs.history.Kept.{block_kept}
-use Rattle.control_word.proofs.history.Legal.{sound}
-use Rattle.control_word.proofs.history.Others.{held_made}
-use Rattle.control_word.proofs.history.Soundness.{Sound}
-use Rattle.control_word.proofs.lists.Tallies.{put_other, put_same}
-use Rattle.control_word.specs.Events.{Asks, moved_to, new_object}
-use Rattle.control_word.specs.Handles.{empty, object_of, owner}
-use Rattle.control_word.specs.Histories.{entry, leads, value}
-use Rattle.control_word.specs.State.{InShape, Object, Opening, State, ending, gone, kind_of_member, put}
-use Rattle.control_word.specs.Words.{blocks_of}
-use Rattle.control_word.specs.declared.model.event.Event.{Event}
-use Rattle.control_word.specs.declared.model.event.Event.TheVariants.{ClearMember, Finish, Leave, Make, Visit}
-use Rattle.control_word.specs.declared.model.handle.NumberedHandle.{NumberedHandle}
-use Rattle.control_word.specs.declared.model.handle.Kind.{Kind}
-use Rattle.control_word.specs.declared.model.handle.Kind.TheVariants.{Owner}
-use Rattle.control_word.specs.declared.place.Block.{Block}
-use Rattle.control_word.specs.declared.place.Place.{Place}
-use Rattle.control_word.specs.declared.model.view.Pending.TheVariants.{Idle}
-use Rattle.control_block.specs.Desks.{DeskNow, IsCleared, IsEnding}
-use Rattle.control_block.specs.Inside.{IsDeskWith, desk_now}
-use Rattle.control_block.specs.StepKinds.{Added, Ends, HoldingInBlock, IsClear, known}
-use Rattle.control_block.specs.Rule.{opening_of}
-use Rattle.control_block.specs.declared.table.SeatView.{SeatView}
-use Rattle.control_block.specs.declared.desk.Desk.TheInside.{Inside}
+use Rattle.std.proofs.Common.{◌≡◌, ℕ, suc, ◌<◌, Bool, true, cond, ◌≢◌, List, ◌∷◌, is_some, IfSome}
+use Rattle.std.proofs.Common.{◌==◌, Some, None, Option, sym, refl, ap, ◌∙◌, subst, arith, ne_eqb}
+use Rattle.control_block.proofs.Prelude
+use Prelude.{Added, Asks, Block, block_kept, blocks_of, ClearMember, cond-false, desk_now, DeskNow}
+use Prelude.{empty, ending, Ends, entry, Event, Finish, gone, held_made, HoldingInBlock, Idle}
+use Prelude.{InShape, Inside, IsClear, IsCleared, IsDeskWith, IsEnding, Kind, kind_of_member}
+use Prelude.{known, leads, Leave, Make, moved_to, names_an_object, new_object, NumberedHandle}
+use Prelude.{Object, object_of, Opening, opening_of, Owner, owner, Place, put, put_other, put_same}
+use Prelude.{SeatView, Sound, sound, State, TableId, value, Visit}
 use Rattle.control_block.proofs.desks.DeskBags.{Spares, before, legal_now, now_of}
 use Rattle.control_block.proofs.Endings.{ends_busy, ends_here, not_live}
 

@@ -1,17 +1,8 @@
 -- Which block becomes vacant.
 use Rattle.std.proofs.Common.{◌≡◌, ℕ, ◌<◌, ◌≤◌, Option, sym, ap, ◌∙◌, arith}
-use Rattle.atomic_table.specs.Seated.{TableId}
-use Rattle.control_word.proofs.history.Legal.{sound}
-use Rattle.control_word.proofs.history.Others.{held_made}
-use Rattle.control_word.specs.Layout.{spot}
-use Rattle.control_word.specs.declared.model.event.Event.{Event}
-use Rattle.control_word.specs.declared.model.handle.Kind.TheVariants.{Weak}
-use Rattle.control_word.specs.declared.place.Place.{Place}
-use Rattle.control_block.specs.Inside.{IsDesk, IsDeskWith}
-use Rattle.control_block.specs.StepKinds.{Ends, HoldingInBlock, known}
-use Rattle.control_block.specs.Rule.{opening_of}
-use Rattle.control_block.specs.declared.table.SeatView.{SeatView}
-use Rattle.control_block.specs.declared.desk.Desk.TheInside.{Inside}
+use Rattle.control_block.proofs.Prelude.{Ends, Event, held_made, HoldingInBlock, Inside, IsDesk}
+use Rattle.control_block.proofs.Prelude.{IsDeskWith, known, opening_of, Place, SeatView, sound}
+use Rattle.control_block.proofs.Prelude.{spot, TableId, Weak}
 use Rattle.control_block.proofs.desks.DeskSteps.{Came}
 use Rattle.control_block.proofs.desks.OwnEndings.{ends_inside}
 

@@ -1,17 +1,10 @@
 -- What a seat has in the course of a visit.
-use Rattle.std.proofs.Common.{◌≡◌, ℕ, ◌-◌, List, [], ◌∷◌, Option, None, Some, refl, sym, ap, subst, ◌∙◌}
-use Rattle.control_word.specs.Handles.{owner}
-use Rattle.control_word.specs.Histories.{value}
-use Rattle.control_word.specs.Layout.{spot}
-use Rattle.control_word.specs.declared.model.event.Event.TheVariants.{Visit}
-use Rattle.control_word.specs.declared.place.Block.{Block}
-use Rattle.control_word.specs.declared.place.Place.{Place}
-use Rattle.control_word.specs.declared.model.view.Pending.{Pending}
-use Rattle.control_word.specs.declared.model.view.Pending.TheVariants.{Idle, Making, Merging, Parting, Paying, Visiting}
+use Rattle.std.proofs.Common.{◌≡◌, ℕ, ◌-◌, List, [], ◌∷◌, Some, None, Option, sym, refl, ap, ◌∙◌}
+use Rattle.std.proofs.Common.{subst}
+use Rattle.control_block.proofs.Prelude.{At, Block, Idle, Making, Merging, Moved, opening_of}
+use Rattle.control_block.proofs.Prelude.{owner, Parting, Paying, Pending, Place, SeatView, spot}
+use Rattle.control_block.proofs.Prelude.{tells, value, Visit, Visiting}
 use Rattle.control_block.specs.DoorStepKinds.{IsVisiting}
-use Rattle.control_block.specs.StepKinds.{At, Moved, tells}
-use Rattle.control_block.specs.Rule.{opening_of}
-use Rattle.control_block.specs.declared.table.SeatView.{SeatView}
 use Rattle.control_block.proofs.words.Seats.{first_slot, some_same}
 
 module _ {V : Type 0} where

@@ -1,25 +1,15 @@
 -- What a weak handle may come from, by what the desk knows.
-use Rattle.std.proofs.Common.{◌≡◌, ◌⊎◌, ℕ, ◌<◌, true, ◌∷◌, Option, sym, subst, inl, inr, ⊎_elim, arith}
-use Rattle.atomic_table.specs.Seated.{TableId}
-use Rattle.control_word.specs.Events.{place_at}
-use Rattle.control_word.specs.Histories.{entry, leads}
-use Rattle.control_word.specs.Layout.{spot}
-use Rattle.control_word.specs.Words.{blocks_of}
-use Rattle.control_word.specs.declared.model.event.Event.{Event}
-use Rattle.control_word.specs.declared.model.handle.Kind.{Kind}
-use Rattle.control_word.specs.declared.place.Place.{Place}
-use Rattle.control_word.specs.declared.model.view.Pending.TheVariants.{Idle}
-use Rattle.control_block.specs.Desks.{DeskNow, HasHandle, IsEnding, MayGiveWeak, latest_of, state_of}
-use Rattle.control_block.specs.Inside.{IsDesk, desk_now}
-use Rattle.control_block.specs.StepKinds.{Added, Ends, HoldingInBlock, MayShareWeakly, known}
-use Rattle.control_block.specs.Rule.{opening_of}
-use Rattle.control_block.specs.declared.table.SeatView.{SeatView}
-use Rattle.control_block.specs.declared.desk.Desk.TheInside.{Inside}
+use Rattle.std.proofs.Common.{◌≡◌, ℕ, ◌<◌, true, ◌⊎◌, ◌∷◌, None, Option, sym, subst, inl, inr}
+use Rattle.std.proofs.Common.{⊎_elim, arith}
+use Rattle.control_block.proofs.Prelude.{Added, blocks_of, desk_now, DeskNow, Ends, entry, Event}
+use Rattle.control_block.proofs.Prelude.{HasHandle, HoldingInBlock, Idle, Inside, IsDesk, IsEnding}
+use Rattle.control_block.proofs.Prelude.{Kind, known, latest_of, leads, MayShareWeakly, opening_of}
+use Rattle.control_block.proofs.Prelude.{Place, place_at, SeatView, spot, state_of, TableId}
+use Rattle.control_block.specs.Desks.{MayGiveWeak}
 use Rattle.control_block.proofs.desks.DeskBags.{before, block_still, holding_in}
 use Rattle.control_block.proofs.desks.DeskSteps.{word_inside}
 use Rattle.control_block.proofs.desks.OwnEndings.{ending_after, ends_in}
 use Rattle.control_block.proofs.desks.StoreBlocks.{ending_word}
-use Rattle.std.proofs.Common.{None}
 
 module _ {V : Type 0} where
   pub may_in : (d : Inside V) (y : DeskNow V) (b : ℕ) (q : Option Place) → IsDesk d → desk_now d ≡ y → MayGiveWeak y b q

@@ -1,22 +1,11 @@
 -- Bring: funds are put on a count, under a handle in hand.
-use Rattle.std.proofs.Common.{◌≡◌, ℕ, ◌+◌, ◌*◌, ◌/◌, ◌%◌, ◌^◌, ◌<◌, ◌≤◌, get_or, set, map, Option, sym, ap, subst}
-use Rattle.std.proofs.Common.{◌∙◌, arith}
-use Rattle.atomic_table.specs.Table.{Allows, step}
-use mathlib.Core.Option.{none}
-use Rattle.control_word.proofs.history.Legal.{held_busy, sound}
+use Rattle.std.proofs.Common.{◌≡◌, ℕ, ◌+◌, ◌*◌, ◌/◌, ◌%◌, ◌^◌, ◌<◌, ◌≤◌, map, get_or, set, Option}
+use Rattle.std.proofs.Common.{sym, ap, ◌∙◌, subst, arith}
+use Rattle.control_block.proofs.Prelude.{Allows, At, has_headroom, held_busy, HoldingInBlock, Idle}
+use Rattle.control_block.proofs.Prelude.{Kind, leads, none, opening_of, Paying, Pending, Place}
+use Rattle.control_block.proofs.Prelude.{Rests, Ruled, sees_as, Shape, slot, sound, spot, Stands}
+use Rattle.control_block.proofs.Prelude.{step, view_of}
 use Rattle.control_word.proofs.steps.Bring as law
-use Rattle.control_word.proofs.steps.Standing.{has_headroom}
-use Rattle.control_word.specs.Histories.{leads}
-use Rattle.control_word.specs.Layout.{spot}
-use Rattle.control_word.specs.Views.{Stands, sees_as}
-use Rattle.control_word.specs.Words.{slot}
-use Rattle.control_word.specs.declared.model.handle.Kind.{Kind}
-use Rattle.control_word.specs.declared.place.Place.{Place}
-use Rattle.control_word.specs.declared.shape.Shape.{Shape}
-use Rattle.control_word.specs.declared.model.view.Pending.{Pending}
-use Rattle.control_word.specs.declared.model.view.Pending.TheVariants.{Idle, Paying}
-use Rattle.control_block.specs.Rule.{Ruled, opening_of, view_of}
-use Rattle.control_block.specs.StepKinds.{At, HoldingInBlock, Rests}
 use Rattle.control_block.specs.FundStepKinds.{brought}
 use Rattle.control_block.proofs.Passage.{held_there, point, ready}
 use Rattle.control_block.proofs.words.Still.{allows_move}

@@ -1,26 +1,14 @@
 -- A look at a cell that is a compare which differs, of a cell without an object.
-use Rattle.std.proofs.Common.{◌≡◌, ◌≢◌, ℕ, true, false, Bool, ◌∷◌, get_or, set, Option, Some, None, refl, sym, ap, ◌∙◌, inl}
+use Rattle.std.proofs.Common.{◌≡◌, ℕ, Bool, true, false, ◌≢◌, ◌∷◌, get_or, set, Some, None, Option}
+use Rattle.std.proofs.Common.{sym, refl, ap, ◌∙◌, inl}
+use Rattle.control_block.proofs.Prelude.{Allows, At, Block, block_of, blocks_of, Cell, cell_of}
+use Rattle.control_block.proofs.Prelude.{CellWord, Compare, entry, equivalent, Event, get_elem?}
+use Rattle.control_block.proofs.Prelude.{handle, Idle, InHand, IsCellAt, kind_in, known, leads}
+use Rattle.control_block.proofs.Prelude.{none, NumberedHandle, opening_of, Rests, Ruled, SeatView}
+use Rattle.control_block.proofs.Prelude.{seeing, Shape, shown, some, step}
 use Rattle.atomic_table.specs.Table as Table
-use Rattle.atomic_table.specs.Table.{Allows, step}
-use mathlib.Core.Option.{none, some}
-use lib.ListN.{get_elem?}
 use Rattle.control_word.proofs.steps.Look as law
-use Rattle.control_word.specs.Events.{InHand, cell_of}
-use Rattle.control_word.specs.Handles.{equivalent, handle}
-use Rattle.control_word.specs.Histories.{entry, leads}
-use Rattle.control_word.specs.Words.{block_of, blocks_of, shown}
-use Rattle.control_word.specs.declared.packed.cell.CellWord.{CellWord}
-use Rattle.control_word.specs.declared.model.event.Cell.{Cell}
-use Rattle.control_word.specs.declared.model.event.Event.{Event}
-use Rattle.control_word.specs.declared.model.event.Event.TheVariants.{Compare}
-use Rattle.control_word.specs.declared.model.handle.NumberedHandle.{NumberedHandle}
-use Rattle.control_word.specs.declared.place.Block.{Block}
-use Rattle.control_word.specs.declared.shape.Shape.{Shape}
-use Rattle.control_word.specs.declared.model.view.Pending.TheVariants.{Idle}
-use Rattle.control_block.specs.Rule.{Ruled, opening_of, seeing}
-use Rattle.control_block.specs.StepKinds.{At, Rests, known}
-use Rattle.control_block.specs.CellStepKinds.{IsCellAt, as_differed, differed_empty, kind_in}
-use Rattle.control_block.specs.declared.table.SeatView.{SeatView}
+use Rattle.control_block.specs.CellStepKinds.{as_differed, differed_empty}
 use Rattle.control_block.proofs.CellWords.{Decoded, Opened, is_open}
 use Rattle.control_block.proofs.words.Hands.{hand_there}
 use Rattle.control_block.proofs.Passage.{adds, plain, point, quiet_next, ready}

@@ -1,26 +1,14 @@
 -- Looks at a cell: without an event, or as the load or the compare of a cell without an object.
-use Rattle.std.proofs.Common.{◌≡◌, ◌≢◌, ℕ, false, ◌∷◌, ◌++◌, get_or, set, Option, Some, None, refl, sym, ap, subst, ◌∙◌}
+use Rattle.std.proofs.Common.{◌≡◌, ℕ, false, ◌≢◌, ◌∷◌, ◌++◌, get_or, set, Some, None, Option, sym}
+use Rattle.std.proofs.Common.{refl, ap, ◌∙◌, subst}
+use Rattle.control_block.proofs.Prelude
+use Prelude.{Allows, At, Block, block_of, blocks_of, Cell, cell_of, CellWord, entry, Event}
+use Prelude.{get_elem?, handle, Idle, IsCellAt, IsLegal, keeps, kind_in, leads, Load, none}
+use Prelude.{NumberedHandle, opening_of, Rests, Ruled, SeatView, seeing, Shape, shown, some, step}
 use Rattle.atomic_table.specs.Table as Table
-use Rattle.atomic_table.specs.Table.{Allows, keeps, step}
-use mathlib.Core.Option.{none, some}
-use lib.ListN.{get_elem?}
 use Rattle.control_word.proofs.steps.Look as law
-use Rattle.control_word.specs.Events.{cell_of}
-use Rattle.control_word.specs.Handles.{handle}
-use Rattle.control_word.specs.Histories.{IsLegal, entry, leads}
-use Rattle.control_word.specs.Words.{block_of, blocks_of, shown}
-use Rattle.control_word.specs.declared.packed.cell.CellWord.{CellWord}
-use Rattle.control_word.specs.declared.model.event.Cell.{Cell}
-use Rattle.control_word.specs.declared.model.event.Event.{Event}
-use Rattle.control_word.specs.declared.model.event.Event.TheVariants.{Load}
-use Rattle.control_word.specs.declared.model.handle.NumberedHandle.{NumberedHandle}
-use Rattle.control_word.specs.declared.place.Block.{Block}
-use Rattle.control_word.specs.declared.shape.Shape.{Shape}
-use Rattle.control_word.specs.declared.model.view.Pending.TheVariants.{Idle}
-use Rattle.control_block.specs.Rule.{Ruled, opening_of, seeing}
-use Rattle.control_block.specs.StepKinds.{At, Rests}
-use Rattle.control_block.specs.CellStepKinds.{IsCellAt, IsHeld, kind_in, as_loaded, as_peeked, loaded_empty, of_cell, cell_peeked}
-use Rattle.control_block.specs.declared.table.SeatView.{SeatView}
+use Rattle.control_block.specs.CellStepKinds.{IsHeld, as_loaded, as_peeked, loaded_empty, of_cell}
+use Rattle.control_block.specs.CellStepKinds.{cell_peeked}
 use Rattle.control_block.proofs.CellWords.{Decoded, Opened, decoded, found_is, is_open, opened}
 use Rattle.control_block.proofs.Passage.{adds, knows, plain, point, quiet_next, ready}
 use Rattle.control_block.proofs.words.Still.{unmoved}

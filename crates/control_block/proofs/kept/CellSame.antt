@@ -1,25 +1,13 @@
 -- A look at a cell which tells whether it holds a handle that the desk has.
-use Rattle.std.proofs.Common.{◌≡◌, ℕ, ◌%◌, ◌==◌, List, ◌∷◌, get_or, set, map, Option, refl, sym, ap, subst, arith}
-use Rattle.atomic_table.specs.Table.{Allows, step}
-use mathlib.Core.Option.{none}
+use Rattle.std.proofs.Common.{◌≡◌, ℕ, ◌%◌, List, ◌∷◌, map, get_or, set, ◌==◌, Option, sym, refl}
+use Rattle.std.proofs.Common.{ap, subst, arith}
+use Rattle.control_block.proofs.Prelude
+use Prelude.{Allows, At, Block, block_of, blocks_of, Cell, cell_bits, cell_shown, CellWord, Entry}
+use Prelude.{entry, Idle, InHand, IsCellAt, kind_in, known, leads, none, NumberedHandle}
+use Prelude.{opening_of, Rests, Ruled, Same, sees_as, Shape, shown, Stands, step, view_of}
 use Rattle.control_word.proofs.steps.Sameness as law
-use Rattle.control_word.proofs.words.Decoding.{cell_shown}
-use Rattle.control_word.specs.Events.{InHand}
-use Rattle.control_word.specs.Histories.{entry, leads}
-use Rattle.control_word.specs.Packing.{cell_bits}
-use Rattle.control_word.specs.Views.{Stands, sees_as}
-use Rattle.control_word.specs.Words.{block_of, blocks_of, packed, shown}
-use Rattle.control_word.specs.declared.packed.cell.CellWord.{CellWord}
-use Rattle.control_word.specs.declared.model.event.Cell.{Cell}
-use Rattle.control_word.specs.declared.model.event.Entry.{Entry}
-use Rattle.control_word.specs.declared.model.event.Event.TheVariants.{Same}
-use Rattle.control_word.specs.declared.model.handle.NumberedHandle.{NumberedHandle}
-use Rattle.control_word.specs.declared.model.view.Pending.TheVariants.{Idle}
-use Rattle.control_word.specs.declared.place.Block.{Block}
-use Rattle.control_word.specs.declared.shape.Shape.{Shape}
-use Rattle.control_block.specs.CellStepKinds.{IsCellAt, kind_in, told_same}
-use Rattle.control_block.specs.Rule.{Ruled, opening_of, view_of}
-use Rattle.control_block.specs.StepKinds.{At, Rests, known}
+use Rattle.control_word.specs.Words.{packed}
+use Rattle.control_block.specs.CellStepKinds.{told_same}
 use Rattle.control_block.proofs.CellWords.{is_open, opened}
 use Rattle.control_block.proofs.Passage.{allows_event, plain, point, ready}
 use Rattle.control_block.proofs.kept.Look.{looked}

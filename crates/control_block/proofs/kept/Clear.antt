@@ -1,38 +1,22 @@
 -- Clear: a member of an object that ends is emptied, by a look where it holds nothing.
-use Rattle.std.proofs.Common.{◌≡◌, ◌≢◌, ℕ, ◌+◌, ◌-◌, ◌*◌, ◌<◌, false, [], ◌∷◌, get_or, set, map, Option, None, refl, sym}
-use Rattle.std.proofs.Common.{ap, subst, ◌∙◌, ⊎_elim, arith}
-use Rattle.std.proofs.lemmas.Bool.{cases_eq}
+use Rattle.std.proofs.Common.{◌≡◌, ℕ, ◌+◌, ◌-◌, ◌*◌, ◌<◌, false, ◌≢◌, [], ◌∷◌, map, get_or, set}
+use Rattle.std.proofs.Common.{None, Option, sym, refl, ap, ◌∙◌, subst, ⊎_elim, arith}
+use Rattle.control_block.proofs.Prelude
+use Prelude.{Adds, after, Allows, At, blocks_of, cases_eq, cell_of, cell_shown, cell_word}
+use Prelude.{CellWord, ClearMember, common, empty, ending, Ends, entry, Event, Gave, get_elem?}
+use Prelude.{HasRoom, HasRoomFor, Idle, keeps, kind_of_member, leads, Member, none, NumberedHandle}
+use Prelude.{opening_of, purse, Rests, Ruled, SeatView, seeing, sees_as, Shape, shown, some, sound}
+use Prelude.{spot, Stands, step, view_of}
 use Rattle.atomic_table.specs.Table as Table
-use Rattle.atomic_table.specs.Table.{Allows, keeps, step}
-use mathlib.Core.Option.{none, some}
-use lib.ListN.{get_elem?}
-use Rattle.control_word.proofs.history.Legal.{sound}
 use Rattle.control_word.proofs.steps.Clear as law
-use Rattle.control_word.proofs.words.Decoding.{cell_shown}
-use Rattle.control_word.specs.Events.{after, cell_of}
-use Rattle.control_word.specs.Handles.{empty}
-use Rattle.control_word.specs.Histories.{entry, leads}
-use Rattle.control_word.specs.Layout.{spot}
-use Rattle.control_word.specs.State.{HasRoom, common, ending, kind_of_member}
-use Rattle.control_word.specs.Steps.{Adds, cell_word, purse}
-use Rattle.control_word.specs.Views.{Stands, sees_as}
-use Rattle.control_word.specs.Words.{blocks_of, packed, shown}
-use Rattle.control_word.specs.declared.packed.cell.CellWord.{CellWord}
-use Rattle.control_word.specs.declared.model.event.Cell.TheVariants.{Member}
-use Rattle.control_word.specs.declared.model.event.Event.{Event}
-use Rattle.control_word.specs.declared.model.event.Event.TheVariants.{ClearMember}
-use Rattle.control_word.specs.declared.model.handle.NumberedHandle.{NumberedHandle}
-use Rattle.control_word.specs.declared.shape.Shape.{Shape}
-use Rattle.control_word.specs.declared.model.view.Pending.TheVariants.{Idle}
-use Rattle.control_block.specs.Rule.{Ruled, opening_of, seeing, view_of}
-use Rattle.control_block.specs.StepKinds.{At, Ends, HasRoomFor, Rests}
-use Rattle.control_block.specs.CellStepKinds.{Gave, cleared, looked_clear}
-use Rattle.control_block.specs.declared.table.SeatView.{SeatView}
+use Rattle.control_word.specs.Words.{packed}
+use Rattle.control_block.specs.CellStepKinds.{cleared, looked_clear}
 use Rattle.control_block.proofs.cells.CellRetries.{no_block}
 use Rattle.control_block.proofs.CellWords.{Opened, decoded, found_is, one_cell}
 use Rattle.control_block.proofs.Endings.{ends_here}
 use Rattle.control_block.proofs.words.Hands.{gets_most}
-use Rattle.control_block.proofs.Passage.{adds, point, quiet_clear, quiet_next, ready, still_ending, still_room}
+use Rattle.control_block.proofs.Passage.{adds, point, quiet_clear, quiet_next, ready, still_ending}
+use Rattle.control_block.proofs.Passage.{still_room}
 use Rattle.control_block.proofs.words.Still.{unmoved}
 use Rattle.control_block.proofs.kept.Swap.{gives}
 

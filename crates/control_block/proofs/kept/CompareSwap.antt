@@ -1,30 +1,17 @@
 -- Compare and swap: where the cell holds what is expected, the new handle goes in.
-use Rattle.std.proofs.Common.{◌≡◌, ℕ, ◌-◌, ◌==◌, true, false, Bool, get_or, Option, None, refl, sym, ap, subst, ◌∙◌, inl}
+use Rattle.std.proofs.Common.{◌≡◌, ℕ, ◌-◌, Bool, true, false, get_or, ◌==◌, None, Option, sym}
+use Rattle.std.proofs.Common.{refl, ap, ◌∙◌, subst, inl}
+use Rattle.control_block.proofs.Prelude
+use Prelude.{Adds, Allows, At, blocks_of, Cell, cell_bits, cell_of, cell_shown, cell_word}
+use Prelude.{CellWord, Compare, debt, either, equivalent, Gave, get_elem?, handle, HasRoomFor}
+use Prelude.{InHand, IsCellAt, IsCellWord, IsWordOf, kind_in, known, leads, none, NumberedHandle}
+use Prelude.{opening_of, Owes, purse, Ruled, SeatView, Shape, shown, some, step}
 use Rattle.atomic_table.specs.Table as Table
-use Rattle.atomic_table.specs.Table.{Allows, step}
-use mathlib.Core.Option.{none, some}
-use lib.ListN.{get_elem?}
-use prog.Atomic.{either}
 use Rattle.control_word.proofs.history.Orders.{equivalence}
 use Rattle.control_word.proofs.steps.CompareSwap as law
-use Rattle.control_word.proofs.words.Decoding.{cell_shown}
-use Rattle.control_word.specs.Events.{InHand, cell_of}
-use Rattle.control_word.specs.Handles.{equivalent, handle}
-use Rattle.control_word.specs.Histories.{leads}
-use Rattle.control_word.specs.Packing.{IsCellWord, cell_bits}
-use Rattle.control_word.specs.Steps.{Adds, cell_word, purse}
-use Rattle.control_word.specs.Words.{blocks_of, shown}
-use Rattle.control_word.specs.declared.packed.cell.CellWord.{CellWord}
-use Rattle.control_word.specs.declared.model.event.Cell.{Cell}
-use Rattle.control_word.specs.declared.model.event.Event.TheVariants.{Compare}
-use Rattle.control_word.specs.declared.model.handle.NumberedHandle.{NumberedHandle}
-use Rattle.control_word.specs.declared.shape.Shape.{Shape}
-use Rattle.control_block.specs.Rule.{Ruled, opening_of}
-use Rattle.control_block.specs.StepKinds.{At, HasRoomFor, known}
-use Rattle.control_block.specs.FundStepKinds.{Owes}
-use Rattle.control_block.specs.CellStepKinds.{Gave, IsCellAt, IsWordOf, compare_swapped, debt, kind_in}
-use Rattle.control_block.specs.declared.table.SeatView.{SeatView}
-use Rattle.control_block.proofs.CellWords.{Opened, cell_keeps, decoded, found_is, is_open, one_cell, opened}
+use Rattle.control_block.specs.CellStepKinds.{compare_swapped}
+use Rattle.control_block.proofs.CellWords.{Opened, cell_keeps, decoded, found_is, is_open}
+use Rattle.control_block.proofs.CellWords.{one_cell, opened}
 use Rattle.control_block.proofs.words.Hands.{hand_block, hand_there, room_swapped, same_object}
 use Rattle.control_block.proofs.Passage.{point, quiet_compare}
 use Rattle.control_block.proofs.words.Still.{allows_exchange}

@@ -1,42 +1,20 @@
 -- The door of a visit: it is shut and the slot with the value taken, and it is opened and the slot given home.
-use Rattle.std.proofs.Common.{◌≡◌, ◌≢◌, ℕ, ◌+◌, ◌-◌, ◌%◌, ◌^◌, ◌<◌, ◌≤◌, ◌==◌, cond, false, [], ◌∷◌, get_or}
-use Rattle.std.proofs.Common.{set, map, length-set, Option, Some, None}
-use Rattle.std.proofs.Common.{refl, sym, ap, subst, ◌∙◌, inl, inr, ⊎_elim, arith, eq-eqb, ne_eqb}
-use Rattle.std.proofs.lemmas.Bool.{cases_eq}
-use mathlib.Core.Option.{none, some}
-use lib.ListN.{get_elem?}
-use prog.Atomic.{either}
+use Rattle.std.proofs.Common.{◌≡◌, ℕ, ◌+◌, ◌-◌, ◌%◌, ◌^◌, ◌<◌, ◌≤◌, false, cond, ◌≢◌, [], ◌∷◌, map}
+use Rattle.std.proofs.Common.{get_or, set, ◌==◌, Some, None, Option, sym, refl, ap, ◌∙◌, subst}
+use Rattle.std.proofs.Common.{inl, inr, ⊎_elim, arith, length-set, eq-eqb, ne_eqb}
+use Rattle.control_block.proofs.Prelude
+use Prelude.{Allows, At, at_map, Block, cases_eq, counted_live, either, entry, Event, Fits}
+use Prelude.{get_elem?, gives, has_value, held_busy, HoldingInBlock, Idle, InShape, IsSlotOf}
+use Prelude.{keeps, kept, leads, names_an_object, none, opened, opening_of, Owner, owner}
+use Prelude.{owner_counted, Pending, Place, put_back, put_other, put_same, rest, Rests, Ruled}
+use Prelude.{SeatView, seeing, sees_as, set_else, set_here, Shape, some, sound, spot, Stands, step}
+use Prelude.{takes, until_gone, value, View, view_of, Visit, Visiting}
 use Rattle.atomic_table.specs.Table as Table
-use Rattle.atomic_table.specs.Table.{Allows, gives, keeps, put_back, rest, step, takes}
-use Rattle.atomic_table.proofs.Lists.{at_map, set_else, set_here}
-use Rattle.control_word.proofs.history.Given.{names_an_object}
-use Rattle.control_word.proofs.history.Legal.{held_busy, sound}
-use Rattle.control_word.proofs.history.Moving.{counted_live, owner_counted}
-use Rattle.control_word.proofs.history.Values.{has_value}
-use Rattle.control_word.proofs.lists.Tallies.{put_other, put_same}
 use Rattle.control_word.proofs.steps.Open as opening
 use Rattle.control_word.proofs.steps.Shut as shutting
-use Rattle.control_word.proofs.words.Flags.{flags_read}
-use Rattle.control_word.proofs.words.Flags.{total_at}
-use Rattle.control_word.specs.Handles.{owner}
-use Rattle.control_word.specs.Histories.{entry, leads, value}
-use Rattle.control_word.specs.Layout.{spot}
-use Rattle.control_word.specs.State.{InShape}
-use Rattle.control_word.specs.Views.{Fits, Stands, sees_as}
+use Rattle.control_word.proofs.words.Flags.{flags_read, total_at}
 use Rattle.control_word.specs.Views.{adds as door_added}
-use Rattle.control_word.specs.declared.model.event.Event.{Event}
-use Rattle.control_word.specs.declared.model.event.Event.TheVariants.{Visit}
-use Rattle.control_word.specs.declared.model.handle.Kind.TheVariants.{Owner}
-use Rattle.control_word.specs.declared.place.Block.{Block}
-use Rattle.control_word.specs.declared.place.Place.{Place}
-use Rattle.control_word.specs.declared.shape.Shape.{Shape}
-use Rattle.control_word.specs.declared.model.view.Pending.{Pending}
-use Rattle.control_word.specs.declared.model.view.Pending.TheVariants.{Idle, Visiting}
-use Rattle.control_word.specs.declared.model.view.View.{View}
-use Rattle.control_block.specs.Rule.{IsSlotOf, Ruled, kept, opening_of, seeing, view_of, until_gone}
-use Rattle.control_block.specs.StepKinds.{At, HoldingInBlock, Rests}
-use Rattle.control_block.specs.DoorStepKinds.{opened, shut}
-use Rattle.control_block.specs.declared.table.SeatView.{SeatView}
+use Rattle.control_block.specs.DoorStepKinds.{shut}
 use Rattle.control_block.proofs.Passage.{adds, held_there, moves, next, point, ready}
 use Rattle.control_block.proofs.words.Slots.{live_home, slots_apart}
 use Rattle.control_block.proofs.words.Still.{unmoved}

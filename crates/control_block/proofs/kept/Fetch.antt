@@ -1,22 +1,11 @@
 -- Fetch: a desk in whose hands an object ends takes its slot, with the value, at a look.
-use Rattle.std.proofs.Common.{◌≡◌, ◌≢◌, ℕ, ◌-◌, ◌≤◌, ◌∷◌, set, map, length-set, Option, Some, refl, sym, ap, subst, ◌∙◌}
-use Rattle.std.proofs.Common.{inl, inr, ⊎_elim}
-use Rattle.std.proofs.lemmas.Bool.{cases_eq}
+use Rattle.std.proofs.Common.{◌≡◌, ℕ, ◌-◌, ◌≤◌, ◌≢◌, ◌∷◌, map, set, Some, Option, sym, refl, ap}
+use Rattle.std.proofs.Common.{◌∙◌, subst, inl, inr, ⊎_elim, length-set}
+use Rattle.control_block.proofs.Prelude
+use Prelude.{Allows, At, at_map, Block, cases_eq, Ends, fetched, get_elem?, Idle, InShape}
+use Prelude.{IsSlotOf, leads, none, opening_of, Pending, Rests, Ruled, SeatView, seeing, sees_as}
+use Prelude.{set_again, set_else, Shape, some, Stands, step, takes, value, view_of}
 use Rattle.atomic_table.specs.Table as Table
-use Rattle.atomic_table.specs.Table.{Allows, step, takes}
-use Rattle.atomic_table.proofs.Lists.{at_map, set_again, set_else}
-use mathlib.Core.Option.{none, some}
-use lib.ListN.{get_elem?}
-use Rattle.control_word.specs.Histories.{leads, value}
-use Rattle.control_word.specs.State.{InShape}
-use Rattle.control_word.specs.Views.{Stands, sees_as}
-use Rattle.control_word.specs.declared.place.Block.{Block}
-use Rattle.control_word.specs.declared.shape.Shape.{Shape}
-use Rattle.control_word.specs.declared.model.view.Pending.{Pending}
-use Rattle.control_word.specs.declared.model.view.Pending.TheVariants.{Idle}
-use Rattle.control_block.specs.Rule.{IsSlotOf, Ruled, opening_of, seeing, view_of}
-use Rattle.control_block.specs.StepKinds.{At, Ends, Rests, fetched}
-use Rattle.control_block.specs.declared.table.SeatView.{SeatView}
 use Rattle.control_block.proofs.Passage.{next, still_ending}
 use Rattle.control_block.proofs.words.Slots.{ending_home, slots_apart}
 use Rattle.control_block.proofs.kept.Look.{looked}

@@ -1,28 +1,14 @@
 -- Finish: the owners' common weak count is taken from an ending, and its emptied slot goes home.
-use Rattle.std.proofs.Common.{◌≡◌, ◌≢◌, ℕ, ◌+◌, ◌-◌, ◌%◌, ◌^◌, ◌<◌, ◌==◌, ◌≤◌, false, List, [], ◌∷◌, get_or}
-use Rattle.std.proofs.Common.{set, map, length-set, Some, None, refl, sym, ap, subst, ◌∙◌}
-use Rattle.std.proofs.Common.{inl, inr, ⊎_elim, arith}
-use Rattle.std.proofs.lemmas.Bool.{cases_eq}
-use Rattle.atomic_table.specs.Table.{Allows, gives, put_back, rest, step}
-use mathlib.Core.Option.{none, some}
-use lib.ListN.{get_elem?}
-use Rattle.atomic_table.proofs.Lists.{set_else, set_here}
-use Rattle.control_word.proofs.history.Legal.{sound}
-use Rattle.control_word.proofs.lists.Tallies.{put_same}
+use Rattle.std.proofs.Common.{◌≡◌, ℕ, ◌+◌, ◌-◌, ◌%◌, ◌^◌, ◌<◌, ◌≤◌, false, ◌≢◌, List, [], ◌∷◌, map}
+use Rattle.std.proofs.Common.{get_or, set, ◌==◌, Some, None, sym, refl, ap, ◌∙◌, subst, inl, inr}
+use Rattle.std.proofs.Common.{⊎_elim, arith, length-set}
+use Rattle.control_block.proofs.Prelude
+use Prelude.{Allows, At, Block, cases_eq, Ends, Entry, entry, Event, Finish, get_elem?, gives}
+use Prelude.{gone, Idle, IsClear, IsSlotOf, kept, leads, moved_to, none, opening_of, put, put_back}
+use Prelude.{put_same, rest, Ruled, seeing, sees_as, set_else, set_here, Shape, some, sound, spot}
+use Prelude.{Stands, step, until_gone, value, view_of}
 use Rattle.control_word.proofs.steps.WeakLeave as law
-use Rattle.control_word.specs.Events.{moved_to}
-use Rattle.control_word.specs.State.{gone, put}
-use Rattle.control_word.specs.declared.place.Block.{Block}
-use Rattle.control_word.specs.declared.model.event.Entry.{Entry}
-use Rattle.control_word.specs.declared.model.event.Event.{Event}
-use Rattle.control_word.specs.declared.model.event.Event.TheVariants.{Finish}
-use Rattle.control_word.specs.Histories.{entry, leads, value}
-use Rattle.control_word.specs.Layout.{spot}
-use Rattle.control_word.specs.Views.{Stands, sees_as}
-use Rattle.control_word.specs.declared.shape.Shape.{Shape}
-use Rattle.control_word.specs.declared.model.view.Pending.TheVariants.{Idle}
-use Rattle.control_block.specs.Rule.{IsSlotOf, Ruled, kept, opening_of, seeing, view_of, until_gone}
-use Rattle.control_block.specs.StepKinds.{At, Ends, IsClear, finished}
+use Rattle.control_block.specs.StepKinds.{finished}
 use Rattle.control_block.proofs.Endings.{ends_here, ends_unmade}
 use Rattle.control_block.proofs.Passage.{adds, next, point, ready, still_ending}
 use Rattle.control_block.proofs.words.Slots.{kept_else, others_still, slots_apart}

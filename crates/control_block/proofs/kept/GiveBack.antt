@@ -1,27 +1,12 @@
 -- Give back: the funds that a half-done call owes leave their count.
-use Rattle.std.proofs.Common.{◌≡◌, ℕ, ◌+◌, ◌-◌, ◌*◌, ◌%◌, ◌^◌, ◌<◌, ◌≤◌, false, get_or, set, map, Option, Some, sym, ap}
-use Rattle.std.proofs.Common.{subst, ◌∙◌, arith}
+use Rattle.std.proofs.Common.{◌≡◌, ℕ, ◌+◌, ◌-◌, ◌*◌, ◌%◌, ◌^◌, ◌<◌, ◌≤◌, false, map, get_or, set}
+use Rattle.std.proofs.Common.{Some, Option, sym, ap, ◌∙◌, subst, arith}
+use Rattle.control_block.proofs.Prelude
+use Prelude.{Allows, At, at_map, blocks_of, counts_at, Fits, get_elem?, handle, Has, held, Idle}
+use Prelude.{Kind, leads, none, opening_of, Owes, owing, Paying, Place, Ready, Ruled, SeatView}
+use Prelude.{sees_as, settled, Shape, slot, some, spot, Stands, step, value, view_of}
 use Rattle.atomic_table.specs.Table as Table
-use Rattle.atomic_table.specs.Table.{Allows, step}
-use Rattle.atomic_table.proofs.Lists.{at_map}
-use mathlib.Core.Option.{none, some}
-use lib.ListN.{get_elem?}
 use Rattle.control_word.proofs.steps.GiveBack as law
-use Rattle.control_word.specs.Histories.{leads, value}
-use Rattle.control_word.specs.Layout.{spot}
-use Rattle.control_word.specs.State.{Has, held}
-use Rattle.control_word.specs.Steps.{Ready}
-use Rattle.control_word.specs.Handles.{handle}
-use Rattle.control_word.specs.Views.{Fits, Stands, sees_as}
-use Rattle.control_word.specs.Words.{blocks_of, counts_at, slot}
-use Rattle.control_word.specs.declared.model.handle.Kind.{Kind}
-use Rattle.control_word.specs.declared.place.Place.{Place}
-use Rattle.control_word.specs.declared.shape.Shape.{Shape}
-use Rattle.control_word.specs.declared.model.view.Pending.TheVariants.{Idle, Paying}
-use Rattle.control_block.specs.Rule.{Ruled, opening_of, view_of}
-use Rattle.control_block.specs.StepKinds.{At}
-use Rattle.control_block.specs.FundStepKinds.{Owes, owing, settled}
-use Rattle.control_block.specs.declared.table.SeatView.{SeatView}
 use Rattle.control_block.proofs.Passage.{point, ready}
 use Rattle.control_block.proofs.words.Still.{allows_move}
 

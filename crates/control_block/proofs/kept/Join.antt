@@ -1,25 +1,17 @@
 -- Join: two seats become one, and the look that makes the event follows.
-use Rattle.std.proofs.Common.{◌≡◌, ◌≢◌, ℕ, false, List, [], ◌∷◌, ◌++◌, get_or, set, map, Option, None, refl, sym, ap, subst, ◌∙◌}
-use Rattle.std.proofs.Common.{inl, inr, ⊎_elim}
+use Rattle.std.proofs.Common.{◌≡◌, ℕ, false, ◌≢◌, List, [], ◌∷◌, ◌++◌, map, get_or, set, None}
+use Rattle.std.proofs.Common.{Option, sym, refl, ap, ◌∙◌, subst, inl, inr, ⊎_elim}
+use Rattle.control_block.proofs.Prelude
+use Prelude.{Allows, At, at_map, ending, Entry, entry, Event, get_elem?, gone, grown, handed}
+use Prelude.{HasBoth, Idle, IsBacked, IsOut, IsSecond, IsSlotOf, Join, joined, keeps, leads, live}
+use Prelude.{Merging, none, NoneBy, opening_of, Phase, Ruled, SeatView, seeing, set_else, Shape}
+use Prelude.{some, some-injective, Stands, step, unmade, until_gone, value, view_of}
 use Rattle.std.proofs.lemmas.List.{append_cancel_right}
-use mathlib.Core.Option.{none, some, some-injective}
-use lib.ListN.{get_elem?}
 use Rattle.atomic_table.specs.Table as Table
-use Rattle.atomic_table.specs.Table.{Allows, Joins, keeps, step}
-use Rattle.atomic_table.proofs.Lists.{at_map, set_else}
+use Rattle.atomic_table.specs.Table.{Joins}
 use Rattle.control_word.proofs.steps.Join as law
-use Rattle.control_word.specs.Events.{handed}
-use Rattle.control_word.specs.Histories.{entry, leads, value}
-use Rattle.control_word.specs.State.{Phase, ending, gone, live, unmade}
-use Rattle.control_word.specs.Views.{HasBoth, IsSecond, NoneBy, Stands, together, used_up}
-use Rattle.control_word.specs.declared.model.event.Entry.{Entry}
-use Rattle.control_word.specs.declared.model.event.Event.{Event}
-use Rattle.control_word.specs.declared.model.event.Event.TheVariants.{Join}
-use Rattle.control_word.specs.declared.shape.Shape.{Shape}
-use Rattle.control_word.specs.declared.model.view.Pending.TheVariants.{Idle, Merging}
-use Rattle.control_block.specs.Rule.{IsBacked, IsOut, IsSlotOf, Ruled, opening_of, seeing, view_of, until_gone}
-use Rattle.control_block.specs.StepKinds.{At, grown, joined, over}
-use Rattle.control_block.specs.declared.table.SeatView.{SeatView}
+use Rattle.control_word.specs.Views.{together, used_up}
+use Rattle.control_block.specs.StepKinds.{over}
 use Rattle.control_block.proofs.words.Lists.{each_set, map_set}
 use Rattle.control_block.proofs.Passage.{adds, next, point, ready}
 use Rattle.control_block.proofs.words.Slots.{others_still}

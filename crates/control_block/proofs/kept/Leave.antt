@@ -1,38 +1,20 @@
 -- Leave: one owner less is allowed; the last one's leave takes the slot with the value.
-use Rattle.std.proofs.Common.{◌≡◌, ◌≢◌, ℕ, ◌+◌, ◌-◌, ◌*◌, ◌%◌, ◌^◌, ◌<◌, ◌≤◌, true, false, List, [], ◌∷◌}
-use Rattle.std.proofs.Common.{get_or, set, map, length-set, Option}
-use Rattle.std.proofs.Common.{Some, None, refl, sym, ap, subst, ◌∙◌, inl, inr, ⊎_elim, arith, eq-eqb, ne_eqb}
-use Rattle.std.proofs.lemmas.Bool.{cases_eq}
+use Rattle.std.proofs.Common.{◌≡◌, ℕ, ◌+◌, ◌-◌, ◌*◌, ◌%◌, ◌^◌, ◌<◌, ◌≤◌, true, false, ◌≢◌, List}
+use Rattle.std.proofs.Common.{[], ◌∷◌, map, get_or, set, Some, None, Option, sym, refl, ap, ◌∙◌}
+use Rattle.std.proofs.Common.{subst, inl, inr, ⊎_elim, arith, length-set, eq-eqb, ne_eqb}
+use Rattle.control_block.proofs.Prelude
+use Prelude.{Act, Allows, At, at_map, Block, carried_after, cases_eq, counted_live, ending, Ends}
+use Prelude.{entry, Event, get_elem?, gives, Has, has_value, held, Idle, InShape, IsSlotOf, keeps}
+use Prelude.{kept, leads, Leave, left, live, MayLeave, moved_to, names_an_object, none, opening_of}
+use Prelude.{Owner, owner, owner_counted, Pending, Place, put_back, put_same, rest, Ruled}
+use Prelude.{SeatView, seeing, sees_as, set_again, set_else, set_here, Shape, some, sound, spot}
+use Prelude.{Stands, step, stepped, takes, until_gone, Valid, value, view_of}
 use Rattle.atomic_table.specs.Table as Table
-use Rattle.atomic_table.specs.Table.{Act, Allows, Valid, carried_after, gives, keeps, put_back, rest, step, stepped, takes}
-use Rattle.atomic_table.proofs.Lists.{at_map, set_again, set_else, set_here}
-use mathlib.Core.Option.{none, some}
-use lib.ListN.{get_elem?}
-use Rattle.control_word.proofs.history.Given.{names_an_object}
-use Rattle.control_word.proofs.history.Legal.{sound}
-use Rattle.control_word.proofs.history.Moving.{counted_live, owner_counted}
-use Rattle.control_word.proofs.history.Values.{has_value}
-use Rattle.control_word.proofs.lists.Tallies.{put_again, put_same}
-use Rattle.control_word.specs.Events.{moved_to}
-use Rattle.control_word.specs.Handles.{owner}
-use Rattle.control_word.specs.State.{Has, InShape, held, ending, kind_of_member, live, unmade}
-use Rattle.control_word.specs.declared.model.event.Event.{Event}
-use Rattle.control_word.specs.declared.model.event.Event.TheVariants.{Leave}
-use Rattle.control_word.specs.declared.model.handle.Kind.TheVariants.{Owner}
-use Rattle.control_word.specs.declared.place.Block.{Block}
-use Rattle.control_word.specs.Histories.{entry, leads, value}
-use Rattle.control_word.specs.Layout.{spot}
-use Rattle.control_word.specs.Views.{Stands, sees_as}
-use Rattle.control_word.specs.declared.place.Place.{Place}
-use Rattle.control_word.specs.declared.shape.Shape.{Shape}
-use Rattle.control_word.specs.declared.model.view.Pending.{Pending}
-use Rattle.control_word.specs.declared.model.view.Pending.TheVariants.{Idle}
-use Rattle.control_block.specs.Rule.{IsSlotOf, Ruled, kept, opening_of, seeing, view_of, until_gone}
-use Rattle.control_block.specs.StepKinds.{At, Ends, gave_back, left}
-use Rattle.control_block.specs.Leaving.{MayLeave}
-use Rattle.control_block.specs.declared.table.SeatView.{SeatView}
+use Rattle.control_word.proofs.lists.Tallies.{put_again}
+use Rattle.control_block.specs.StepKinds.{gave_back}
 use Rattle.control_block.proofs.Passage.{adds, next, plain, quiet_next, still_ending}
-use Rattle.control_block.proofs.words.Slots.{kept_else, live_home, live_unmade, others_still, slots_apart}
+use Rattle.control_block.proofs.words.Slots.{kept_else, live_home, live_unmade, others_still}
+use Rattle.control_block.proofs.words.Slots.{slots_apart}
 use Rattle.control_block.proofs.leavings.LastOwners.{unvisited}
 use Rattle.control_block.proofs.kept.Look.{looked}
 use Rattle.control_block.proofs.kept.MayLeave.{may_awake, may_empty, may_have, may_stand}

@@ -1,29 +1,16 @@
 -- Lock: the look for an owner and the compare-exchange are allowed.
-use Rattle.std.proofs.Common.{◌≡◌, ◌≢◌, ◌==◌, ℕ, suc, ◌+◌, ◌*◌, ◌/◌, ◌++◌, ◌%◌, not, true, false, Bool, ◌∷◌, get_or}
-use Rattle.std.proofs.Common.{set, map, Option, None, refl, sym, ap, subst}
-use Rattle.std.proofs.Common.{◌∙◌, ⊎_elim, arith}
-use Rattle.std.proofs.lemmas.Bool.{cases_eq}
-use Rattle.atomic_table.specs.Table.{Allows, keeps, step}
-use mathlib.Core.Option.{none}
-use prog.Atomic.{either}
-use Rattle.control_word.proofs.history.Legal.{held_busy, sound}
+use Rattle.std.proofs.Common.{◌≡◌, ℕ, suc, ◌+◌, ◌*◌, ◌/◌, ◌%◌, Bool, true, false, not, ◌≢◌, ◌∷◌}
+use Rattle.std.proofs.Common.{◌++◌, map, get_or, set, ◌==◌, None, Option, sym, refl, ap, ◌∙◌}
+use Rattle.std.proofs.Common.{subst, ⊎_elim, arith}
+use Rattle.control_block.proofs.Prelude
+use Prelude.{Allows, At, cases_eq, either, entry, Event, has_headroom, HasRoomFor, held_busy}
+use Prelude.{HoldingInBlock, Idle, IsLegal, keeps, leads, Lock, locked, none, opening_of, Owner}
+use Prelude.{Place, Rests, Ruled, SeatView, seeing, sees_as, Shape, sought_owner, sound, spot}
+use Prelude.{Stands, step, tells, view_of, Weak, weak_of}
 use Rattle.control_word.proofs.steps.Lock as law
-use Rattle.control_word.proofs.steps.Standing.{has_headroom}
-use Rattle.control_word.specs.Handles.{weak_of}
-use Rattle.control_word.specs.Histories.{IsLegal, entry, leads}
-use Rattle.control_word.specs.Layout.{spot}
-use Rattle.control_word.specs.Views.{Stands, sees_as}
-use Rattle.control_word.specs.declared.model.event.Event.{Event}
-use Rattle.control_word.specs.declared.model.event.Event.TheVariants.{Lock}
-use Rattle.control_word.specs.declared.model.handle.Kind.TheVariants.{Owner, Weak}
-use Rattle.control_word.specs.declared.place.Place.{Place}
-use Rattle.control_word.specs.declared.shape.Shape.{Shape}
-use Rattle.control_word.specs.declared.model.view.Pending.TheVariants.{Idle}
-use Rattle.control_block.specs.Rule.{Ruled, opening_of, seeing, view_of}
-use Rattle.control_block.specs.StepKinds.{At, HasRoomFor, HoldingInBlock, Rests, tells}
-use Rattle.control_block.specs.LockStepKinds.{GotOwner, earlier, locked, sought_owner}
-use Rattle.control_block.specs.declared.table.SeatView.{SeatView}
-use Rattle.control_block.proofs.Passage.{adds, held_there, plain, point, quiet_next, ready, still_room}
+use Rattle.control_block.specs.LockStepKinds.{GotOwner, earlier}
+use Rattle.control_block.proofs.Passage.{adds, held_there, plain, point, quiet_next, ready}
+use Rattle.control_block.proofs.Passage.{still_room}
 use Rattle.control_block.proofs.words.Still.{allows_exchange, unmoved}
 use Rattle.control_block.proofs.kept.Look.{looked}
 

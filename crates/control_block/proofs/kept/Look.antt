@@ -1,30 +1,18 @@
 -- Looks, which change no word: use_count, expired, and a field.
-use Rattle.std.proofs.Common.{◌≡◌, ℕ, ◌+◌, ◌*◌, ◌%◌, ◌/◌, ◌<◌, ◌==◌, false, List, ◌∷◌, get_or, set, map, Option, Some}
-use Rattle.std.proofs.Common.{refl, sym, ap, subst, ◌∙◌, inl, arith}
-use Rattle.atomic_table.specs.Table.{Allows, step}
-use mathlib.Core.Option.{none, some}
-use lib.ListN.{get_elem?}
+use Rattle.std.proofs.Common.{◌≡◌, ℕ, ◌+◌, ◌*◌, ◌/◌, ◌%◌, ◌<◌, false, List, ◌∷◌, map, get_or, set}
+use Rattle.std.proofs.Common.{◌==◌, Some, Option, sym, refl, ap, ◌∙◌, subst, inl, arith}
+use Rattle.control_block.proofs.Prelude
+use Prelude.{Allows, At, Count, Entry, entry, Expired, get_elem?, handle, HoldingInBlock, Idle}
+use Prelude.{Kind, leads, load_is_write, none, Opening, opening_of, Owner, owner, Place, Read}
+use Prelude.{Rests, Ruled, sees_as, Shape, some, spot, Stands, step, View, view_of, Weak, weak_of}
 use Rattle.control_word.proofs.history.Sole.{alone as acts_alone}
 use Rattle.control_word.proofs.steps.Look as law
-use Rattle.control_word.proofs.steps.Look.{load_is_write}
 use Rattle.control_word.proofs.views.Resting.{sole_owes}
-use Rattle.control_word.specs.Handles.{handle, owner, weak_of}
-use Rattle.control_word.specs.State.{Opening, count}
-use Rattle.control_word.specs.declared.model.event.Entry.{Entry}
-use Rattle.control_word.specs.declared.model.event.Event.TheVariants.{Count, Expired, Read}
-use Rattle.control_word.specs.declared.model.handle.Kind.{Kind}
-use Rattle.control_word.specs.declared.model.handle.Kind.TheVariants.{Owner, Weak}
-use Rattle.control_word.specs.declared.model.view.View.{View}
-use Rattle.control_word.specs.Histories.{entry, leads}
-use Rattle.control_word.specs.Layout.{spot}
+use Rattle.control_word.specs.State.{count}
 use Rattle.control_word.specs.Packing.{told}
-use Rattle.control_word.specs.Views.{Stands, sees_as}
-use Rattle.control_word.specs.declared.place.Place.{Place}
-use Rattle.control_word.specs.declared.shape.Shape.{Shape}
-use Rattle.control_word.specs.declared.model.view.Pending.TheVariants.{Idle}
-use Rattle.control_block.specs.Rule.{Ruled, opening_of, view_of}
-use Rattle.control_block.specs.StepKinds.{At, HoldingInBlock, Rests, counted, found_expired, read}
-use Rattle.control_block.proofs.Passage.{allows_event, allows_telling, held_there, plain, point, ready}
+use Rattle.control_block.specs.StepKinds.{counted, found_expired, read}
+use Rattle.control_block.proofs.Passage.{allows_event, allows_telling, held_there, plain, point}
+use Rattle.control_block.proofs.Passage.{ready}
 
 halved : (n : ℕ) → n ≡ n % 4294967296 + 4294967296 * (n / 4294967296)
 halved n = omega arith

@@ -1,34 +1,18 @@
 -- The writes of a make and its claim are allowed.
-use Rattle.std.proofs.Common.{◌≡◌, ◌≢◌, ℕ, suc, ◌+◌, ◌-◌, ◌<◌, ◌≤◌, Bool, false, List, [], ◌∷◌, get_or, set, map, length}
-use Rattle.std.proofs.Common.{length-set, Option, Some}
-use Rattle.std.proofs.Common.{None, refl, sym, ap, subst, ◌∙◌, inl, inr, ⊎_elim, arith}
-use Rattle.std.proofs.lemmas.Bool.{cases_eq}
+use Rattle.std.proofs.Common.{◌≡◌, ℕ, suc, ◌+◌, ◌-◌, ◌<◌, ◌≤◌, Bool, false, ◌≢◌, List, [], ◌∷◌}
+use Rattle.std.proofs.Common.{map, length, get_or, set, Some, None, Option, sym, refl, ap, ◌∙◌}
+use Rattle.std.proofs.Common.{subst, inl, inr, ⊎_elim, arith, length-set}
+use Rattle.control_block.proofs.Prelude
+use Prelude.{Act, Allows, At, began, Block, carried_after, cases_eq, Entry, entry, Event, flags_of}
+use Prelude.{get_elem?, gives, Has, HasRoomFor, Idle, IsSlotOf, keeps, kept, known, leads, made}
+use Prelude.{Make, Making, new_object, none, opening_of, Pending, prepared, put, put_back}
+use Prelude.{put_other, put_same, rest, Rests, Ruled, SeatView, seeing, set_else, set_here, Shape}
+use Prelude.{some, sound, spot, Stands, step, stepped, stored, takes, until_gone, Valid, value}
+use Prelude.{valued, view_of, wrote}
 use Rattle.atomic_table.specs.Table as Table
-use Rattle.atomic_table.specs.Table.{Act, Allows, Valid, carried_after, gives, keeps, put_back, rest, step, stepped, takes}
-use Rattle.atomic_table.proofs.Lists.{set_else, set_here}
-use mathlib.Core.Option.{none, some}
-use lib.ListN.{get_elem?}
-use Rattle.control_word.proofs.history.Legal.{sound}
-use Rattle.control_word.proofs.lists.Tallies.{put_other, put_same}
 use Rattle.control_word.proofs.steps.Claim as claim
 use Rattle.control_word.proofs.steps.Write as write
-use Rattle.control_word.specs.Events.{new_object}
-use Rattle.control_word.specs.State.{Has, InShape, kind_of_member, put, stored}
 use Rattle.control_word.specs.Steps.{known_of}
-use Rattle.control_word.specs.Words.{flags_of}
-use Rattle.control_word.specs.declared.model.event.Entry.{Entry}
-use Rattle.control_word.specs.declared.model.event.Event.{Event}
-use Rattle.control_word.specs.declared.model.event.Event.TheVariants.{Make}
-use Rattle.control_word.specs.declared.place.Block.{Block}
-use Rattle.control_word.specs.Histories.{entry, leads, value, valued}
-use Rattle.control_word.specs.Layout.{spot}
-use Rattle.control_word.specs.Views.{Stands}
-use Rattle.control_word.specs.declared.shape.Shape.{Shape}
-use Rattle.control_word.specs.declared.model.view.Pending.{Pending}
-use Rattle.control_word.specs.declared.model.view.Pending.TheVariants.{Idle, Making}
-use Rattle.control_block.specs.Rule.{IsSlotOf, Ruled, kept, opening_of, seeing, view_of, until_gone}
-use Rattle.control_block.specs.StepKinds.{At, HasRoomFor, Rests, began, known, made, prepared, wrote}
-use Rattle.control_block.specs.declared.table.SeatView.{SeatView}
 use Rattle.control_block.proofs.Passage.{adds, moves, next, point, ready, still_room, still_stored}
 use Rattle.control_block.proofs.words.Slots.{others_still, slots_apart, vacant_home}
 

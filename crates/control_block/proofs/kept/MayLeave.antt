@@ -1,32 +1,16 @@
 -- A desk that may leave, and what the laws say of its leave.
-use Rattle.std.proofs.Common.{◌≡◌, ℕ, ◌+◌, ◌-◌, ◌*◌, ◌%◌, ◌^◌, ◌<◌, ◌≤◌, ◌==◌, Bool, false, [], ◌∷◌, get_or}
-use Rattle.std.proofs.Common.{set, map, Option, None, Some, refl, sym, subst}
-use Rattle.std.proofs.Common.{inl, inr, arith}
+use Rattle.std.proofs.Common.{◌≡◌, ℕ, ◌+◌, ◌-◌, ◌*◌, ◌%◌, ◌^◌, ◌<◌, ◌≤◌, Bool, false, [], ◌∷◌, map}
+use Rattle.std.proofs.Common.{get_or, set, ◌==◌, Some, None, Option, sym, refl, subst, inl, inr}
+use Rattle.std.proofs.Common.{arith}
+use Rattle.control_block.proofs.Prelude.{At, blocks_of, counts_at, entry, Event, get_elem?, handle}
+use Rattle.control_block.proofs.Prelude.{Has, held, Idle, Kind, leads, Leave, MayLeave}
+use Rattle.control_block.proofs.Prelude.{names_an_object, opening_of, Owner, owner, Paying, Place}
+use Rattle.control_block.proofs.Prelude.{Ready, Ruled, SeatView, sees_as, Shape, slot, some, spot}
+use Rattle.control_block.proofs.Prelude.{Stands, view_of, Weak, weak_of, WeakLeave}
 use Rattle.atomic_table.specs.Table as Table
-use mathlib.Core.Option.{some}
-use lib.ListN.{get_elem?}
-use Rattle.control_word.proofs.history.Given.{names_an_object}
 use Rattle.control_word.proofs.steps.Leave.{leaves'}
 use Rattle.control_word.proofs.steps.LeaveWithFunds.{leaves_with_funds, weak_leaves_with_funds}
 use Rattle.control_word.proofs.steps.WeakLeave.{weak_leaves'}
-use Rattle.control_word.specs.Handles.{handle, owner, weak_of}
-use Rattle.control_word.specs.Histories.{entry, leads}
-use Rattle.control_word.specs.Layout.{spot}
-use Rattle.control_word.specs.State.{Has, held}
-use Rattle.control_word.specs.Views.{Stands, sees_as}
-use Rattle.control_word.specs.Words.{blocks_of, counts_at, slot}
-use Rattle.control_word.specs.declared.model.event.Event.{Event}
-use Rattle.control_word.specs.declared.model.event.Event.TheVariants.{Leave, WeakLeave}
-use Rattle.control_word.specs.declared.model.handle.Kind.{Kind}
-use Rattle.control_word.specs.declared.model.handle.Kind.TheVariants.{Owner, Weak}
-use Rattle.control_word.specs.declared.place.Place.{Place}
-use Rattle.control_word.specs.declared.shape.Shape.{Shape}
-use Rattle.control_word.specs.Steps.{Ready}
-use Rattle.control_word.specs.declared.model.view.Pending.TheVariants.{Idle, Paying}
-use Rattle.control_block.specs.Leaving.{MayLeave}
-use Rattle.control_block.specs.StepKinds.{At}
-use Rattle.control_block.specs.Rule.{Ruled, opening_of, view_of}
-use Rattle.control_block.specs.declared.table.SeatView.{SeatView}
 use Rattle.control_block.proofs.cells.CellTrades.{slot_low}
 use Rattle.control_block.proofs.Passage.{held_there, point, ready}
 use Rattle.control_block.proofs.kept.GiveBack.{owed_there}

@@ -1,20 +1,12 @@
 -- Looks at any word, by one seat and by two that are one for the look.
-use Rattle.std.proofs.Common.{◌≡◌, ◌≢◌, ℕ, false, [], ◌∷◌, ◌++◌, set, map, length, refl, sym, ap, subst, ◌∙◌, inl, inr, ⊎_elim}
-use Rattle.std.proofs.lemmas.List.{map-append}
-use mathlib.Core.Option.{none, some, some-injective}
-use lib.ListN.{get_elem?}
-use Rattle.atomic_table.specs.Table.{Allows, Splits, keeps, step}
-use Rattle.atomic_table.proofs.Lists.{at_longer, at_map, at_snoc, set_else, set_here}
-use Rattle.control_word.proofs.words.Frames.{at_inside}
-use Rattle.control_word.specs.Histories.{leads}
-use Rattle.control_word.specs.Views.{Stands}
-use Rattle.control_word.specs.declared.model.view.Pending.TheVariants.{Idle}
-use Rattle.control_word.specs.declared.model.view.View.{View}
-use Rattle.control_word.specs.declared.shape.Shape.{Shape}
-use Rattle.control_block.specs.Rule.{IsBacked, IsOut, IsSlotOf, Ruled, opening_of, view_of}
-use Rattle.control_block.specs.ObservationStepKinds.{Observed, ObservedBoth, first_again, observed, second_again}
-use Rattle.control_block.specs.StepKinds.{At, grown}
-use Rattle.control_block.specs.declared.table.SeatView.{SeatView}
+use Rattle.std.proofs.Common.{◌≡◌, ℕ, false, ◌≢◌, [], ◌∷◌, ◌++◌, map, length, set, sym, refl, ap}
+use Rattle.std.proofs.Common.{◌∙◌, subst, inl, inr, ⊎_elim}
+use Rattle.control_block.proofs.Prelude
+use Prelude.{Allows, At, at_inside, at_longer, at_map, at_snoc, first_again, get_elem?, grown}
+use Prelude.{Idle, IsBacked, IsOut, IsSlotOf, keeps, leads, map-append, none, Observed}
+use Prelude.{ObservedBoth, opening_of, Ruled, SeatView, second_again, set_else, set_here, Shape}
+use Prelude.{some, some-injective, Splits, Stands, step, View, view_of}
+use Rattle.control_block.specs.ObservationStepKinds.{observed}
 use Rattle.control_block.proofs.words.Apart.{apart_names, idle_view, last_at, one_view, part_again}
 use Rattle.control_block.proofs.words.Lists.{each_set, map_set}
 use Rattle.control_block.proofs.words.Still.{unmoved}

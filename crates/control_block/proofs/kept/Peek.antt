@@ -1,37 +1,21 @@
 -- A look at what is fixed of an object changes nothing, and tells it.
-use Rattle.std.proofs.Common.{◌≡◌, ◌≢◌, ◌⊎◌, ℕ, zero, suc, ◌+◌, ◌-◌, ◌*◌, ◌%◌, ◌<◌, ◌≤◌, ◌==◌, cond, true}
-use Rattle.std.proofs.Common.{false, List, [], ◌∷◌, get_or, slice_index, set, map, Option, Some}
-use Rattle.std.proofs.Common.{refl, sym, ap, subst, ◌∙◌, ⊎_elim, arith, ne_eqb, ◌++◌}
-use Rattle.std.proofs.lemmas.Bool.{cond-false, cond_both}
+use Rattle.std.proofs.Common.{◌≡◌, ℕ, zero, suc, ◌+◌, ◌-◌, ◌*◌, ◌<◌, ◌≤◌, true, false, cond, ◌⊎◌}
+use Rattle.std.proofs.Common.{List, [], ◌∷◌, map, get_or, set, ◌==◌, slice_index, Some, Option}
+use Rattle.std.proofs.Common.{sym, refl, ap, ◌∙◌, subst, ⊎_elim, arith, ne_eqb}
+use Rattle.control_block.proofs.Prelude
+use Prelude.{added, adds, Allows, At, blocks_of, cond-false, cond_both, Ends, Entry, Fits}
+use Prelude.{flags_of, get_elem?, handle, held_busy, held_made, HoldingInBlock, Idle, IsBusy}
+use Prelude.{IsNearObject, IsTold, keeps, Kind, known, leads, Making, Merging, none, Object}
+use Prelude.{Opening, opening_of, Parting, Paying, peeked, Pending, Place, Ruled, SeatView, Shape}
+use Prelude.{some, sound, spot, Stands, step, total, value, View, view_of, Visiting}
 use Rattle.std.proofs.lemmas.List.{set-get_or}
 use Rattle.atomic_table.specs.Table as Table
-use Rattle.atomic_table.specs.Table.{Allows, keeps, step}
-use mathlib.Core.Option.{none, some}
-use lib.ListN.{get_elem?}
 use Rattle.control_word.proofs.history.Kept.{stays_as_made}
-use Rattle.control_word.proofs.history.Legal.{held_busy, sound}
-use Rattle.control_word.proofs.history.Soundness.{IsBusy}
 use Rattle.control_word.proofs.words.Body.{body_more, body_read, words_field, words_flags}
-use Rattle.control_word.specs.Handles.{handle}
-use Rattle.control_word.specs.Histories.{leads, value}
-use Rattle.control_word.specs.Layout.{spot}
-use Rattle.control_word.specs.State.{InShape, Object, Opening, ending}
-use Rattle.control_word.specs.Views.{Fits, Stands, added, adds, total}
-use Rattle.control_word.specs.Words.{blocks_of, flags_of, object_words}
-use Rattle.control_word.specs.declared.model.event.Entry.{Entry}
-use Rattle.control_word.specs.declared.model.handle.Kind.{Kind}
-use Rattle.control_word.specs.declared.place.Place.{Place}
-use Rattle.control_word.specs.declared.shape.Shape.{Shape}
-use Rattle.control_word.specs.declared.model.view.Pending.{Pending}
-use Rattle.control_word.specs.declared.model.view.Pending.TheVariants.{Idle, Making, Merging, Parting, Paying, Visiting}
-use Rattle.control_word.specs.declared.model.view.View.{View}
-use Rattle.control_block.specs.Rule.{Ruled, opening_of, view_of}
-use Rattle.control_block.specs.StepKinds.{At, Ends, HoldingInBlock, IsNearObject, IsTold, known, peeked}
-use Rattle.control_block.specs.declared.table.SeatView.{SeatView}
+use Rattle.control_word.specs.Words.{object_words}
 use Rattle.control_block.proofs.Endings.{ends_busy, ends_here}
 use Rattle.control_block.proofs.words.Lists.{set_same}
 use Rattle.control_block.proofs.Passage.{held_there, known_as, knows, legal_known, still_ending}
-use Rattle.control_word.proofs.history.Others.{held_made}
 
 times_four : {A : Type 0} (f g : A → ℕ) (l : List A) → ((i : ℕ) (a : A) → get_elem? l i ≡ some a → f a ≡ 4 * g a)
     → total f l ≡ 4 * total g l

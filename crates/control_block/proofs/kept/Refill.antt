@@ -1,33 +1,17 @@
 -- Refill: the funds that were brought go into the cell, in place of those taken.
-use Rattle.std.proofs.Common.{◌≡◌, ℕ, ◌+◌, ◌-◌, ◌*◌, ◌==◌, get_or, set, map, Option, Some, None, refl, sym, ap, subst, ◌∙◌, arith}
+use Rattle.std.proofs.Common.{◌≡◌, ℕ, ◌+◌, ◌-◌, ◌*◌, map, get_or, set, ◌==◌, Some, None, Option}
+use Rattle.std.proofs.Common.{sym, refl, ap, ◌∙◌, subst, arith}
+use Rattle.control_block.proofs.Prelude
+use Prelude.{Allows, At, Block, block_of, blocks_of, Cell, cell_bits, cell_of, cell_shown}
+use Prelude.{CellWord, either, get_elem?, goes_on, handle, held_busy, Idle, IsCellAt, IsCellWord}
+use Prelude.{kind_in, leads, none, opening_of, Owes, owing, Place, Ruled, same_counts, SeatView}
+use Prelude.{sees_as, Shape, slot, some, sound, spot, Stands, step, view_of}
 use Rattle.atomic_table.specs.Table as Table
-use Rattle.atomic_table.specs.Table.{Allows, step}
-use mathlib.Core.Option.{none, some}
-use lib.ListN.{get_elem?}
-use prog.Atomic.{either}
-use Rattle.control_word.proofs.history.Legal.{held_busy, sound}
 use Rattle.control_word.proofs.steps.Refill as law
-use Rattle.control_word.proofs.words.Decoding.{cell_shown}
-use Rattle.control_word.proofs.words.Funds.{same_counts}
-use Rattle.control_word.specs.Events.{cell_of}
-use Rattle.control_word.specs.Handles.{handle}
-use Rattle.control_word.specs.Histories.{leads}
-use Rattle.control_word.specs.Layout.{spot}
-use Rattle.control_word.specs.Packing.{IsCellWord, cell_bits}
-use Rattle.control_word.specs.Views.{Stands, sees_as}
-use Rattle.control_word.specs.Words.{block_of, blocks_of, packed, slot}
-use Rattle.control_word.specs.declared.packed.cell.CellWord.{CellWord}
-use Rattle.control_word.specs.declared.model.event.Cell.{Cell}
-use Rattle.control_word.specs.declared.place.Block.{Block}
-use Rattle.control_word.specs.declared.place.Place.{Place}
-use Rattle.control_word.specs.declared.shape.Shape.{Shape}
-use Rattle.control_word.specs.declared.model.view.Pending.TheVariants.{Idle}
-use Rattle.control_block.specs.Rule.{Ruled, opening_of, view_of}
-use Rattle.control_block.specs.StepKinds.{At, goes_on}
-use Rattle.control_block.specs.FundStepKinds.{Owes, owing}
-use Rattle.control_block.specs.CellStepKinds.{IsCellAt, kind_in, refilled}
-use Rattle.control_block.specs.declared.table.SeatView.{SeatView}
-use Rattle.control_block.proofs.CellWords.{Decoded, Opened, cell_keeps, decoded, found_is, is_open, opened}
+use Rattle.control_word.specs.Words.{packed}
+use Rattle.control_block.specs.CellStepKinds.{refilled}
+use Rattle.control_block.proofs.CellWords.{Decoded, Opened, cell_keeps, decoded, found_is, is_open}
+use Rattle.control_block.proofs.CellWords.{opened}
 use Rattle.control_block.proofs.words.Hands.{same_number}
 use Rattle.control_block.proofs.Passage.{point}
 use Rattle.control_block.proofs.words.Still.{allows_exchange, moved_on}

@@ -1,22 +1,12 @@
 -- Share: one owner more is allowed.
-use Rattle.std.proofs.Common.{◌≡◌, ℕ, suc, ◌+◌, ◌%◌, ◌^◌, ◌<◌, ◌∷◌, get_or, set, map, Option, refl, sym, ap, subst, ◌∙◌}
-use Rattle.std.proofs.Common.{arith}
-use Rattle.atomic_table.specs.Table.{Allows, step}
-use mathlib.Core.Option.{none}
-use Rattle.control_word.proofs.history.Legal.{held_busy, sound}
+use Rattle.std.proofs.Common.{◌≡◌, ℕ, suc, ◌+◌, ◌%◌, ◌^◌, ◌<◌, ◌∷◌, map, get_or, set, Option, sym}
+use Rattle.std.proofs.Common.{refl, ap, ◌∙◌, subst, arith}
+use Rattle.control_block.proofs.Prelude.{Allows, At, entry, has_headroom, HasRoomFor, held_busy}
+use Rattle.control_block.proofs.Prelude.{HoldingInBlock, Idle, IsPointer, leads, none, opening_of}
+use Rattle.control_block.proofs.Prelude.{Owner, owner, Place, Rests, Ruled, sees_as, Shape, Share}
+use Rattle.control_block.proofs.Prelude.{sound, spot, Stands, step, view_of}
 use Rattle.control_word.proofs.steps.Share as law
-use Rattle.control_word.proofs.steps.Standing.{has_headroom}
-use Rattle.control_word.specs.Handles.{IsPointer, owner}
-use Rattle.control_word.specs.Histories.{entry, leads}
-use Rattle.control_word.specs.Layout.{spot}
-use Rattle.control_word.specs.Views.{Stands, sees_as}
-use Rattle.control_word.specs.declared.model.event.Event.TheVariants.{Share}
-use Rattle.control_word.specs.declared.model.handle.Kind.TheVariants.{Owner}
-use Rattle.control_word.specs.declared.place.Place.{Place}
-use Rattle.control_word.specs.declared.shape.Shape.{Shape}
-use Rattle.control_word.specs.declared.model.view.Pending.TheVariants.{Idle}
-use Rattle.control_block.specs.StepKinds.{At, HasRoomFor, HoldingInBlock, Rests, shared}
-use Rattle.control_block.specs.Rule.{Ruled, opening_of, view_of}
+use Rattle.control_block.specs.StepKinds.{shared}
 use Rattle.control_block.proofs.Passage.{allows_event, held_there, plain, point, ready, still_room}
 
 pub wraps : (n : ℕ) → n + 1099511627776 < 18446744073709551616 → (n + 1) % 2 ^ 64 ≡ suc n

@@ -1,32 +1,20 @@
 -- The shelf: a look at a word of it, a block that goes there, and one that is taken from it.
-use Rattle.std.proofs.Common.{◌≡◌, ℕ, ◌/◌, ◌%◌, ◌^◌, ◌<◌, ◌==◌, not, true, false}
-use Rattle.std.proofs.Common.{true≢false, ◌∷◌, get_or, set, map}
-use Rattle.std.proofs.Common.{None, Option, refl, sym, ap, subst, ◌∙◌, ⊎_elim, arith}
-use Rattle.std.proofs.lemmas.Bool.{cases_eq}
-use Rattle.std.proofs.lemmas.Nat.Bits.{bit_at-lt}
-use Rattle.std.specs.Int.{bit_at, bit_not, w64}
-use Rattle.std.specs.Prelude.{bit_and, bit_or}
+use Rattle.std.proofs.Common.{◌≡◌, ℕ, ◌/◌, ◌%◌, ◌^◌, ◌<◌, true, false, not, ◌∷◌, map, get_or, set}
+use Rattle.std.proofs.Common.{◌==◌, bit_and, bit_or, None, Option, sym, refl, ap, ◌∙◌, subst}
+use Rattle.std.proofs.Common.{⊎_elim, true≢false, arith}
+use Rattle.control_block.proofs.Prelude
+use Prelude.{Allows, At, bit_at, bit_at-lt, bit_not, bit_of, Block, cases_eq, entry, get_elem?}
+use Prelude.{Has, Idle, IsLegal, IsOff, IsShelfWord, IsSo, keeps, known, leads, none, opening_of}
+use Prelude.{Rests, Ruled, SeatView, seeing, sees_as, Shape, shelf_at, Shelve, shelved, some}
+use Prelude.{Stands, State, step, stored, Unshelve, unshelved, view_of, w64}
 use Rattle.atomic_table.specs.Table as Table
-use Rattle.atomic_table.specs.Table.{Allows, keeps, step}
-use mathlib.Core.Option.{none, some}
-use lib.ListN.{get_elem?}
 use Rattle.control_word.proofs.packing.Bits.{bit_tells}
 use Rattle.control_word.proofs.steps.Shelf as law
-use Rattle.control_word.specs.Histories.{IsLegal, entry, leads}
-use Rattle.control_word.specs.Layout.{bit_of}
-use Rattle.control_word.specs.State.{Has, State, stored}
-use Rattle.control_word.specs.Views.{Stands, sees_as}
 use Rattle.control_word.specs.Words.{shelf_spot}
-use Rattle.control_word.specs.declared.model.event.Event.TheVariants.{Shelve, Unshelve}
-use Rattle.control_word.specs.declared.place.Block.{Block}
-use Rattle.control_word.specs.declared.shape.Shape.{Shape}
-use Rattle.control_word.specs.declared.model.view.Pending.TheVariants.{Idle}
-use Rattle.control_block.specs.StepKinds.{At, Rests, known}
-use Rattle.control_block.specs.Rule.{Ruled, opening_of, seeing, view_of}
-use Rattle.control_block.specs.ShelfStepKinds.{IsOff, IsShelfWord, IsSo, shelf_at, shelved, told_shelf, unshelved}
-use Rattle.control_block.specs.declared.table.SeatView.{SeatView}
+use Rattle.control_block.specs.ShelfStepKinds.{told_shelf}
 use Rattle.control_block.proofs.cells.CellRetries.{rested}
-use Rattle.control_block.proofs.Passage.{adds, allows_event, knows, plain, point, quiet_next, ready, still_stored}
+use Rattle.control_block.proofs.Passage.{adds, allows_event, knows, plain, point, quiet_next}
+use Rattle.control_block.proofs.Passage.{ready, still_stored}
 use Rattle.control_block.proofs.words.Still.{moved_on, unmoved}
 
 pub told_set : (n j a : ℕ) → a ≡ 2 ^ j → not (bit_and n a == 0) ≡ true → bit_at n j ≡ 1

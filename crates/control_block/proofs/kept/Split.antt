@@ -1,29 +1,18 @@
 -- Split: the look that makes the event is allowed, and so is the cut of the view that follows.
-use Rattle.std.proofs.Common.{◌≡◌, ◌≢◌, ℕ, suc, ◌+◌, ◌-◌, ◌<◌, ◌==◌, Bool, false, List, [], ◌∷◌, ◌++◌, get_or, set, map}
-use Rattle.std.proofs.Common.{length, None, refl, sym, ap}
-use Rattle.std.proofs.Common.{subst, ◌∙◌, inl, inr, ⊎_elim, arith, eq-eqb, ne_eqb}
-use Rattle.std.proofs.lemmas.List.{map-append}
-use Rattle.std.specs.List.{filter}
-use mathlib.Core.Option.{none, some, some-injective}
-use lib.ListN.{get_elem?}
-use Rattle.atomic_table.specs.Table.{Allows, Splits, keeps, step}
-use Rattle.atomic_table.proofs.Lists.{at_longer, at_snoc, set_else}
-use Rattle.control_word.proofs.lists.Sums.{num_passes, num_none}
-use Rattle.control_word.proofs.lists.Tallies.{held_self, held_true, num_map, put_other, put_same, stored_true}
+use Rattle.std.proofs.Common.{◌≡◌, ℕ, suc, ◌+◌, ◌-◌, ◌<◌, Bool, false, ◌≢◌, List, [], ◌∷◌, ◌++◌}
+use Rattle.std.proofs.Common.{map, length, get_or, set, ◌==◌, None, sym, refl, ap, ◌∙◌, subst, inl}
+use Rattle.std.proofs.Common.{inr, ⊎_elim, arith, eq-eqb, ne_eqb}
+use Rattle.control_block.proofs.Prelude
+use Prelude.{Allows, At, at_longer, at_snoc, bag_size, Block, comes, entry, Event, filter}
+use Prelude.{get_elem?, goes_on, HasAll, HasRoom, Held, held, held_self, held_true, Idle, IsBacked}
+use Prelude.{IsOut, IsSlotOf, keeps, known, leads, map-append, MaySplit, none, num_map, num_none}
+use Prelude.{num_passes, NumberedHandle, opening_of, Parting, passed, put, put_other, put_same}
+use Prelude.{Rests, Ruled, same_held, same_stored, SeatView, seeing, set_else, Shape, some}
+use Prelude.{some-injective, Split, Splits, splits_off, Stands, State, step, Stored, stored}
+use Prelude.{stored_true, view_of}
 use Rattle.control_word.proofs.steps.Split as law
-use Rattle.control_word.specs.Events.{splits_off}
-use Rattle.control_word.specs.Histories.{entry, leads}
-use Rattle.control_word.specs.State.{HasAll, HasRoom, Held, State, Stored, bag_size, held, passed, put, same_held, same_stored, stored}
-use Rattle.control_word.specs.Views.{Stands, comes, stays}
-use Rattle.control_word.specs.declared.model.event.Event.{Event}
-use Rattle.control_word.specs.declared.model.event.Event.TheVariants.{Split}
-use Rattle.control_word.specs.declared.model.handle.NumberedHandle.{NumberedHandle}
-use Rattle.control_word.specs.declared.place.Block.{Block}
-use Rattle.control_word.specs.declared.shape.Shape.{Shape}
-use Rattle.control_word.specs.declared.model.view.Pending.TheVariants.{Idle, Parting}
-use Rattle.control_block.specs.Rule.{IsBacked, IsOut, IsSlotOf, Ruled, opening_of, seeing, view_of}
-use Rattle.control_block.specs.StepKinds.{At, MaySplit, Rests, comes_off, goes_on, known, parted, second_name}
-use Rattle.control_block.specs.declared.table.SeatView.{SeatView}
+use Rattle.control_word.specs.Views.{stays}
+use Rattle.control_block.specs.StepKinds.{comes_off, parted, second_name}
 use Rattle.control_block.proofs.words.Lists.{each_set, map_set}
 use Rattle.control_block.proofs.partings.Parts.{all_from, all_to}
 use Rattle.control_block.proofs.Passage.{adds, known_as, plain, point, quiet_next, ready, same}

@@ -1,30 +1,16 @@
 -- Swap: the new handle with its funds goes into a cell, and what the cell held comes out.
-use Rattle.std.proofs.Common.{◌≡◌, ℕ, ◌-◌, false, ◌∷◌, get_or, set, map, Option, None, refl, sym, ap, subst, ◌∙◌}
-use Rattle.std.proofs.Common.{arith}
+use Rattle.std.proofs.Common.{◌≡◌, ℕ, ◌-◌, false, ◌∷◌, map, get_or, set, None, Option, sym, refl}
+use Rattle.std.proofs.Common.{ap, ◌∙◌, subst, arith}
+use Rattle.control_block.proofs.Prelude
+use Prelude.{Adds, Allows, At, blocks_of, Cell, cell_bits, cell_of, cell_shown, cell_word}
+use Prelude.{CellWord, debt, entry, Event, fun_ext, Gave, get_elem?, HasRoomFor, InHand, IsCellAt}
+use Prelude.{IsWordOf, keeps, kind_in, known, leads, none, NumberedHandle, opening_of, Owes, purse}
+use Prelude.{Ready, Ruled, SeatView, seeing, sees_as, Shape, shown, some, Stands, step, Swap}
+use Prelude.{view_of}
 use Rattle.atomic_table.specs.Table as Table
-use Rattle.atomic_table.specs.Table.{Allows, keeps, step}
-use mathlib.Core.Option.{none, some}
-use mathlib.Core.Path.{fun_ext}
-use lib.ListN.{get_elem?}
 use Rattle.control_word.proofs.steps.Swap as law
-use Rattle.control_word.proofs.words.Decoding.{cell_shown}
-use Rattle.control_word.specs.Events.{InHand, cell_of}
-use Rattle.control_word.specs.Histories.{entry, leads}
-use Rattle.control_word.specs.Packing.{cell_bits}
-use Rattle.control_word.specs.Steps.{Adds, Ready, cell_word, purse}
-use Rattle.control_word.specs.Views.{Stands, sees_as}
-use Rattle.control_word.specs.Words.{blocks_of, packed, shown}
-use Rattle.control_word.specs.declared.packed.cell.CellWord.{CellWord}
-use Rattle.control_word.specs.declared.model.event.Cell.{Cell}
-use Rattle.control_word.specs.declared.model.event.Event.{Event}
-use Rattle.control_word.specs.declared.model.event.Event.TheVariants.{Swap}
-use Rattle.control_word.specs.declared.model.handle.NumberedHandle.{NumberedHandle}
-use Rattle.control_word.specs.declared.shape.Shape.{Shape}
-use Rattle.control_block.specs.Rule.{Ruled, opening_of, seeing, view_of}
-use Rattle.control_block.specs.StepKinds.{At, HasRoomFor, known}
-use Rattle.control_block.specs.FundStepKinds.{Owes}
-use Rattle.control_block.specs.CellStepKinds.{Gave, IsCellAt, IsWordOf, debt, kind_in, swapped}
-use Rattle.control_block.specs.declared.table.SeatView.{SeatView}
+use Rattle.control_word.specs.Words.{packed}
+use Rattle.control_block.specs.CellStepKinds.{swapped}
 use Rattle.control_block.proofs.CellWords.{Decoded, Opened, decoded, found_is, is_open, opened}
 use Rattle.control_block.proofs.words.Hands.{debt_purse, hand_block, hand_there, room_swapped}
 use Rattle.control_block.proofs.Passage.{IsQuiet, adds, point, quiet_next, quiet_swap, ready}

@@ -1,38 +1,22 @@
 -- Take: one more fund of a cell's is taken, by a load or by a compare that differs.
-use Rattle.std.proofs.Common.{◌≡◌, ◌≢◌, ◌⊎◌, ℕ, ◌+◌, ◌<◌, ◌==◌, true, false, Bool, ◌∷◌, get_or, set, map, Option, Some}
-use Rattle.std.proofs.Common.{None, refl, sym, ap, subst, ◌∙◌, inl, inr}
+use Rattle.std.proofs.Common.{◌≡◌, ℕ, ◌+◌, ◌<◌, Bool, true, false, ◌≢◌, ◌⊎◌, ◌∷◌, map, get_or, set}
+use Rattle.std.proofs.Common.{◌==◌, Some, None, Option, sym, refl, ap, ◌∙◌, subst, inl, inr}
 use Rattle.std.proofs.Common.{⊎_elim, arith}
-use Rattle.std.proofs.lemmas.Bool.{and_parts}
+use Rattle.control_block.proofs.Prelude
+use Prelude.{Adds, Allows, and_parts, At, block_fits, block_of, blocks_of, Cell, cell_bits}
+use Prelude.{cell_of, cell_word, CellWord, Compare, counts_at, either, entry, equivalent, Event}
+use Prelude.{field_fits, get_elem?, handle, HasRoomFor, Idle, InHand, IsCellAt, IsCellWord}
+use Prelude.{IsWordOf, kind_in, known, leads, Load, none, NumberedHandle, opening_of, owned_fits}
+use Prelude.{Paying, Pending, Rests, Ruled, same_number, same_number_true, same_place}
+use Prelude.{same_place_true, SeatView, seeing, sees_as, Shape, some, Stands, step, Took, view_of}
 use Rattle.atomic_table.specs.Table as Table
-use Rattle.atomic_table.specs.Table.{Allows, step}
-use mathlib.Core.Option.{none, some}
-use lib.ListN.{get_elem?}
-use prog.Atomic.{either}
-use Rattle.control_word.proofs.packing.Cells.{block_fits, field_fits, owned_fits}
-use Rattle.control_word.proofs.lists.Tallies.{same_number_true, same_place_true}
 use Rattle.control_word.proofs.steps.Take as law
-use Rattle.control_word.specs.Events.{InHand, cell_of}
-use Rattle.control_word.specs.Handles.{equivalent, handle, same_number, same_place}
-use Rattle.control_word.specs.Histories.{entry, leads}
-use Rattle.control_word.specs.Packing.{IsCellWord, cell_bits}
-use Rattle.control_word.specs.Steps.{Adds, cell_word}
-use Rattle.control_word.specs.Views.{Stands, sees_as}
-use Rattle.control_word.specs.Words.{block_of, blocks_of, counts_at}
-use Rattle.control_word.specs.declared.packed.cell.CellWord.{CellWord}
-use Rattle.control_word.specs.declared.model.event.Cell.{Cell}
-use Rattle.control_word.specs.declared.model.event.Event.{Event}
-use Rattle.control_word.specs.declared.model.event.Event.TheVariants.{Compare, Load}
-use Rattle.control_word.specs.declared.model.handle.NumberedHandle.{NumberedHandle}
-use Rattle.control_word.specs.declared.shape.Shape.{Shape}
-use Rattle.control_word.specs.declared.model.view.Pending.{Pending}
-use Rattle.control_word.specs.declared.model.view.Pending.TheVariants.{Idle, Paying}
-use Rattle.control_block.specs.Rule.{Ruled, opening_of, seeing, view_of}
-use Rattle.control_block.specs.StepKinds.{At, HasRoomFor, Rests, known}
-use Rattle.control_block.specs.CellStepKinds.{IsCellAt, IsWordOf, Took, kind_in, took}
-use Rattle.control_block.specs.declared.table.SeatView.{SeatView}
-use Rattle.control_block.proofs.CellWords.{Decoded, Opened, decoded, found_is, is_open, one_cell, opened}
+use Rattle.control_block.specs.CellStepKinds.{took}
+use Rattle.control_block.proofs.CellWords.{Decoded, Opened, decoded, found_is, is_open, one_cell}
+use Rattle.control_block.proofs.CellWords.{opened}
 use Rattle.control_block.proofs.words.Hands.{hand_block, hand_there}
-use Rattle.control_block.proofs.Passage.{IsQuiet, adds, plain, point, quiet_next, ready, still_room}
+use Rattle.control_block.proofs.Passage.{IsQuiet, adds, plain, point, quiet_next, ready}
+use Rattle.control_block.proofs.Passage.{still_room}
 use Rattle.control_block.proofs.words.Still.{allows_exchange}
 
 -- of a word that shows less than 256 taken a fund is left

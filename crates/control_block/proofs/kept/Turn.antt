@@ -1,18 +1,10 @@
 -- Turn: the fund of a load under way becomes a handle in the number.
-use Rattle.std.proofs.Common.{◌≡◌, ℕ, ◌+◌, ◌-◌, ◌%◌, ◌^◌, ◌<◌, ◌≤◌, get_or, set, map, Option, sym, subst, ◌∙◌, arith}
-use Rattle.atomic_table.specs.Table.{Allows, step}
-use mathlib.Core.Option.{none}
+use Rattle.std.proofs.Common.{◌≡◌, ℕ, ◌+◌, ◌-◌, ◌%◌, ◌^◌, ◌<◌, ◌≤◌, map, get_or, set, Option, sym}
+use Rattle.std.proofs.Common.{◌∙◌, subst, arith}
+use Rattle.control_block.proofs.Prelude.{Allows, At, Idle, Kind, none, opening_of, Owes, owing}
+use Rattle.control_block.proofs.Prelude.{Place, Ruled, sees_as, settled, Shape, slot, spot, Stands}
+use Rattle.control_block.proofs.Prelude.{step, view_of}
 use Rattle.control_word.proofs.steps.Turn as law
-use Rattle.control_word.specs.Layout.{spot}
-use Rattle.control_word.specs.Views.{Stands, sees_as}
-use Rattle.control_word.specs.Words.{slot}
-use Rattle.control_word.specs.declared.model.handle.Kind.{Kind}
-use Rattle.control_word.specs.declared.place.Place.{Place}
-use Rattle.control_word.specs.declared.shape.Shape.{Shape}
-use Rattle.control_word.specs.declared.model.view.Pending.TheVariants.{Idle}
-use Rattle.control_block.specs.Rule.{Ruled, opening_of, view_of}
-use Rattle.control_block.specs.StepKinds.{At}
-use Rattle.control_block.specs.FundStepKinds.{Owes, owing, settled}
 use Rattle.control_block.proofs.Passage.{point}
 use Rattle.control_block.proofs.words.Still.{allows_move}
 use Rattle.control_block.proofs.kept.GiveBack.{owed_there}

@@ -1,17 +1,8 @@
 -- Weak leave: one weak handle less is allowed; the block is vacant just where the whole word was all that is taken from it.
-use Rattle.std.proofs.Common.{◌≡◌, ℕ, ◌+◌, ◌-◌, ◌*◌, ◌%◌, ◌^◌, ◌<◌, ◌==◌, get_or, Option, refl}
-use Rattle.atomic_table.specs.Table.{Allows, step}
-use mathlib.Core.Option.{none}
-use Rattle.control_word.specs.Handles.{weak_of}
-use Rattle.control_word.specs.Layout.{spot}
-use Rattle.control_word.specs.declared.model.event.Event.TheVariants.{WeakLeave}
-use Rattle.control_word.specs.declared.model.handle.Kind.TheVariants.{Weak}
-use Rattle.control_word.specs.declared.place.Place.{Place}
-use Rattle.control_word.specs.declared.shape.Shape.{Shape}
-use Rattle.control_word.specs.declared.model.view.Pending.TheVariants.{Idle}
-use Rattle.control_block.specs.Leaving.{MayLeave}
-use Rattle.control_block.specs.StepKinds.{At, weakly_left}
-use Rattle.control_block.specs.Rule.{Ruled}
+use Rattle.std.proofs.Common.{◌≡◌, ℕ, ◌+◌, ◌-◌, ◌*◌, ◌%◌, ◌^◌, ◌<◌, get_or, ◌==◌, Option, refl}
+use Rattle.control_block.proofs.Prelude.{Allows, At, Idle, MayLeave, none, Place, Ruled, Shape}
+use Rattle.control_block.proofs.Prelude.{spot, step, Weak, weak_of, WeakLeave}
+use Rattle.control_block.specs.StepKinds.{weakly_left}
 use Rattle.control_block.proofs.Passage.{allows_event, plain}
 use Rattle.control_block.proofs.kept.MayLeave.{may_awake, may_empty, may_stand}
 

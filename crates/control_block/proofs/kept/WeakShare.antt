@@ -1,30 +1,17 @@
 -- Weak share: one weak handle more is allowed.
-use Rattle.std.proofs.Common.{◌≡◌, ◌⊎◌, ℕ, ◌+◌, ◌%◌, ◌^◌, ◌<◌, ◌∷◌, true, get_or, set, map, Option, Some, refl, sym, ap}
-use Rattle.std.proofs.Common.{subst, ◌∙◌, inl, inr, ⊎_elim}
+use Rattle.std.proofs.Common.{◌≡◌, ℕ, ◌+◌, ◌%◌, ◌^◌, ◌<◌, true, ◌⊎◌, ◌∷◌, map, get_or, set, Some}
+use Rattle.std.proofs.Common.{Option, sym, refl, ap, ◌∙◌, subst, inl, inr, ⊎_elim}
+use Rattle.control_block.proofs.Prelude
+use Prelude.{Allows, Asks, At, Ends, entry, get_elem?, handle, has_headroom, HasRoomFor, held_busy}
+use Prelude.{HoldingInBlock, Idle, Kind, known, leads, MayShareWeakly, none, opening_of, Place}
+use Prelude.{place_at, Rests, Ruled, SeatView, sees_as, Shape, some, sound, spot, Stands, step}
+use Prelude.{view_of, Weak, weak_number, WeakShare}
 use Rattle.atomic_table.specs.Table as Table
-use Rattle.atomic_table.specs.Table.{Allows, step}
-use mathlib.Core.Option.{none, some}
-use lib.ListN.{get_elem?}
-use Rattle.control_word.proofs.history.Legal.{held_busy, sound}
 use Rattle.control_word.proofs.steps.WeakShare as law
-use Rattle.control_word.proofs.steps.Standing.{has_headroom}
-use Rattle.control_word.specs.Events.{Asks, place_at}
-use Rattle.control_word.specs.Handles.{handle}
-use Rattle.control_word.specs.State.{weak_number}
-use Rattle.control_word.specs.declared.model.event.Event.TheVariants.{WeakShare}
-use Rattle.control_word.specs.declared.model.handle.Kind.{Kind}
-use Rattle.control_word.specs.declared.model.handle.Kind.TheVariants.{Weak}
-use Rattle.control_word.specs.Histories.{entry, leads}
-use Rattle.control_word.specs.Layout.{spot}
-use Rattle.control_word.specs.Views.{Stands, sees_as}
-use Rattle.control_word.specs.declared.place.Place.{Place}
-use Rattle.control_word.specs.declared.shape.Shape.{Shape}
-use Rattle.control_word.specs.declared.model.view.Pending.TheVariants.{Idle}
-use Rattle.control_block.specs.Rule.{Ruled, opening_of, view_of}
-use Rattle.control_block.specs.StepKinds.{At, Ends, HasRoomFor, HoldingInBlock, MayShareWeakly, Rests, known, weakly_shared}
-use Rattle.control_block.specs.declared.table.SeatView.{SeatView}
+use Rattle.control_block.specs.StepKinds.{weakly_shared}
 use Rattle.control_block.proofs.Endings.{ends_busy, ends_here}
-use Rattle.control_block.proofs.Passage.{allows_event, held_there, plain, point, ready, still_ending, still_room}
+use Rattle.control_block.proofs.Passage.{allows_event, held_there, plain, point, ready}
+use Rattle.control_block.proofs.Passage.{still_ending, still_room}
 use Rattle.control_block.proofs.kept.Share.{wraps}
 
 module _ {V : Type 0} where

@@ -1,30 +1,15 @@
 -- What a desk has when a member of an object that ends in its hands was emptied.
-use Rattle.std.proofs.Common.{◌≡◌, ◌≢◌, ℕ, ◌+◌, ◌<◌, ◌≤◌, ◌==◌, min, cond, [], ◌∷◌, List, length, Some, None, refl, sym}
-use Rattle.std.proofs.Common.{ap, subst, ◌∙◌, inr, eq-eqb, ne_eqb, arith}
-use Rattle.std.proofs.lemmas.Bool.{cond-true, cond-false}
-use Rattle.control_word.proofs.history.Legal.{sound}
-use Rattle.control_word.proofs.lists.Tallies.{put_same}
-use Rattle.control_word.specs.Handles.{empty}
-use Rattle.control_word.specs.Histories.{entry, leads, value}
-use Rattle.control_word.specs.State.{Object, State, bag_size, ending, kind_of_member, put}
-use Rattle.control_word.specs.declared.packed.cell.CellWord.{CellWord}
-use Rattle.control_word.specs.declared.model.event.Cell.TheVariants.{Member}
-use Rattle.control_word.specs.declared.model.event.Event.{Event}
-use Rattle.control_word.specs.declared.model.event.Event.TheVariants.{ClearMember}
-use Rattle.control_word.specs.declared.model.handle.NumberedHandle.{NumberedHandle}
-use Rattle.control_word.specs.declared.model.handle.Kind.{Kind}
-use Rattle.control_word.specs.declared.model.view.Pending.TheVariants.{Idle}
-use Rattle.control_block.specs.CellCalls.{handle_in, with_handle}
-use Rattle.control_block.specs.CellRetries.{CameOut}
-use Rattle.control_block.specs.Desks.{AddsEvent, StaysEnding, IsEnding, IsSameDesk, bag_of, many_ending, member_in, stock_of}
-use Rattle.control_block.specs.Handles.{IsProper}
-use Rattle.control_block.specs.Inside.{IsDesk, IsDeskWith, desk_now}
-use Rattle.control_block.specs.StepKinds.{Added, Ends, HasRoomFor, known}
-use Rattle.control_block.specs.Rule.{opening_of}
-use Rattle.control_block.specs.declared.table.SeatView.{SeatView}
-use Rattle.control_block.specs.declared.desk.Desk.TheInside.{Inside}
+use Rattle.std.proofs.Common.{◌≡◌, ℕ, ◌+◌, ◌<◌, ◌≤◌, min, cond, ◌≢◌, List, [], ◌∷◌, length, ◌==◌}
+use Rattle.std.proofs.Common.{Some, None, sym, refl, ap, ◌∙◌, subst, inr, arith, eq-eqb, ne_eqb}
+use Rattle.control_block.proofs.Prelude
+use Prelude.{Added, AddsEvent, bag_of, bag_size, CameOut, CellWord, ClearMember, cond-false}
+use Prelude.{cond-true, desk_now, empty, ending, Ends, entry, Event, handle_in, HasRoomFor, Idle}
+use Prelude.{Inside, IsDesk, IsDeskWith, IsEnding, IsProper, IsSameDesk, Kind, kind_of_member}
+use Prelude.{known, leads, many_ending, Member, member_in, NumberedHandle, Object, opening_of, put}
+use Prelude.{put_same, SeatView, sound, State, StaysEnding, stock_of, value, with_handle}
 use Rattle.control_block.proofs.Bags.{shown}
-use Rattle.control_block.proofs.cells.CellDesks.{bag_is, event_is, formed_in, in_seat, one, size_is}
+use Rattle.control_block.proofs.cells.CellDesks.{bag_is, event_is, formed_in, in_seat, one}
+use Rattle.control_block.proofs.cells.CellDesks.{size_is}
 use Rattle.control_block.proofs.cells.CellTrades.{clear_trades}
 use Rattle.control_block.proofs.desks.DeskBags.{adds_of, before, ends_still, legal_now, same_desk}
 use Rattle.control_block.proofs.desks.DeskSteps.{came, ending_same, quiet_desk, stock_left}

@@ -1,22 +1,12 @@
 -- What a desk has when a member of an object that ends in its hands was emptied, and what that held has left, of either kind.
-use Rattle.std.proofs.Common.{◌≡◌, ◌≢◌, ℕ, ◌+◌, ◌≤◌, min, [], length, refl, ap, ◌∙◌, arith}
-use Rattle.std.specs.Prelude.{IfSome}
-use Rattle.control_word.specs.Handles.{empty}
-use Rattle.control_word.specs.State.{bag_size}
-use Rattle.control_word.specs.declared.packed.cell.CellWord.{CellWord}
-use Rattle.control_word.specs.declared.model.event.Event.TheVariants.{ClearMember}
-use Rattle.control_word.specs.declared.model.handle.Kind.{Kind}
-use Rattle.control_block.specs.CellCalls.{without_handle}
-use Rattle.control_block.specs.CellRetries.{CameOut}
+use Rattle.std.proofs.Common.{◌≡◌, ℕ, ◌+◌, ◌≤◌, min, ◌≢◌, [], length, IfSome, refl, ap, ◌∙◌, arith}
+use Rattle.control_block.proofs.Prelude
+use Prelude.{bag_of, bag_size, CameOut, CellWord, ClearMember, desk_now, DeskNow, empty}
+use Prelude.{endings_of, Ends, HoldingInBlock, Inside, IsCleared, IsDesk, IsDeskWith, IsEnding}
+use Prelude.{IsProper, IsSameDesk, Kind, known, LetGo, member_in, Released, SeatView, StaysEnding}
+use Prelude.{stock_of, without_handle}
 use Rattle.control_block.specs.Clearing.{TakesOut}
-use Rattle.control_block.specs.Desks.{DeskNow, StaysEnding, IsCleared, IsEnding, IsSameDesk, KeepsOtherEndings, bag_of, endings_of, member_in, stock_of}
-use Rattle.control_block.specs.Handles.{IsProper}
-use Rattle.control_block.specs.Leaving.{LetGo}
-use Rattle.control_block.specs.declared.released.Released.{Released}
-use Rattle.control_block.specs.Inside.{IsDesk, IsDeskWith, desk_now}
-use Rattle.control_block.specs.StepKinds.{Ends, HoldingInBlock, known}
-use Rattle.control_block.specs.declared.table.SeatView.{SeatView}
-use Rattle.control_block.specs.declared.desk.Desk.TheInside.{Inside}
+use Rattle.control_block.specs.Desks.{KeepsOtherEndings}
 use Rattle.control_block.proofs.cells.CellDesks.{one, one_few}
 use Rattle.control_block.proofs.cells.CellRetries.{came_holding}
 use Rattle.control_block.proofs.cells.CellTrades.{clear_trades}

@@ -1,32 +1,14 @@
 -- What a desk has when a handle has left: an empty one, or one of either kind.
-use Rattle.std.proofs.Common.{◌≡◌, ℕ, ◌+◌, ◌-◌, ◌<◌, ◌≤◌, ◌==◌, min, cond, true, true≢false, [], ◌∷◌, ◌++◌, List, length, Option, Some, None}
-use Rattle.std.proofs.Common.{refl, sym, ap, subst, ◌∙◌, arith}
-use Rattle.std.proofs.lemmas.List.{append-nil}
-use Rattle.std.specs.List.{filter}
-use Rattle.std.specs.Prelude.{IfSome, is_some, vec_capacity, vec_len}
-use Rattle.atomic_table.specs.Seated.{TableId}
-use mir.Val.{bool_byte}
-use Rattle.std.proofs.lemmas.Bool.{cond-true}
-use Rattle.control_word.proofs.lists.Tallies.{handle_self}
-use Rattle.control_word.specs.Handles.{handle, same_handle}
-use Rattle.control_word.specs.Histories.{IsLegal, value}
-use Rattle.control_word.specs.Layout.{IsWithinLimits}
-use Rattle.control_word.specs.State.{bag_size, ending, same_stored, stock, stored, without}
-use Rattle.control_word.specs.declared.model.handle.NumberedHandle.{NumberedHandle}
-use Rattle.control_word.specs.declared.model.handle.Kind.{Kind}
-use Rattle.control_word.specs.declared.model.handle.Kind.TheVariants.{Owner, Weak}
-use Rattle.control_word.specs.declared.place.Block.{Block}
-use Rattle.control_word.specs.declared.place.Place.{Place}
-use Rattle.control_block.specs.CellCalls.{with_handle, without_handle}
-use Rattle.control_block.specs.Clearing.{Lets}
-use Rattle.control_block.specs.Desks.{DeskNow, StaysEnding, IsEnding, IsSameDesk, KeepsEndings, bag_of, endings_of, many_ending, stock_of}
-use Rattle.control_block.specs.Inside.{IsDesk, IsDeskWith, IsSized, desk_now}
-use Rattle.control_block.specs.Leaving.{IsReleasedBy, LetGo, freed}
-use Rattle.control_block.specs.StepKinds.{HoldingInBlock, known}
-use Rattle.control_block.specs.Rule.{opening_of}
-use Rattle.control_block.specs.declared.table.SeatView.{SeatView}
-use Rattle.control_block.specs.declared.desk.Desk.TheInside.{Inside}
-use Rattle.control_block.specs.declared.released.Released.{Released}
+use Rattle.std.proofs.Common.{◌≡◌, ℕ, ◌+◌, ◌-◌, ◌<◌, ◌≤◌, min, true, cond, List, [], ◌∷◌, ◌++◌}
+use Rattle.std.proofs.Common.{length, is_some, IfSome, ◌==◌, Some, None, vec_len, vec_capacity}
+use Rattle.std.proofs.Common.{Option, sym, refl, ap, ◌∙◌, subst, true≢false, append-nil, arith}
+use Rattle.control_block.proofs.Prelude
+use Prelude.{bag_of, bag_size, Block, bool_byte, cond-true, desk_now, DeskNow, ending, endings_of}
+use Prelude.{filter, freed, handle, handle_self, HoldingInBlock, Inside, IsDesk, IsDeskWith}
+use Prelude.{IsEnding, IsLegal, IsReleasedBy, IsSameDesk, IsSized, IsWithinLimits, KeepsEndings}
+use Prelude.{Kind, known, LetGo, Lets, many_ending, NumberedHandle, opening_of, Owner, Place}
+use Prelude.{Released, same_handle, same_stored, SeatView, StaysEnding, stock, stock_of, stored}
+use Prelude.{TableId, value, Weak, with_handle, without, without_handle}
 use Rattle.control_block.proofs.Bags.{shown}
 use Rattle.control_block.proofs.cells.CellDesks.{one}
 use Rattle.control_block.proofs.leavings.OwnerLeaves as leave

@@ -1,20 +1,13 @@
 -- Owners of two desks are two, so nobody visits an object whose last owner leaves.
-use Rattle.std.proofs.Common.{◌≡◌, ◌≢◌, ◌==◌, ℕ, ◌<◌, true, false, [], Option, None, Some, refl, sym, ap, subst, ◌∙◌, inl, arith}
-use mathlib.Core.Option.{some, some-injective}
-use lib.ListN.{get_elem?}
-use Rattle.std.proofs.lemmas.Bool.{eqb-true}
+use Rattle.std.proofs.Common.{◌≡◌, ℕ, ◌<◌, true, false, ◌≢◌, [], ◌==◌, Some, None, Option, sym}
+use Rattle.std.proofs.Common.{refl, ap, ◌∙◌, subst, inl, arith, eqb-true}
+use Rattle.control_block.proofs.Prelude
+use Prelude.{at_map, get_elem?, handle, Has, has_without, Held, held, held_self, held_true}
+use Prelude.{in_cells, IsSlotOf, leads, names_an_object, opening_of, Owner, Place, Ruled}
+use Prelude.{same_held, SeatView, Shape, some, some-injective, State, view_of, without}
 use Rattle.atomic_table.specs.Table as Table
-use Rattle.atomic_table.proofs.Lists.{at_map}
-use Rattle.control_word.proofs.history.Given.{names_an_object}
-use Rattle.control_word.proofs.lists.Tallies.{has_without, held_self, held_true, tally_has, tally_here, tally_without}
-use Rattle.control_word.specs.Handles.{handle}
-use Rattle.control_word.specs.Histories.{leads}
-use Rattle.control_word.specs.State.{Has, Held, State, count, held, in_cells, same_held, without}
-use Rattle.control_word.specs.declared.model.handle.Kind.TheVariants.{Owner}
-use Rattle.control_word.specs.declared.place.Place.{Place}
-use Rattle.control_word.specs.declared.shape.Shape.{Shape}
-use Rattle.control_block.specs.Rule.{IsSlotOf, Ruled, opening_of, view_of}
-use Rattle.control_block.specs.declared.table.SeatView.{SeatView}
+use Rattle.control_word.proofs.lists.Tallies.{tally_has, tally_here, tally_without}
+use Rattle.control_word.specs.State.{count}
 use Rattle.control_block.proofs.words.Slots.{Visits}
 
 pub two_owners : (s : State) (d e o : ℕ) (p q : Option Place) → d ≢ e → Has (held d (handle Owner (Some o) p)) s.hands

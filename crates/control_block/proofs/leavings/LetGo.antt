@@ -1,29 +1,14 @@
 -- What the steps of a call come to by which a handle comes out of a cell and leaves.
-use Rattle.std.proofs.Common.{◌≡◌, ℕ, ◌-◌, ◌≤◌, false, [], Option, Some, None, refl, sym, ap, subst, ◌∙◌, inr, arith}
-use Rattle.std.specs.Prelude.{IfSome}
-use Rattle.atomic_table.specs.Seated.{TableId}
-use Rattle.control_word.specs.Handles.{handle, object_of}
-use Rattle.control_word.specs.Histories.{value}
-use Rattle.control_word.specs.Words.{blocks_of}
-use Rattle.control_word.specs.declared.packed.cell.CellWord.{CellWord}
-use Rattle.control_word.specs.declared.model.event.Event.{Event}
-use Rattle.control_word.specs.declared.model.handle.NumberedHandle.{NumberedHandle}
-use Rattle.control_word.specs.declared.model.handle.Kind.{Kind}
-use Rattle.control_word.specs.declared.place.Block.{Block}
-use Rattle.control_word.specs.declared.place.Place.{Place}
-use Rattle.control_word.specs.declared.model.view.Pending.{Pending}
-use Rattle.control_word.specs.declared.model.view.Pending.TheVariants.{Idle}
-use Rattle.control_block.specs.CellCalls.{object_by}
-use Rattle.control_block.specs.CellStepKinds.{Gave, debt}
-use Rattle.control_block.specs.CellRetries.{CameOut, IsCounted}
-use Rattle.control_block.specs.FundStepKinds.{Owes, owing}
-use Rattle.control_block.specs.Inside.{IsSized}
-use Rattle.control_block.specs.Leaving.{IsReleasedBy, LetGo, MayLeave, OutAndGone, OwesFor, block_out, leave_of, nothing, shown_handle}
-use Rattle.control_block.specs.StepKinds.{Added, At, Rests, goes_on, in_call, known}
-use Rattle.control_block.specs.Rule.{opening_of}
-use Rattle.control_block.specs.declared.table.SeatView.{SeatView}
-use Rattle.control_block.specs.declared.released.Released.{Released}
-use Rattle.control_block.proofs.cells.CellRetries.{added_owes, came_object, given_back, object_shown}
+use Rattle.std.proofs.Common.{◌≡◌, ℕ, ◌-◌, ◌≤◌, false, [], IfSome, Some, None, Option, sym, refl}
+use Rattle.std.proofs.Common.{ap, ◌∙◌, subst, inr, arith}
+use Rattle.control_block.proofs.Prelude
+use Prelude.{Added, At, Block, block_out, blocks_of, CameOut, CellWord, debt, Event, Gave, goes_on}
+use Prelude.{handle, Idle, in_call, IsCounted, IsReleasedBy, IsSized, Kind, known, LetGo, MayLeave}
+use Prelude.{NumberedHandle, object_by, object_of, opening_of, OutAndGone, Owes, owing, Pending}
+use Prelude.{Place, Released, Rests, SeatView, shown_handle, TableId, value}
+use Rattle.control_block.specs.Leaving.{OwesFor, leave_of, nothing}
+use Rattle.control_block.proofs.cells.CellRetries.{added_owes, came_object, given_back}
+use Rattle.control_block.proofs.cells.CellRetries.{object_shown}
 use Rattle.control_block.proofs.words.Seats.{added_as}
 use Rattle.control_block.proofs.cells.CellTrades.{Trades, came_in_shape, came_inside}
 

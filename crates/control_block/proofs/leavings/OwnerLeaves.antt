@@ -1,25 +1,13 @@
 -- What a desk has when an owner has left.
-use Rattle.std.proofs.Common.{◌≡◌, ℕ, ◌+◌, ◌≤◌, min, cond, false, [], ◌++◌, length, Option, Some, None, refl, ap, ◌∙◌, arith}
-use Rattle.std.specs.Prelude.{IfSome, is_some, vec_capacity}
-use mir.Val.{bool_byte}
-use Rattle.control_word.proofs.history.Legal.{sound}
-use Rattle.control_word.specs.Handles.{handle, owner, same_handle}
-use Rattle.control_word.specs.Histories.{leads, value}
-use Rattle.control_word.specs.State.{without}
-use Rattle.control_word.specs.declared.model.event.Event.{Event}
-use Rattle.control_word.specs.declared.model.event.Event.TheVariants.{Leave}
-use Rattle.control_word.specs.declared.model.handle.NumberedHandle.{NumberedHandle}
-use Rattle.control_word.specs.declared.model.handle.Kind.TheVariants.{Owner}
-use Rattle.control_word.specs.declared.place.Block.{Block}
-use Rattle.control_word.specs.declared.place.Place.{Place}
-use Rattle.control_word.specs.declared.model.view.Pending.TheVariants.{Idle}
-use Rattle.control_block.specs.Desks.{AddsEvent, StaysEnding, IsEnding, IsSameDesk, bag_of, endings_of, on_latest, stock_of}
-use Rattle.control_block.specs.Inside.{IsDesk, IsDeskWith, desk_now}
-use Rattle.control_block.specs.StepKinds.{Added, HoldingInBlock, known}
-use Rattle.control_block.specs.Rule.{opening_of}
-use Rattle.control_block.specs.declared.table.SeatView.{SeatView}
-use Rattle.control_block.specs.declared.desk.Desk.TheInside.{Inside}
-use Rattle.control_block.proofs.desks.DeskBags.{adds_of, bag_loses, before, ends_still, legal_now, same_desk}
+use Rattle.std.proofs.Common.{◌≡◌, ℕ, ◌+◌, ◌≤◌, min, false, cond, [], ◌++◌, length, is_some}
+use Rattle.std.proofs.Common.{IfSome, Some, None, vec_capacity, Option, refl, ap, ◌∙◌, arith}
+use Rattle.control_block.proofs.Prelude
+use Prelude.{Added, AddsEvent, bag_of, Block, bool_byte, desk_now, endings_of, Event, handle}
+use Prelude.{HoldingInBlock, Idle, Inside, IsDesk, IsDeskWith, IsEnding, IsSameDesk, known, leads}
+use Prelude.{Leave, NumberedHandle, on_latest, opening_of, Owner, owner, Place, same_handle}
+use Prelude.{SeatView, sound, StaysEnding, stock_of, value, without}
+use Rattle.control_block.proofs.desks.DeskBags.{adds_of, bag_loses, before, ends_still, legal_now}
+use Rattle.control_block.proofs.desks.DeskBags.{same_desk}
 use Rattle.control_block.proofs.desks.DeskSteps.{came, desk_after, one_fewer, stock_left}
 use Rattle.control_block.proofs.desks.DeskStores.{put_back}
 use Rattle.control_block.proofs.desks.OwnCounts.{grown, grown_count}

@@ -1,26 +1,13 @@
 -- What a desk has when a handle was stored into a cell, and what the cell held has left, of either kind.
-use Rattle.std.proofs.Common.{◌≡◌, ℕ, ◌+◌, ◌≤◌, [], length, Option, refl, ap, ◌∙◌, arith}
-use Rattle.std.specs.Prelude.{IfSome}
-use Rattle.control_word.specs.State.{bag_size}
-use Rattle.control_word.specs.declared.packed.cell.CellWord.{CellWord}
-use Rattle.control_word.specs.declared.model.event.Cell.{Cell}
-use Rattle.control_word.specs.declared.model.event.Event.TheVariants.{Swap}
-use Rattle.control_word.specs.declared.model.handle.NumberedHandle.{NumberedHandle}
-use Rattle.control_word.specs.declared.model.handle.Kind.{Kind}
-use Rattle.control_word.specs.declared.place.Block.{Block}
-use Rattle.control_word.specs.declared.place.Place.{Place}
-use Rattle.control_block.specs.CellCalls.{HoldsHandle, handle_in, without_handle}
-use Rattle.control_block.specs.CellRetries.{CameOut}
-use Rattle.control_block.specs.Desks.{AddsEvent, DeskNow, IsSameDesk, Keeps, KeepsEndings, bag_of, endings_of, stock_of}
-use Rattle.control_block.specs.Handles.{IsProper}
-use Rattle.control_block.specs.Leaving.{LetGo}
-use Rattle.control_block.specs.declared.released.Released.{Released}
-use Rattle.control_block.specs.Inside.{IsDesk, IsDeskWith, desk_now}
-use Rattle.control_block.specs.StepKinds.{HoldingInBlock, known}
-use Rattle.control_block.specs.declared.table.SeatView.{SeatView}
-use Rattle.control_block.specs.declared.desk.Desk.TheInside.{Inside}
+use Rattle.std.proofs.Common.{◌≡◌, ℕ, ◌+◌, ◌≤◌, [], length, IfSome, Option, refl, ap, ◌∙◌, arith}
+use Rattle.control_block.proofs.Prelude
+use Prelude.{AddsEvent, bag_of, bag_size, Block, CameOut, Cell, CellWord, desk_now, DeskNow}
+use Prelude.{endings_of, handle_in, HoldingInBlock, HoldsHandle, Inside, IsDesk, IsDeskWith}
+use Prelude.{IsProper, IsSameDesk, Keeps, KeepsEndings, Kind, known, LetGo, NumberedHandle, Place}
+use Prelude.{Released, SeatView, stock_of, Swap, without_handle}
 use Rattle.control_block.proofs.cells.CellDesks.{fits, got_holding, in_seat, one, one_few}
-use Rattle.control_block.proofs.cells.CellOutcomes.{Came, bag_then, desk_then, event_of, is_proper, keeps_else, size_now, swapped}
+use Rattle.control_block.proofs.cells.CellOutcomes.{Came, bag_then, desk_then, event_of, is_proper}
+use Rattle.control_block.proofs.cells.CellOutcomes.{keeps_else, size_now, swapped}
 use Rattle.control_block.proofs.leavings.GoneDesks.{Going, HasGone, front_out, on_its_way}
 
 module _ {V : Type 0} where

@@ -1,25 +1,13 @@
 -- What a desk has when a weak handle has left.
-use Rattle.std.proofs.Common.{◌≡◌, ℕ, ◌+◌, ◌<◌, min, cond, Bool, true, [], ◌∷◌, ◌++◌, length, Option, Some, None, refl, sym, ap}
-use Rattle.std.proofs.Common.{◌∙◌, arith}
-use Rattle.std.specs.Prelude.{vec_capacity}
-use Rattle.control_word.proofs.history.Legal.{sound}
-use Rattle.control_word.specs.Handles.{handle, same_handle, weak_of}
-use Rattle.control_word.specs.Histories.{leads}
-use Rattle.control_word.specs.State.{stored, without}
-use Rattle.control_word.specs.declared.model.event.Event.{Event}
-use Rattle.control_word.specs.declared.model.event.Event.TheVariants.{WeakLeave}
-use Rattle.control_word.specs.declared.model.handle.NumberedHandle.{NumberedHandle}
-use Rattle.control_word.specs.declared.model.handle.Kind.TheVariants.{Weak}
-use Rattle.control_word.specs.declared.place.Block.{Block}
-use Rattle.control_word.specs.declared.place.Place.{Place}
-use Rattle.control_word.specs.declared.model.view.Pending.TheVariants.{Idle}
-use Rattle.control_block.specs.Desks.{AddsEvent, StaysEnding, IsEnding, IsSameDesk, bag_of, endings_of, on_latest, stock_of}
-use Rattle.control_block.specs.Inside.{IsDesk, IsDeskWith, desk_now}
-use Rattle.control_block.specs.StepKinds.{Added, HoldingInBlock, known}
-use Rattle.control_block.specs.Rule.{opening_of}
-use Rattle.control_block.specs.declared.table.SeatView.{SeatView}
-use Rattle.control_block.specs.declared.desk.Desk.TheInside.{Inside}
-use Rattle.control_block.proofs.desks.DeskBags.{adds_of, bag_loses, before, calm, ends_still, legal_now, quiet_spares, same_desk}
+use Rattle.std.proofs.Common.{◌≡◌, ℕ, ◌+◌, ◌<◌, min, Bool, true, cond, [], ◌∷◌, ◌++◌, length, Some}
+use Rattle.std.proofs.Common.{None, vec_capacity, Option, sym, refl, ap, ◌∙◌, arith}
+use Rattle.control_block.proofs.Prelude
+use Prelude.{Added, AddsEvent, bag_of, Block, desk_now, endings_of, Event, handle, HoldingInBlock}
+use Prelude.{Idle, Inside, IsDesk, IsDeskWith, IsEnding, IsSameDesk, known, leads, NumberedHandle}
+use Prelude.{on_latest, opening_of, Place, same_handle, SeatView, sound, StaysEnding, stock_of}
+use Prelude.{stored, Weak, weak_of, WeakLeave, without}
+use Rattle.control_block.proofs.desks.DeskBags.{adds_of, bag_loses, before, calm, ends_still}
+use Rattle.control_block.proofs.desks.DeskBags.{legal_now, quiet_spares, same_desk}
 use Rattle.control_block.proofs.desks.DeskSteps.{Came, came, desk_after, ending_same, one_fewer}
 use Rattle.control_block.proofs.desks.DeskStores.{put_back, room_back, stock_grows}
 use Rattle.control_block.proofs.Passage.{plain}

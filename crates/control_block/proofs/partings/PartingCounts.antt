@@ -1,17 +1,10 @@
 -- What stands in a list as often as it is given, told by counts.
-use Rattle.std.proofs.Common.{◌≡◌, ℕ, ◌+◌, ◌<◌, ◌≤◌, Bool, true, cond, List, [], ◌∷◌, ◌++◌, length}
-use Rattle.std.proofs.Common.{refl, sym, ap, ◌∙◌, inl, inr, arith, length-append}
-use Rattle.std.proofs.lemmas.Bool.{cond_both, cond-true}
-use Rattle.std.proofs.lemmas.List.Elements.{filter-append}
-use Rattle.std.proofs.lemmas.List.Sorted.{sum_by-IsPermutation}
-use Rattle.std.proofs.lemmas.List.Sums.{length-filter}
-use Rattle.std.specs.List.{filter}
-use Rattle.std.specs.List.Sorted.{IsPermutation}
-use Rattle.control_word.proofs.lists.Tallies.{handle_self, num, num_cons, num_without, same_handle_true}
-use Rattle.control_word.specs.Handles.{same_handle}
-use Rattle.control_word.specs.State.{Has, without}
-use Rattle.control_word.specs.declared.model.handle.NumberedHandle.{NumberedHandle}
-use Rattle.control_block.specs.Parting.{AreIn}
+use Rattle.std.proofs.Common.{◌≡◌, ◌+◌, ◌<◌, ◌≤◌, Bool, cond, List, [], ◌∷◌, ◌++◌, length, sym, ap}
+use Rattle.std.proofs.Common.{◌∙◌, inl, inr, arith, length-append}
+use Rattle.control_block.proofs.Prelude.{AreIn, cond-true, cond_both, filter, filter-append}
+use Rattle.control_block.proofs.Prelude.{handle_self, Has, IsPermutation, length-filter, num}
+use Rattle.control_block.proofs.Prelude.{num_cons, num_without, NumberedHandle, same_handle}
+use Rattle.control_block.proofs.Prelude.{same_handle_true, sum_by-IsPermutation, without}
 
 pub counted : (hs l : List NumberedHandle) → AreIn hs l → (h : NumberedHandle) → num (same_handle h) hs ≤ num (same_handle h) l
 counted [] l all h = omega arith

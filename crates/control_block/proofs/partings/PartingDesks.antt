@@ -1,35 +1,15 @@
 -- Desks by their fields, and the state at which an event of a desk came.
-use Rattle.control_block.specs.Desks.{many_ending}
-use Rattle.std.proofs.Common.{◌≡◌, ℕ, ◌+◌, ◌≤◌, min, true, false, List, [], ◌++◌, length, Option, Some, None, ◌<◌, refl, sym, ap}
-use Rattle.std.proofs.Common.{subst, ◌∙◌, ⊎_elim, arith}
-use Rattle.std.proofs.lemmas.Bool.{cases_lt}
-use Rattle.control_word.proofs.lists.Sums.{sum_at}
-use Rattle.std.specs.List.{filter}
-use Rattle.std.specs.Prelude.{vec_capacity}
-use Rattle.control_word.proofs.history.Allowances.{allowed}
-use Rattle.control_word.proofs.history.Formation.{formed}
-use Rattle.control_word.proofs.history.Given.{names_an_object}
-use Rattle.control_word.proofs.history.Kept.{Same, block_kept, same_kept}
-use Rattle.control_word.proofs.history.Legal.{sound}
-use Rattle.control_word.proofs.history.Soundness.{Allowed, Sound}
-use Rattle.control_word.proofs.lists.Parts.{part_has}
-use Rattle.control_word.specs.Handles.{handle, has_object, object_of}
-use Rattle.control_word.specs.Histories.{IsLegal, leads}
-use Rattle.control_word.specs.Layout.{IsWithinLimits}
-use Rattle.control_word.specs.State.{Has, Held, Opening, State, bag, bag_size, held, same_stored, stock, stored}
-use Rattle.control_word.specs.Views.{NoneBy}
-use Rattle.control_word.specs.Words.{blocks_of}
-use Rattle.control_word.specs.declared.model.event.Entry.{Entry}
-use Rattle.control_word.specs.declared.model.handle.Kind.{Kind}
-use Rattle.control_word.specs.declared.place.Place.{Place}
-use Rattle.control_word.specs.declared.model.view.Pending.TheVariants.{Idle}
-use Rattle.control_block.specs.Desks.{by_block}
-use Rattle.control_block.specs.Inside.{IsDesk, IsSized}
-use Rattle.control_block.specs.Parting.{times}
-use Rattle.control_block.specs.StepKinds.{At, Rests, known}
-use Rattle.control_block.specs.Rule.{opening_of}
-use Rattle.control_block.specs.declared.table.SeatView.{SeatView}
-use Rattle.control_block.specs.declared.desk.Desk.TheInside.{Inside}
+use Rattle.std.proofs.Common.{◌≡◌, ℕ, ◌+◌, ◌<◌, ◌≤◌, min, true, false, List, [], ◌++◌, length}
+use Rattle.std.proofs.Common.{Some, None, vec_capacity, Option, sym, refl, ap, ◌∙◌, subst, ⊎_elim}
+use Rattle.std.proofs.Common.{arith}
+use Rattle.control_block.proofs.Prelude
+use Prelude.{allowed, At, bag, bag_size, block_kept, blocks_of, by_block, cases_lt, Entry, filter}
+use Prelude.{formed, handle, Has, has_object, Held, held, Idle, Inside, IsDesk, IsLegal, IsSized}
+use Prelude.{IsWithinLimits, Kind, known, leads, many_ending, names_an_object, NoneBy, object_of}
+use Prelude.{Opening, opening_of, part_has, Place, Rests, same_kept, same_stored, SeatView, Sound}
+use Prelude.{sound, State, stock, stored, sum_at, times}
+use Rattle.control_word.proofs.history.Kept.{Same}
+use Rattle.control_word.proofs.history.Soundness.{Allowed}
 use Rattle.control_block.proofs.partings.PartingStates.{StoredThere, stored_there}
 
 -- a handle goes to its block and back to the object last made there

@@ -1,37 +1,23 @@
 -- What the desk of a join has.
-use Rattle.std.proofs.Common.{◌≡◌, ◌≢◌, ℕ, ◌+◌, ◌<◌, ◌≤◌, ◌==◌, Bool, true, false, cond, List, [], ◌∷◌, ◌++◌, map}
-use Rattle.std.proofs.Common.{length, suc, Option, Some, None}
-use Rattle.std.proofs.Common.{refl, sym, ap, subst, ◌∙◌, arith, append_assoc, length-append}
-use Rattle.std.proofs.lemmas.Bool.{cond_both}
-use Rattle.std.proofs.lemmas.List.{length-map, map-append}
-use Rattle.std.proofs.lemmas.List.Sorted.{IsPermutation-map, length_permutation}
-use Rattle.std.specs.List.{filter}
-use Rattle.std.specs.List.Sorted.{IsPermutation}
-use Rattle.control_word.proofs.history.Allowances.{allowed}
+use Rattle.std.proofs.Common.{◌≡◌, ℕ, suc, ◌+◌, ◌≤◌, Bool, ◌≢◌, List, ◌∷◌, ◌++◌, map, length, ◌==◌}
+use Rattle.std.proofs.Common.{sym, refl, ap, ◌∙◌, subst, append_assoc, arith, length-append}
+use Rattle.control_block.proofs.Prelude
+use Prelude.{allowed, bag, bag_of, bag_size, Belongs, blocks_of, by_block, cond_both, desk_now}
+use Prelude.{DeskNow, DomainNow, ending, ends_with, Entry, entry, filter, handed, Held, held}
+use Prelude.{Inside, IsDesk, IsLegal, IsPermutation, Join, JoinsUp, known, Knows, leads}
+use Prelude.{length-map, length_permutation, many_ending, map-append, num, NumberedHandle}
+use Prelude.{opening_of, put, put_other, put_same, renamed, same_stored, SeatView, Shape, sound}
+use Prelude.{State, stock, Stored, stored, sum_below, value}
+use Rattle.std.proofs.lemmas.List.Sorted.{IsPermutation-map}
 use Rattle.control_word.proofs.history.Kept.{Same}
-use Rattle.control_word.proofs.history.Legal.{sound}
-use Rattle.control_word.proofs.lists.Tallies.{num, put_other, put_same}
-use Rattle.control_word.specs.Events.{handed, joins_up, renamed}
-use Rattle.control_word.specs.Histories.{IsLegal, entry, leads, value}
-use Rattle.control_word.specs.State.{Held, State, Stored, bag, bag_size, ending, held, put, same_stored, stock, stored, sum_below}
-use Rattle.control_word.specs.Views.{Knows}
-use Rattle.control_word.specs.Words.{blocks_of}
-use Rattle.control_word.specs.declared.model.event.Entry.{Entry}
-use Rattle.control_word.specs.declared.model.event.Event.TheVariants.{Join}
-use Rattle.control_word.specs.declared.model.handle.NumberedHandle.{NumberedHandle}
-use Rattle.control_word.specs.declared.shape.Shape.{Shape}
-use Rattle.control_block.specs.Desks.{Belongs, DeskNow, DomainNow, bag_of, by_block, ends_with, many_ending}
-use Rattle.control_block.specs.Inside.{IsDesk, desk_now}
-use Rattle.control_block.specs.StepKinds.{JoinsUp, known}
-use Rattle.control_block.specs.Rule.{opening_of}
-use Rattle.control_block.specs.declared.table.SeatView.{SeatView}
-use Rattle.control_block.specs.declared.desk.Desk.TheInside.{Inside}
+use Rattle.control_word.specs.Events.{joins_up}
 use Rattle.control_block.proofs.words.Seats.{none_by}
 use Rattle.control_block.proofs.EndingCounts.{few_ending, handed_count, same_count}
 use Rattle.control_block.proofs.Endings.{still_ends}
 use Rattle.control_block.proofs.partings.PartingDesks.{allowance_within, reached, shown_alike}
 use Rattle.control_block.proofs.PartingLists.{map_same, map_twice}
-use Rattle.control_block.proofs.partings.PartingMerge.{both_parts, filter_map, is_either, tallies_join}
+use Rattle.control_block.proofs.partings.PartingMerge.{both_parts, filter_map, is_either}
+use Rattle.control_block.proofs.partings.PartingMerge.{tallies_join}
 use Rattle.control_block.proofs.partings.PartingStates.{own_tally}
 use Rattle.control_block.proofs.words.Stores.{stock_few}
 

@@ -1,15 +1,12 @@
 -- Lists in which one name takes over another's things.
-use Rattle.std.proofs.Common.{◌≡◌, ◌≢◌, ℕ, ◌+◌, ◌==◌, ◌&&◌, Bool, true, cond, List, [], ◌∷◌, ◌++◌, map, length, refl, sym}
-use Rattle.std.proofs.Common.{ap, subst, ◌∙◌, ⊎_elim}
-use Rattle.std.proofs.Common.{arith, eq-eqb, ne_eqb}
-use Rattle.std.proofs.lemmas.Bool.{cases_eq, cond_both, cond-true, cond-false}
-use Rattle.std.proofs.lemmas.List.Sorted.{IsPermutation-cons, IsPermutation-middle, IsPermutation-refl, IsPermutation-trans}
-use Rattle.std.specs.List.{filter}
-use Rattle.std.specs.List.Sorted.{IsPermutation}
-use Rattle.control_word.proofs.lists.Parts.{part, part_mine, part_other}
-use Rattle.control_word.proofs.lists.Tallies.{num, num_cons}
-use Rattle.control_word.specs.Events.{renamed}
-use Rattle.control_word.specs.State.{Stored, same_stored, stored}
+use Rattle.std.proofs.Common.{◌≡◌, ℕ, ◌+◌, Bool, true, cond, ◌&&◌, ◌≢◌, List, [], ◌∷◌, ◌++◌, map}
+use Rattle.std.proofs.Common.{length, ◌==◌, sym, refl, ap, ◌∙◌, subst, ⊎_elim, arith, eq-eqb}
+use Rattle.std.proofs.Common.{ne_eqb}
+use Rattle.control_block.proofs.Prelude.{cases_eq, cond-false, cond-true, cond_both, filter}
+use Rattle.control_block.proofs.Prelude.{IsPermutation, num, num_cons, part, part_mine, part_other}
+use Rattle.control_block.proofs.Prelude.{renamed, same_stored, Stored, stored}
+use Rattle.std.proofs.lemmas.List.Sorted.{IsPermutation-cons, IsPermutation-middle}
+use Rattle.std.proofs.lemmas.List.Sorted.{IsPermutation-refl, IsPermutation-trans}
 
 pub filter_map : {A B : Type 0} (p : B → Bool) (f : A → B) (l : List A) → filter p (map f l) ≡ map f (filter (λ x. p (f x)) l)
 filter_map p f [] = refl

@@ -1,19 +1,11 @@
 -- Lists of blocks in order, and how often each is listed.
-use Rattle.std.proofs.Common.{◌≡◌, ℕ, zero, suc, ◌+◌, ◌-◌, ◌<◌, ◌≤◌, ◌==◌, true, false, cond, List, [], ◌∷◌, ◌++◌}
-use Rattle.std.proofs.Common.{length}
-use Rattle.std.proofs.Common.{take, drop, get_or, refl, sym, ap}
-use Rattle.std.proofs.Common.{subst, ◌∙◌, arith, length-append, length-drop, ⊎_elim, inl, inr, nat_lt, lt-ltb, Less, Equal, Greater}
-use Rattle.std.proofs.lemmas.Bool.{cases_lt, cond-true}
-use Rattle.std.proofs.lemmas.List.{take-append-drop}
-use Rattle.std.proofs.lemmas.List.Elements.{filter-append}
-use Rattle.std.proofs.lemmas.List.Sorted.{sum_by-IsPermutation}
-use Rattle.std.proofs.lemmas.List.Sums.{length-filter}
-use Rattle.std.specs.List.{filter}
-use Rattle.std.specs.List.Sorted.{IsPermutation}
-use Rattle.std.specs.Ordering.{is_lt, nat_cmp}
-use Rattle.control_word.specs.State.{Has}
-use Rattle.control_word.specs.declared.place.Block.{Block}
-use Rattle.control_block.specs.Parting.{times}
+use Rattle.std.proofs.Common.{◌≡◌, ℕ, zero, suc, ◌+◌, ◌-◌, ◌<◌, ◌≤◌, true, false, cond, List, []}
+use Rattle.std.proofs.Common.{◌∷◌, ◌++◌, length, get_or, take, drop, nat_lt, ◌==◌, Less, Equal}
+use Rattle.std.proofs.Common.{Greater, sym, refl, ap, ◌∙◌, subst, inl, inr, ⊎_elim, arith}
+use Rattle.std.proofs.Common.{length-append, length-drop, take-append-drop, lt-ltb}
+use Rattle.control_block.proofs.Prelude.{Block, cases_lt, cond-true, filter, filter-append, Has}
+use Rattle.control_block.proofs.Prelude.{is_lt, IsPermutation, length-filter, nat_cmp}
+use Rattle.control_block.proofs.Prelude.{sum_by-IsPermutation, times}
 
 pub times_append : (b : ℕ) (xs ys : List Block) → times b (xs ++ ys) ≡ times b xs + times b ys
 times_append b xs ys =

@@ -1,32 +1,18 @@
 -- The two desks of a split, as contracts see them.
-use Rattle.std.proofs.Common.{◌≡◌, ℕ, ◌+◌, ◌-◌, ◌≤◌, min, true, List, [], ◌∷◌, ◌++◌, map, length, Some, None}
-use Rattle.std.proofs.Common.{refl, sym, ap, subst, ◌∙◌, arith}
-use Rattle.std.proofs.lemmas.List.{length-map}
-use Rattle.std.specs.List.{filter}
-use Rattle.std.specs.Prelude.{vec_capacity}
-use Rattle.control_word.proofs.lists.Parts.{part_has}
-use Rattle.control_word.proofs.lists.Tallies.{held_self, held_true, num_has, stored_self, stored_true}
-use Rattle.control_word.specs.Histories.{IsLegal, entry, value}
-use Rattle.control_word.specs.Layout.{IsWithinLimits}
-use Rattle.control_word.specs.State.{Has, Held, State, Stored, bag, bag_size, ending, held, same_held, same_stored, stock, stored}
-use Rattle.control_word.specs.Views.{comes}
-use Rattle.control_word.specs.Words.{blocks_of}
-use Rattle.control_word.specs.declared.model.event.Event.TheVariants.{Split}
-use Rattle.control_word.specs.declared.model.handle.NumberedHandle.{NumberedHandle}
-use Rattle.control_word.specs.declared.place.Block.{Block}
-use Rattle.control_word.specs.declared.shape.Shape.{Shape}
-use Rattle.atomic_table.specs.Seated.{TableId}
-use Rattle.control_block.specs.Desks.{many_ending, IsEnding, bag_of, by_block}
-use Rattle.control_block.specs.Inside.{IsDesk, IsSized, desk_now}
-use Rattle.control_block.specs.Parting.{HoldsAll, Parted, SplitsOff, in_history, listed, times, without_all}
-use Rattle.control_block.specs.StepKinds.{known}
-use Rattle.control_block.specs.Rule.{opening_of}
-use Rattle.control_block.specs.declared.table.SeatView.{SeatView}
-use Rattle.control_block.specs.declared.desk.Desk.TheInside.{Inside}
+use Rattle.std.proofs.Common.{◌≡◌, ℕ, ◌+◌, ◌-◌, ◌≤◌, min, true, List, [], ◌∷◌, ◌++◌, map, length}
+use Rattle.std.proofs.Common.{Some, None, vec_capacity, sym, refl, ap, ◌∙◌, subst, arith}
+use Rattle.control_block.proofs.Prelude
+use Prelude.{bag, bag_of, bag_size, Block, blocks_of, by_block, comes, desk_now, ending, entry}
+use Prelude.{filter, Has, Held, held, held_self, held_true, HoldsAll, in_history, Inside, IsDesk}
+use Prelude.{IsEnding, IsLegal, IsSized, IsWithinLimits, known, length-map, listed, many_ending}
+use Prelude.{num_has, NumberedHandle, opening_of, part_has, Parted, same_held, same_stored}
+use Prelude.{SeatView, Shape, Split, SplitsOff, State, stock, Stored, stored, stored_self}
+use Prelude.{stored_true, TableId, times, value, without_all}
 use Rattle.control_block.specs.declared.handles.Held.{Held as HeldValue}
 use Rattle.control_block.proofs.Endings.{StillEnds, still_ends}
 use Rattle.control_block.proofs.partings.PartingDesks.{desk_of, shown_alike}
-use Rattle.control_block.proofs.PartingLists.{each_back, length_less, less_all, less_has, map_itself, map_same, map_twice}
+use Rattle.control_block.proofs.PartingLists.{each_back, length_less, less_all, less_has}
+use Rattle.control_block.proofs.PartingLists.{map_itself, map_same, map_twice}
 use Rattle.control_block.proofs.PartingSplit as part
 use Rattle.control_block.proofs.PartingSplit.{few_listed}
 use Rattle.control_block.proofs.partings.PartingStates.{stored_from, times_has}

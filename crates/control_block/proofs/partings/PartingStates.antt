@@ -1,23 +1,14 @@
 -- What the two desks of a split and of a join have of a state, before and after.
-use Rattle.std.proofs.Common.{◌≡◌, ◌≢◌, ◌⊎◌, ℕ, zero, suc, ◌+◌, ◌<◌, ◌≤◌, ◌==◌, ◌&&◌, Bool, true, false, cond, List}
-use Rattle.std.proofs.Common.{[], ◌∷◌, map, length}
-use Rattle.std.proofs.Common.{refl, sym, ap, ◌∙◌, inl, inr, ⊎_elim, arith, eq-eqb, ne_eqb}
-use Rattle.std.proofs.lemmas.Bool.{cases_eq, cond_both, cond-true, cond-false, eqb-true}
-use Rattle.std.specs.List.{filter}
-use mathlib.Core.Path.{fun_ext}
-use Rattle.control_word.proofs.lists.Sums.{num_none, num_passes}
-use Rattle.control_word.proofs.lists.Tallies.{has_before, num, num_cons, num_map, num_without, stored_self, stored_true}
-use Rattle.control_word.specs.Events.{Asks, after, renamed}
-use Rattle.control_word.specs.Histories.{IsLegal, leads}
-use Rattle.control_word.specs.State.{Has, HasAll, IsActing, Opening, State, Stored, all_stored, passed, same_stored, stored, without}
-use Rattle.control_word.specs.declared.model.event.Cell.TheVariants.{Free, Member}
-use Rattle.control_word.specs.declared.model.event.Entry.{Entry}
-use Rattle.control_word.specs.declared.model.event.Event.{Event}
-use Rattle.control_word.specs.declared.model.event.Event.TheVariants.{ClearMember, Compare, Count, Expired, Finish, Join, Leave, Load, Lock, Make, Read}
-use Rattle.control_word.specs.declared.model.event.Event.TheVariants.{Share, Split, Swap, Visit, WeakLeave, WeakShare}
-use Rattle.control_word.specs.declared.model.event.Event.TheVariants.{Same, Shelve, Unshelve}
-use Rattle.control_word.specs.declared.place.Block.{Block}
-use Rattle.control_block.specs.Parting.{times}
+use Rattle.std.proofs.Common.{◌≡◌, ℕ, zero, suc, ◌+◌, ◌<◌, ◌≤◌, Bool, true, false, cond, ◌&&◌, ◌≢◌}
+use Rattle.std.proofs.Common.{◌⊎◌, List, [], ◌∷◌, map, length, ◌==◌, sym, refl, ap, ◌∙◌, inl, inr}
+use Rattle.std.proofs.Common.{⊎_elim, arith, eq-eqb, ne_eqb, eqb-true}
+use Rattle.control_block.proofs.Prelude
+use Prelude.{after, all_stored, Asks, Block, cases_eq, ClearMember, Compare, cond-false, cond-true}
+use Prelude.{cond_both, Count, Entry, Event, Expired, filter, Finish, Free, fun_ext, Has}
+use Prelude.{has_before, HasAll, IsActing, IsLegal, Join, leads, Leave, Load, Lock, Make, Member}
+use Prelude.{num, num_cons, num_map, num_none, num_passes, num_without, Opening, passed, Read}
+use Prelude.{renamed, Same, same_stored, Share, Shelve, Split, State, Stored, stored, stored_self}
+use Prelude.{stored_true, Swap, times, Unshelve, Visit, WeakLeave, WeakShare, without}
 
 -- Each stored block is with a desk that there is
 abbrev pub StoredThere : State → Type 0

@@ -1,9 +1,8 @@
 -- What a desk has of a list is had of its own part of it.
-use Rattle.std.proofs.Common.{◌≡◌, ℕ, Bool, true, List, [], ◌∷◌, refl, sym, ap, subst, ◌∙◌}
-use Rattle.std.proofs.lemmas.Bool.{cond_both, cond-true, cond-false, eqb-true}
-use Rattle.std.proofs.Common.{◌==◌}
-use Rattle.control_word.proofs.lists.Parts.{has_part, part, part_has, part_mine}
-use Rattle.control_word.specs.State.{HasAll, without}
+use Rattle.std.proofs.Common.{◌≡◌, ℕ, Bool, true, List, [], ◌∷◌, ◌==◌, sym, refl, ap, ◌∙◌, subst}
+use Rattle.std.proofs.Common.{eqb-true}
+use Rattle.control_block.proofs.Prelude.{cond-false, cond-true, cond_both, has_part, HasAll, part}
+use Rattle.control_block.proofs.Prelude.{part_has, part_mine, without}
 
 module _ {A : Type 0} (who : A → ℕ) (d : ℕ) (same : A → A → Bool) (truth : (x y : A) → same x y ≡ true → x ≡ y) where
   pub part_without_mine : (x : A) (l : List A) → who x ≡ d → part who d (without same x l) ≡ without same x (part who d l)

@@ -1,21 +1,12 @@
 -- Two views that were made one for a look are two again, as they were; no word changes.
-use Rattle.std.proofs.Common.{◌≡◌, ◌≢◌, ℕ, zero, suc, ◌+◌, ◌⊎◌, nat_lt, Bool, true, false, cond, List, [], ◌∷◌, ◌++◌, length, set, refl, sym, ap, subst}
-use Rattle.std.proofs.Common.{◌∙◌, inl, inr, ⊎_elim, arith}
-use Rattle.std.proofs.lemmas.Bool.{cases_eq}
-use Rattle.std.proofs.lemmas.List.{append_assoc}
-use mathlib.Core.Path.{fun_ext}
-use mathlib.Core.Option.{some, some-injective, some-ne-none}
-use lib.ListN.{get_elem?}
-use Rattle.atomic_table.proofs.Lists.{at_longer, at_set, set_here, set_else}
-use Rattle.control_word.proofs.words.Frames.{at_inside, total_set}
-use Rattle.control_word.specs.Histories.{leads}
-use Rattle.control_word.specs.Layout.{spot}
-use Rattle.control_word.specs.State.{IsActing, Opening, State}
-use Rattle.control_word.specs.Views.{Knows, Seated, Stands, StandsFor, added, adds, longer, more, owed, owes, paid, pays, total}
-use Rattle.control_word.specs.Words.{Shows}
-use Rattle.control_word.specs.declared.model.event.Entry.{Entry}
-use Rattle.control_word.specs.declared.model.view.Pending.TheVariants.{Idle, Merging}
-use Rattle.control_word.specs.declared.model.view.View.{View}
+use Rattle.std.proofs.Common.{◌≡◌, ℕ, zero, suc, ◌+◌, Bool, true, false, cond, ◌≢◌, ◌⊎◌, List, []}
+use Rattle.std.proofs.Common.{◌∷◌, ◌++◌, length, set, nat_lt, sym, refl, ap, ◌∙◌, subst, inl, inr}
+use Rattle.std.proofs.Common.{⊎_elim, append_assoc, arith}
+use Rattle.control_block.proofs.Prelude
+use Prelude.{added, adds, at_inside, at_longer, at_set, cases_eq, Entry, fun_ext, get_elem?, Idle}
+use Prelude.{IsActing, Knows, leads, longer, Merging, more, Opening, owed, owes, paid, pays}
+use Prelude.{Seated, set_else, set_here, Shows, some, some-injective, some-ne-none, spot, Stands}
+use Prelude.{StandsFor, State, total, total_set, View}
 use Rattle.control_block.proofs.words.Seats.{none_by}
 
 -- an element behind a list

@@ -1,34 +1,14 @@
 -- Handles that go into a cell or come out of it: their words, their funds, and room for them.
-use Rattle.std.proofs.Common.{◌≡◌, ℕ, suc, ◌≤◌, ◌==◌, false, Bool, [], ◌∷◌, length, Option, Some, None, refl, sym, ap, subst}
-use Rattle.std.proofs.Common.{◌∙◌, inl, inr, ⊎_elim, arith, cond}
-use Rattle.std.specs.List.{filter}
-use Rattle.std.proofs.lemmas.Bool.{cond_both}
-use mathlib.Core.Option.{some}
-use lib.ListN.{get_elem?}
+use Rattle.std.proofs.Common.{◌≡◌, ℕ, suc, ◌≤◌, Bool, false, cond, [], ◌∷◌, length, ◌==◌, Some}
+use Rattle.std.proofs.Common.{None, Option, sym, refl, ap, ◌∙◌, subst, inl, inr, ⊎_elim, arith}
+use Rattle.control_block.proofs.Prelude
+use Prelude.{allowed, bag_one, bag_size, Block, block_of, blocks_of, Cell, cond_both, debt, fills}
+use Prelude.{filter, Free, get_elem?, gets, handle, has_object, HasRoom, HasRoomFor, Held, held}
+use Prelude.{held_busy, held_self, held_true, Holds, InHand, IsBusy, Kind, known, leads, loses}
+use Prelude.{Member, num_without, NumberedHandle, object_of, opening_of, purse, Ruled, same_counts}
+use Prelude.{same_held, SeatView, Shape, slot, some, sound, spot, State, without, written}
 use Rattle.atomic_table.specs.Table as Table
-use Rattle.control_word.proofs.history.Allowances.{allowed}
-use Rattle.control_word.proofs.history.Legal.{held_busy, sound, written}
-use Rattle.control_word.proofs.history.Soundness.{IsBusy}
-use Rattle.control_word.proofs.lists.Tallies.{held_self, held_true, num_without}
-use Rattle.control_word.proofs.words.Counting.{bag_one}
-use Rattle.control_word.proofs.words.Funds.{same_counts}
-use Rattle.control_word.specs.Events.{Holds, InHand, fills, gets, loses, swaps}
-use Rattle.control_word.specs.Handles.{handle, has_object, object_of}
-use Rattle.control_word.specs.Histories.{leads}
-use Rattle.control_word.specs.Layout.{spot}
-use Rattle.control_word.specs.State.{HasRoom, Held, State, bag_size, held, same_held, without}
-use Rattle.control_word.specs.Steps.{purse}
-use Rattle.control_word.specs.Words.{block_of, blocks_of, slot}
-use Rattle.control_word.specs.declared.model.event.Cell.{Cell}
-use Rattle.control_word.specs.declared.model.event.Cell.TheVariants.{Free, Member}
-use Rattle.control_word.specs.declared.model.handle.NumberedHandle.{NumberedHandle}
-use Rattle.control_word.specs.declared.model.handle.Kind.{Kind}
-use Rattle.control_word.specs.declared.place.Block.{Block}
-use Rattle.control_word.specs.declared.shape.Shape.{Shape}
-use Rattle.control_block.specs.Rule.{Ruled, opening_of}
-use Rattle.control_block.specs.StepKinds.{HasRoomFor, known}
-use Rattle.control_block.specs.CellStepKinds.{debt}
-use Rattle.control_block.specs.declared.table.SeatView.{SeatView}
+use Rattle.control_word.specs.Events.{swaps}
 use Rattle.control_block.proofs.Passage.{held_there, still_held, still_room}
 
 no_object : (o : ℕ) (y : Option ℕ) → y ≡ Some o → y ≡ None → ⊥

@@ -1,8 +1,7 @@
 -- Lists of views, read by place.
-use Rattle.std.proofs.Common.{◌≡◌, ◌≢◌, ℕ, zero, suc, List, [], ◌∷◌, map, set, refl, sym, ap, subst, ⊎_elim}
-use mathlib.Core.Option.{some, some-ne-none, some-injective}
-use lib.ListN.{get_elem?}
-use Rattle.atomic_table.proofs.Lists.{at_set}
+use Rattle.std.proofs.Common.{◌≡◌, ℕ, zero, suc, ◌≢◌, List, [], ◌∷◌, map, set, sym, refl, ap}
+use Rattle.std.proofs.Common.{subst, ⊎_elim}
+use Rattle.control_block.proofs.Prelude.{at_set, get_elem?, some, some-injective, some-ne-none}
 
 module _ {A : Type 0} where
   pub set_there : (l : List A) (i : ℕ) (a b : A) → get_elem? l i ≡ some a → get_elem? (set l i b) i ≡ some b

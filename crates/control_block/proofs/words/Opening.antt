@@ -1,28 +1,17 @@
 -- How a domain begins.
-use Rattle.std.proofs.Common.{◌≡◌, ◌≢◌, ℕ, zero, suc, ◌+◌, ◌*◌, ◌-◌, ◌<◌, ◌≤◌, ◌==◌, Bool, true, false, cond, List, []}
-use Rattle.std.proofs.Common.{◌∷◌, ◌++◌, map, replicate}
-use Rattle.std.proofs.Common.{length, length-append, Option, Some, None, refl, sym, ap, subst, ◌∙◌, inl, ⊎_elim, eq-eqb, ne_eqb, arith}
-use Rattle.std.proofs.lemmas.Bool.{cases_eq, cond-false, cond-true}
-use Rattle.std.proofs.lemmas.List.{length-map}
-use Rattle.std.proofs.lemmas.List.Elements.{filter-append}
-use Rattle.std.specs.List.{filter}
-use mathlib.Core.Option.{some, some-injective, some-ne-none}
-use lib.ListN.{get_elem?, length-replicate}
-use Rattle.atomic_table.specs.Table.{opening}
+use Rattle.std.proofs.Common.{◌≡◌, ℕ, zero, suc, ◌-◌, ◌<◌, ◌≤◌, Bool, false, cond, ◌≢◌, List, []}
+use Rattle.std.proofs.Common.{◌∷◌, map, length, replicate, ◌==◌, None, vec_capacity, sym, refl, ap}
+use Rattle.std.proofs.Common.{◌∙◌, subst, inl, ⊎_elim, arith, length-append, eq-eqb, ne_eqb}
+use Rattle.control_block.proofs.Prelude
+use Prelude.{all_blocks, all_stored, At, bag_size, Block, cases_eq, cond-false, cond-true, filter}
+use Prelude.{filter-append, get_elem?, Inside, IsBacked, IsDesk, IsLegal, IsSized, IsWithinLimits}
+use Prelude.{known, length-map, length-replicate, many_ending, opening, opening_of, opens_with}
+use Prelude.{Rests, Ruled, same_stored, SeatView, Shape, some, some-injective, some-ne-none}
+use Prelude.{Stands, stock, Stored, stored, sum_below}
 use Rattle.control_word.proofs.steps.Standing.{begins}
-use Rattle.control_word.specs.Layout.{IsWithinLimits, table_size}
-use Rattle.control_word.specs.State.{IsOpening, Stored, all_stored, bag_size, same_stored, start, stock, stored, sum_below}
-use Rattle.control_word.specs.Views.{Stands, fresh}
-use Rattle.control_word.specs.declared.place.Block.{Block}
-use Rattle.control_word.specs.declared.shape.Shape.{Shape}
-use Rattle.std.specs.Prelude.{vec_capacity}
-use Rattle.control_word.specs.Histories.{IsLegal}
-use Rattle.control_block.specs.Desks.{all_blocks, many_ending}
-use Rattle.control_block.specs.Inside.{IsDesk, IsSized}
-use Rattle.control_block.specs.StepKinds.{At, Rests, known}
-use Rattle.control_block.specs.declared.desk.Desk.TheInside.{Inside}
-use Rattle.control_block.specs.Rule.{IsBacked, Ruled, opening_of, opens_with}
-use Rattle.control_block.specs.declared.table.SeatView.{SeatView}
+use Rattle.control_word.specs.Layout.{table_size}
+use Rattle.control_word.specs.State.{IsOpening, start}
+use Rattle.control_word.specs.Views.{fresh}
 
 -- a shape within the limits has a proper opening
 pub proper : (k : Shape) → IsWithinLimits k → IsOpening (opening_of k)

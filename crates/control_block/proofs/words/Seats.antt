@@ -1,24 +1,13 @@
 -- What a seat has after the steps of one call.
-use Rattle.std.proofs.Common.{◌≡◌, ℕ, zero, suc, ◌+◌, ◌*◌, ◌-◌, ◌<◌, arith, length-set, Bool, true, false, List, [], ◌∷◌}
-use Rattle.std.proofs.Common.{◌++◌, length, set, Option}
-use Rattle.std.proofs.Common.{Some, None, refl, sym, ap, subst, ◌∙◌, append_assoc}
-use Rattle.std.specs.Prelude.{slice_index, slice_set}
-use mir.Val.{bool_byte}
-use Rattle.atomic_table.specs.Table.{Step, rest}
-use Rattle.control_word.specs.Histories.{IsLegal, entry, leads}
-use Rattle.control_word.specs.State.{bag_size}
-use Rattle.control_word.proofs.history.Kept.{same_kept}
-use Rattle.control_word.specs.Views.{Knows, NoneBy, longer}
-use Rattle.control_word.specs.Words.{flags_of}
-use Rattle.control_word.specs.declared.model.event.Entry.{Entry}
-use Rattle.control_word.specs.declared.model.event.Event.{Event}
-use Rattle.control_word.specs.declared.model.event.Event.TheVariants.{Join}
-use Rattle.control_word.specs.declared.place.Block.{Block}
-use Rattle.control_word.specs.declared.model.view.Pending.{Pending}
-use Rattle.control_word.specs.declared.model.view.Pending.TheVariants.{Idle, Making, Merging}
-use Rattle.control_block.specs.Rule.{opening_of, seeing}
-use Rattle.control_block.specs.StepKinds.{Added, At, HasRoomFor, IsPrepared, JoinsUp, Moved, grown, joined, known, prepared, wrote}
-use Rattle.control_block.specs.declared.table.SeatView.{SeatView}
+use Rattle.std.proofs.Common.{◌≡◌, ℕ, zero, suc, ◌+◌, ◌-◌, ◌*◌, ◌<◌, Bool, true, false, List, []}
+use Rattle.std.proofs.Common.{◌∷◌, ◌++◌, length, set, slice_index, slice_set, Some, None, Option}
+use Rattle.std.proofs.Common.{sym, refl, ap, ◌∙◌, subst, append_assoc, arith, length-set}
+use Rattle.control_block.proofs.Prelude
+use Prelude.{Added, At, bag_size, Block, bool_byte, Entry, entry, Event, flags_of, grown}
+use Prelude.{HasRoomFor, Idle, IsLegal, IsPrepared, Join, joined, JoinsUp, known, Knows, leads}
+use Prelude.{longer, Making, Merging, Moved, NoneBy, opening_of, Pending, prepared, rest}
+use Prelude.{same_kept, SeatView, seeing, wrote}
+use Rattle.atomic_table.specs.Table.{Step}
 
 module _ {V : Type 0} where
   pub some_same : (x y : V) → Some x ≡ Some y → x ≡ y

@@ -1,32 +1,19 @@
 -- Where slots are, and what becomes of them at the steps that change an object.
-use Rattle.std.proofs.Common.{◌≡◌, ◌≢◌, ◌⊎◌, ℕ, ◌-◌, ◌≤◌, true, false, List, [], ◌∷◌, Option, Some, None}
-use Rattle.std.proofs.Common.{refl, sym, ap, subst, ◌∙◌, inl, inr, ⊎_elim, arith, eq-eqb, ◌==◌}
-use Rattle.std.proofs.lemmas.Bool.{cases_eq, cond-true}
-use mathlib.Core.Option.{some, some-injective}
-use lib.ListN.{get_elem?}
+use Rattle.std.proofs.Common.{◌≡◌, ℕ, ◌-◌, ◌≤◌, true, false, ◌≢◌, ◌⊎◌, List, [], ◌∷◌, ◌==◌, Some}
+use Rattle.std.proofs.Common.{None, Option, sym, refl, ap, ◌∙◌, subst, inl, inr, ⊎_elim, arith}
+use Rattle.std.proofs.Common.{eq-eqb}
+use Rattle.control_block.proofs.Prelude
+use Prelude.{adds, after, Asks, at_map, Block, cases_eq, cond-true, counted_live, ending, Entry}
+use Prelude.{entry, Event, Fits, get_elem?, gone, handle, Has, has_without, held, held_busy}
+use Prelude.{how_often, Idle, InShape, IsBacked, IsOut, IsSlotOf, kept, leads, live, Making}
+use Prelude.{Merging, Names, names_an_object, num_has, num_without, Object, opening_of, Owner}
+use Prelude.{owner_counted, Parting, Paying, Pending, Phase, Place, put, put_other, Ruled}
+use Prelude.{same_stored, SeatView, Shape, some, some-injective, sound, spot, State, Stored}
+use Prelude.{stored, stored_self, stored_true, unmade, until_gone, value, valued, view_of}
+use Prelude.{Visiting, without}
 use Rattle.atomic_table.specs.Table as Table
-use Rattle.atomic_table.proofs.Lists.{at_map}
-use Rattle.control_word.proofs.history.Given.{names_an_object}
-use Rattle.control_word.proofs.history.Legal.{held_busy, sound}
-use Rattle.control_word.proofs.history.Moving.{counted_live, live_busy, owner_counted}
-use Rattle.control_word.proofs.lists.Tallies.{has_without, num_has, num_without, put_other, stored_self, stored_true}
-use Rattle.control_word.specs.Events.{Asks, after}
-use Rattle.control_word.specs.Histories.{entry, leads, value, valued}
-use Rattle.control_word.specs.State.{Has, held, InShape, Object, Phase, State, Stored, ending, gone, live, put, same_stored, stored, unmade, without}
-use Rattle.control_word.specs.Laws.{how_often}
-use Rattle.control_word.specs.Views.{Fits, Names, adds}
-use Rattle.control_word.specs.Handles.{handle}
-use Rattle.control_word.specs.Layout.{spot}
-use Rattle.control_word.specs.declared.model.handle.Kind.TheVariants.{Owner}
-use Rattle.control_word.specs.declared.place.Place.{Place}
-use Rattle.control_word.specs.declared.model.event.Entry.{Entry}
-use Rattle.control_word.specs.declared.model.event.Event.{Event}
-use Rattle.control_word.specs.declared.place.Block.{Block}
-use Rattle.control_word.specs.declared.shape.Shape.{Shape}
-use Rattle.control_word.specs.declared.model.view.Pending.{Pending}
-use Rattle.control_word.specs.declared.model.view.Pending.TheVariants.{Idle, Making, Merging, Parting, Paying, Visiting}
-use Rattle.control_block.specs.Rule.{opening_of, view_of, kept, until_gone, IsUsing, IsSlotOf, IsBacked, IsOut, Ruled}
-use Rattle.control_block.specs.declared.table.SeatView.{SeatView}
+use Rattle.control_word.proofs.history.Moving.{live_busy}
+use Rattle.control_block.specs.Rule.{IsUsing}
 use Rattle.control_block.proofs.Endings.{ends_busy, ends_here, stays_after}
 use Rattle.control_block.proofs.Passage.{backed_still}
 

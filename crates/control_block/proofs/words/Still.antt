@@ -1,20 +1,11 @@
 -- Steps that make no event: nothing changes, or the desk's call goes on; and a compare-exchange, by its two outcomes.
-use Rattle.std.proofs.Common.{◌≡◌, ◌≢◌, ◌==◌, ℕ, ◌<◌, false, List, get_or, set, map, Option, None, refl, sym, subst, inr, ⊎_elim}
-use Rattle.std.proofs.Common.{eq-eqb, ne_eqb}
-use Rattle.std.proofs.lemmas.Bool.{cases_eq}
-use mathlib.Core.Option.{some}
-use lib.ListN.{get_elem?}
-use prog.Atomic.{either}
+use Rattle.std.proofs.Common.{◌≡◌, ℕ, ◌<◌, false, ◌≢◌, List, map, get_or, set, ◌==◌, None, Option}
+use Rattle.std.proofs.Common.{sym, refl, subst, inr, ⊎_elim, eq-eqb, ne_eqb}
+use Rattle.control_block.proofs.Prelude.{Allows, At, at_map, cases_eq, either, get_elem?, in_call}
+use Rattle.control_block.proofs.Prelude.{IsSlotOf, keeps, load_is_write, opening_of, Pending}
+use Rattle.control_block.proofs.Prelude.{Ruled, SeatView, sees_as, set_again, Shape, some, Stands}
+use Rattle.control_block.proofs.Prelude.{view_of}
 use Rattle.atomic_table.specs.Table as Table
-use Rattle.atomic_table.specs.Table.{Allows, keeps}
-use Rattle.atomic_table.proofs.Lists.{at_map, set_again}
-use Rattle.control_word.proofs.steps.Look.{load_is_write}
-use Rattle.control_word.specs.Views.{Stands, sees_as}
-use Rattle.control_word.specs.declared.shape.Shape.{Shape}
-use Rattle.control_word.specs.declared.model.view.Pending.{Pending}
-use Rattle.control_block.specs.Rule.{IsSlotOf, Ruled, opening_of, view_of}
-use Rattle.control_block.specs.StepKinds.{At, in_call}
-use Rattle.control_block.specs.declared.table.SeatView.{SeatView}
 use Rattle.control_block.proofs.Passage.{next}
 use Rattle.control_block.proofs.words.Unseen.{IsOwn, unseen}
 

@@ -1,15 +1,10 @@
 -- Stores of blocks, as tallies.
-use Rattle.std.proofs.Common.{◌≡◌, ℕ, zero, suc, ◌+◌, ◌-◌, ◌≤◌, ◌==◌, Bool, List, [], ◌∷◌, length, refl, ap, ◌∙◌, inl}
-use Rattle.std.proofs.Common.{inr, arith, eq-eqb}
-use Rattle.std.proofs.lemmas.Bool.{cond-true, cond-false, cond_both}
-use Rattle.std.specs.List.{filter}
-use Rattle.control_word.proofs.history.Soundness.{Sound}
-use Rattle.control_word.proofs.lists.Parts.{part_has}
+use Rattle.std.proofs.Common.{◌≡◌, ℕ, zero, suc, ◌+◌, ◌-◌, ◌≤◌, Bool, List, [], ◌∷◌, length, ◌==◌}
+use Rattle.std.proofs.Common.{refl, ap, ◌∙◌, inl, inr, arith, eq-eqb}
+use Rattle.control_block.proofs.Prelude.{cond-false, cond-true, cond_both, filter, Has, how_often}
+use Rattle.control_block.proofs.Prelude.{num_cons, Opening, part_has, Sound, State, stock, Stored}
+use Rattle.control_block.proofs.Prelude.{sum_at, sum_below}
 use Rattle.control_word.proofs.lists.Sums.{sum_le}
-use Rattle.control_word.proofs.lists.Tallies.{num_cons}
-use Rattle.control_word.proofs.lists.Sums.{sum_at}
-use Rattle.control_word.specs.Laws.{how_often}
-use Rattle.control_word.specs.State.{Has, Opening, State, Stored, stock, sum_below}
 
 -- a list of blocks from 1 to n is no longer than the tallies of these
 sum_sum : (n : ℕ) (f g : ℕ → ℕ) → sum_below n (λ i. f i + g i) ≡ sum_below n f + sum_below n g

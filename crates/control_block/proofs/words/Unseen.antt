@@ -1,19 +1,11 @@
 -- A step without an event may leave what its desk has seen as it was.
-use Rattle.std.proofs.Common.{◌≡◌, ◌≢◌, ℕ, false, true≢false, List, set, sym, ap, subst, ◌∙◌, inl, ⊎_elim, arith}
-use Rattle.std.proofs.lemmas.Bool.{cases_eq}
-use mathlib.Core.Path.{fun_ext}
-use mathlib.Core.Option.{some, some-injective}
-use lib.ListN.{get_elem?}
-use Rattle.atomic_table.proofs.Lists.{at_set, set_else, set_here}
-use Rattle.control_word.proofs.words.Frames.{at_inside, total_set}
-use Rattle.control_word.specs.Histories.{leads}
-use Rattle.control_word.specs.Layout.{spot}
-use Rattle.control_word.specs.State.{Opening}
-use Rattle.control_word.specs.Views.{HasBoth, IsSecond, Seated, Stands, StandsFor, added, adds, more, owed, owes, paid, pays, sees_as}
-use Rattle.control_word.specs.Words.{Shows}
-use Rattle.control_word.specs.declared.model.event.Entry.{Entry}
-use Rattle.control_word.specs.declared.model.view.Pending.{Pending}
-use Rattle.control_word.specs.declared.model.view.View.{View}
+use Rattle.std.proofs.Common.{◌≡◌, ℕ, false, ◌≢◌, List, set, sym, ap, ◌∙◌, subst, inl, ⊎_elim}
+use Rattle.std.proofs.Common.{true≢false, arith}
+use Rattle.control_block.proofs.Prelude.{added, adds, at_inside, at_set, cases_eq, Entry, fun_ext}
+use Rattle.control_block.proofs.Prelude.{get_elem?, HasBoth, IsSecond, leads, more, Opening, owed}
+use Rattle.control_block.proofs.Prelude.{owes, paid, pays, Pending, Seated, sees_as, set_else}
+use Rattle.control_block.proofs.Prelude.{set_here, Shows, some, some-injective, spot, Stands}
+use Rattle.control_block.proofs.Prelude.{StandsFor, total_set, View}
 
 module _ {V : Type 0} where
   -- the call is no half-done split or join

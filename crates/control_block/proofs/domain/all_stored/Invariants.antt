@@ -1,5 +1,5 @@
-use Rattle.std.proofs.Common.{◌≡◌, vec_capacity, vec_len}
-use Rattle.control_block.specs.Desks.{all_blocks}
+use Rattle.std.proofs.Common.{◌≡◌, vec_len, vec_capacity}
+use Rattle.control_block.proofs.Prelude.{all_blocks}
 use Rattle.control_block.proofs.domain.all_stored.Given as goal
 
 abbrev pub invariant-loop-number : goal.invariant-loop-number

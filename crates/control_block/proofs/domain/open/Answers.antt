@@ -1,8 +1,7 @@
-use Rattle.std.proofs.Common.{◌≡◌, ◌∙◌, None, refl, sym, subst, ap, arith, rules, replicate, ℕ, length, inl, inr, true≢false}
+use Rattle.std.proofs.Common.{◌≡◌, ℕ, length, replicate, None, sym, refl, ap, ◌∙◌, subst, inl, inr}
+use Rattle.std.proofs.Common.{true≢false, arith, rules}
+use Rattle.control_block.proofs.Prelude.{length-replicate, opening, opens_with, Ruled}
 use Rattle.std.proofs.lemmas.Grind.{common_steps}
-use lib.ListN.{length-replicate}
-use Rattle.atomic_table.specs.Table.{opening}
-use Rattle.control_block.specs.Rule.{Ruled, opens_with}
 use Rattle.control_block.proofs.words.Opening.{opens, first_desk}
 use Rattle.control_block.proofs.domain.open.Goals as goal
 

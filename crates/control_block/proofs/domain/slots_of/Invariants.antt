@@ -1,4 +1,4 @@
-use Rattle.std.proofs.Common.{◌≡◌, ◌+◌, None, replicate, vec_capacity, vec_len}
+use Rattle.std.proofs.Common.{◌≡◌, ◌+◌, replicate, None, vec_len, vec_capacity}
 use Rattle.control_block.proofs.domain.slots_of.Given as goal
 
 -- the slots are as many as tokens were taken

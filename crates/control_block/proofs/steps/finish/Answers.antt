@@ -1,13 +1,7 @@
-use Rattle.std.proofs.Common.{◌≡◌, ◌<◌, ◌-◌, ◌==◌, ◌∷◌, [], None, Some, sym, ap, subst, ◌∙◌}
-use Rattle.atomic_table.specs.Table.{Allows, step}
-use mathlib.Core.Option.{none}
-use Rattle.control_word.specs.Histories.{value}
-use Rattle.control_word.specs.declared.model.event.Event.TheVariants.{Finish}
-use Rattle.control_word.specs.declared.place.Block.{Block}
-use Rattle.control_word.specs.declared.model.view.Pending.TheVariants.{Idle}
-use Rattle.control_block.specs.StepKinds.{Added, Ends, IsClear, fetched, tells}
-use Rattle.control_block.specs.Rule.{Ruled, opening_of}
-use Rattle.control_block.specs.declared.table.SeatView.{SeatView}
+use Rattle.std.proofs.Common.{◌≡◌, ◌-◌, ◌<◌, [], ◌∷◌, ◌==◌, Some, None, sym, ap, ◌∙◌, subst}
+use Rattle.control_block.proofs.Prelude.{Added, Allows, Block, Ends, fetched, Finish, Idle}
+use Rattle.control_block.proofs.Prelude.{IsClear, none, opening_of, Ruled, SeatView, step, tells}
+use Rattle.control_block.proofs.Prelude.{value}
 use Rattle.control_block.proofs.words.Seats.{added_at, first_slot, some_same}
 use Rattle.control_block.proofs.kept.Fetch.{allows_fetch}
 use Rattle.control_block.proofs.kept.Finish.{allows_finish}

@@ -1,8 +1,5 @@
-use Rattle.std.proofs.Common.{◌<◌, ℕ, sym, subst}
-use Rattle.atomic_table.specs.Table.{Allows, step}
-use mathlib.Core.Option.{none}
-use Rattle.control_block.specs.StepKinds.{IsTold, known, peeked}
-use Rattle.control_block.specs.Rule.{Ruled}
+use Rattle.std.proofs.Common.{ℕ, ◌<◌, sym, subst}
+use Rattle.control_block.proofs.Prelude.{Allows, IsTold, known, none, peeked, Ruled, step}
 use Rattle.control_block.proofs.kept.Peek.{allows_peek}
 use Rattle.control_block.proofs.steps.peek.Goals as goal
 

@@ -1,5 +1,5 @@
-use Rattle.std.proofs.Common.{◌+◌, ◌<◌, sym, ap, subst, ◌∙◌}
-use Rattle.control_word.specs.Layout.{spot}
+use Rattle.std.proofs.Common.{◌+◌, ◌<◌, sym, ap, ◌∙◌, subst}
+use Rattle.control_block.proofs.Prelude.{spot}
 use Rattle.control_block.proofs.kept.Look.{allows_read}
 use Rattle.control_block.proofs.steps.read.Goals as goal
 

@@ -1,17 +1,13 @@
-use Rattle.std.proofs.Common.{◌≡◌, refl, sym, ap, ◌∙◌, arith, subst}
-use Rattle.std.specs.Prelude.{IfSome}
-use Rattle.control_word.specs.Layout.{site_place}
-use Rattle.control_word.specs.Events.{InHand}
-use Rattle.control_word.specs.Handles.{object_of}
-use Rattle.control_word.specs.declared.model.event.Event.TheVariants.{Swap}
-use Rattle.control_word.specs.declared.model.handle.NumberedHandle.{NumberedHandle}
-use Rattle.control_block.specs.CellCalls.{handle_in}
-use Rattle.control_block.specs.CellStepKinds.{IsWordOf}
-use Rattle.control_block.specs.Desks.{DeskNow}
-use Rattle.control_block.specs.StepKinds.{HoldingInBlock, known}
-use Rattle.control_word.specs.declared.model.event.Cell.{Cell}
-use Rattle.control_block.proofs.cells.CellDesks.{fits, in_seat, lost_counted, lost_hand, lost_holding, lost_room, lost_shows, lost_word, one, one_few}
-use Rattle.control_block.proofs.cells.CellOutcomes.{Came, bag_then, desk_then, event_of, has_here, holds_it, is_proper, keeps_else, size_now, swapped}
+use Rattle.std.proofs.Common.{◌≡◌, IfSome, sym, refl, ap, ◌∙◌, subst, arith}
+use Rattle.control_block.proofs.Prelude.{Cell, DeskNow, handle_in, HoldingInBlock, InHand}
+use Rattle.control_block.proofs.Prelude.{IsWordOf, known, NumberedHandle, object_of, site_place}
+use Rattle.control_block.proofs.Prelude.{Swap}
+use Rattle.control_block.proofs.cells.CellDesks.{fits, in_seat, lost_counted, lost_hand}
+use Rattle.control_block.proofs.cells.CellDesks.{lost_holding, lost_room, lost_shows, lost_word}
+use Rattle.control_block.proofs.cells.CellDesks.{one, one_few}
+use Rattle.control_block.proofs.cells.CellOutcomes.{Came, bag_then, desk_then, event_of, has_here}
+use Rattle.control_block.proofs.cells.CellOutcomes.{holds_it, is_proper, keeps_else, size_now}
+use Rattle.control_block.proofs.cells.CellOutcomes.{swapped}
 use Rattle.control_block.proofs.cells.CellSites.{cell_there, word_there}
 use Rattle.control_block.proofs.calls.cells.exchange.Goals as goal
 

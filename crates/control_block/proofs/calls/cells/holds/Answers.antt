@@ -1,13 +1,6 @@
-use Rattle.std.proofs.Common.{◌≡◌, None, refl, sym, ap, subst, ◌∙◌, arith}
-use Rattle.control_word.specs.Layout.{site_place}
-use Rattle.control_word.specs.Events.{InHand}
-use Rattle.control_word.specs.declared.model.event.Event.TheVariants.{Same}
-use Rattle.control_word.specs.declared.model.handle.NumberedHandle.{NumberedHandle}
-use Rattle.control_word.specs.declared.model.view.Pending.TheVariants.{Idle}
-use Rattle.control_block.specs.CellCalls.{handle_in}
-use Rattle.control_block.specs.CellStepKinds.{IsCellAt, IsWordOf, kind_in}
-use Rattle.control_block.specs.Desks.{DeskNow}
-use Rattle.control_block.specs.StepKinds.{known}
+use Rattle.std.proofs.Common.{◌≡◌, None, sym, refl, ap, ◌∙◌, subst, arith}
+use Rattle.control_block.proofs.Prelude.{DeskNow, handle_in, Idle, InHand, IsCellAt, IsWordOf}
+use Rattle.control_block.proofs.Prelude.{kind_in, known, NumberedHandle, Same, site_place}
 use Rattle.control_block.proofs.Passage.{plain}
 use Rattle.control_block.proofs.cells.CellDesks.{in_seat, lost_hand, lost_shows, lost_word}
 use Rattle.control_block.proofs.cells.CellSites.{cell_there, word_there}

@@ -1,9 +1,8 @@
-use Rattle.std.proofs.Common.{◌+◌, refl, sym, ap, ◌∙◌, arith, None}
-use Rattle.control_word.specs.Layout.{site_place}
-use Rattle.control_word.specs.declared.model.event.Event.TheVariants.{Load}
-use Rattle.control_block.specs.Desks.{DeskNow}
+use Rattle.std.proofs.Common.{◌+◌, None, sym, refl, ap, ◌∙◌, arith}
+use Rattle.control_block.proofs.Prelude.{DeskNow, Load, site_place}
 use Rattle.control_block.proofs.cells.CellDesks.{one, one_few}
-use Rattle.control_block.proofs.cells.CellOutcomes.{Came, bag_then, desk_then, event_of, holds_it, is_proper, keeps_else, loaded, size_now}
+use Rattle.control_block.proofs.cells.CellOutcomes.{Came, bag_then, desk_then, event_of, holds_it}
+use Rattle.control_block.proofs.cells.CellOutcomes.{is_proper, keeps_else, loaded, size_now}
 use Rattle.control_block.proofs.cells.CellSites.{aim_of, word_there}
 use Rattle.control_block.proofs.desks.DeskBags.{not_full, not_limit, room_left}
 use Rattle.control_block.proofs.calls.cells.load.Goals as goal

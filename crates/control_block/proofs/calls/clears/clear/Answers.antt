@@ -1,16 +1,7 @@
-use Rattle.std.proofs.Common.{◌≡◌, ◌+◌, cond, refl, sym, ap, subst, ◌∙◌, arith}
-use Rattle.std.specs.Prelude.{is_some}
-use mir.Val.{bool_byte}
-use Rattle.control_word.specs.declared.model.event.Event.TheVariants.{ClearMember}
-use Rattle.control_word.specs.declared.model.handle.Kind.{Kind}
-use Rattle.control_word.specs.declared.packed.cell.CellWord.{CellWord}
+use Rattle.std.proofs.Common.{◌≡◌, ◌+◌, cond, is_some, sym, refl, ap, ◌∙◌, subst, arith}
+use Rattle.control_block.proofs.Prelude.{bool_byte, CellWord, ClearMember, desk_now, DeskNow, Ends}
+use Rattle.control_block.proofs.Prelude.{Inside, Kind, known, OutAndGone, Released}
 use Rattle.control_block.specs.Clearing.{Empties}
-use Rattle.control_block.specs.Desks.{DeskNow}
-use Rattle.control_block.specs.Inside.{desk_now}
-use Rattle.control_block.specs.Leaving.{OutAndGone}
-use Rattle.control_block.specs.StepKinds.{Ends, known}
-use Rattle.control_block.specs.declared.desk.Desk.TheInside.{Inside}
-use Rattle.control_block.specs.declared.released.Released.{Released}
 use Rattle.control_block.proofs.leavings.ClearDesks.{room_out}
 use Rattle.control_block.proofs.leavings.ClearGone as clear
 use Rattle.control_block.proofs.leavings.ClearGone.{IsEmptied}

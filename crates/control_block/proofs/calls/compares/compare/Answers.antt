@@ -1,20 +1,16 @@
-use Rattle.std.proofs.Common.{◌≡◌, ◌+◌, ◌<◌, ◌≤◌, ℕ, min, refl, sym, ap, ◌∙◌, arith, cond, None, subst}
-use Rattle.std.specs.Prelude.{IfSome}
-use Rattle.control_word.specs.Layout.{site_place}
-use Rattle.control_word.specs.Events.{InHand}
-use Rattle.control_word.specs.Handles.{object_of}
-use Rattle.control_word.specs.State.{bag_size}
-use Rattle.control_word.specs.declared.model.event.Event.TheVariants.{Compare}
-use Rattle.control_word.specs.declared.model.handle.NumberedHandle.{NumberedHandle}
+use Rattle.std.proofs.Common.{◌≡◌, ℕ, ◌+◌, ◌<◌, ◌≤◌, min, cond, IfSome, None, sym, refl, ap, ◌∙◌}
+use Rattle.std.proofs.Common.{subst, arith}
+use Rattle.control_block.proofs.Prelude.{bag_of, bag_size, Compare, DeskNow, handle_in}
+use Rattle.control_block.proofs.Prelude.{HoldingInBlock, InHand, IsProper, IsWordOf, known}
+use Rattle.control_block.proofs.Prelude.{NumberedHandle, object_of, site_place, with_handle}
 use Rattle.control_word.proofs.lists.Tallies.{same_kind_true}
-use Rattle.control_block.specs.CellCalls.{handle_in, with_handle}
-use Rattle.control_block.specs.CellStepKinds.{IsWordOf}
-use Rattle.control_block.specs.Desks.{DeskNow, bag_of}
-use Rattle.control_block.specs.Handles.{IsProper}
-use Rattle.control_block.specs.StepKinds.{HoldingInBlock, known}
-use Rattle.control_block.proofs.cells.CellChoices.{bag_of_choice, counted_of, few_of, fits_of, within_of}
-use Rattle.control_block.proofs.cells.CellDesks.{fits, in_seat, lost_counted, lost_hand, lost_holding, lost_shows, lost_word, one, one_few}
-use Rattle.control_block.proofs.cells.CellOutcomes.{Came, bag_then, compared, desk_then, event_of, has_here, holds_it, is_proper, keeps_else, size_now}
+use Rattle.control_block.proofs.cells.CellChoices.{bag_of_choice, counted_of, few_of, fits_of}
+use Rattle.control_block.proofs.cells.CellChoices.{within_of}
+use Rattle.control_block.proofs.cells.CellDesks.{fits, in_seat, lost_counted, lost_hand}
+use Rattle.control_block.proofs.cells.CellDesks.{lost_holding, lost_shows, lost_word, one, one_few}
+use Rattle.control_block.proofs.cells.CellOutcomes.{Came, bag_then, compared, desk_then, event_of}
+use Rattle.control_block.proofs.cells.CellOutcomes.{has_here, holds_it, is_proper, keeps_else}
+use Rattle.control_block.proofs.cells.CellOutcomes.{size_now}
 use Rattle.control_block.proofs.cells.CellSites.{aim_of, word_there}
 use Rattle.control_block.proofs.desks.DeskBags.{not_full, not_limit, room_left}
 use Rattle.control_block.proofs.calls.compares.compare.Goals as goal

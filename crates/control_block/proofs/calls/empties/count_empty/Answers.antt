@@ -1,6 +1,6 @@
-use Rattle.control_block.specs.Desks.{DeskNow}
-use Rattle.control_block.proofs.desks.DeskBags.{not_limit}
 use Rattle.std.proofs.Common.{◌+◌, refl, ap}
+use Rattle.control_block.proofs.Prelude.{DeskNow}
+use Rattle.control_block.proofs.desks.DeskBags.{not_limit}
 use Rattle.control_block.proofs.calls.empties.count_empty.Goals as goal
 
 pub returns-then-is_full-clause-limit : goal.returns-then-is_full-clause-limit

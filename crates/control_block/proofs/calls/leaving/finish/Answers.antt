@@ -1,18 +1,14 @@
-use Rattle.std.proofs.Common.{◌+◌, ◌∷◌, cond, refl, sym, ap, ◌∙◌, arith, None, length}
-use Rattle.control_word.specs.Histories.{leads}
-use Rattle.control_word.specs.State.{stored}
-use Rattle.control_word.specs.declared.model.event.Event.TheVariants.{Finish}
-use Rattle.control_word.specs.declared.model.view.Pending.TheVariants.{Idle}
-use Rattle.control_word.proofs.history.Legal.{sound}
-use Rattle.control_block.specs.Desks.{bag_of, endings_of, latest_of, stock_of}
-use Rattle.control_block.specs.Inside.{desk_now}
-use Rattle.control_block.specs.Rule.{opening_of}
-use Rattle.control_block.proofs.desks.DeskBags.{adds_of, bag_stays, before, ends_still, legal_now, same_desk}
+use Rattle.std.proofs.Common.{◌+◌, cond, ◌∷◌, length, None, sym, refl, ap, ◌∙◌, arith}
+use Rattle.control_block.proofs.Prelude.{bag_of, desk_now, endings_of, Finish, Idle, latest_of}
+use Rattle.control_block.proofs.Prelude.{leads, opening_of, sound, stock_of, stored}
+use Rattle.control_block.proofs.desks.DeskBags.{adds_of, bag_stays, before, ends_still, legal_now}
+use Rattle.control_block.proofs.desks.DeskBags.{same_desk}
 use Rattle.control_block.proofs.words.Seats.{some_same}
 use Rattle.control_block.proofs.desks.OwnCounts.{shrunk_count}
 use Rattle.control_block.proofs.desks.DeskSteps.{as_many, came, desk_after}
 use Rattle.control_block.proofs.desks.DeskStores.{put_back, room_back, stock_grows}
-use Rattle.control_block.proofs.desks.OwnEndings.{clear_in, ending_before, ends_in, ends_value, finish_spares}
+use Rattle.control_block.proofs.desks.OwnEndings.{clear_in, ending_before, ends_in, ends_value}
+use Rattle.control_block.proofs.desks.OwnEndings.{finish_spares}
 use Rattle.control_block.proofs.desks.StoreBlocks.{ending_slot, ending_word, finish_block}
 use Rattle.control_block.proofs.calls.leaving.finish.Goals as goal
 

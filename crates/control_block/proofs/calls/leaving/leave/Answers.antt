@@ -1,16 +1,7 @@
-use Rattle.std.proofs.Common.{◌≡◌, ◌+◌, ◌-◌, cond, refl, sym, ap, subst, ◌∙◌, inl, arith, Option, Some}
-use Rattle.std.specs.Prelude.{is_some}
-use mir.Val.{bool_byte}
-use Rattle.control_word.specs.Words.{slot}
-use Rattle.control_word.specs.declared.model.handle.Kind.{Kind}
-use Rattle.control_word.specs.declared.place.Block.{Block}
-use Rattle.control_word.specs.declared.place.Place.{Place}
-use Rattle.control_block.specs.Clearing.{Lets}
-use Rattle.control_block.specs.Desks.{DeskNow}
-use Rattle.control_block.specs.Inside.{desk_now}
-use Rattle.control_block.specs.StepKinds.{known}
-use Rattle.control_block.specs.declared.desk.Desk.TheInside.{Inside}
-use Rattle.control_block.specs.declared.released.Released.{Released}
+use Rattle.std.proofs.Common.{◌≡◌, ◌+◌, ◌-◌, cond, is_some, Some, Option, sym, refl, ap, ◌∙◌}
+use Rattle.std.proofs.Common.{subst, inl, arith}
+use Rattle.control_block.proofs.Prelude.{Block, bool_byte, desk_now, DeskNow, Inside, Kind, known}
+use Rattle.control_block.proofs.Prelude.{Lets, Place, Released, slot}
 use Rattle.control_block.proofs.cells.CellTrades.{slot_low}
 use Rattle.control_block.proofs.desks.DeskBags.{holding_in}
 use Rattle.control_block.proofs.desks.DeskSteps.{holds_some, slot_inside, word_inside}

@@ -1,7 +1,6 @@
-use Rattle.std.proofs.Common.{◌≡◌, ◌<◌, ◌++◌, sym, ap, subst, ◌∙◌}
-use Rattle.std.proofs.lemmas.List.{append-nil}
-use Rattle.std.specs.Prelude.{IfSome, vec_capacity, vec_len}
-use Rattle.control_block.specs.Leaving.{freed}
+use Rattle.std.proofs.Common.{◌≡◌, ◌<◌, ◌++◌, IfSome, vec_len, vec_capacity, sym, ap, ◌∙◌, subst}
+use Rattle.std.proofs.Common.{append-nil}
+use Rattle.control_block.proofs.Prelude.{freed}
 use Rattle.control_block.proofs.calls.leaving.put_by_out.Goals as goal
 
 pub put_by-requires : goal.put_by-requires

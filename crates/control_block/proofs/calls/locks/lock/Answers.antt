@@ -1,15 +1,15 @@
+use Rattle.std.proofs.Common.{◌+◌, true, false, not, ◌∷◌, ◌==◌, Some, None, sym, refl, ap, ◌∙◌}
+use Rattle.std.proofs.Common.{arith}
+use Rattle.control_block.proofs.Prelude.{bag_of, desk_now, DeskNow, handle, Idle, latest_of, Lock}
+use Rattle.control_block.proofs.Prelude.{on_latest, Owner, Weak}
 use Rattle.control_word.specs.State.{count}
 use Rattle.control_block.specs.LockStepKinds.{before}
-use Rattle.std.proofs.Common.{refl, sym, ap, ◌∙◌, arith, ◌∷◌, Some, None, true, false, ◌+◌, ◌==◌, not}
-use Rattle.control_word.specs.Handles.{handle}
-use Rattle.control_word.specs.declared.model.event.Event.TheVariants.{Lock}
-use Rattle.control_word.specs.declared.model.handle.Kind.TheVariants.{Owner, Weak}
-use Rattle.control_word.specs.declared.model.view.Pending.TheVariants.{Idle}
-use Rattle.control_block.specs.Desks.{bag_of, on_latest, DeskNow, latest_of}
-use Rattle.control_block.specs.Inside.{desk_now}
-use Rattle.control_block.proofs.desks.DeskBags.{not_full, bag_gets, bag_stays, block_still, holding_in, calm, keeps_quietly, adds_of, room_left, not_limit}
+use Rattle.control_block.proofs.desks.DeskBags.{not_full, bag_gets, bag_stays, block_still}
+use Rattle.control_block.proofs.desks.DeskBags.{holding_in, calm, keeps_quietly, adds_of}
+use Rattle.control_block.proofs.desks.DeskBags.{room_left, not_limit}
 use Rattle.control_block.proofs.Passage.{plain}
-use Rattle.control_block.proofs.desks.DeskSteps.{ending_same, as_many, came, one_more, quiet_desk, word_inside}
+use Rattle.control_block.proofs.desks.DeskSteps.{ending_same, as_many, came, one_more, quiet_desk}
+use Rattle.control_block.proofs.desks.DeskSteps.{word_inside}
 use Rattle.control_block.proofs.desks.DeskLocks.{none_after}
 use Rattle.control_block.proofs.calls.locks.lock.Goals as goal
 

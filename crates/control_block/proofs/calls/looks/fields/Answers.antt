@@ -1,7 +1,7 @@
+use Rattle.std.proofs.Common.{sym, ◌∙◌, subst}
+use Rattle.control_block.proofs.Prelude.{Belongs, DeskNow, IsTold, object_in}
 use Rattle.control_block.proofs.desks.Near.{four_told}
-use Rattle.control_block.specs.StepKinds.{IsTold}
-use Rattle.control_block.specs.Desks.{Belongs, DeskNow, IsNear, object_in}
-use Rattle.std.proofs.Common.{sym, subst, ◌∙◌}
+use Rattle.control_block.specs.Desks.{IsNear}
 use Rattle.control_block.proofs.calls.looks.fields.Goals as goal
 
 pub peek-requires-clause-domain : goal.peek-requires-clause-domain

@@ -1,6 +1,5 @@
-use Rattle.std.proofs.Common.{refl, sym, ap, subst, ◌∙◌, arith, ◌+◌}
-use Rattle.control_block.specs.Desks.{DeskNow, object_in}
-use Rattle.control_block.specs.StepKinds.{IsTold}
+use Rattle.std.proofs.Common.{◌+◌, sym, refl, ap, ◌∙◌, subst, arith}
+use Rattle.control_block.proofs.Prelude.{DeskNow, IsTold, object_in}
 use Rattle.control_block.proofs.desks.Near.{near_in, near_word}
 use Rattle.control_block.proofs.calls.looks.peek.Goals as goal
 

@@ -1,6 +1,5 @@
 use Rattle.std.proofs.Common.{None}
-use Rattle.control_word.specs.declared.model.handle.Kind.TheVariants.{Owner}
-use Rattle.control_block.specs.StepKinds.{known}
+use Rattle.control_block.proofs.Prelude.{known, Owner}
 use Rattle.control_block.proofs.calls.looks.peek.Given as goal
 
 abbrev pub ghosts-peek : goal.ghosts-peek

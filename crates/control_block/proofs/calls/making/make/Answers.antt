@@ -1,19 +1,13 @@
-use Rattle.std.proofs.Common.{◌∷◌, refl, sym, ap, ◌∙◌, arith, None, Some, length, ◌+◌, inl}
+use Rattle.std.proofs.Common.{◌+◌, ◌∷◌, length, Some, None, sym, refl, ap, ◌∙◌, inl, arith}
+use Rattle.control_block.proofs.Prelude.{bag_of, DeskNow, endings_of, handle, Idle, leads, Make}
+use Rattle.control_block.proofs.Prelude.{opening_of, Owner, sound, stock_of}
 use Rattle.control_word.specs.Events.{origin}
-use Rattle.control_word.specs.Handles.{handle}
-use Rattle.control_word.specs.Histories.{leads}
-use Rattle.control_word.specs.declared.model.event.Event.TheVariants.{Make}
-use Rattle.control_word.specs.declared.model.handle.Kind.TheVariants.{Owner}
-use Rattle.control_word.specs.declared.model.view.Pending.TheVariants.{Idle}
-use Rattle.control_word.proofs.history.Legal.{sound}
-use Rattle.control_block.specs.Desks.{endings_of, bag_of, stock_of, DeskNow}
-use Rattle.control_block.specs.Rule.{opening_of}
-use Rattle.control_block.proofs.desks.DeskBags.{not_full, adds_of, bag_gets, before, ends_still, legal_now, room_left, same_desk}
+use Rattle.control_block.proofs.desks.DeskBags.{not_full, adds_of, bag_gets, before, ends_still}
+use Rattle.control_block.proofs.desks.DeskBags.{legal_now, room_left, same_desk}
 use Rattle.control_block.proofs.desks.OwnCounts.{made_count}
 use Rattle.control_block.proofs.desks.DeskSteps.{came, desk_after, one_more}
-use Rattle.control_block.proofs.desks.OwnEndings.{make_spares}
+use Rattle.control_block.proofs.desks.OwnEndings.{make_spares, made_block}
 use Rattle.control_block.proofs.desks.DeskStores.{last_stored, popped, stock_shrinks, stored_word}
-use Rattle.control_block.proofs.desks.OwnEndings.{made_block}
 use Rattle.control_block.proofs.calls.making.make.Goals as goal
 
 pub make-requires-clause-planned : goal.make-requires-clause-planned

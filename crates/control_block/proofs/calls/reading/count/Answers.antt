@@ -1,12 +1,10 @@
-use Rattle.std.proofs.Common.{refl, sym, ap, ◌∙◌, arith, None}
-use Rattle.control_word.specs.declared.model.event.Event.TheVariants.{Count}
-use Rattle.control_word.specs.declared.model.view.Pending.TheVariants.{Idle}
-use Rattle.control_block.specs.Desks.{on_latest}
-use Rattle.control_block.specs.Inside.{desk_now}
+use Rattle.std.proofs.Common.{None, sym, refl, ap, ◌∙◌, arith}
+use Rattle.control_block.proofs.Prelude.{Count, desk_now, Idle, on_latest}
 use Rattle.control_block.proofs.desks.DeskBags.{adds_of, holding_in, calm}
 use Rattle.control_block.proofs.desks.Outcomes.{stays}
 use Rattle.control_block.proofs.Passage.{plain}
-use Rattle.control_block.proofs.desks.DeskSteps.{ending_same, as_many, came, quiet_desk, word_inside}
+use Rattle.control_block.proofs.desks.DeskSteps.{ending_same, as_many, came, quiet_desk}
+use Rattle.control_block.proofs.desks.DeskSteps.{word_inside}
 use Rattle.control_block.proofs.calls.reading.count.Goals as goal
 
 pub count-requires-clause-holds : goal.count-requires-clause-holds

@@ -1,5 +1,5 @@
 use Rattle.std.proofs.Common.{None}
-use Rattle.control_block.specs.StepKinds.{known}
+use Rattle.control_block.proofs.Prelude.{known}
 use Rattle.control_block.proofs.calls.reading.count.Given as goal
 
 abbrev pub ghosts-count : goal.ghosts-count

@@ -1,13 +1,10 @@
-use Rattle.std.proofs.Common.{refl, sym, ap, ◌∙◌, arith, None}
-use Rattle.control_word.specs.declared.model.event.Event.TheVariants.{Expired}
-use Rattle.control_word.specs.declared.model.handle.Kind.TheVariants.{Weak}
-use Rattle.control_word.specs.declared.model.view.Pending.TheVariants.{Idle}
-use Rattle.control_block.specs.Desks.{on_latest}
-use Rattle.control_block.specs.Inside.{desk_now}
+use Rattle.std.proofs.Common.{None, sym, refl, ap, ◌∙◌, arith}
+use Rattle.control_block.proofs.Prelude.{desk_now, Expired, Idle, on_latest, Weak}
 use Rattle.control_block.proofs.desks.DeskBags.{adds_of, holding_in, calm}
 use Rattle.control_block.proofs.desks.Outcomes.{stays}
 use Rattle.control_block.proofs.Passage.{plain}
-use Rattle.control_block.proofs.desks.DeskSteps.{ending_same, as_many, came, quiet_desk, word_inside}
+use Rattle.control_block.proofs.desks.DeskSteps.{ending_same, as_many, came, quiet_desk}
+use Rattle.control_block.proofs.desks.DeskSteps.{word_inside}
 use Rattle.control_block.proofs.calls.reading.is_expired.Goals as goal
 
 pub is_expired-requires-clause-holds : goal.is_expired-requires-clause-holds

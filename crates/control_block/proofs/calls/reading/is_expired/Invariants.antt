@@ -1,6 +1,5 @@
 use Rattle.std.proofs.Common.{None}
-use Rattle.control_word.specs.declared.model.handle.Kind.TheVariants.{Weak}
-use Rattle.control_block.specs.StepKinds.{known}
+use Rattle.control_block.proofs.Prelude.{known, Weak}
 use Rattle.control_block.proofs.calls.reading.is_expired.Given as goal
 
 abbrev pub ghosts-is_expired : goal.ghosts-is_expired

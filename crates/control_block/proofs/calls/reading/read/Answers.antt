@@ -1,13 +1,10 @@
-use Rattle.std.proofs.Common.{◌+◌, refl, sym, ap, ◌∙◌, arith, None, Some}
-use Rattle.control_word.specs.declared.model.event.Event.TheVariants.{Read}
-use Rattle.control_word.specs.declared.model.handle.Kind.TheVariants.{Owner}
-use Rattle.control_word.specs.declared.model.view.Pending.TheVariants.{Idle}
-use Rattle.control_block.specs.Desks.{on_latest}
-use Rattle.control_block.specs.Inside.{desk_now}
+use Rattle.std.proofs.Common.{◌+◌, Some, None, sym, refl, ap, ◌∙◌, arith}
+use Rattle.control_block.proofs.Prelude.{desk_now, Idle, on_latest, Owner, Read}
 use Rattle.control_block.proofs.desks.DeskBags.{adds_of, holding_in, calm, field_low}
 use Rattle.control_block.proofs.desks.Outcomes.{stays}
 use Rattle.control_block.proofs.Passage.{plain}
-use Rattle.control_block.proofs.desks.DeskSteps.{ending_same, as_many, came, quiet_desk, word_inside}
+use Rattle.control_block.proofs.desks.DeskSteps.{ending_same, as_many, came, quiet_desk}
+use Rattle.control_block.proofs.desks.DeskSteps.{word_inside}
 use Rattle.control_block.proofs.calls.reading.read.Goals as goal
 
 pub read-requires-clause-holds : goal.read-requires-clause-holds

@@ -1,6 +1,5 @@
-use Rattle.std.proofs.Common.{None, Some}
-use Rattle.control_word.specs.declared.model.handle.Kind.TheVariants.{Owner}
-use Rattle.control_block.specs.StepKinds.{known}
+use Rattle.std.proofs.Common.{Some, None}
+use Rattle.control_block.proofs.Prelude.{known, Owner}
 use Rattle.control_block.proofs.calls.reading.read.Given as goal
 
 abbrev pub ghosts-read : goal.ghosts-read

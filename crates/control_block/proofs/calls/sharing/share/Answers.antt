@@ -1,15 +1,13 @@
-use Rattle.std.proofs.Common.{refl, sym, ap, ◌∙◌, arith, Some, ◌∷◌, ◌+◌}
-use Rattle.control_word.specs.Handles.{handle}
-use Rattle.control_word.specs.declared.model.event.Event.TheVariants.{Share}
-use Rattle.control_word.specs.declared.model.handle.Kind.TheVariants.{Owner}
-use Rattle.control_word.specs.declared.model.view.Pending.TheVariants.{Idle}
-use Rattle.control_block.specs.Desks.{bag_of, on_latest, DeskNow}
-use Rattle.control_block.specs.Inside.{desk_now}
-use Rattle.control_block.proofs.desks.DeskBags.{not_full, adds_of, bag_gets, block_still, holding_in, calm, keeps_quietly, points_well, room_left, not_limit}
+use Rattle.std.proofs.Common.{◌+◌, ◌∷◌, Some, None, sym, refl, ap, ◌∙◌, arith}
+use Rattle.control_block.proofs.Prelude.{bag_of, desk_now, DeskNow, handle, Idle, on_latest, Owner}
+use Rattle.control_block.proofs.Prelude.{Share}
+use Rattle.control_block.proofs.desks.DeskBags.{not_full, adds_of, bag_gets, block_still}
+use Rattle.control_block.proofs.desks.DeskBags.{holding_in, calm, keeps_quietly, points_well}
+use Rattle.control_block.proofs.desks.DeskBags.{room_left, not_limit}
 use Rattle.control_block.proofs.Passage.{plain}
-use Rattle.control_block.proofs.desks.DeskSteps.{ending_same, came, one_more, quiet_desk, word_inside}
+use Rattle.control_block.proofs.desks.DeskSteps.{ending_same, came, one_more, quiet_desk}
+use Rattle.control_block.proofs.desks.DeskSteps.{word_inside}
 use Rattle.control_block.proofs.calls.sharing.share.Goals as goal
-use Rattle.std.proofs.Common.{None}
 
 pub share-shared-requires-clause-holds : goal.share-shared-requires-clause-holds
 share-shared-requires-clause-holds g c =

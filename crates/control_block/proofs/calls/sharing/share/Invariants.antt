@@ -1,5 +1,4 @@
-use Rattle.control_word.specs.declared.model.handle.Kind.TheVariants.{Owner}
-use Rattle.control_block.specs.StepKinds.{known}
+use Rattle.control_block.proofs.Prelude.{known, Owner}
 use Rattle.control_block.proofs.calls.sharing.share.Given as goal
 
 abbrev pub ghosts-share : goal.ghosts-share

@@ -1,11 +1,8 @@
-use Rattle.std.proofs.Common.{◌∷◌, refl, sym, ap, ◌∙◌, arith, None, Some, ◌+◌}
-use Rattle.control_word.specs.Handles.{handle}
-use Rattle.control_word.specs.declared.model.event.Event.TheVariants.{WeakShare}
-use Rattle.control_word.specs.declared.model.handle.Kind.TheVariants.{Weak}
-use Rattle.control_word.specs.declared.model.view.Pending.TheVariants.{Idle}
-use Rattle.control_block.specs.Desks.{bag_of, latest_of, on_latest, DeskNow}
-use Rattle.control_block.specs.Inside.{desk_now}
-use Rattle.control_block.proofs.desks.DeskBags.{not_full, adds_of, bag_gets, calm, keeps_quietly, room_left, not_limit}
+use Rattle.std.proofs.Common.{◌+◌, ◌∷◌, Some, None, sym, refl, ap, ◌∙◌, arith}
+use Rattle.control_block.proofs.Prelude.{bag_of, desk_now, DeskNow, handle, Idle, latest_of}
+use Rattle.control_block.proofs.Prelude.{on_latest, Weak, WeakShare}
+use Rattle.control_block.proofs.desks.DeskBags.{not_full, adds_of, bag_gets, calm, keeps_quietly}
+use Rattle.control_block.proofs.desks.DeskBags.{room_left, not_limit}
 use Rattle.control_block.proofs.Passage.{plain}
 use Rattle.control_block.proofs.desks.DeskSteps.{ending_same, came, one_more, quiet_desk}
 use Rattle.control_block.proofs.desks.WeakGifts.{may_block, may_in, may_word}

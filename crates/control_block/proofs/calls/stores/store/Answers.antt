@@ -1,26 +1,12 @@
-use Rattle.std.proofs.Common.{◌≡◌, ◌+◌, ◌-◌, cond, refl, sym, ap, subst, ◌∙◌, arith, ◌≤◌, Option}
-use Rattle.std.specs.Prelude.{IfSome, is_some}
-use mir.Val.{bool_byte}
-use Rattle.control_word.specs.Layout.{site_place}
-use Rattle.control_word.specs.Events.{InHand}
-use Rattle.control_word.specs.Handles.{object_of}
-use Rattle.control_word.specs.State.{bag_size}
-use Rattle.control_word.specs.declared.packed.cell.CellWord.{CellWord}
-use Rattle.control_word.specs.declared.model.event.Event.TheVariants.{Swap}
-use Rattle.control_word.specs.declared.model.handle.NumberedHandle.{NumberedHandle}
-use Rattle.control_word.specs.declared.model.handle.Kind.{Kind}
-use Rattle.control_word.specs.declared.place.Block.{Block}
-use Rattle.control_word.specs.declared.place.Place.{Place}
-use Rattle.control_block.specs.CellCalls.{HoldsHandle, handle_in}
-use Rattle.control_block.specs.CellStepKinds.{IsWordOf}
-use Rattle.control_block.specs.Desks.{DeskNow}
-use Rattle.control_block.specs.Inside.{desk_now}
-use Rattle.control_block.specs.Leaving.{OutAndGone}
-use Rattle.control_block.specs.StepKinds.{HoldingInBlock, known}
+use Rattle.std.proofs.Common.{◌≡◌, ◌+◌, ◌-◌, ◌≤◌, cond, is_some, IfSome, Option, sym, refl, ap}
+use Rattle.std.proofs.Common.{◌∙◌, subst, arith}
+use Rattle.control_block.proofs.Prelude.{bag_size, Block, bool_byte, CellWord, desk_now, DeskNow}
+use Rattle.control_block.proofs.Prelude.{handle_in, HoldingInBlock, HoldsHandle, InHand, Inside}
+use Rattle.control_block.proofs.Prelude.{IsWordOf, Kind, known, NumberedHandle, object_of}
+use Rattle.control_block.proofs.Prelude.{OutAndGone, Place, Released, site_place, Swap}
 use Rattle.control_block.specs.Storing.{Replaces}
-use Rattle.control_block.specs.declared.desk.Desk.TheInside.{Inside}
-use Rattle.control_block.specs.declared.released.Released.{Released}
-use Rattle.control_block.proofs.cells.CellDesks.{in_seat, lost_counted, lost_hand, lost_holding, lost_room, lost_shows, lost_some, lost_word, one}
+use Rattle.control_block.proofs.cells.CellDesks.{in_seat, lost_counted, lost_hand, lost_holding}
+use Rattle.control_block.proofs.cells.CellDesks.{lost_room, lost_shows, lost_some, lost_word, one}
 use Rattle.control_block.proofs.cells.CellSites.{cell_there, word_there}
 use Rattle.control_block.proofs.EndingCounts.{few_ending}
 use Rattle.control_block.proofs.desks.OwnCounts.{byte_few}

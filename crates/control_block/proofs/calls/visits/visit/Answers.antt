@@ -1,16 +1,11 @@
-use Rattle.std.proofs.Common.{◌∙◌, None, Some, refl, sym, ap, length, arith}
-use Rattle.control_word.proofs.history.Legal.{sound}
-use Rattle.control_word.specs.Histories.{leads}
-use Rattle.control_word.specs.Layout.{spot}
-use Rattle.control_word.specs.declared.model.event.Event.TheVariants.{Visit}
-use Rattle.control_word.specs.declared.model.handle.Kind.TheVariants.{Owner}
-use Rattle.control_word.specs.declared.model.view.Pending.TheVariants.{Idle}
-use Rattle.control_block.specs.Desks.{endings_of, bag_of, on_latest, stock_of}
-use Rattle.control_block.specs.Inside.{desk_now}
-use Rattle.control_block.specs.StepKinds.{known}
-use Rattle.control_block.specs.Rule.{opening_of}
-use Rattle.control_block.proofs.desks.DeskBags.{adds_of, bag_stays, before, ends_still, holding_in, legal_now, same_desk}
-use Rattle.control_block.proofs.desks.DeskSteps.{ending_after, as_many, came, quiet_desk, stock_left, word_inside}
+use Rattle.std.proofs.Common.{length, Some, None, sym, refl, ap, ◌∙◌, arith}
+use Rattle.control_block.proofs.Prelude.{bag_of, desk_now, endings_of, Idle, known, leads}
+use Rattle.control_block.proofs.Prelude.{on_latest, opening_of, Owner, sound, spot, stock_of}
+use Rattle.control_block.proofs.Prelude.{Visit}
+use Rattle.control_block.proofs.desks.DeskBags.{adds_of, bag_stays, before, ends_still, holding_in}
+use Rattle.control_block.proofs.desks.DeskBags.{legal_now, same_desk}
+use Rattle.control_block.proofs.desks.DeskSteps.{ending_after, as_many, came, quiet_desk}
+use Rattle.control_block.proofs.desks.DeskSteps.{stock_left, word_inside}
 use Rattle.control_block.proofs.desks.OwnEndings.{visit_spares}
 use Rattle.control_block.proofs.desks.Visiting.{again, tells_visit, worked_on}
 use Rattle.control_block.proofs.calls.visits.visit.Goals as goal

@@ -1,9 +1,6 @@
-use Rattle.std.proofs.Common.{◌≡◌, refl, sym, ap, ◌∙◌}
-use Rattle.control_word.specs.Layout.{site_place}
+use Rattle.std.proofs.Common.{◌≡◌, slice_index, sym, refl, ap, ◌∙◌}
+use Rattle.control_block.proofs.Prelude.{CensusNow, site_place, slots_items}
 use Rattle.std.proofs.lemmas.Grind.{and_numeral}
-use Rattle.std.specs.Prelude.{slice_index}
-use Rattle.std.specs.Slots.{slots_items}
-use Rattle.control_block.specs.Census.{CensusNow}
 use Rattle.control_block.proofs.closings.Closing.{index_at}
 use Rattle.control_block.proofs.closings.HolderLists.{none_more, one_more}
 use Rattle.control_block.proofs.census.Census.add.Goals as goal

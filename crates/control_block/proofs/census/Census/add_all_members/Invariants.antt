@@ -1,5 +1,5 @@
 use Rattle.std.proofs.Common.{◌≡◌, ◌++◌}
-use Rattle.control_block.specs.Holders.{member_holders}
+use Rattle.control_block.proofs.Prelude.{member_holders}
 use Rattle.control_block.proofs.census.Census.add_all_members.Given as goal
 
 abbrev pub invariant-loop-before : goal.invariant-loop-before

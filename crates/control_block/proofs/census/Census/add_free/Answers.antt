@@ -1,5 +1,5 @@
-use Rattle.std.proofs.Common.{ap, ◌∙◌, ◌++◌}
-use Rattle.control_block.specs.Holders.{if_holds}
+use Rattle.std.proofs.Common.{◌++◌, ap, ◌∙◌}
+use Rattle.control_block.proofs.Prelude.{if_holds}
 use Rattle.control_block.proofs.closings.HolderLists.{next_free}
 use Rattle.control_block.proofs.census.Census.add_free.Goals as goal
 

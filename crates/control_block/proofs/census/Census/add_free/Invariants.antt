@@ -1,5 +1,5 @@
 use Rattle.std.proofs.Common.{◌≡◌, ◌++◌}
-use Rattle.control_block.specs.Holders.{free_holders}
+use Rattle.control_block.proofs.Prelude.{free_holders}
 use Rattle.control_block.proofs.census.Census.add_free.Given as goal
 
 abbrev pub invariant-loop-number : goal.invariant-loop-number

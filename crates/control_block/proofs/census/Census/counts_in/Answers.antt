@@ -1,9 +1,5 @@
-use Rattle.std.proofs.Common.{◌≡◌, ◌-◌, ℕ, sym, ap, ◌∙◌}
-use Rattle.std.specs.Prelude.{slice_index}
-use Rattle.std.specs.Slots.{slots_items}
-use Rattle.control_word.specs.Layout.{spot}
-use Rattle.control_word.specs.Packing.{number_of}
-use Rattle.control_block.specs.Census.{CensusNow, owners_in}
+use Rattle.std.proofs.Common.{◌≡◌, ℕ, ◌-◌, slice_index, sym, ap, ◌∙◌}
+use Rattle.control_block.proofs.Prelude.{CensusNow, number_of, owners_in, slots_items, spot}
 use Rattle.control_block.proofs.closings.Closing.{index_at, none_less, one_less}
 use Rattle.control_block.proofs.census.Census.counts_in.Goals as goal
 

@@ -1,4 +1,4 @@
-use Rattle.std.proofs.Common.{true≢false, refl, sym, ◌∙◌}
+use Rattle.std.proofs.Common.{sym, refl, ◌∙◌, true≢false}
 use Rattle.control_block.proofs.census.Census.holders.Goals as goal
 
 pub returns-then-not-has-clause-cells : goal.returns-then-not-has-clause-cells

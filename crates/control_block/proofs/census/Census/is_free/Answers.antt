@@ -1,9 +1,5 @@
-use Rattle.std.proofs.Common.{◌≡◌, ◌==◌, ℕ, ap, ◌∙◌}
-use Rattle.std.specs.Prelude.{slice_index}
-use Rattle.std.specs.Slots.{slots_items}
-use Rattle.control_word.specs.Layout.{spot}
-use Rattle.control_word.specs.Packing.{number_of}
-use Rattle.control_block.specs.Census.{CensusNow}
+use Rattle.std.proofs.Common.{◌≡◌, ℕ, ◌==◌, slice_index, ap, ◌∙◌}
+use Rattle.control_block.proofs.Prelude.{CensusNow, number_of, slots_items, spot}
 use Rattle.control_block.proofs.closings.Closing.{index_at}
 use Rattle.control_block.proofs.census.Census.is_free.Goals as goal
 

@@ -1,8 +1,5 @@
-use Rattle.std.proofs.Common.{take, arith}
-use Rattle.std.proofs.lemmas.List.{length-take}
-use Rattle.control_word.proofs.lists.Sums.{num_length}
-use Rattle.control_word.specs.Handles.{same_kind}
-use Rattle.control_block.specs.declared.cell_calls.CellAt.{CellAt}
+use Rattle.std.proofs.Common.{take, arith, length-take}
+use Rattle.control_block.proofs.Prelude.{CellAt, num_length, same_kind}
 use Rattle.control_block.proofs.census.holders.count_kind.Goals as goal
 
 pub overflow_add-count : goal.overflow_add-count

@@ -1,5 +1,5 @@
 use Rattle.std.proofs.Common.{◌≡◌, take}
-use Rattle.control_block.specs.Holders.{many_of}
+use Rattle.control_block.proofs.Prelude.{many_of}
 use Rattle.control_block.proofs.census.holders.count_kind.Given as goal
 
 abbrev pub invariant-loop-cell : goal.invariant-loop-cell

@@ -1,12 +1,8 @@
-use Rattle.std.proofs.Common.{◌≡◌, ◌≤◌, ◌-◌, ◌<◌, ℕ, List, sym, ap, subst, arith, ◌∙◌, length, refl, inl, inr}
-use Rattle.control_word.proofs.history.Legal.{sound}
-use Rattle.control_word.specs.declared.place.Block.{Block}
-use Rattle.control_block.specs.Desks.{DeskNow, stock_of}
-use Rattle.control_block.specs.Inside.{IsDesk, desk_now}
-use Rattle.control_block.specs.Parting.{HoldsAll, Parted, SplitsOff, free_of, in_history}
-use Rattle.control_block.specs.StepKinds.{MaySplit, known}
-use Rattle.control_block.specs.Rule.{opening_of}
-use Rattle.control_block.specs.declared.desk.Desk.TheInside.{Inside}
+use Rattle.std.proofs.Common.{◌≡◌, ℕ, ◌-◌, ◌<◌, ◌≤◌, List, length, sym, refl, ap, ◌∙◌, subst, inl}
+use Rattle.std.proofs.Common.{inr, arith}
+use Rattle.control_block.proofs.Prelude.{Block, desk_now, DeskNow, free_of, HoldsAll, in_history}
+use Rattle.control_block.proofs.Prelude.{Inside, IsDesk, known, MaySplit, opening_of, Parted}
+use Rattle.control_block.proofs.Prelude.{sound, SplitsOff, stock_of}
 use Rattle.control_block.specs.declared.handles.Held.{Held}
 use Rattle.control_block.proofs.partings.PartingDesks.{allowance_most}
 use Rattle.control_block.proofs.PartingSplit.{Keeps, keeps, may_split, sizes}

@@ -1,5 +1,4 @@
-use Rattle.control_block.specs.Parting.{in_history}
-use Rattle.control_block.specs.StepKinds.{known}
+use Rattle.control_block.proofs.Prelude.{in_history, known}
 use Rattle.control_block.proofs.desk.Desk.cut_off.Given as goal
 
 abbrev pub ghosts-part : goal.ghosts-part

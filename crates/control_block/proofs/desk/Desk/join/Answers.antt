@@ -1,20 +1,11 @@
-use Rattle.std.proofs.Common.{◌≡◌, ℕ, ◌≤◌, ◌+◌, ◌++◌, List, [], sym, ap, subst, arith, ◌∙◌, length, refl, length-append}
-use Rattle.std.specs.List.{filter}
-use Rattle.std.specs.List.Sorted.{IsPermutation}
-use Rattle.std.specs.Prelude.{vec_capacity}
-use Rattle.atomic_table.specs.Seated.{TableId}
-use Rattle.control_word.specs.Histories.{IsLegal}
-use Rattle.control_word.specs.Layout.{IsWithinLimits}
-use Rattle.control_word.specs.State.{Held, bag, bag_size, same_stored, stock, stored}
-use Rattle.control_word.specs.Words.{blocks_of}
-use Rattle.control_word.specs.declared.model.handle.NumberedHandle.{NumberedHandle}
-use Rattle.control_word.specs.declared.shape.Shape.{Shape}
-use Rattle.control_block.specs.Desks.{DeskNow, IsEnding, allowance_of, bag_of, by_block, endings_of, many_ending, member_in, stock_of}
-use Rattle.control_block.specs.Inside.{IsSized}
-use Rattle.control_block.specs.Parting.{JoinsWith, times}
-use Rattle.control_block.specs.StepKinds.{known}
-use Rattle.control_block.specs.Rule.{opening_of}
-use Rattle.control_block.specs.declared.table.SeatView.{SeatView}
+use Rattle.std.proofs.Common.{◌≡◌, ℕ, ◌+◌, ◌≤◌, List, ◌++◌, length, vec_capacity, sym, ap, ◌∙◌}
+use Rattle.std.proofs.Common.{subst, arith, length-append}
+use Rattle.control_block.proofs.Prelude
+use Prelude.{allowance_of, bag, bag_of, bag_size, blocks_of, by_block, DeskNow, endings_of, filter}
+use Prelude.{Held, IsEnding, IsLegal, IsPermutation, IsSized, IsWithinLimits, known, many_ending}
+use Prelude.{member_in, NumberedHandle, opening_of, same_stored, SeatView, Shape, stock, stock_of}
+use Prelude.{stored, TableId, times}
+use Rattle.control_block.specs.Parting.{JoinsWith}
 use Rattle.control_block.proofs.partings.PartingDesks.{desk_of}
 use Rattle.control_block.proofs.partings.PartingCounts.{both_in}
 use Rattle.control_block.proofs.partings.PartingJoin as joining

@@ -1,10 +1,7 @@
-use Rattle.control_block.specs.Inside.{desk_now}
+use Rattle.std.proofs.Common.{◌≡◌, ◌-◌, sym, ap, ◌∙◌, subst, arith}
+use Rattle.control_block.proofs.Prelude.{desk_now, DeskNow, IsShelfWord, IsSole, known, shelf_at}
+use Rattle.control_block.proofs.Prelude.{state_of}
 use Rattle.control_block.proofs.desks.DeskBags.{now_of}
-use Rattle.std.proofs.Common.{◌≡◌, ◌-◌, sym, ap, subst, ◌∙◌, arith}
-use Rattle.control_block.specs.Desks.{DeskNow, state_of}
-use Rattle.control_block.specs.Own.{IsSole}
-use Rattle.control_block.specs.StepKinds.{known}
-use Rattle.control_block.specs.ShelfStepKinds.{IsShelfWord, shelf_at}
 use Rattle.control_block.proofs.Shelving.{so_sole}
 use Rattle.control_block.proofs.desk.Desk.look_on_shelf.Goals as goal
 

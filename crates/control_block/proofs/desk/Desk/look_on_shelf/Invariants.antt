@@ -1,6 +1,5 @@
 use Rattle.std.proofs.Common.{◌-◌, None}
-use Rattle.control_word.specs.declared.model.handle.Kind.TheVariants.{Owner}
-use Rattle.control_block.specs.ShelfStepKinds.{shelf_at}
+use Rattle.control_block.proofs.Prelude.{Owner, shelf_at}
 use Rattle.control_block.proofs.desk.Desk.look_on_shelf.Given as goal
 
 abbrev pub ghosts-look : goal.ghosts-look

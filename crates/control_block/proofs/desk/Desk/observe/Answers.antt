@@ -1,7 +1,5 @@
-use Rattle.std.proofs.Common.{[], ◌∷◌, ap, subst, ◌∙◌}
-use Rattle.control_word.specs.declared.shape.Shape.{Shape}
-use Rattle.control_block.specs.Desks.{DeskNow}
-use Rattle.control_block.specs.Observations.{ShowsOneHistory}
+use Rattle.std.proofs.Common.{[], ◌∷◌, ap, ◌∙◌, subst}
+use Rattle.control_block.proofs.Prelude.{DeskNow, Shape, ShowsOneHistory}
 use Rattle.control_block.proofs.Observations.{shows_one}
 use Rattle.control_block.proofs.desk.Desk.observe.Goals as goal
 

@@ -1,6 +1,5 @@
-use Rattle.std.proofs.Common.{◌≤◌, ◌-◌}
-use Rattle.control_block.specs.Desks.{Belongs}
-use Rattle.control_block.specs.Shelf.{Shelved}
+use Rattle.std.proofs.Common.{◌-◌, ◌≤◌}
+use Rattle.control_block.proofs.Prelude.{Belongs, Shelved}
 use Rattle.control_block.proofs.desk.Desk.shelve.Given as goal
 
 abbrev pub invariant-loop-shelved : goal.invariant-loop-shelved

@@ -1,7 +1,5 @@
-use Rattle.std.proofs.Common.{◌/◌, refl, sym, ap, ◌∙◌, arith, None, length}
-use Rattle.control_word.specs.declared.model.event.Event.TheVariants.{Shelve}
-use Rattle.control_word.specs.declared.model.view.Pending.TheVariants.{Idle}
-use Rattle.control_block.specs.Desks.{stock_of}
+use Rattle.std.proofs.Common.{◌/◌, length, None, sym, refl, ap, ◌∙◌, arith}
+use Rattle.control_block.proofs.Prelude.{Idle, Shelve, stock_of}
 use Rattle.control_block.proofs.desks.DeskBags.{calm}
 use Rattle.control_block.proofs.desks.DeskSteps.{as_many, came, desk_after, ending_same}
 use Rattle.control_block.proofs.desks.DeskStores.{last_stored, popped, stock_shrinks}

@@ -1,11 +1,9 @@
-use Rattle.std.proofs.Common.{◌≡◌, ◌+◌, ◌≤◌, ℕ, min, length, subst, arith}
-use Rattle.control_word.specs.State.{bag}
+use Rattle.std.proofs.Common.{◌≡◌, ℕ, ◌+◌, ◌≤◌, min, length, subst, arith}
+use Rattle.control_block.proofs.Prelude.{allowance_of, bag, bag_of, desk_now, DeskNow, endings_of}
+use Rattle.control_block.proofs.Prelude.{length-map, state_of}
 use Rattle.control_block.proofs.Bags.{seen_as}
-use Rattle.std.proofs.lemmas.List.{length-map}
 use Rattle.control_block.proofs.EndingCounts.{few_ending}
-use Rattle.control_block.specs.Desks.{DeskNow, allowance_of, bag_of, endings_of, state_of}
 use Rattle.control_block.specs.Standing.{Standing}
-use Rattle.control_block.specs.Inside.{desk_now}
 use Rattle.control_block.proofs.desk.Desk.stands.Goals as goal
 
 pub returns : goal.returns

@@ -1,7 +1,5 @@
 use Rattle.std.proofs.Common.{arith}
-use Rattle.control_word.proofs.history.Legal.{sound}
-use Rattle.control_block.specs.StepKinds.{known}
-use Rattle.control_block.specs.Rule.{opening_of}
+use Rattle.control_block.proofs.Prelude.{known, opening_of, sound}
 use Rattle.control_block.proofs.words.Stores.{stock_few}
 use Rattle.control_block.proofs.desk.Desk.stock.Goals as goal
 

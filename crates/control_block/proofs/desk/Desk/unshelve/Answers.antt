@@ -1,4 +1,4 @@
-use Rattle.std.proofs.Common.{◌≡◌, ◌≤◌, ◌+◌, ◌/◌, ap, ◌∙◌, arith}
+use Rattle.std.proofs.Common.{◌≡◌, ◌+◌, ◌/◌, ◌≤◌, ap, ◌∙◌, arith}
 use Rattle.control_block.proofs.Shelving.{all_shelved, unshelved_on}
 use Rattle.control_block.proofs.desk.Desk.unshelve.Goals as goal
 

@@ -1,8 +1,5 @@
-use Rattle.std.proofs.Common.{◌≡◌, ℕ, ◌≤◌, ◌<◌, ◌/◌}
-use Rattle.control_word.specs.State.{on_shelf}
-use Rattle.control_block.specs.Desks.{Belongs, state_of}
-use Rattle.control_block.specs.Own.{IsSole}
-use Rattle.control_block.specs.Shelf.{Unshelved}
+use Rattle.std.proofs.Common.{◌≡◌, ℕ, ◌/◌, ◌<◌, ◌≤◌}
+use Rattle.control_block.proofs.Prelude.{Belongs, IsSole, on_shelf, state_of, Unshelved}
 use Rattle.control_block.proofs.desk.Desk.unshelve_among.Given as goal
 
 abbrev pub invariant-loop-word : goal.invariant-loop-word

@@ -1,13 +1,7 @@
-use Rattle.control_block.specs.Inside.{desk_now}
-use Rattle.control_block.specs.Shelf.{Unshelved}
-use Rattle.std.proofs.Common.{◌≡◌, ◌+◌, refl, sym, ap, subst, ◌∙◌, arith, None, length, true, true≢false}
-use Rattle.control_word.specs.State.{on_shelf}
-use Rattle.control_word.specs.declared.model.event.Event.TheVariants.{Unshelve}
-use Rattle.control_word.specs.declared.model.view.Pending.TheVariants.{Idle}
-use Rattle.control_block.specs.Desks.{DeskNow, stock_of}
-use Rattle.control_block.specs.Own.{IsSole}
-use Rattle.control_block.specs.StepKinds.{At, known}
-use Rattle.control_block.specs.ShelfStepKinds.{IsOff}
+use Rattle.std.proofs.Common.{◌≡◌, ◌+◌, true, length, None, sym, refl, ap, ◌∙◌, subst, true≢false}
+use Rattle.std.proofs.Common.{arith}
+use Rattle.control_block.proofs.Prelude.{At, desk_now, DeskNow, Idle, IsOff, IsSole, known}
+use Rattle.control_block.proofs.Prelude.{on_shelf, stock_of, Unshelve, Unshelved}
 use Rattle.control_block.proofs.desks.DeskBags.{adds_of, calm, now_of}
 use Rattle.control_block.proofs.desks.DeskSteps.{as_many, came, desk_after, ending_same}
 use Rattle.control_block.proofs.desks.DeskStores.{put_back, room_back, stock_grows}

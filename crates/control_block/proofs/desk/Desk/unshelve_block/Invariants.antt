@@ -1,5 +1,5 @@
 use Rattle.std.proofs.Common.{None}
-use Rattle.control_word.specs.declared.model.handle.Kind.TheVariants.{Owner}
+use Rattle.control_block.proofs.Prelude.{Owner}
 use Rattle.control_block.proofs.desk.Desk.unshelve_block.Given as goal
 
 abbrev pub ghosts-unshelve : goal.ghosts-unshelve

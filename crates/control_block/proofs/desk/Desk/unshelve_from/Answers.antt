@@ -1,13 +1,11 @@
-use Rattle.std.proofs.Common.{◌≡◌, ◌+◌, ◌*◌, ◌/◌, ◌%◌, refl, sym, ap, subst, ◌∙◌, arith}
+use Rattle.std.proofs.Common.{◌≡◌, ◌+◌, ◌*◌, ◌/◌, ◌%◌, sym, refl, ap, ◌∙◌, subst, arith}
+use Rattle.control_block.proofs.Prelude.{Belongs, bit_at, Block, DeskNow, IsSole, on_shelf}
+use Rattle.control_block.proofs.Prelude.{state_of, Unshelved, w64}
 use Rattle.std.proofs.lemmas.Nat.Bits.{bit_at-trailing_zeros}
-use Rattle.std.specs.Int.{bit_at, trailing_zeros, w64}
-use Rattle.control_word.specs.State.{on_shelf}
-use Rattle.control_word.specs.declared.place.Block.{Block}
-use Rattle.control_block.specs.Desks.{Belongs, DeskNow, state_of}
-use Rattle.control_block.specs.Own.{IsSole}
-use Rattle.control_block.specs.Shelf.{Unshelved}
+use Rattle.std.specs.Int.{trailing_zeros}
 use Rattle.control_block.proofs.desks.OwnCounts.{byte_few, one_if}
-use Rattle.control_block.proofs.Shelving.{belongs_on, bits_on, fewer_bits, not_one, unshelved_none, unshelved_on}
+use Rattle.control_block.proofs.Shelving.{belongs_on, bits_on, fewer_bits, not_one, unshelved_none}
+use Rattle.control_block.proofs.Shelving.{unshelved_on}
 use Rattle.control_block.proofs.desk.Desk.unshelve_from.Goals as goal
 
 pub loop-bits-init : goal.loop-bits-init

@@ -1,9 +1,5 @@
-use Rattle.std.proofs.Common.{◌≡◌, ℕ, ◌≤◌, ◌<◌, ◌/◌, ◌%◌}
-use Rattle.std.specs.Int.{bit_at}
-use Rattle.control_word.specs.State.{on_shelf}
-use Rattle.control_block.specs.Desks.{Belongs, state_of}
-use Rattle.control_block.specs.Own.{IsSole}
-use Rattle.control_block.specs.Shelf.{Unshelved}
+use Rattle.std.proofs.Common.{◌≡◌, ℕ, ◌/◌, ◌%◌, ◌<◌, ◌≤◌}
+use Rattle.control_block.proofs.Prelude.{Belongs, bit_at, IsSole, on_shelf, state_of, Unshelved}
 use Rattle.control_block.proofs.desk.Desk.unshelve_from.Given as goal
 
 abbrev pub invariant-loop-bits : goal.invariant-loop-bits

@@ -1,7 +1,6 @@
 -- What is known of a value owns nothing, so it may go to any thread.
-use denote.RattleType.{RattleType}
+use Rattle.control_block.proofs.Prelude.{RattleType, the_row}
 use denote.Param.Send.{IsSend}
-use Rattle.control_block.specs.contracts.in_place.Known.{the_row}
 
 pub send : (V : RattleType) → IsSend (the_row V)
 send V = record { owned = λ d vs. ((λ vss. (tt, ((λ uss. (tt, tt)), tt))), tt); leaving = λ k f vs. tt }

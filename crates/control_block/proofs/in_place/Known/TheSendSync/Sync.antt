@@ -1,7 +1,6 @@
 -- And any thread may share it.
-use denote.RattleType.{RattleType}
+use Rattle.control_block.proofs.Prelude.{RattleType, the_row}
 use denote.Param.Send.{IsSync, part_keyless}
-use Rattle.control_block.specs.contracts.in_place.Known.{the_row}
 use Rattle.control_block.proofs.in_place.Known.TheSendSync.Send.{send}
 
 pub sync : (V : RattleType) → IsSync (the_row V)

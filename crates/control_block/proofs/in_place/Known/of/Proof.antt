@@ -1,7 +1,6 @@
 -- `of` makes a value of no bytes, whose ghost field is what the reference shows.
-use mathlib.Core.Path.{refl, sym, subst}
-use Prim.Native.Nat.{ℕ}
-use mathlib.Core.List.{List, [], ◌∷◌, ◌++◌}
+use Rattle.std.proofs.Common.{ℕ, List, [], ◌∷◌, ◌++◌, sym, refl, subst}
+use Rattle.control_block.proofs.Prelude.{RattleType}
 use seplogic.Ra.Ura.{Ura}
 use mir.Syntax.{Fn, a_type}
 use mir.Val.{Val, vptr, vstruct, vcons, vnil}
@@ -19,7 +18,7 @@ use types.Kit.{‵, raw, ◌⊛◌, ◌$◌, ◌∵◌, !, qed, move, keep, spli
 use types.Run.{no_more, and_then, returns, enter}
 use types.Part.{agg}
 use types.ByLocal.{alloc_all, pass_all, free_all, look_at, get, sets}
-use denote.RattleType.{RattleType, owns}
+use denote.RattleType.{owns}
 use denote.Exit.{yes}
 use denote.Laws.{Are, Ises, owns_show, showss}
 use denote.Param.{param, layouts}

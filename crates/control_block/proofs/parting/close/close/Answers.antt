@@ -1,15 +1,7 @@
-use Rattle.std.proofs.Common.{◌≡◌, ◌≤◌, ◌+◌, refl, sym, ap, subst, ◌∙◌}
-use Rattle.std.specs.Prelude.{slice_index}
-use Rattle.std.specs.Slots.{slots_items}
-use Rattle.control_word.proofs.history.Legal.{sound}
-use Rattle.control_word.specs.Layout.{spot}
-use Rattle.control_word.specs.Packing.{number_of}
-use Rattle.control_word.specs.State.{InShape}
-use Rattle.control_block.specs.Census.{EndsNot, TellsBlock}
-use Rattle.control_block.specs.Desks.{DeskNow, allowance_of, endings_of, state_of}
-use Rattle.control_block.specs.Holders.{TellsCells, TellsHolders}
-use Rattle.control_block.specs.StepKinds.{known}
-use Rattle.control_block.specs.Rule.{opening_of}
+use Rattle.std.proofs.Common.{◌≡◌, ◌+◌, ◌≤◌, slice_index, sym, refl, ap, ◌∙◌, subst}
+use Rattle.control_block.proofs.Prelude.{allowance_of, DeskNow, endings_of, EndsNot, InShape}
+use Rattle.control_block.proofs.Prelude.{known, number_of, opening_of, slots_items, sound, spot}
+use Rattle.control_block.proofs.Prelude.{state_of, TellsBlock, TellsCells, TellsHolders}
 use Rattle.control_block.proofs.closings.ClosedCells.{census_of, tells_cells}
 use Rattle.control_block.proofs.closings.Closing.{exact_counts, nothing_ends, tells_of}
 use Rattle.control_block.proofs.closings.ClosingHolders.{tells_holders}

@@ -1,5 +1,4 @@
-use Rattle.std.proofs.Common.{take, arith, ◌∙◌, sym}
-use Rattle.std.proofs.lemmas.List.{length-take}
+use Rattle.std.proofs.Common.{take, sym, ◌∙◌, arith, length-take}
 use Rattle.control_block.proofs.SlotLists.{filled_few, next_filled, next_vacant}
 use Rattle.control_block.proofs.parting.split.count_filled.Goals as goal
 use Rattle.control_block.proofs.parting.split.count_filled.Goals.{then-is_some, else-is_some}

@@ -1,9 +1,6 @@
+use Rattle.std.proofs.Common.{ℕ, List, sym, ap, ◌∙◌, subst}
+use Rattle.control_block.proofs.Prelude.{Block, MaySplit, NumberedHandle, SeatView}
 use Rattle.control_block.proofs.cells.CellRetries.{added_awake}
-use Rattle.control_block.specs.declared.table.SeatView.{SeatView}
-use Rattle.control_block.specs.StepKinds.{MaySplit}
-use Rattle.control_word.specs.declared.place.Block.{Block}
-use Rattle.control_word.specs.declared.model.handle.NumberedHandle.{NumberedHandle}
-use Rattle.std.proofs.Common.{ℕ, List, sym, ap, subst, ◌∙◌}
 use Rattle.control_block.proofs.parting.split.part.Goals as goal
 
 pub note_split-requires-clause-table : goal.note_split-requires-clause-table

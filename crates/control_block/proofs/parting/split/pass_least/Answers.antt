@@ -1,10 +1,8 @@
-use Rattle.std.proofs.Common.{◌≡◌, ◌-◌, ◌++◌, ap, ◌∙◌, subst, arith, rules, drop, take, length}
+use Rattle.std.proofs.Common.{◌≡◌, ◌-◌, ◌++◌, length, take, drop, ap, ◌∙◌, subst, arith, rules}
+use Rattle.control_block.proofs.Prelude.{Block, Has, is_lt, nat_cmp, times}
 use Rattle.std.proofs.lemmas.Cmp.{nat_cmp_total}
-use Rattle.std.proofs.lemmas.List.Sorted.{IsStrictWeakOrder-flip, answers_always, ranks_by, sorted_far}
-use Rattle.std.specs.Ordering.{is_lt, nat_cmp}
-use Rattle.control_word.specs.declared.place.Block.{Block}
-use Rattle.control_word.specs.State.{Has}
-use Rattle.control_block.specs.Parting.{times}
+use Rattle.std.proofs.lemmas.List.Sorted.{IsStrictWeakOrder-flip, answers_always, ranks_by}
+use Rattle.std.proofs.lemmas.List.Sorted.{sorted_far}
 use Rattle.control_block.proofs.partings.PartingOrder.{far, tail_is, times_cut, times_permutation}
 use Rattle.control_block.proofs.parting.split.pass_least.Goals as goal
 

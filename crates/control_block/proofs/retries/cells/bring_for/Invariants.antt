@@ -1,5 +1,5 @@
 use Rattle.std.proofs.Common.{None}
-use Rattle.control_word.specs.Handles.{object_of}
+use Rattle.control_block.proofs.Prelude.{object_of}
 use Rattle.control_block.proofs.retries.cells.bring_for.Given as goal
 
 abbrev pub ghosts-bring : goal.ghosts-bring

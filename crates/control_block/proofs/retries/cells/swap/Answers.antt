@@ -1,9 +1,5 @@
-use Rattle.control_block.specs.CellStepKinds.{debt}
-use Rattle.control_block.specs.FundStepKinds.{Owes}
-use Rattle.std.proofs.Common.{subst, ◌-◌, sym, ◌∙◌}
-use Rattle.atomic_table.specs.Seated.{TableId}
-use Rattle.control_word.specs.declared.model.event.Event.TheVariants.{Swap}
-use Rattle.control_block.specs.Inside.{IsSized}
+use Rattle.std.proofs.Common.{◌-◌, sym, ◌∙◌, subst}
+use Rattle.control_block.proofs.Prelude.{debt, IsSized, Owes, Swap, TableId}
 use Rattle.control_block.proofs.cells.CellRetries.{gave_counted, added_owes, given_back}
 use Rattle.control_block.proofs.cells.CellTrades.{swap_trades}
 use Rattle.control_block.proofs.retries.cells.swap.Goals as goal

@@ -1,10 +1,6 @@
-use Rattle.control_block.specs.declared.table.SeatView.{SeatView}
-use Rattle.control_block.specs.StepKinds.{HasRoomFor}
-use Rattle.std.proofs.Common.{sym, ap, subst, ◌∙◌}
-use Rattle.control_word.specs.declared.model.event.Event.TheVariants.{Swap}
-use Rattle.control_word.specs.declared.model.handle.Kind.{Kind}
-use Rattle.control_word.specs.declared.shape.Shape.{Shape}
-use Rattle.control_block.specs.CellStepKinds.{Gave, debt, kind_in, IsCellAt, IsWordOf}
+use Rattle.std.proofs.Common.{sym, ap, ◌∙◌, subst}
+use Rattle.control_block.proofs.Prelude.{debt, Gave, HasRoomFor, IsCellAt, IsWordOf, Kind, kind_in}
+use Rattle.control_block.proofs.Prelude.{SeatView, Shape, Swap}
 use Rattle.control_block.proofs.cells.CellRetries.{hand_in_call, cell_in_call}
 use Rattle.control_block.proofs.leavings.LetGo.{gave_from}
 use Rattle.control_block.proofs.retries.cells.swap_in.Goals as goal

@@ -1,6 +1,5 @@
-use Rattle.std.proofs.Common.{rules, sym, subst, ◌∙◌}
-use Rattle.control_block.specs.CellStepKinds.{IsWordOf}
-use Rattle.control_block.specs.StepKinds.{At}
+use Rattle.std.proofs.Common.{sym, ◌∙◌, subst, rules}
+use Rattle.control_block.proofs.Prelude.{At, IsWordOf}
 use Rattle.control_block.proofs.cells.CellTries.{aim_at, offer_at, out_since}
 use Rattle.control_block.proofs.retries.compares.compare.Goals as goal
 

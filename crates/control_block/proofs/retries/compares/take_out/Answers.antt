@@ -1,13 +1,9 @@
-use Rattle.std.proofs.Common.{false, inl, refl, sym, subst, ◌∙◌}
-use Rattle.control_word.specs.Handles.{empty}
-use Rattle.control_word.specs.declared.model.event.Event.{Event}
-use Rattle.control_word.specs.declared.model.event.Event.TheVariants.{Compare}
-use Rattle.control_word.specs.declared.model.handle.NumberedHandle.{NumberedHandle}
-use Rattle.control_word.specs.declared.model.handle.Kind.{Kind}
-use Rattle.control_block.specs.CellStepKinds.{Took}
+use Rattle.std.proofs.Common.{false, sym, refl, ◌∙◌, subst, inl}
+use Rattle.control_block.proofs.Prelude.{Compare, empty, Event, Kind, NumberedHandle, Took}
 use Rattle.control_block.proofs.cells.CellRetries.{took_owes}
 use Rattle.control_block.proofs.cells.CellTrades.{differ_keeps, differ_trades}
-use Rattle.control_block.proofs.cells.CellTries.{aim_out, counted_out, hand_of_kind, holding_out, none_shown, out_at, out_turned}
+use Rattle.control_block.proofs.cells.CellTries.{aim_out, counted_out, hand_of_kind, holding_out}
+use Rattle.control_block.proofs.cells.CellTries.{none_shown, out_at, out_turned}
 use Rattle.control_block.proofs.retries.compares.take_out.Goals as goal
 
 pub take_differing-requires-clause-table : goal.take_differing-requires-clause-table

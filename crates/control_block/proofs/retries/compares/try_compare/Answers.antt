@@ -1,10 +1,9 @@
-use Rattle.std.proofs.Common.{◌<◌, false, None, refl, sym, subst, ◌∙◌}
-use Rattle.control_word.specs.Handles.{handle}
-use Rattle.control_word.specs.declared.model.event.Event.TheVariants.{Compare}
-use Rattle.control_block.specs.CellStepKinds.{IsWordOf, kind_in}
-use Rattle.control_block.specs.StepKinds.{At, tells}
+use Rattle.std.proofs.Common.{◌<◌, false, None, sym, refl, ◌∙◌, subst}
+use Rattle.control_block.proofs.Prelude.{At, Compare, handle, IsWordOf, kind_in, tells}
 use Rattle.control_block.proofs.cells.CellRetries.{unmoved_alike, word_alike, word_differs}
-use Rattle.control_block.proofs.cells.CellTries.{aim_at, differs_none, hand_of_kind, hands_at, none_shown, offer_at, out_empty, out_since, room_at}
+use Rattle.control_block.proofs.cells.CellTries.{aim_at, differs_none, hand_of_kind, hands_at}
+use Rattle.control_block.proofs.cells.CellTries.{none_shown, offer_at, out_empty, out_since}
+use Rattle.control_block.proofs.cells.CellTries.{room_at}
 use Rattle.control_block.proofs.retries.compares.try_compare.Goals as goal
 
 pub look_differing-seen-requires-clause-table : goal.look_differing-seen-requires-clause-table

@@ -1,13 +1,8 @@
-use Rattle.std.proofs.Common.{◌-◌, true, refl, sym, ap, subst, ◌∙◌}
-use Rattle.control_word.specs.declared.model.event.Event.TheVariants.{Compare}
-use Rattle.control_word.specs.declared.model.handle.Kind.{Kind}
-use Rattle.control_word.specs.declared.shape.Shape.{Shape}
-use Rattle.control_block.specs.CellStepKinds.{Gave, IsCellAt, IsWordOf, debt, kind_in}
-use Rattle.control_block.specs.FundStepKinds.{Owes}
-use Rattle.control_block.specs.Inside.{IsSized}
-use Rattle.control_block.specs.StepKinds.{At, HasRoomFor, goes_on}
-use Rattle.control_block.specs.declared.table.SeatView.{SeatView}
-use Rattle.control_block.proofs.cells.CellRetries.{added_owes, back_again, cell_in_call, gave_counted, hand_in_call}
+use Rattle.std.proofs.Common.{◌-◌, true, sym, refl, ap, ◌∙◌, subst}
+use Rattle.control_block.proofs.Prelude.{At, Compare, debt, Gave, goes_on, HasRoomFor, IsCellAt}
+use Rattle.control_block.proofs.Prelude.{IsSized, IsWordOf, Kind, kind_in, Owes, SeatView, Shape}
+use Rattle.control_block.proofs.cells.CellRetries.{added_owes, back_again, cell_in_call}
+use Rattle.control_block.proofs.cells.CellRetries.{gave_counted, hand_in_call}
 use Rattle.control_block.proofs.cells.CellTrades.{compare_trades}
 use Rattle.control_block.proofs.cells.CellTries.{swapped_at}
 use Rattle.control_block.proofs.retries.compares.try_swap.Goals as goal

@@ -1,5 +1,5 @@
 use Rattle.std.proofs.Common.{◌≡◌}
-use Rattle.control_word.specs.Packing.{IsCellWord}
+use Rattle.control_block.proofs.Prelude.{IsCellWord}
 use Rattle.control_block.proofs.retries.loads.load_with_retries.Given as goal
 
 -- each try that fails leaves the seat as it was, and what was seen last is the word of a cell

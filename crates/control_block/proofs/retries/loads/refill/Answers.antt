@@ -1,4 +1,4 @@
-use Rattle.std.proofs.Common.{rules, ◌∙◌}
+use Rattle.std.proofs.Common.{◌∙◌, rules}
 use Rattle.control_block.proofs.cells.CellTries.{aim_at, holding_at}
 use Rattle.control_block.proofs.retries.loads.refill.Goals as goal
 

@@ -1,10 +1,5 @@
 use Rattle.std.proofs.Common.{sym, subst}
-use Rattle.control_word.specs.Handles.{empty}
-use Rattle.control_word.specs.declared.model.event.Event.{Event}
-use Rattle.control_word.specs.declared.model.event.Event.TheVariants.{Load}
-use Rattle.control_word.specs.declared.model.handle.NumberedHandle.{NumberedHandle}
-use Rattle.control_word.specs.declared.model.handle.Kind.{Kind}
-use Rattle.control_block.specs.CellStepKinds.{Took}
+use Rattle.control_block.proofs.Prelude.{empty, Event, Kind, Load, NumberedHandle, Took}
 use Rattle.control_block.proofs.cells.CellRetries.{took_owes}
 use Rattle.control_block.proofs.cells.CellTrades.{load_trades}
 use Rattle.control_block.proofs.cells.CellTries.{counted_out, out_turned}

@@ -1,5 +1,5 @@
 use Rattle.std.proofs.Common.{None}
-use Rattle.control_block.specs.StepKinds.{known}
+use Rattle.control_block.proofs.Prelude.{known}
 use Rattle.control_block.proofs.retries.loads.top_up.Given as goal
 
 abbrev pub ghosts-refill : goal.ghosts-refill

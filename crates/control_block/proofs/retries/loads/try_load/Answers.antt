@@ -1,7 +1,4 @@
-use Rattle.control_word.specs.Handles.{empty}
-use Rattle.control_word.specs.declared.model.event.Event.{Event}
-use Rattle.control_word.specs.declared.model.event.Event.TheVariants.{Load}
-use Rattle.control_word.specs.declared.model.handle.NumberedHandle.{NumberedHandle}
+use Rattle.control_block.proofs.Prelude.{empty, Event, Load, NumberedHandle}
 use Rattle.control_block.proofs.cells.CellTrades.{load_keeps, load_trades}
 use Rattle.control_block.proofs.cells.CellTries.{aim_out, holding_out, out_at}
 use Rattle.control_block.proofs.retries.loads.try_load.Goals as goal

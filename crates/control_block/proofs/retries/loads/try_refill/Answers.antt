@@ -1,10 +1,7 @@
-use Rattle.std.proofs.Common.{◌≡◌, ◌≤◌, sym, subst, ◌∙◌}
-use Rattle.control_word.specs.declared.model.handle.Kind.{Kind}
-use Rattle.control_block.specs.CellStepKinds.{IsCellAt}
-use Rattle.control_block.specs.FundStepKinds.{Owes, owing}
-use Rattle.control_block.specs.StepKinds.{At, Rests}
-use Rattle.control_block.specs.declared.table.SeatView.{SeatView}
-use Rattle.control_block.proofs.cells.CellRetries.{back_again, brought_owes, cell_in_call, refill_owes}
+use Rattle.std.proofs.Common.{◌≡◌, ◌≤◌, sym, ◌∙◌, subst}
+use Rattle.control_block.proofs.Prelude.{At, IsCellAt, Kind, Owes, owing, Rests, SeatView}
+use Rattle.control_block.proofs.cells.CellRetries.{back_again, brought_owes, cell_in_call}
+use Rattle.control_block.proofs.cells.CellRetries.{refill_owes}
 use Rattle.control_block.proofs.cells.CellTries.{aim_at, holding_at}
 use Rattle.control_block.proofs.retries.loads.try_refill.Goals as goal
 

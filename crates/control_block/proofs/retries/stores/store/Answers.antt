@@ -1,7 +1,5 @@
 use Rattle.std.proofs.Common.{refl, subst}
-use Rattle.atomic_table.specs.Seated.{TableId}
-use Rattle.control_word.specs.declared.model.event.Event.TheVariants.{Swap}
-use Rattle.control_block.specs.Inside.{IsSized}
+use Rattle.control_block.proofs.Prelude.{IsSized, Swap, TableId}
 use Rattle.control_block.proofs.cells.CellTrades.{swap_trades}
 use Rattle.control_block.proofs.leavings.LetGo.{gave_owes, gave_there, meant_out, out_and_gone}
 use Rattle.control_block.proofs.retries.stores.store.Goals as goal

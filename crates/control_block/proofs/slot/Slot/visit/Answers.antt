@@ -1,4 +1,4 @@
-use Rattle.std.proofs.Common.{◌∙◌, Some, refl, sym, ap}
+use Rattle.std.proofs.Common.{Some, sym, refl, ap, ◌∙◌}
 use Rattle.control_block.specs.Tokens.{value_in}
 use Rattle.control_block.proofs.slot.Slot.visit.Goals as goal
 

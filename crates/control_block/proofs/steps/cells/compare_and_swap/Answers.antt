@@ -1,5 +1,5 @@
-use Rattle.std.proofs.lemmas.Bool.{cases_eq, eqb-true, eqb-false}
-use Rattle.std.proofs.Common.{⊎_elim, ap, ◌∙◌}
+use Rattle.std.proofs.Common.{ap, ◌∙◌, ⊎_elim, eqb-true}
+use Rattle.control_block.proofs.Prelude.{cases_eq, eqb-false}
 use Rattle.control_block.proofs.kept.CompareSwap.{allows_compare_swap}
 use Rattle.control_block.proofs.steps.cells.compare_and_swap.Goals as goal
 

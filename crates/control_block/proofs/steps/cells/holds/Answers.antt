@@ -1,7 +1,5 @@
-use Rattle.std.proofs.Common.{◌%◌, ◌==◌, ◌∙◌, sym, subst}
-use Rattle.control_word.specs.Words.{blocks_of}
-use Rattle.control_word.specs.declared.model.event.Event.TheVariants.{Same}
-use Rattle.control_block.specs.StepKinds.{known, tells}
+use Rattle.std.proofs.Common.{◌%◌, ◌==◌, sym, ◌∙◌, subst}
+use Rattle.control_block.proofs.Prelude.{blocks_of, known, Same, tells}
 use Rattle.control_block.proofs.kept.CellSame.{allows_same, shown_bits}
 use Rattle.control_block.proofs.steps.cells.holds.Goals as goal
 

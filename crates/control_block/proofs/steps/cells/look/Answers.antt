@@ -1,4 +1,4 @@
-use Rattle.std.proofs.Common.{◌∙◌, sym}
+use Rattle.std.proofs.Common.{sym, ◌∙◌}
 use Rattle.control_block.proofs.kept.CellLook.{allows_load_empty, slots_kept}
 use Rattle.control_block.proofs.steps.cells.look.Goals as goal
 

@@ -1,6 +1,5 @@
-use Rattle.std.proofs.Common.{None, ◌∙◌, sym}
-use Rattle.control_word.specs.Handles.{equivalent, handle}
-use Rattle.control_block.specs.CellStepKinds.{kind_in}
+use Rattle.std.proofs.Common.{None, sym, ◌∙◌}
+use Rattle.control_block.proofs.Prelude.{equivalent, handle, kind_in}
 use Rattle.control_block.proofs.kept.CellDiffer.{allows_differ_empty, slots_differed}
 use Rattle.control_block.proofs.steps.cells.look_differing.Goals as goal
 

@@ -1,4 +1,4 @@
-use Rattle.std.proofs.Common.{◌≡◌, ◌+◌, ◌*◌, ◌∙◌, sym, ap}
+use Rattle.std.proofs.Common.{◌≡◌, ◌+◌, ◌*◌, sym, ap, ◌∙◌}
 use Rattle.control_word.proofs.packing.Cells.{none_taken}
 use Rattle.control_block.proofs.kept.Refill.{allows_refill}
 use Rattle.control_block.proofs.steps.cells.refill.Goals as goal

@@ -1,4 +1,4 @@
-use Rattle.std.proofs.Common.{◌∙◌, sym}
+use Rattle.std.proofs.Common.{sym, ◌∙◌}
 use Rattle.control_block.proofs.kept.Swap.{allows_swap}
 use Rattle.control_block.proofs.steps.cells.swap.Goals as goal
 

@@ -1,5 +1,5 @@
-use Rattle.std.proofs.lemmas.Bool.{cases_eq, eqb-true, eqb-false}
-use Rattle.std.proofs.Common.{⊎_elim, ap, ◌∙◌}
+use Rattle.std.proofs.Common.{ap, ◌∙◌, ⊎_elim, eqb-true}
+use Rattle.control_block.proofs.Prelude.{cases_eq, eqb-false}
 use Rattle.control_block.proofs.kept.Take.{allows_differ}
 use Rattle.control_block.proofs.steps.cells.take_differing.Goals as goal
 

@@ -1,13 +1,7 @@
+use Rattle.std.proofs.Common.{ℕ, sym, refl, ap, ◌∙◌, subst}
+use Rattle.control_block.proofs.Prelude.{At, ClearMember, empty, Ends, Gave, IsSized, Kind}
+use Rattle.control_block.proofs.Prelude.{kind_of_member, Rests, TableId, tells}
 use Rattle.control_block.proofs.cells.CellTries.{room_at, told_rests}
-use Rattle.std.proofs.Common.{refl, subst, sym, ap, ◌∙◌, ℕ}
-use Rattle.atomic_table.specs.Seated.{TableId}
-use Rattle.control_word.specs.Handles.{empty}
-use Rattle.control_word.specs.State.{kind_of_member}
-use Rattle.control_word.specs.declared.model.event.Event.TheVariants.{ClearMember}
-use Rattle.control_word.specs.declared.model.handle.Kind.{Kind}
-use Rattle.control_block.specs.CellStepKinds.{Gave}
-use Rattle.control_block.specs.Inside.{IsSized}
-use Rattle.control_block.specs.StepKinds.{At, Ends, Rests, tells}
 use Rattle.control_block.proofs.cells.CellTrades.{clear_trades}
 use Rattle.control_block.proofs.leavings.LetGo.{gave_owes, gave_there, meant_out, out_and_gone}
 use Rattle.control_block.proofs.steps.clears.clear.Goals as goal

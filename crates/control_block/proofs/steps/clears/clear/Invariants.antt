@@ -1,6 +1,5 @@
 use Rattle.std.proofs.Common.{None}
-use Rattle.control_word.specs.Handles.{object_of}
-use Rattle.control_block.specs.Leaving.{block_out, shown_handle}
+use Rattle.control_block.proofs.Prelude.{block_out, object_of, shown_handle}
 use Rattle.control_block.proofs.steps.clears.clear.Given as goal
 
 abbrev pub ghosts-let_go : goal.ghosts-let_go

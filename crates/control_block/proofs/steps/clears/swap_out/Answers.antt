@@ -1,5 +1,5 @@
-use Rattle.std.proofs.Common.{◌+◌, ◌<◌, sym, ap, subst, ◌∙◌}
-use Rattle.control_word.specs.Layout.{spot}
+use Rattle.std.proofs.Common.{◌+◌, ◌<◌, sym, ap, ◌∙◌, subst}
+use Rattle.control_block.proofs.Prelude.{spot}
 use Rattle.control_block.proofs.kept.Clear.{allows_clear}
 use Rattle.control_block.proofs.steps.clears.swap_out.Goals as goal
 

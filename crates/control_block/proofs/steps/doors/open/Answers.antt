@@ -1,13 +1,6 @@
-use Rattle.std.proofs.Common.{◌+◌, ◌-◌, ◌<◌, ◌%◌, ◌^◌, ◌∙◌, Some, None, sym, ap, subst}
-use Rattle.atomic_table.specs.Table.{Allows, step}
-use mathlib.Core.Option.{none}
-use Rattle.control_word.specs.Handles.{owner}
-use Rattle.control_word.specs.declared.model.event.Event.TheVariants.{Visit}
-use Rattle.control_word.specs.declared.place.Block.{Block}
-use Rattle.control_word.specs.declared.model.view.Pending.TheVariants.{Idle, Visiting}
-use Rattle.control_block.specs.DoorStepKinds.{opened}
-use Rattle.control_block.specs.StepKinds.{Added}
-use Rattle.control_block.specs.Rule.{Ruled}
+use Rattle.std.proofs.Common.{◌+◌, ◌-◌, ◌%◌, ◌^◌, ◌<◌, Some, None, sym, ap, ◌∙◌, subst}
+use Rattle.control_block.proofs.Prelude.{Added, Allows, Block, Idle, none, opened, owner, Ruled}
+use Rattle.control_block.proofs.Prelude.{step, Visit, Visiting}
 use Rattle.control_block.proofs.words.Seats.{moved_added}
 use Rattle.control_block.proofs.desks.Visiting.{same_first, same_found}
 use Rattle.control_block.proofs.kept.Door.{allows_open}

@@ -1,12 +1,7 @@
-use Rattle.std.proofs.Common.{◌==◌, ◌+◌, ◌-◌, ◌<◌, ◌∙◌, ◌∷◌, ℕ, Some, sym, ap, subst, inl, arith}
-use Rattle.atomic_table.specs.Table.{Allows, step}
-use mathlib.Core.Option.{none}
-use prog.Atomic.{either}
-use Rattle.control_word.specs.declared.model.handle.Kind.TheVariants.{Owner}
-use Rattle.control_word.specs.declared.place.Block.{Block}
+use Rattle.std.proofs.Common.{ℕ, ◌+◌, ◌-◌, ◌<◌, ◌∷◌, ◌==◌, Some, sym, ap, ◌∙◌, subst, inl, arith}
+use Rattle.control_block.proofs.Prelude.{Allows, At, Block, either, none, Owner, peeked, Ruled}
+use Rattle.control_block.proofs.Prelude.{step}
 use Rattle.control_block.specs.DoorStepKinds.{shut}
-use Rattle.control_block.specs.StepKinds.{At, peeked}
-use Rattle.control_block.specs.Rule.{Ruled}
 use Rattle.control_block.proofs.desks.Visiting.{visits_now}
 use Rattle.control_block.proofs.kept.Door.{allows_shut}
 use Rattle.control_block.proofs.kept.Peek.{allows_peek}

@@ -1,8 +1,5 @@
-use Rattle.std.proofs.Common.{◌≡◌, ◌<◌, ◌≤◌, ◌∙◌, ℕ, sym, ap, subst}
-use Rattle.control_word.specs.Layout.{spot}
-use Rattle.control_word.specs.Words.{slot}
-use Rattle.control_word.specs.declared.model.view.Pending.TheVariants.{Paying}
-use Rattle.control_block.specs.StepKinds.{in_call}
+use Rattle.std.proofs.Common.{◌≡◌, ℕ, ◌<◌, ◌≤◌, sym, ap, ◌∙◌, subst}
+use Rattle.control_block.proofs.Prelude.{in_call, Paying, slot, spot}
 use Rattle.control_block.proofs.kept.Bring.{allows_bring, whole_funds}
 use Rattle.control_block.proofs.steps.funds.bring.Goals as goal
 

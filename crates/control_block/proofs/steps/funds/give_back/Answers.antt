@@ -1,5 +1,5 @@
 use Rattle.std.proofs.Common.{◌<◌, sym, subst}
-use Rattle.control_block.specs.FundStepKinds.{Owes, owing}
+use Rattle.control_block.proofs.Prelude.{Owes, owing}
 use Rattle.control_block.proofs.kept.GiveBack.{allows_give}
 use Rattle.control_block.proofs.steps.funds.give_back.Goals as goal
 

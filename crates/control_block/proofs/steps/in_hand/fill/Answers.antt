@@ -1,5 +1,5 @@
+use Rattle.std.proofs.Common.{ℕ, ◌-◌, [], ◌∷◌, None, sym, ap, ◌∙◌}
 use Rattle.control_block.proofs.words.Seats.{in_hand}
-use Rattle.std.proofs.Common.{◌∙◌, ◌-◌, ◌∷◌, ℕ, [], None, sym, ap}
 use Rattle.control_block.proofs.steps.in_hand.fill.Goals as goal
 
 pub slot_mut-slot-requires : goal.slot_mut-slot-requires

@@ -1,4 +1,4 @@
-use Rattle.std.proofs.Common.{◌∙◌, ◌-◌, ◌∷◌, ℕ, [], Some, sym, ap}
+use Rattle.std.proofs.Common.{ℕ, ◌-◌, [], ◌∷◌, Some, sym, ap, ◌∙◌}
 use Rattle.control_block.proofs.words.Seats.{in_hand}
 use Rattle.control_block.proofs.steps.in_hand.take.Goals as goal
 

@@ -1,14 +1,7 @@
-use Rattle.std.proofs.Common.{◌≡◌, ℕ, ◌+◌, ◌-◌, ◌*◌, ◌%◌, ◌^◌, ◌<◌, true, Some, None, sym, ap, subst, ◌∙◌, ◌∷◌}
-use Rattle.atomic_table.specs.Table.{Allows, step}
-use mathlib.Core.Option.{none}
-use Rattle.control_word.specs.Handles.{owner}
-use Rattle.control_word.specs.Histories.{value}
-use Rattle.control_word.specs.declared.model.event.Event.TheVariants.{Leave}
-use Rattle.control_word.specs.declared.model.handle.Kind.TheVariants.{Owner}
-use Rattle.control_word.specs.declared.place.Block.{Block}
-use Rattle.control_word.specs.declared.model.view.Pending.TheVariants.{Idle}
-use Rattle.control_block.specs.StepKinds.{At, Ends, left}
-use Rattle.control_block.specs.Rule.{Ruled, opening_of, seeing}
+use Rattle.std.proofs.Common.{◌≡◌, ℕ, ◌+◌, ◌-◌, ◌*◌, ◌%◌, ◌^◌, ◌<◌, true, ◌∷◌, Some, None, sym, ap}
+use Rattle.std.proofs.Common.{◌∙◌, subst}
+use Rattle.control_block.proofs.Prelude.{Allows, At, Block, Ends, Idle, Leave, left, none}
+use Rattle.control_block.proofs.Prelude.{opening_of, Owner, owner, Ruled, seeing, step, value}
 use Rattle.control_block.proofs.words.Seats.{added_as, first_slot}
 use Rattle.control_block.proofs.kept.Leave.{allows_leave, allows_give_back}
 use Rattle.control_block.proofs.kept.MayLeave.{may_awake, may_none}

@@ -1,8 +1,7 @@
-use Rattle.std.proofs.Common.{◌≡◌, ℕ, ◌-◌, ◌≤◌, refl, ap, subst}
-use Rattle.std.specs.Prelude.{IfSome}
-use Rattle.control_block.specs.CellRetries.{IsCounted}
-use Rattle.control_block.specs.StepKinds.{known}
-use Rattle.control_block.proofs.leavings.LetGo.{gone_rests, may_go, none_gone, none_owed, some_gone}
+use Rattle.std.proofs.Common.{◌≡◌, ℕ, ◌-◌, ◌≤◌, IfSome, refl, ap, subst}
+use Rattle.control_block.proofs.Prelude.{IsCounted, known}
+use Rattle.control_block.proofs.leavings.LetGo.{gone_rests, may_go, none_gone, none_owed}
+use Rattle.control_block.proofs.leavings.LetGo.{some_gone}
 use Rattle.control_block.proofs.steps.leaving.let_go.Goals as goal
 
 pub leave-requires-clause-count : goal.leave-requires-clause-count

@@ -1,12 +1,7 @@
-use Rattle.control_word.specs.declared.model.event.Event.TheVariants.{Lock}
-use Rattle.control_word.specs.Handles.{weak_of}
-use Rattle.std.proofs.Common.{◌≡◌, ◌==◌, ◌<◌, ◌∙◌, ℕ, suc, sym, subst, arith, ap, true, false, rules}
-use Rattle.atomic_table.specs.Table.{Allows, step}
-use mathlib.Core.Option.{none}
-use prog.Atomic.{either}
-use Rattle.control_block.specs.LockStepKinds.{locked, sought_owner}
-use Rattle.control_block.specs.StepKinds.{At, tells}
-use Rattle.control_block.specs.Rule.{Ruled}
+use Rattle.std.proofs.Common.{◌≡◌, ℕ, suc, ◌<◌, true, false, ◌==◌, sym, ap, ◌∙◌, subst, arith}
+use Rattle.std.proofs.Common.{rules}
+use Rattle.control_block.proofs.Prelude.{Allows, At, either, Lock, locked, none, Ruled}
+use Rattle.control_block.proofs.Prelude.{sought_owner, step, tells, weak_of}
 use Rattle.control_block.proofs.kept.Lock.{allows_lock, allows_seek, got_owner}
 use Rattle.control_block.proofs.steps.locks.lock.Goals as goal
 

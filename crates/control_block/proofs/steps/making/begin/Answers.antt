@@ -1,10 +1,5 @@
-use Rattle.std.proofs.Common.{◌-◌, ◌<◌, ◌∷◌, None, Some, sym, subst, ◌∙◌}
-use Rattle.atomic_table.specs.Table.{Allows, step}
-use mathlib.Core.Option.{none}
-use Rattle.control_word.specs.declared.place.Block.{Block}
-use Rattle.control_word.specs.declared.model.view.Pending.TheVariants.{Making}
-use Rattle.control_block.specs.StepKinds.{Moved, began}
-use Rattle.control_block.specs.Rule.{Ruled}
+use Rattle.std.proofs.Common.{◌-◌, ◌<◌, ◌∷◌, Some, None, sym, ◌∙◌, subst}
+use Rattle.control_block.proofs.Prelude.{Allows, began, Block, Making, Moved, none, Ruled, step}
 use Rattle.control_block.proofs.kept.Make.{allows_begin}
 use Rattle.control_block.proofs.steps.making.begin.Goals as goal
 

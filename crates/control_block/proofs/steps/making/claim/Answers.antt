@@ -1,13 +1,8 @@
-use Rattle.std.proofs.Common.{◌<◌, ◌∷◌, None, Some, sym, ap, subst, ◌∙◌}
-use Rattle.atomic_table.specs.Table.{Allows, step}
-use mathlib.Core.Option.{none}
-use Rattle.control_word.specs.Words.{flags_of}
-use Rattle.control_word.specs.declared.model.event.Event.TheVariants.{Make}
-use Rattle.control_word.specs.declared.place.Block.{Block}
-use Rattle.control_word.specs.declared.model.view.Pending.TheVariants.{Idle, Making}
-use Rattle.control_block.specs.StepKinds.{made, tells}
-use Rattle.control_block.specs.Rule.{Ruled}
-use Rattle.control_block.proofs.words.Seats.{first_slot, has_hand, makes, moved_added, room_moved, some_same, stays_awake}
+use Rattle.std.proofs.Common.{◌<◌, ◌∷◌, Some, None, sym, ap, ◌∙◌, subst}
+use Rattle.control_block.proofs.Prelude.{Allows, Block, flags_of, Idle, made, Make, Making, none}
+use Rattle.control_block.proofs.Prelude.{Ruled, step, tells}
+use Rattle.control_block.proofs.words.Seats.{first_slot, has_hand, makes, moved_added, room_moved}
+use Rattle.control_block.proofs.words.Seats.{some_same, stays_awake}
 use Rattle.control_block.proofs.kept.Make.{allows_claim}
 use Rattle.control_block.proofs.steps.making.claim.Goals as goal
 

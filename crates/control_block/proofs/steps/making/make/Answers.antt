@@ -1,7 +1,5 @@
-use Rattle.std.proofs.Common.{◌∷◌, List, ℕ, Bool, None, Some, length, sym, ap, subst, ◌∙◌, arith}
-use Rattle.control_word.specs.Words.{flags_of}
-use Rattle.control_word.specs.declared.model.event.Event.TheVariants.{Make}
-use Rattle.control_block.specs.StepKinds.{IsPrepared, tells}
+use Rattle.std.proofs.Common.{ℕ, Bool, List, ◌∷◌, length, Some, None, sym, ap, ◌∙◌, subst, arith}
+use Rattle.control_block.proofs.Prelude.{flags_of, IsPrepared, Make, tells}
 use Rattle.control_block.proofs.words.Seats.{fills, flag_bits}
 use Rattle.control_block.proofs.steps.making.make.Goals as goal
 

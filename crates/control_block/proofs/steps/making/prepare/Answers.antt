@@ -1,5 +1,5 @@
-use Rattle.std.proofs.Common.{◌∷◌, None, ap, subst, ◌∙◌, refl}
-use Rattle.control_block.specs.StepKinds.{IsPrepared}
+use Rattle.std.proofs.Common.{◌∷◌, None, refl, ap, ◌∙◌, subst}
+use Rattle.control_block.proofs.Prelude.{IsPrepared}
 use Rattle.control_block.proofs.words.Seats.{all_written, four}
 use Rattle.control_block.proofs.steps.making.prepare.Goals as goal
 

@@ -1,5 +1,5 @@
 use Rattle.std.proofs.Common.{None}
-use Rattle.control_word.specs.declared.model.handle.Kind.TheVariants.{Owner}
+use Rattle.control_block.proofs.Prelude.{Owner}
 use Rattle.control_block.proofs.steps.making.prepare.Given as goal
 
 abbrev pub ghosts-begin : goal.ghosts-begin

@@ -1,10 +1,5 @@
-use Rattle.std.proofs.Common.{ℕ, ◌<◌, sym, subst, ◌∙◌, arith}
-use Rattle.std.specs.Prelude.{slice_set}
-use Rattle.atomic_table.specs.Table.{Allows, step}
-use mathlib.Core.Option.{none}
-use Rattle.control_word.specs.declared.place.Block.{Block}
-use Rattle.control_block.specs.StepKinds.{IsPrepared, wrote}
-use Rattle.control_block.specs.Rule.{Ruled}
+use Rattle.std.proofs.Common.{ℕ, ◌<◌, slice_set, sym, ◌∙◌, subst, arith}
+use Rattle.control_block.proofs.Prelude.{Allows, Block, IsPrepared, none, Ruled, step, wrote}
 use Rattle.control_block.proofs.words.Seats.{has_hand, makes, set_twice, stays_awake, told_written}
 use Rattle.control_block.proofs.kept.Make.{allows_look, allows_write}
 use Rattle.control_block.proofs.steps.making.write.Goals as goal

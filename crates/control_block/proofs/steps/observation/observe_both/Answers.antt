@@ -1,8 +1,5 @@
-use Rattle.std.proofs.Common.{◌∙◌, sym, subst, arith}
-use Rattle.atomic_table.specs.Table.{Splits}
-use Rattle.control_block.specs.Rule.{Ruled}
-use Rattle.control_block.specs.ObservationStepKinds.{Observed, first_again, second_again}
-use Rattle.control_block.specs.StepKinds.{At}
+use Rattle.std.proofs.Common.{sym, ◌∙◌, subst, arith}
+use Rattle.control_block.proofs.Prelude.{At, first_again, Observed, Ruled, second_again, Splits}
 use Rattle.control_block.proofs.kept.Join.{allows_glue}
 use Rattle.control_block.proofs.kept.Observation.{allows_unglue, told_both}
 use Rattle.control_block.proofs.steps.observation.observe_both.Goals as goal

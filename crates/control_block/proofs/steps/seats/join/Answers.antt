@@ -1,7 +1,5 @@
-use Rattle.std.proofs.Common.{◌∙◌, ap, subst}
-use Rattle.atomic_table.specs.Table.{step}
-use mathlib.Core.Option.{none}
-use Rattle.control_block.specs.StepKinds.{joined}
+use Rattle.std.proofs.Common.{ap, ◌∙◌, subst}
+use Rattle.control_block.proofs.Prelude.{joined, none, step}
 use Rattle.control_block.proofs.words.Seats.{joins_up}
 use Rattle.control_block.proofs.kept.Join.{allows_glue, allows_join}
 use Rattle.control_block.proofs.steps.seats.join.Goals as goal

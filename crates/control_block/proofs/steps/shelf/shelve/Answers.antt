@@ -1,6 +1,5 @@
-use Rattle.std.proofs.Common.{subst, sym}
-use Rattle.control_word.specs.declared.place.Block.{Block}
-use Rattle.control_block.specs.ShelfStepKinds.{shelved}
+use Rattle.std.proofs.Common.{sym, subst}
+use Rattle.control_block.proofs.Prelude.{Block, shelved}
 use Rattle.control_block.proofs.kept.Shelf.{allows_shelve}
 use Rattle.control_block.proofs.steps.shelf.shelve.Goals as goal
 

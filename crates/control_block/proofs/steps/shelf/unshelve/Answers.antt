@@ -1,11 +1,5 @@
-use Rattle.std.proofs.Common.{◌<◌, ◌%◌, ap, subst, sym, arith}
-use Rattle.std.specs.Int.{bit_not, w64}
-use Rattle.std.specs.Prelude.{bit_and}
-use Rattle.atomic_table.specs.Table.{Allows, step}
-use mathlib.Core.Option.{none}
-use Rattle.control_word.specs.declared.place.Block.{Block}
-use Rattle.control_block.specs.Rule.{Ruled}
-use Rattle.control_block.specs.ShelfStepKinds.{unshelved}
+use Rattle.std.proofs.Common.{◌%◌, ◌<◌, bit_and, sym, ap, subst, arith}
+use Rattle.control_block.proofs.Prelude.{Allows, bit_not, Block, none, Ruled, step, unshelved, w64}
 use Rattle.control_block.proofs.kept.Shelf.{allows_unshelve, seats_kept, told_clear, told_set}
 use Rattle.control_block.proofs.steps.shelf.unshelve.Goals as goal
 
