@@ -1,38 +1,22 @@
 -- Acts that take something into the hand, as a worker does them.
-use Rattle.std.proofs.Common.{◌≡◌, ℕ, ◌<◌, ◌+◌, Bool, true, false, Option, Some, None, refl, sym, subst, ◌∙◌, inl, inr, arith}
-use Rattle.std.specs.Prelude.{IfSome, option_map}
+use Rattle.std.proofs.Common.{◌≡◌, ℕ, ◌+◌, ◌<◌, Bool, true, false, IfSome, Some, None, Option}
+use Rattle.std.proofs.Common.{option_map, sym, refl, ◌∙◌, subst, inl, inr, arith}
+use Rattle.script_runner.proofs.Prelude
+use Prelude.{Act, ActResult, Acts, aliased, Answer, as_owner, BadWeak, Call, Done, Fault, Field}
+use Prelude.{field_0, Form, Found, Full, Got, Handle, idle, inside, IsActed, IsEmptied, IsHand}
+use Prelude.{Kind, null_form, On, Owner, Place, place_in, Plain, Reply, row, slot_pointer, Slots}
+use Prelude.{TableNow, this_as, thread_slots, weak_slot}
 use Rattle.control_word.specs.declared.model.handle.Kind.TheVariants as kind
-use Rattle.control_word.specs.declared.model.handle.Kind.{Kind}
-use Rattle.control_word.specs.declared.refusal.Refusal.TheVariants.{BadWeak, Full}
 use Rattle.handle_table.specs.Calls as calls
 use Rattle.handle_table.specs.Handles as handles
-use Rattle.handle_table.specs.Tables.{TableNow}
 use Rattle.handle_table.specs.This as this
-use Rattle.handle_table.specs.declared.fault.Fault.TheVariants.{Call}
-use Rattle.handle_table.specs.declared.fault.Fault.{Fault}
-use Rattle.control_block.specs.declared.handles.Held.TheVariants.{Owner}
-use Rattle.control_word.specs.declared.place.Place.{Place}
 use Rattle.script_runner.proofs.Looking.{place_shown}
 use Rattle.script_runner.proofs.Lockings as locking
 use Rattle.script_runner.proofs.TableLaws as law
 use Rattle.script_runner.proofs.Takings as taking
-use Rattle.script_runner.specs.Deals.{IsActed, IsEmptied, field_0, thread_slots}
-use Rattle.script_runner.specs.Seats.{Acts, Done, IsHand}
-use Rattle.script_runner.specs.TableCalls.{null_form}
-use Rattle.script_runner.specs.declared.acts.act_result.ActResult.{ActResult}
-use Rattle.step_table.specs.AtomicSteps.{aliased, as_owner, this_as}
-use Rattle.step_table.specs.Registers.{Slots, inside, place_in, slot_pointer, weak_slot}
-use Rattle.step_table.specs.declared.memory.field.Field.{Field}
-use Rattle.step_table.specs.declared.memory.form.Form.{Form}
-use Rattle.control_word.specs.declared.handle.Handle.{Handle}
-use Rattle.step_threads.specs.Frames.{idle}
-use Rattle.step_threads.specs.TraceLabels.{On}
-use Rattle.step_threads.specs.Rows.{Found, Got, Plain, Reply, row}
 use Rattle.step_threads.specs.Rows as rows
 use Rattle.step_threads.specs.declared.programs.act.Act.TheVariants as act
-use Rattle.step_threads.specs.declared.programs.act.Act.{Act}
 use Rattle.step_threads.specs.declared.said.Answer.TheVariants as answer
-use Rattle.step_threads.specs.declared.said.Answer.{Answer}
 
 abbrev pub went : Bool → Option Answer → ActResult
 went taken says = record { taken = taken; answer = says; ended = None }

@@ -1,45 +1,21 @@
 -- What a thread does leaves its desk's shape and allowance as they are: only splits and joins change an allowance, and
 -- these are no acts.
-use Rattle.std.proofs.Common.{◌≡◌, inl, inr, ℕ, ◌+◌, ◌-◌, Bool, true, false, List, [], ◌∷◌, ◌++◌}
-use Rattle.std.proofs.Common.{Option, Some, None, refl, sym, ap, subst, ◌∙◌}
-use Rattle.control_block.specs.Desks.{AddsEvent, DeskNow, allowance_of}
-use Rattle.control_block.specs.Own.{KeepsDesks}
-use Rattle.control_block.specs.Rule.{opening_of}
-use Rattle.control_word.proofs.history.Kept.{same_kept}
-use Rattle.control_word.specs.Events.{after}
-use Rattle.control_word.specs.Histories.{entry, leads}
-use Rattle.control_word.specs.State.{Opening, State}
-use Rattle.control_word.specs.Views.{NoneBy}
+use Rattle.std.proofs.Common.{◌≡◌, ℕ, ◌+◌, ◌-◌, Bool, true, false, List, [], ◌∷◌, ◌++◌, Some, None}
+use Rattle.std.proofs.Common.{Option, sym, refl, ap, ◌∙◌, subst, inl, inr}
+use Rattle.script_runner.proofs.Prelude
+use Prelude.{Act, ActResult, Acts, AddsEvent, after, allowance_of, AreRounds, Block, ByCompare}
+use Prelude.{ByDiffering, CellName, Cleared, Compare, Compared, DeskNow, Done, Entry, entry, Event}
+use Prelude.{field_0, First, Form, idle, IsClearing, IsCompared, IsDealt, IsLeft, IsQuiet, IsRound}
+use Prelude.{Join, KeepsDesks, leads, LeavesWeakly, Left, Member, Next, NoneBy, Opening}
+use Prelude.{opening_of, Past, Place, Reply, Round, same_kept, Settled, shown_slots, Slots, Split}
+use Prelude.{State, state_before_event, Swap, TableNow, Up}
 use Rattle.control_word.specs.declared.model.event.Cell.TheVariants as cell
-use Rattle.control_word.specs.declared.model.event.Entry.{Entry}
-use Rattle.control_word.specs.declared.model.event.Event.{Event}
-use Rattle.control_word.specs.declared.model.event.Event.TheVariants.{Compare, Join, Split, Swap}
-use Rattle.control_word.specs.declared.place.Block.{Block}
-use Rattle.control_word.specs.declared.place.Place.{Place}
-use Rattle.handle_table.specs.Tables.{TableNow}
 use Rattle.script_runner.proofs.Tallying.{act_counts}
-use Rattle.script_runner.specs.Calls.{state_before_event}
-use Rattle.script_runner.specs.CellCalls.{ByCompare, ByDiffering}
-use Rattle.script_runner.specs.Deals.{IsCompared, IsDealt, field_0}
-use Rattle.script_runner.specs.Seats.{Acts, Done, IsQuiet, shown_slots}
-use Rattle.script_runner.specs.declared.acts.act_result.ActResult.{ActResult}
-use Rattle.shared_handle.specs.Calls.{LeavesWeakly}
-use Rattle.shared_handle.specs.Endings.{IsClearing, IsLeft}
-use Rattle.shared_handle.specs.Piles.{AreRounds, IsRound, Past}
 use Rattle.shared_handle.specs.declared.endings.Ending.{Ending}
 use Rattle.shared_handle.specs.declared.endings.Left as out
 use Rattle.shared_handle.specs.declared.endings.Left.TheVariants as left
-use Rattle.shared_handle.specs.declared.endings.Member.{Member}
-use Rattle.shared_handle.specs.declared.endings.Member.TheVariants.{First, Next, Up}
-use Rattle.shared_handle.specs.declared.pile.Round.{Round}
-use Rattle.shared_handle.specs.declared.pile.Round.TheVariants.{Cleared, Ended, Settled}
-use Rattle.step_table.specs.Registers.{Slots}
-use Rattle.step_table.specs.declared.memory.form.Form.{Form}
-use Rattle.step_threads.specs.Frames.{idle}
-use Rattle.step_threads.specs.Rows.{Compared, Left, Reply}
-use Rattle.step_threads.specs.declared.programs.act.Act.{Act}
+use Rattle.shared_handle.specs.declared.pile.Round.TheVariants.{Ended}
 use Rattle.step_threads.specs.declared.programs.act.Act.TheVariants as act
-use Rattle.step_threads.specs.declared.programs.call.CellName.{CellName}
 
 module _ {V : Type 0} where
   allowance_after : (s : State) (d : ℕ) (a : Event V) → KeepsDesks a → (after s d a).allowance ≡ s.allowance

@@ -1,17 +1,12 @@
 -- How a worker's slots stay arranged by what its acts do to them.
-use Rattle.std.proofs.Common.{◌≡◌, ◌≢◌, ◌⊎◌, inl, inr, ℕ, zero, suc, ◌<◌, ◌≤◌, Bool, false, List, [], ◌∷◌, length}
-use Rattle.std.proofs.Common.{Option, Some}
-use Rattle.std.proofs.Common.{None, refl, sym, ap, subst, ◌∙◌, arith}
-use Rattle.std.proofs.lemmas.List.{length-map, length-set}
-use Rattle.std.proofs.lemmas.Option.{slice_get_within}
-use Rattle.std.specs.Prelude.{slice_get, slice_set}
-use Rattle.control_block.specs.Desks.{allowance_of}
-use Rattle.control_word.specs.declared.model.handle.Kind.{Kind}
+use Rattle.std.proofs.Common.{◌≡◌, ℕ, zero, suc, ◌<◌, ◌≤◌, Bool, false, ◌≢◌, ◌⊎◌, List, [], ◌∷◌}
+use Rattle.std.proofs.Common.{length, slice_get, slice_set, Some, None, Option, sym, refl, ap, ◌∙◌}
+use Rattle.std.proofs.Common.{subst, inl, inr, arith, length-set}
+use Rattle.script_runner.proofs.Prelude.{allowance_of, HasNoObject, HasTextCells, IsArranged}
+use Rattle.script_runner.proofs.Prelude.{IsInHand, IsName, KeepsKinds, KeepsLimits, Kind, kind_in}
+use Rattle.script_runner.proofs.Prelude.{length-map, SetsKind, slice_get_within, slot_kinds}
+use Rattle.script_runner.proofs.Prelude.{Stance, TableNow}
 use Rattle.handle_table.specs.Tables as table
-use Rattle.handle_table.specs.Tables.{TableNow}
-use Rattle.script_runner.specs.Kinds.{IsArranged, IsInHand, IsName, KeepsKinds, KeepsLimits, SetsKind, Stance, kind_in, slot_kinds}
-use Rattle.script_runner.specs.Teams.{HasNoObject}
-use Rattle.script_text.specs.Scripts.{HasTextCells}
 
 -- an element that was set, and the others
 pub set_here : {A : Type 0} (xs : List A) (i : ℕ) (v : A) → i < length xs → slice_get (slice_set xs i v) i ≡ Some v

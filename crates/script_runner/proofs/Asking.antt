@@ -1,16 +1,12 @@
 -- A question of names that have what it needs isn't refused.
-use Rattle.std.proofs.Common.{◌≡◌, ◌⊎◌, ℕ, List, inl, inr}
-use Rattle.control_word.specs.declared.model.handle.Kind.{Kind}
+use Rattle.std.proofs.Common.{◌≡◌, ℕ, ◌⊎◌, List, inl, inr}
+use Rattle.script_runner.proofs.Prelude.{Fault, HasKind, Kind, Refusal, TableNow}
 use Rattle.control_word.specs.declared.model.handle.Kind.TheVariants as kind
-use Rattle.control_word.specs.declared.refusal.Refusal.{Refusal}
 use Rattle.handle_table.specs.Calls as calls
 use Rattle.handle_table.specs.Pairs.{WhyNoHandles, WhyNoOwners}
 use Rattle.handle_table.specs.Tables as table
-use Rattle.handle_table.specs.Tables.{TableNow}
-use Rattle.handle_table.specs.declared.fault.Fault.{Fault}
 use Rattle.handle_table.specs.declared.fault.Fault.TheVariants as fault
 use Rattle.script_runner.proofs.Refusals as refusals
-use Rattle.script_runner.specs.Kinds.{HasKind}
 
 pub no_owners : (ss : List table.Slot) (i j : ℕ) (why : Fault) → HasKind ss i kind.Owner → HasKind ss j kind.Owner → WhyNoOwners ss i j why → ⊥
 no_owners ss i j why one other (inl x) = refusals.no_owner ss i why one x

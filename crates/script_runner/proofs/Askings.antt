@@ -1,9 +1,9 @@
 -- A thread of a program has as few calls as all threads together may have.
-use Rattle.std.proofs.Common.{◌≡◌, ℕ, ◌<◌, ◌≤◌, List, length, Some, subst, arith}
-use Rattle.std.specs.Prelude.{get_or, slice_get}
+use Rattle.std.proofs.Common.{◌≡◌, ℕ, ◌<◌, ◌≤◌, List, length, get_or, slice_get, Some, subst}
+use Rattle.std.proofs.Common.{arith}
+use Rattle.script_runner.proofs.Prelude.{call_count, IsProgram, Part, slice_get_within}
 use Rattle.std.proofs.lemmas.List.Sums.{get_or-le-sum_by}
-use Rattle.std.proofs.lemmas.Option.{get_or_from_slice_get, slice_get_within}
-use Rattle.step_threads.specs.Programs.{IsProgram, Part, call_count}
+use Rattle.std.proofs.lemmas.Option.{get_or_from_slice_get}
 
 module _ (ps : List Part) (i : ℕ) (p : Part) (program : IsProgram ps) (at : slice_get ps i ≡ Some p) where
   within : i < length ps

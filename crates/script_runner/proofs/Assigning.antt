@@ -1,34 +1,17 @@
 -- Workers that were ready for their threads, and what came of them.
-use Rattle.std.proofs.Common.{◌≡◌, ℕ, ◌+◌, ◌<◌, ◌≤◌, false, List}
-use Rattle.std.proofs.Common.{[], ◌∷◌, ◌++◌, length, map, take, get_or, reverse, refl, sym, ap, subst, ◌∙◌, arith}
-use Rattle.std.proofs.Common.{append_assoc}
-use Rattle.std.proofs.lemmas.List.{length-append, map_more, reverse-append}
+use Rattle.std.proofs.Common.{◌≡◌, ℕ, ◌+◌, ◌<◌, ◌≤◌, false, List, [], ◌∷◌, ◌++◌, map, reverse}
+use Rattle.std.proofs.Common.{length, get_or, take, vec_capacity, All, sym, refl, ap, ◌∙◌, subst}
+use Rattle.std.proofs.Common.{append_assoc, arith, length-append}
+use Rattle.script_runner.proofs.Prelude.{Actor, AllByRecursion, allowance_of, AllPlay, AllZip}
+use Rattle.script_runner.proofs.Prelude.{asked_in, Assignment, field_0, HasAssignment}
+use Rattle.script_runner.proofs.Prelude.{IsAssignmentFor, IsFitting, IsPart, IsProgram, IsReadyFor}
+use Rattle.script_runner.proofs.Prelude.{IsSuited, IsWorked, Kind, map_more, Notes, Part, part_of}
+use Rattle.script_runner.proofs.Prelude.{Said, TableId, TableNow, Task, tasks_from, Vec, Worker}
+use Rattle.std.proofs.lemmas.List.{reverse-append}
 use Rattle.std.proofs.lemmas.Slice.Zip.{all_zipped_more}
-use Rattle.std.specs.Global.{Vec}
-use Rattle.std.specs.List.{AllByRecursion, AllZip}
-use Rattle.std.specs.Prelude.{All, vec_capacity}
-use Rattle.control_block.specs.Desks.{allowance_of}
 use Rattle.handle_table.specs.Staffs.{EachDoes}
-use Rattle.handle_table.specs.Tables.{TableNow}
-use Rattle.script_runner.specs.Assignments.{HasAssignment, IsReadyFor, IsAssignmentFor}
-use Rattle.script_runner.specs.Beginnings.{IsFitting}
-use Rattle.script_runner.specs.Deals.{field_0}
-use Rattle.script_runner.specs.Notes.{Notes}
-use Rattle.script_runner.specs.Teams.{AllPlay}
-use Rattle.script_runner.specs.Totals.{asked_in}
-use Rattle.script_runner.specs.Unshelved.{IsSuited}
-use Rattle.script_runner.specs.Works.{IsWorked}
-use Rattle.script_runner.specs.declared.workers.assignment.Assignment.{Assignment}
-use Rattle.script_runner.specs.declared.workers.worker.Worker.{Worker}
-use Rattle.atomic_table.specs.Seated.{TableId}
-use Rattle.control_word.specs.declared.model.handle.Kind.{Kind}
 use Rattle.step_core.proofs.Programs.{all_mapped}
-use Rattle.step_threads.specs.Acts.{tasks_from}
-use Rattle.step_threads.specs.Programs.{IsPart, IsProgram, Part, part_of}
-use Rattle.step_threads.specs.declared.programs.act.Task.{Task}
-use Rattle.step_threads.specs.declared.programs.call.Actor.{Actor}
 use Rattle.step_threads.specs.declared.programs.call.Call.{Call}
-use Rattle.step_threads.specs.declared.said.Said.{Said}
 
 pub same_many : {X Y : Type 0} (R : X → Y → Type 0) (xs : List X) (ys : List Y) → AllZip R xs ys → length ys ≡ length xs
 same_many R [] [] all = refl

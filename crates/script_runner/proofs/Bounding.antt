@@ -1,19 +1,12 @@
 -- How many lines the threads of a team have: each has one at most for each of its tasks, and for each object that is asked for.
-use Rattle.std.proofs.Common.{◌⊎◌, ℕ, ◌+◌, ◌≤◌, List, [], ◌∷◌, length, arith}
-use Rattle.std.proofs.lemmas.List.Elements.{recursion_from_All}
-use Rattle.std.specs.List.{AllByRecursion}
-use Rattle.control_word.specs.Histories.{IsLegal}
-use Rattle.control_word.specs.State.{Has, Opening}
-use Rattle.control_word.specs.declared.model.event.Entry.{Entry}
+use Rattle.std.proofs.Common.{ℕ, ◌+◌, ◌≤◌, ◌⊎◌, List, [], ◌∷◌, length, arith}
+use Rattle.script_runner.proofs.Prelude.{AllByRecursion, AllMarked, AreRising, asked_in}
+use Rattle.script_runner.proofs.Prelude.{count_ended_in, Entry, Form, Has, IsInterleaved, IsLegal}
+use Rattle.script_runner.proofs.Prelude.{IsSplitOrJoin, Opening, Part, recursion_from_All, Said}
+use Rattle.script_runner.proofs.Prelude.{told_in}
 use Rattle.script_runner.proofs.Speaking.{marked_few, tasks_of}
 use Rattle.script_runner.proofs.Ended.{by_few, ended_few}
 use Rattle.script_runner.proofs.Summing.{all_made, marked_ended, marked_made, sum_made}
-use Rattle.script_runner.specs.Teams.{AllMarked, AreRising, IsInterleaved}
-use Rattle.script_runner.specs.Totals.{asked_in, count_ended_in, told_in}
-use Rattle.step_table.specs.declared.memory.form.Form.{Form}
-use Rattle.step_threads.specs.Interleavings.{IsSplitOrJoin}
-use Rattle.step_threads.specs.Programs.{Part}
-use Rattle.step_threads.specs.declared.said.Said.{Said}
 
 -- how many objects these threads ask for
 abbrev pub all_asked : List Part → ℕ

@@ -1,32 +1,16 @@
 -- Which calls of a desk are which acts of a thread.
-use Rattle.std.proofs.Common.{◌≡◌, ℕ, ◌==◌, Bool, true, false, cond, Option, Some, None, refl, sym, ap, subst, ◌∙◌, inl, eq-eqb}
-use Rattle.std.proofs.lemmas.Bool.{cond-true}
-use Rattle.control_block.proofs.Bags.{shown_held}
-use Rattle.control_word.proofs.history.Endings.{stays_the_latest}
-use Rattle.control_word.proofs.history.Given.{legal_seen, names_an_object}
-use Rattle.control_word.proofs.history.Kept.{stays_as_made}
-use Rattle.std.specs.Prelude.{option_map}
-use Rattle.control_word.specs.Events.{place_at}
-use Rattle.control_word.specs.Handles.{handle, owner, weak_of}
-use Rattle.control_word.specs.Histories.{IsLegal}
-use Rattle.control_word.specs.State.{Object, State}
-use Rattle.control_word.specs.declared.model.event.Event.{Event}
+use Rattle.std.proofs.Common.{◌≡◌, ℕ, Bool, true, false, cond, ◌==◌, Some, None, Option}
+use Rattle.std.proofs.Common.{option_map, sym, refl, ap, ◌∙◌, subst, inl, eq-eqb}
+use Rattle.script_runner.proofs.Prelude
+use Prelude.{Act, AddsEvent, aliased, cond-true, copies, copy, DeskNow, Ended, Event, Form, Handle}
+use Prelude.{handle, handle_of, HasHandle, inside, is_enabled, IsLeaveEvent, IsLegal, IsMakeEvent}
+use Prelude.{Kind, latest_of, Left, legal_seen, names_an_object, Object, object_in, On, on_latest}
+use Prelude.{opening_of, owned, owner, owner_slot, Place, place_at, place_in, remains, shown_held}
+use Prelude.{slot_pointer, Slots, State, stays_as_made, stays_the_latest, weak_of, weak_slot}
 use Rattle.control_word.specs.declared.model.event.Event.TheVariants as event
-use Rattle.control_word.specs.declared.model.handle.Kind.{Kind}
 use Rattle.control_word.specs.declared.model.handle.Kind.TheVariants.{Owner, Weak}
-use Rattle.control_word.specs.declared.place.Place.{Place}
-use Rattle.control_block.specs.Desks.{AddsEvent, DeskNow, HasHandle, latest_of, object_in, on_latest}
-use Rattle.control_block.specs.Rule.{opening_of}
-use Rattle.step_table.specs.declared.memory.form.Form.{Form}
-use Rattle.control_word.specs.declared.handle.Handle.{Handle}
-use Rattle.step_table.specs.declared.memory.ended.Ended.{Ended}
 use Rattle.step_table.specs.declared.memory.ended.Ended.TheVariants as ended
-use Rattle.step_table.specs.AtomicSteps.{aliased, handle_of, is_enabled, owned, remains}
-use Rattle.step_table.specs.Registers.{Slots, inside, owner_slot, place_in, slot_pointer, weak_slot}
-use Rattle.step_threads.specs.declared.programs.act.Act.{Act}
 use Rattle.step_threads.specs.declared.programs.act.Act.TheVariants as act
-use Rattle.step_threads.specs.TraceLabels.{IsLeaveEvent, IsMakeEvent, On, copies, copy}
-use Rattle.step_threads.specs.Rows.{Left}
 use Rattle.script_runner.specs.Calls as calls
 
 -- an owner that points into its own object is inside

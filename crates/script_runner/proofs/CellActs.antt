@@ -1,34 +1,25 @@
 -- Acts on cells that a worker reaches: what comes of them, and how they change the kinds of what its slots have.
-use Rattle.std.proofs.Common.{◌≡◌, ℕ, ◌<◌, ◌+◌, ◌-◌, Bool, true, false, Some, None, sym, ap, subst, inr, arith}
-use Rattle.control_block.specs.Standing.{Standing}
-use Rattle.control_word.specs.declared.model.handle.Kind.{Kind}
-use Rattle.control_word.specs.declared.refusal.Refusal.{Refusal}
-use Rattle.handle_table.specs.Calls.{Copies, IsBelow, MovesSlot}
-use Rattle.handle_table.specs.Cells.{ExchangesSlot, TellsSlotHeld, LoadsIntoSlot, WhyNoCell, WhyNotLoaded, WhyNotSwapped}
-use Rattle.handle_table.specs.Compares.{ComparesSlots, WhyNotCompared}
-use Rattle.handle_table.specs.Ends.{NamesCell}
-use Rattle.handle_table.specs.Tables.{FitsSlots, TableNow}
+use Rattle.std.proofs.Common.{◌≡◌, ℕ, ◌+◌, ◌-◌, ◌<◌, Bool, true, false, Some, None, sym, ap, subst}
+use Rattle.std.proofs.Common.{inr, arith}
+use Rattle.script_runner.proofs.Prelude
+use Prelude.{ActResult, as_cell, Call, CellName, ComparesSlots, Copies, ExchangesSlot, Fault}
+use Prelude.{FitsSlots, HasKind, IsActed, IsBelow, IsCompared, IsDealt, IsHand, IsOfName}
+use Prelude.{IsPassedOver, IsReachable, IsSeated, IsVacant, KeepsKinds, Kind, kind_at}
+use Prelude.{LoadsIntoSlot, MovesSlot, NamesCell, nothing, Refusal, SetsKind, slot_kinds, Standing}
+use Prelude.{TableNow, TakesKind, TellsSlotHeld, WhyNoCell, WhyNotCompared, WhyNotLoaded}
+use Prelude.{WhyNotSwapped}
 use Rattle.handle_table.specs.declared.cells.Cell.{Cell}
-use Rattle.handle_table.specs.declared.fault.Fault.TheVariants.{Call}
-use Rattle.handle_table.specs.declared.fault.Fault.{Fault}
 use Rattle.script_runner.proofs.Acting.{went}
-use Rattle.script_runner.proofs.CellKinds.{copied_kind, differed_kinds, exchanged_kinds, kept_vacant, loaded_kind}
-use Rattle.script_runner.proofs.CellKinds.{seated_kept, seated_set, swapped_kind}
+use Rattle.script_runner.proofs.CellKinds.{copied_kind, differed_kinds, exchanged_kinds}
+use Rattle.script_runner.proofs.CellKinds.{kept_vacant, loaded_kind, seated_kept, seated_set}
+use Rattle.script_runner.proofs.CellKinds.{swapped_kind}
 use Rattle.script_runner.proofs.Offering as law
 use Rattle.script_runner.proofs.Passing.{compare_passed, swap_passed}
 use Rattle.script_runner.proofs.Reaching.{compare_why, is_refusal, load_why, swap_why, third}
 use Rattle.script_runner.proofs.Refusals.{kind_of_slot, vacant_slot}
 use Rattle.script_runner.proofs.Swapping as swapping
 use Rattle.script_runner.proofs.TableLaws.{as_seated}
-use Rattle.script_runner.specs.CellCalls.{IsOfName, as_cell}
-use Rattle.script_runner.specs.Deals.{IsActed, IsCompared, IsDealt, IsPassedOver}
-use Rattle.script_runner.specs.Kinds.{HasKind, IsVacant, KeepsKinds, SetsKind, TakesKind, slot_kinds}
-use Rattle.script_runner.specs.Reached.{IsReachable, nothing}
-use Rattle.script_runner.specs.Seats.{IsHand, IsSeated}
-use Rattle.script_runner.specs.declared.acts.act_result.ActResult.{ActResult}
-use Rattle.step_threads.specs.Programs.{kind_at}
 use Rattle.step_threads.specs.declared.programs.act.Act.TheVariants as act
-use Rattle.step_threads.specs.declared.programs.call.CellName.{CellName}
 use Rattle.step_threads.specs.declared.said.Answer.TheVariants as answer
 
 abbrev refuses : Bool → Refusal → ActResult

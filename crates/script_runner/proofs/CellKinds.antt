@@ -1,28 +1,15 @@
 -- How calls on cells change the kinds of what slots have.
-use Rattle.std.proofs.Common.{◌≡◌, ℕ, zero, suc, ◌≤◌, ◌+◌, ◌-◌, Bool, true, false, List, [], ◌∷◌, length, Option, Some, None}
-use Rattle.std.proofs.Common.{refl, sym, ap, ◌∙◌, arith}
-use Rattle.std.proofs.lemmas.List.{length-map, length-set, set-set}
-use Rattle.std.specs.Prelude.{slice_get, slice_set}
-use Rattle.control_block.specs.Desks.{DeskNow}
-use Rattle.control_block.specs.Standing.{Standing}
-use Rattle.control_block.specs.declared.handles.Held.TheVariants.{Owner, Weak}
-use Rattle.control_block.specs.declared.handles.Held.{Held}
-use Rattle.control_word.specs.declared.model.handle.Kind.{Kind}
-use Rattle.handle_table.specs.Calls.{Copies, IsCopy, MovesSlot}
-use Rattle.handle_table.specs.Cells.{ExchangesSlot, LoadsIntoSlot}
-use Rattle.handle_table.specs.Compares.{ComparesSlots}
-use Rattle.handle_table.specs.Parts.{kind_of_held}
-use Rattle.handle_table.specs.Tables.{FitsSlots, TableNow}
+use Rattle.std.proofs.Common.{◌≡◌, ℕ, zero, suc, ◌+◌, ◌-◌, ◌≤◌, Bool, true, false, List, [], ◌∷◌}
+use Rattle.std.proofs.Common.{length, slice_get, slice_set, Some, None, Option, sym, refl, ap, ◌∙◌}
+use Rattle.std.proofs.Common.{arith, length-set, set-set}
+use Rattle.script_runner.proofs.Prelude.{as_cell, CellName, ComparesSlots, Copies, DeskNow}
+use Rattle.script_runner.proofs.Prelude.{ExchangesSlot, FitsSlots, HasKind, Held, IsCopy, IsSeated}
+use Rattle.script_runner.proofs.Prelude.{IsThird, KeepsKinds, Kind, kind_at, kind_in, kind_of_held}
+use Rattle.script_runner.proofs.Prelude.{length-map, LoadsIntoSlot, MovesSlot, Owner, SetsAside}
+use Rattle.script_runner.proofs.Prelude.{SetsKind, slot_kinds, Standing, TableNow, Weak}
 use Rattle.script_runner.proofs.Reaching.{kind_same}
 use Rattle.script_runner.proofs.Refusals.{comes_kind, kind_of_slot, kinds_set}
 use Rattle.script_runner.proofs.Seating.{same_some}
-use Rattle.script_runner.specs.CellCalls.{as_cell}
-use Rattle.script_runner.specs.Deals.{IsThird}
-use Rattle.script_runner.specs.Kinds.{HasKind, KeepsKinds, SetsKind, kind_in, slot_kinds}
-use Rattle.script_runner.specs.Reached.{SetsAside}
-use Rattle.script_runner.specs.Seats.{IsSeated}
-use Rattle.step_threads.specs.Programs.{kind_at}
-use Rattle.step_threads.specs.declared.programs.call.CellName.{CellName}
 
 -- what is there already
 set_here : {A : Type 0} (l : List A) (i : ℕ) (x : A) → slice_get l i ≡ Some x → slice_set l i x ≡ l

@@ -1,53 +1,34 @@
 -- Calls of a table on cells, as acts of a thread.
-use Rattle.std.proofs.Common.{refl, sym, ap, subst, ◌∙◌, inr, arith, nat_lt, lt-ltb, le-ltb, ◌==◌, ◌≡◌, ℕ, zero, suc, ◌+◌}
-use Rattle.std.proofs.Common.{◌<◌, ◌≤◌, Bool, true, cond, [], ◌∷◌, ◌++◌, Option, Some, None}
-use Rattle.std.proofs.lemmas.Bool.{cond-false, cond-true, eq-eqb}
-use Rattle.std.specs.Prelude.{slice_get, slice_set}
-use Rattle.control_block.proofs.Bags.{shown_held}
+use Rattle.std.proofs.Common.{◌≡◌, ℕ, zero, suc, ◌+◌, ◌<◌, ◌≤◌, Bool, true, cond, [], ◌∷◌, ◌++◌}
+use Rattle.std.proofs.Common.{nat_lt, ◌==◌, slice_get, slice_set, Some, None, Option, sym, refl}
+use Rattle.std.proofs.Common.{ap, ◌∙◌, subst, inr, arith, le-ltb, lt-ltb, eq-eqb}
+use Rattle.script_runner.proofs.Prelude
+use Prelude.{Acts, AddsEvent, after, as_cell, as_slot, Block, block_kept, block_of_held, Came}
+use Prelude.{cell_of_name, CellName, cond-false, cond-true, DeskNow, entry, Event, FitsSlots, Form}
+use Prelude.{Handle, handle_in, Hands, HasHandle, inside, is_full, is_there, IsCellAtSite, IsHand}
+use Prelude.{IsIn, IsLegal, IsLoadEvent, IsOfName, IsSeated, Kind, kind_at, kind_of_cell}
+use Prelude.{kind_of_held, latest_of, leads, Name, on, opening_of, Owner, Place, place_of_held}
+use Prelude.{shown_held, shown_slots, Site, Slot, slot_by, slot_of, slot_pointer, Slots, sound}
+use Prelude.{State, state_of, TableNow, Where}
 use Rattle.control_block.proofs.CellWords.{shared_led}
-use Rattle.control_block.specs.CellCalls.{cell_of_site as desk_cell, handle_in}
-use Rattle.control_block.specs.Desks.{latest_of, state_of, AddsEvent, DeskNow, HasHandle}
-use Rattle.control_block.specs.Rule.{opening_of}
+use Rattle.control_block.specs.CellCalls.{cell_of_site as desk_cell}
 use Rattle.control_word.specs.declared.site.Site.TheVariants as site
-use Rattle.control_word.specs.declared.site.Site.{Site}
-use Rattle.control_block.specs.declared.handles.Held.TheVariants.{Owner}
-use Rattle.control_word.proofs.history.Kept.{block_kept}
-use Rattle.control_word.proofs.history.Legal.{sound}
-use Rattle.control_word.specs.Events.{after}
-use Rattle.control_word.specs.Histories.{leads, IsLegal, entry}
-use Rattle.control_word.specs.State.{kind_of_free, State}
+use Rattle.control_word.specs.State.{kind_of_free}
 use Rattle.control_word.specs.declared.model.event.Cell.TheVariants as named
 use Rattle.control_word.specs.declared.model.event.Event.TheVariants as event
-use Rattle.control_word.specs.declared.model.event.Event.{Event}
 use Rattle.control_word.specs.declared.model.handle.Kind.TheVariants as kind
-use Rattle.control_word.specs.declared.model.handle.Kind.{Kind}
-use Rattle.control_word.specs.declared.place.Block.{Block}
-use Rattle.control_word.specs.declared.place.Place.{Place}
-use Rattle.handle_table.specs.Cells.{IsCellAtSite, OwnsInto, kind_of_cell}
-use Rattle.handle_table.specs.Parts.{kind_of_held, block_of_held, place_of_held}
-use Rattle.handle_table.specs.Tables.{FitsSlots, TableNow}
+use Rattle.handle_table.specs.Cells.{OwnsInto}
 use Rattle.script_runner.proofs.Calling as law
 use Rattle.script_runner.proofs.Putting.{slice_get-set_same}
 use Rattle.script_runner.proofs.Seating as seating
 use Rattle.script_runner.specs.Calls as calls
-use Rattle.script_runner.specs.CellCalls.{IsOfName, LoadsIn, as_cell}
-use Rattle.script_runner.specs.Seats.{as_slot, shown_slots, Acts, IsHand, IsSeated}
+use Rattle.script_runner.specs.CellCalls.{LoadsIn}
 use Rattle.step_table.specs.CellAtomicSteps.{cell_in, kind_in_state as kind_there}
-use Rattle.step_table.specs.Contents.{slot_by, slot_of}
-use Rattle.step_table.specs.AtomicSteps.{on}
-use Rattle.step_table.specs.Registers.{inside, into, Slots, is_full, slot_pointer}
-use Rattle.step_table.specs.declared.memory.form.Form.{Form}
-use Rattle.control_word.specs.declared.handle.Handle.{Handle}
+use Rattle.step_table.specs.Registers.{into}
 use Rattle.step_table.specs.declared.slots.slot.Slot.TheVariants.{Full}
-use Rattle.step_table.specs.declared.slots.slot.Slot.{Slot}
-use Rattle.step_threads.specs.Frames.{block_at, cell_of_name, hand as hand_of, is_there}
-use Rattle.step_threads.specs.TraceLabels.{IsLoadEvent, Where}
-use Rattle.step_threads.specs.Programs.{IsIn, kind_at}
-use Rattle.step_threads.specs.Rows.{Came, Hands}
+use Rattle.step_threads.specs.Frames.{block_at, hand as hand_of}
 use Rattle.step_threads.specs.declared.programs.act.Act.TheVariants as act
 use Rattle.step_threads.specs.declared.programs.call.CellName.TheVariants as cell
-use Rattle.step_threads.specs.declared.programs.call.CellName.{CellName}
-use Rattle.step_threads.specs.declared.programs.call.Name.{Name}
 
 few_kind : (m n : ℕ) → n < m → kind.Owner ≡ kind_of_free m n
 few_kind m n lt = sym (cond-true (nat_lt n m) kind.Owner kind.Weak (lt-ltb n m lt))

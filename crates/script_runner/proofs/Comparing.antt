@@ -1,51 +1,33 @@
 -- A comparison of a table with a cell that swaps, as acts of a thread.
-use Rattle.std.proofs.Common.{Bool, true, false, not, ◌&&◌, ◌∷◌, ◌++◌, length, Option, Some, None, refl, sym, ap, subst, ◌∙◌, inl}
-use Rattle.std.proofs.Common.{inr, arith, ◌-◌, ◌≡◌, ◌≢◌, ℕ, ◌+◌, ◌<◌}
-use Rattle.std.proofs.lemmas.List.{set-get_or, set-set, set_comm, get_or-set_same, get_or-set_other, length-set}
-use Rattle.std.specs.Prelude.{slice_get, slice_set}
-use Rattle.control_block.proofs.PartingLists.{has_map}
-use Rattle.control_block.specs.CellCalls.{cell_of_site as desk_cell, handle_in}
-use Rattle.control_block.specs.Desks.{AddsEvent, DeskNow, HasHandle, bag_of, by_block, latest_of, state_of}
-use Rattle.control_block.specs.Rule.{opening_of}
-use Rattle.control_word.proofs.history.Given.{names_an_object}
-use Rattle.control_word.proofs.history.Legal.{sound}
-use Rattle.control_word.proofs.lists.Parts.{has_part}
-use Rattle.control_word.specs.Events.{after}
-use Rattle.control_word.specs.Handles.{handle}
-use Rattle.control_word.specs.Histories.{IsLegal, entry, leads}
-use Rattle.control_word.specs.State.{Has, State, bag, held, Held}
-use Rattle.control_word.specs.Words.{blocks_of}
+use Rattle.std.proofs.Common.{◌≡◌, ℕ, ◌+◌, ◌-◌, ◌<◌, Bool, true, false, not, ◌&&◌, ◌≢◌, ◌∷◌, ◌++◌}
+use Rattle.std.proofs.Common.{length, slice_get, slice_set, Some, None, Option, sym, refl, ap, ◌∙◌}
+use Rattle.std.proofs.Common.{subst, inl, inr, arith, length-set, get_or-set_other}
+use Rattle.std.proofs.Common.{get_or-set_same, set-set}
+use Rattle.script_runner.proofs.Prelude
+use Prelude.{Acts, AddsEvent, after, as_cell, as_slot, bag, bag_of, Block, block_of_held}
+use Prelude.{blocks_of, by_block, cell_of_name, CellName, Compared, DeskNow, entry, Event, Form}
+use Prelude.{handle, handle_in, Has, has_map, has_part, HasHandle, held, idle, is_full, is_of}
+use Prelude.{IsLegal, IsQuiet, IsSeated, Kind, kind_at, kind_of_cell, kind_of_held, latest_of}
+use Prelude.{leads, Leaving, names_an_object, NumberedHandle, opening_of, Place, place_of_held}
+use Prelude.{plain, pointer_of, set-get_or, set_comm, shown_slots, Slot, slot_by, slot_of}
+use Prelude.{slot_pointer, slot_value, Slots, slots_idle, sound, State, state_of, TableNow}
+use Rattle.control_block.specs.CellCalls.{cell_of_site as desk_cell}
+use Rattle.control_word.specs.State.{Held}
 use Rattle.control_word.specs.declared.model.event.Cell.TheVariants as named
 use Rattle.control_word.specs.declared.model.event.Cell.{Cell as Named}
 use Rattle.control_word.specs.declared.model.event.Event.TheVariants as event
-use Rattle.control_word.specs.declared.model.event.Event.{Event}
-use Rattle.control_word.specs.declared.model.handle.NumberedHandle.{NumberedHandle}
-use Rattle.control_word.specs.declared.model.handle.Kind.{Kind}
-use Rattle.control_word.specs.declared.place.Block.{Block}
-use Rattle.control_word.specs.declared.place.Place.{Place}
-use Rattle.handle_table.specs.Cells.{kind_of_cell}
 use Rattle.handle_table.specs.Compares as compares
-use Rattle.handle_table.specs.Parts.{kind_of_held, block_of_held, place_of_held}
-use Rattle.handle_table.specs.Tables.{TableNow}
 use Rattle.script_runner.proofs.Celled.{IsFound, came_slot, is_found}
 use Rattle.script_runner.proofs.Exchanging.{is_of_own, told_as}
 use Rattle.script_runner.proofs.Leavings.{handle_left}
 use Rattle.script_runner.proofs.Putting.{quiet_left}
 use Rattle.script_runner.proofs.Seating as seating
 use Rattle.script_runner.specs.Calls as calls
-use Rattle.script_runner.specs.CellCalls.{ComparesIn, as_cell}
-use Rattle.script_runner.specs.Seats.{Acts, IsQuiet, IsSeated, Leaving, as_slot, shown_slots}
+use Rattle.script_runner.specs.CellCalls.{ComparesIn}
 use Rattle.step_table.specs.CellAtomicSteps.{kind_in_state as kind_there}
 use Rattle.step_table.specs.Contents as contents
-use Rattle.step_table.specs.Contents.{slot_of, is_of, slot_by}
-use Rattle.step_table.specs.Registers.{Slots, is_full, pointer_of, slot_pointer, plain, slot_value}
-use Rattle.step_table.specs.declared.memory.form.Form.{Form}
-use Rattle.step_table.specs.declared.slots.slot.Slot.{Slot}
-use Rattle.step_threads.specs.Frames.{cell_of_name, hand as hand_of, idle, other as other_of, slots_idle}
-use Rattle.step_threads.specs.Programs.{kind_at}
-use Rattle.step_threads.specs.Rows.{Compared}
+use Rattle.step_threads.specs.Frames.{hand as hand_of, other as other_of}
 use Rattle.step_threads.specs.declared.programs.act.Act.TheVariants as act
-use Rattle.step_threads.specs.declared.programs.call.CellName.{CellName}
 
 module _ (V : Type 0) where
   compare_made : (c : Named) (expected new old : NumberedHandle) (s : State) (d : ℕ) (weak : Bool)

@@ -1,17 +1,16 @@
 -- Where what an act left to end may do so, and how a comparison leaves the slots arranged.
-use Rattle.std.proofs.Common.{◌≡◌, ◌≢◌, inl, inr, ℕ, zero, suc, ◌+◌, ◌-◌, ◌<◌, Bool, true, false, List, [], ◌∷◌, length, Option}
-use Rattle.std.proofs.Common.{Some, None, refl, sym, ap, subst, ◌∙◌, arith}
-use Rattle.std.proofs.lemmas.List.{length-map}
-use Rattle.std.proofs.lemmas.Option.{slice_get_within}
-use Rattle.std.specs.Prelude.{drop, slice_get, slice_set}
-use Rattle.control_block.specs.Standing.{Standing}
-use Rattle.control_word.specs.declared.model.handle.Kind.{Kind}
-use Rattle.control_word.specs.declared.place.Block.{Block}
-use Rattle.handle_table.specs.Calls.{IsBelow}
-use Rattle.handle_table.specs.Tables.{FitsSlots, TableNow}
+use Rattle.std.proofs.Common.{◌≡◌, ℕ, zero, suc, ◌+◌, ◌-◌, ◌<◌, Bool, true, false, ◌≢◌, List, []}
+use Rattle.std.proofs.Common.{◌∷◌, length, drop, slice_get, slice_set, Some, None, Option, sym}
+use Rattle.std.proofs.Common.{refl, ap, ◌∙◌, subst, inl, inr, arith}
+use Rattle.script_runner.proofs.Prelude
+use Prelude.{Act, ActResult, AllEnd, AllSuit, Begun, Block, CellName, Changes, comparison_tasks}
+use Prelude.{Ended, FitsSlots, HasKind, IsAlone, IsArranged, IsBelow, IsDealt, IsHandOfTable}
+use Prelude.{IsOfName, IsQuiet, IsReachable, IsSeated, IsTop, IsVacant, KeepsLimits, Kind, kind_at}
+use Prelude.{kind_in, length-map, MayGoOn, MaySettle, SetsAside, SetsKind, slice_get_within}
+use Prelude.{slot_kinds, Stance, stance_after, Standing, Suits, TableNow, Task, task, thread_slots}
 use Rattle.script_runner.proofs.Allowances.{Stays, stays_quiet}
 use Rattle.script_runner.proofs.Arranging as arranging
-use Rattle.script_runner.proofs.Arranging.{many_same, set_else, set_here}
+use Rattle.script_runner.proofs.Arranging.{set_else, set_here}
 use Rattle.script_runner.proofs.Endless.{IsTaker, endless}
 use Rattle.script_runner.proofs.Handling as handling
 use Rattle.script_runner.proofs.Refusals.{vacant_slot}
@@ -19,22 +18,9 @@ use Rattle.script_runner.proofs.Room as room
 use Rattle.script_runner.proofs.Stages.{some_last}
 use Rattle.script_runner.proofs.Stepping.{three_at}
 use Rattle.script_runner.proofs.Suffixes.{drop_next, put_next}
-use Rattle.script_runner.specs.CellCalls.{IsOfName}
-use Rattle.script_runner.specs.Deals.{IsDealt, IsHandOfTable, IsTop, thread_slots}
-use Rattle.script_runner.specs.Goings.{task}
-use Rattle.script_runner.specs.Handling.{Changes, IsAlone, MayDo, MayGoOn, MaySettle, comparison_tasks}
-use Rattle.script_runner.specs.Kinds.{AllSuit, HasKind, IsArranged, IsVacant, KeepsLimits, SetsKind, Stance, Suits, kind_in, slot_kinds, stance_after}
-use Rattle.script_runner.specs.Reached.{IsReachable, SetsAside}
-use Rattle.script_runner.specs.Seats.{Begun, IsQuiet, IsSeated}
-use Rattle.script_runner.specs.declared.acts.act_result.ActResult.{ActResult}
-use Rattle.shared_handle.specs.Piles.{AllEnd}
+use Rattle.script_runner.specs.Handling.{MayDo}
 use Rattle.shared_handle.specs.declared.endings.Ending.{Ending}
-use Rattle.step_table.specs.declared.memory.ended.Ended.{Ended}
-use Rattle.step_threads.specs.Programs.{kind_at}
-use Rattle.step_threads.specs.declared.programs.act.Act.{Act}
 use Rattle.step_threads.specs.declared.programs.act.Act.TheVariants as act
-use Rattle.step_threads.specs.declared.programs.act.Task.{Task}
-use Rattle.step_threads.specs.declared.programs.call.CellName.{CellName}
 
 -- a vacant hand of a table that stands
 pub hand_vacant : (hand : ℕ) (t : TableNow ℕ) → FitsSlots t.desk t.slots → Standing t.desk → AllEnd t.desk t.endings → IsVacant t.slots hand

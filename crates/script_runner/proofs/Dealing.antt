@@ -1,11 +1,7 @@
 -- What is done for an act that asks for an empty hand.
-use Rattle.std.proofs.Common.{◌≡◌, ℕ, Bool, false, List, inl, sym, subst}
-use Rattle.control_word.specs.declared.model.handle.Kind.{Kind}
-use Rattle.handle_table.specs.Tables.{TableNow}
-use Rattle.script_runner.specs.Deals.{IsActed, IsDealt}
+use Rattle.std.proofs.Common.{◌≡◌, ℕ, Bool, false, List, sym, subst, inl}
+use Rattle.script_runner.proofs.Prelude.{Act, ActResult, IsActed, IsDealt, Kind, TableNow}
 use Rattle.script_runner.specs.Handling.{Asks}
-use Rattle.script_runner.specs.declared.acts.act_result.ActResult.{ActResult}
-use Rattle.step_threads.specs.declared.programs.act.Act.{Act}
 
 module _ (ks : List Kind) (hand : ℕ) (t : TableNow ℕ) (taken : Bool) (a : Act) (asks : Asks ks hand taken t a) where
   pub asked : (b : Act) → a ≡ b → Asks ks hand taken t b

@@ -1,32 +1,23 @@
 -- A comparison of a table with a cell that differs, as acts of a thread.
-use Rattle.std.proofs.Common.{cond, Bool, true, false, not, ◌&&◌, ◌∷◌, ◌++◌, length, Option, Some, None, refl, sym, ap, subst}
-use Rattle.std.proofs.Common.{◌∙◌, inl, inr, arith, ◌-◌, ◌≡◌, ◌≢◌, ℕ, ◌+◌, ◌<◌, List}
-use Rattle.std.proofs.lemmas.List.{set-set, set_comm, get_or-set_same, get_or-set_other, length-set}
-use Rattle.std.specs.Prelude.{slice_get, slice_set}
-use Rattle.control_block.proofs.Bags.{shown_held}
-use Rattle.control_block.proofs.Latest.{calls_keep_latest}
-use Rattle.control_block.specs.CellCalls.{cell_of_site as desk_cell, handle_in}
-use Rattle.control_block.specs.Desks.{AddsEvent, DeskNow, HasHandle, latest_of}
-use Rattle.control_block.specs.Rule.{opening_of}
-use Rattle.control_word.proofs.history.Given.{legal_seen}
-use Rattle.control_word.proofs.history.Kept.{has_same, same_kept}
-use Rattle.control_word.specs.Events.{after}
-use Rattle.control_word.specs.Handles.{handle, has_object}
-use Rattle.control_word.specs.Histories.{IsLegal, entry, leads}
-use Rattle.control_word.specs.State.{Has, State, held, Held}
+use Rattle.std.proofs.Common.{◌≡◌, ℕ, ◌+◌, ◌-◌, ◌<◌, Bool, true, false, cond, not, ◌&&◌, ◌≢◌, List}
+use Rattle.std.proofs.Common.{◌∷◌, ◌++◌, length, slice_get, slice_set, Some, None, Option, sym}
+use Rattle.std.proofs.Common.{refl, ap, ◌∙◌, subst, inl, inr, arith, length-set, get_or-set_other}
+use Rattle.std.proofs.Common.{get_or-set_same, set-set}
+use Rattle.script_runner.proofs.Prelude
+use Prelude.{Acts, AddsEvent, after, as_cell, as_slot, Block, block_of_held, calls_keep_latest}
+use Prelude.{cell_of_name, CellName, Compared, DeskNow, entry, Event, Form, handle, handle_in, Has}
+use Prelude.{has_object, HasHandle, held, idle, is_full, is_of, IsLegal, IsQuiet, IsSeated, Kind}
+use Prelude.{kind_at, kind_of_cell, kind_of_held, latest_of, leads, LeavesSlot, Leaving}
+use Prelude.{legal_seen, MovesSlot, NumberedHandle, opening_of, Place, place_of_held, plain}
+use Prelude.{pointer_of, same_kept, set_comm, shown_held, shown_slots, Slot, slot_by, slot_of}
+use Prelude.{slot_pointer, slot_value, Slots, slots_idle, State, TableNow}
+use Rattle.control_block.specs.CellCalls.{cell_of_site as desk_cell}
+use Rattle.control_word.proofs.history.Kept.{has_same}
+use Rattle.control_word.specs.State.{Held}
 use Rattle.control_word.specs.declared.model.event.Cell.{Cell as Named}
 use Rattle.control_word.specs.declared.model.event.Event.TheVariants as event
-use Rattle.control_word.specs.declared.model.event.Event.{Event}
-use Rattle.control_word.specs.declared.model.handle.NumberedHandle.{NumberedHandle}
-use Rattle.control_word.specs.declared.model.handle.Kind.{Kind}
-use Rattle.control_word.specs.declared.place.Block.{Block}
-use Rattle.control_word.specs.declared.place.Place.{Place}
-use Rattle.handle_table.specs.Calls.{LeavesSlot, MovesSlot}
-use Rattle.handle_table.specs.Cells.{kind_of_cell}
 use Rattle.handle_table.specs.Compares as compares
-use Rattle.handle_table.specs.Parts.{kind_of_held, block_of_held, place_of_held}
 use Rattle.handle_table.specs.Tables as table
-use Rattle.handle_table.specs.Tables.{TableNow}
 use Rattle.script_runner.proofs.Celled.{IsFound, came_slot, is_found}
 use Rattle.script_runner.proofs.Comparing.{got_handle, has_handle}
 use Rattle.script_runner.proofs.Exchanging.{is_of_own, told_as}
@@ -34,19 +25,11 @@ use Rattle.script_runner.proofs.Leavings.{slot_left}
 use Rattle.script_runner.proofs.Putting.{idle_slots, put_slots, quiet_slot, slice_get-set_other}
 use Rattle.script_runner.proofs.Seating as seating
 use Rattle.script_runner.specs.Calls as calls
-use Rattle.script_runner.specs.CellCalls.{as_cell, DiffersIn}
-use Rattle.script_runner.specs.Seats.{Acts, IsQuiet, IsSeated, Leaving, as_slot, shown_slots}
+use Rattle.script_runner.specs.CellCalls.{DiffersIn}
 use Rattle.step_table.specs.CellAtomicSteps.{kind_in_state as kind_there}
 use Rattle.step_table.specs.Contents as contents
-use Rattle.step_table.specs.Contents.{slot_of, is_of, slot_by}
-use Rattle.step_table.specs.Registers.{Slots, is_full, pointer_of, slot_pointer, plain, slot_value}
-use Rattle.step_table.specs.declared.memory.form.Form.{Form}
-use Rattle.step_table.specs.declared.slots.slot.Slot.{Slot}
-use Rattle.step_threads.specs.Frames.{cell_of_name, hand as hand_of, idle, other as other_of, slots_idle}
-use Rattle.step_threads.specs.Programs.{kind_at}
-use Rattle.step_threads.specs.Rows.{Compared}
+use Rattle.step_threads.specs.Frames.{hand as hand_of, other as other_of}
 use Rattle.step_threads.specs.declared.programs.act.Act.TheVariants as act
-use Rattle.step_threads.specs.declared.programs.call.CellName.{CellName}
 
 keeps_by : {A : Type 0} (b : Bool) (x y : A) (l : List A) → Has x l → Has x (cond b (y ∷ l) l)
 keeps_by true x y l has = inr has

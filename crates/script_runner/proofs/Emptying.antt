@@ -1,29 +1,19 @@
 -- The kinds of what a worker's slots have, where one of them becomes empty or vacant.
-use Rattle.std.proofs.Common.{◌≡◌, ℕ, zero, suc, ◌<◌, ◌≤◌, ◌+◌, false, List, [], ◌∷◌, length, Option, Some, None, refl, sym, ap}
-use Rattle.std.proofs.Common.{subst}
-use Rattle.std.proofs.Common.{◌∙◌, inl, inr, arith, is_some}
-use Rattle.std.specs.Prelude.{slice_get, slice_set}
-use Rattle.control_block.specs.declared.handles.Held.{Held}
+use Rattle.std.proofs.Common.{◌≡◌, ℕ, zero, suc, ◌+◌, ◌<◌, ◌≤◌, false, List, [], ◌∷◌, length}
+use Rattle.std.proofs.Common.{is_some, slice_get, slice_set, Some, None, Option, sym, refl, ap}
+use Rattle.std.proofs.Common.{◌∙◌, subst, inl, inr, arith}
+use Rattle.script_runner.proofs.Prelude
+use Prelude.{Block, block_of_held, EmptiesSlot, EmptiesSlotWeakly, Fault, Gone, HasKind}
+use Prelude.{HasNoObject, Held, is_full, IsSeated, KeepsKinds, Kind, kind_in, kind_of_held}
+use Prelude.{SetsKind, slot_kinds, slot_pointer, TableNow, thread_slots}
 use Rattle.control_word.specs.declared.model.handle.Kind.TheVariants as kind
-use Rattle.control_word.specs.declared.model.handle.Kind.{Kind}
-use Rattle.control_word.specs.declared.place.Block.{Block}
 use Rattle.handle_table.specs.Calls as calls
-use Rattle.handle_table.specs.Handles.{EmptiesSlot, EmptiesSlotWeakly}
-use Rattle.handle_table.specs.Parts.{kind_of_held, block_of_held}
 use Rattle.handle_table.specs.Tables as table
-use Rattle.handle_table.specs.Tables.{TableNow}
 use Rattle.handle_table.specs.declared.fault.Fault.TheVariants as fault
-use Rattle.handle_table.specs.declared.fault.Fault.{Fault}
 use Rattle.script_runner.proofs.Putting.{slice_get-set_other, slice_get-set_same}
 use Rattle.script_runner.proofs.Refusals as refusals
 use Rattle.script_runner.proofs.Seating.{same_some}
 use Rattle.script_runner.proofs.WorldStates.{full_shown}
-use Rattle.script_runner.specs.Deals.{thread_slots}
-use Rattle.script_runner.specs.Kinds.{HasKind, KeepsKinds, SetsKind, kind_in, slot_kinds}
-use Rattle.script_runner.specs.Seats.{IsSeated}
-use Rattle.script_runner.specs.Teams.{HasNoObject}
-use Rattle.shared_handle.specs.declared.pile.Gone.{Gone}
-use Rattle.step_table.specs.Registers.{is_full, slot_pointer}
 
 -- what is there already is put there
 pub set_again : {A : Type 0} (l : List A) (i : ℕ) (x : A) → slice_get l i ≡ Some x → slice_set l i x ≡ l

@@ -1,20 +1,18 @@
 -- No more objects end than are made: each last owner that leaves is one of another object that was made.
-use Rattle.std.proofs.Common.{◌≡◌, ℕ, zero, suc, ◌+◌, ◌<◌, ◌≤◌, ◌==◌, true, cond, List, [], ◌∷◌, refl, ap, ◌∙◌, arith}
-use Rattle.std.proofs.Common.{eq-eqb}
-use Rattle.std.proofs.lemmas.Bool.{cond-true, cond_both}
-use Rattle.control_word.proofs.history.Given.{given_over, names_an_object, over}
-use Rattle.control_word.proofs.history.Legal.{sound}
+use Rattle.std.proofs.Common.{◌≡◌, ℕ, zero, suc, ◌+◌, ◌<◌, ◌≤◌, true, cond, List, [], ◌∷◌, ◌==◌}
+use Rattle.std.proofs.Common.{refl, ap, ◌∙◌, arith, eq-eqb}
+use Rattle.script_runner.proofs.Prelude.{after, Asks, Compare, cond-true, cond_both}
+use Rattle.script_runner.proofs.Prelude.{count_ended_by, count_ended_in, count_made_in, ending}
+use Rattle.script_runner.proofs.Prelude.{ends, Entry, Event, Free, IsLegal, leads, made_by, makes}
+use Rattle.script_runner.proofs.Prelude.{names_an_object, Opening, sound, State, Swap, unmade}
+use Rattle.control_word.proofs.history.Given.{given_over, over}
 use Rattle.control_word.proofs.lists.Sums.{sum_at, sum_plus}
-use Rattle.control_word.specs.Events.{Asks, after}
 use Rattle.control_word.specs.Handles.{object_of}
-use Rattle.control_word.specs.Histories.{IsLegal, ends_by, given, leads}
-use Rattle.control_word.specs.State.{Opening, Phase, State, ending, gone, live, sum_below, unmade}
-use Rattle.control_word.specs.declared.model.event.Cell.TheVariants.{Free, Member}
-use Rattle.control_word.specs.declared.model.event.Entry.{Entry}
-use Rattle.control_word.specs.declared.model.event.Event.{Event}
-use Rattle.control_word.specs.declared.model.event.Event.TheVariants.{Compare, Leave, Swap}
+use Rattle.control_word.specs.Histories.{ends_by, given}
+use Rattle.control_word.specs.State.{Phase, gone, live, sum_below}
+use Rattle.control_word.specs.declared.model.event.Cell.TheVariants.{Member}
+use Rattle.control_word.specs.declared.model.event.Event.TheVariants.{Leave}
 use Rattle.control_word.specs.declared.model.handle.Kind.TheVariants.{Owner}
-use Rattle.script_runner.specs.Totals.{count_ended_by, count_ended_in, count_made_in, ends, made_by, makes}
 
 over_once : (p : Phase) → over p ≤ 1
 over_once unmade = omega arith

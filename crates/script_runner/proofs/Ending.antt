@@ -1,49 +1,25 @@
 -- How a thread goes on while objects end.
-use Rattle.std.proofs.Common.{◌≢◌, length, Option, Some, None, refl, sym, ap, subst, ◌∙◌, inl, inr, arith, ◌-◌, ◌≤◌, ◌≡◌, ℕ}
-use Rattle.std.proofs.Common.{◌<◌, Bool, cond, List, [], ◌∷◌, ◌++◌}
-use Rattle.std.proofs.lemmas.Bool.{cond-false, cond-true}
-use Rattle.std.proofs.lemmas.List.{append-nil, get_or-set_same, length-set, set-get_or, set-set}
-use Rattle.std.specs.Prelude.{slice_set}
-use Rattle.control_block.proofs.PartingLists.{has_map}
-use Rattle.control_block.specs.CellCalls.{handle_in}
-use Rattle.control_block.specs.Desks.{AddsEvent, DeskNow, latest_of, state_of, IsEnding, HasHandle, bag_of, by_block}
-use Rattle.control_block.specs.Rule.{opening_of}
-use Rattle.control_word.proofs.history.Endings.{stays_the_latest}
-use Rattle.control_word.proofs.history.Given.{legal_seen, names_an_object}
-use Rattle.control_word.proofs.history.Kept.{block_kept}
-use Rattle.control_word.proofs.history.Legal.{sound}
-use Rattle.control_word.proofs.lists.Parts.{has_part}
-use Rattle.control_word.specs.Handles.{handle, has_object}
-use Rattle.control_word.specs.Histories.{IsLegal, leads, entry}
-use Rattle.control_word.specs.State.{ending, unmade, Has, Held, State, bag, held}
-use Rattle.control_word.specs.Words.{blocks_of}
+use Rattle.std.proofs.Common.{◌≡◌, ℕ, ◌-◌, ◌<◌, ◌≤◌, Bool, cond, ◌≢◌, List, [], ◌∷◌, ◌++◌, length}
+use Rattle.std.proofs.Common.{slice_set, Some, None, Option, sym, refl, ap, ◌∙◌, subst, inl, inr}
+use Rattle.std.proofs.Common.{append-nil, arith, length-set, get_or-set_same, set-set}
+use Rattle.script_runner.proofs.Prelude
+use Prelude.{AddsEvent, Ahead, AnAct, AnEnd, bag, bag_of, Block, block_kept, blocks_of, by_block}
+use Prelude.{cond-false, cond-true, DeskNow, DoesAhead, DoesNext, Ended, Ending, ending, entry}
+use Prelude.{Event, first_frame, Form, frame_after_act, frame_settled, FrameView, GoesThrough}
+use Prelude.{hand, handle, handle_in, Has, has_map, has_object, has_part, HasHandle, held, is_full}
+use Prelude.{IsEnding, IsLegal, IsMakeEvent, IsQuiet, Kind, latest_of, leads, Leave, Left}
+use Prelude.{legal_seen, names_an_object, NumberedHandle, opening_of, Place, plain, pointer_of}
+use Prelude.{row, Said, said_by_row, set-get_or, silent, slot_of, slot_pointer, slot_value, Slots}
+use Prelude.{sound, staged, State, state_of, stays_the_latest, TakesThread, Task, TellsThread}
+use Prelude.{told_line, trace_label, unmade, with_end}
+use Rattle.control_word.specs.State.{Held}
 use Rattle.control_word.specs.declared.model.event.Event.TheVariants as event
-use Rattle.control_word.specs.declared.model.event.Event.{Event}
-use Rattle.control_word.specs.declared.model.handle.NumberedHandle.{NumberedHandle}
-use Rattle.control_word.specs.declared.model.handle.Kind.{Kind}
-use Rattle.control_word.specs.declared.place.Block.{Block}
-use Rattle.control_word.specs.declared.place.Place.{Place}
 use Rattle.script_runner.proofs.Logging.{goes_on_by_call, goes_on_by_mark}
 use Rattle.script_runner.proofs.Settling.{settled_again, settled_empty, with_endings}
 use Rattle.script_runner.specs.Calls as calls
-use Rattle.script_runner.specs.EndCalls.{TakesThread}
-use Rattle.script_runner.specs.Logs.{TellsThread, trace_label, told_line}
-use Rattle.script_runner.specs.Seats.{IsQuiet}
-use Rattle.step_table.specs.Contents.{slot_of}
-use Rattle.step_table.specs.Registers.{Slots, is_full, plain, slot_pointer, slot_value, pointer_of}
-use Rattle.step_table.specs.declared.memory.ended.Ended.{Ended}
-use Rattle.step_table.specs.declared.memory.form.Form.{Form}
 use Rattle.step_table.specs.declared.slots.slot.Slot.TheVariants.{Full}
-use Rattle.step_threads.specs.Frames.{FrameView, hand, frame_settled}
-use Rattle.step_threads.specs.TraceLabels.{Ahead, AnAct, AnEnd, ClearsNext, FinishesEnding, DoesNext, DoesAhead, GoesThrough, IsMakeEvent, MakesAct}
-use Rattle.step_threads.specs.Endings.{staged}
-use Rattle.step_threads.specs.Interleavings.{first_frame}
-use Rattle.step_threads.specs.Rows.{Left, ending_by, frame_after_act, row, said_by_row, with_end}
-use Rattle.step_threads.specs.Steps.{silent}
-use Rattle.step_threads.specs.declared.programs.act.Act.TheVariants.{Leave}
-use Rattle.step_threads.specs.declared.programs.act.Task.{Task}
-use Rattle.step_threads.specs.declared.ending.Ending.{Ending}
-use Rattle.step_threads.specs.declared.said.Said.{Said}
+use Rattle.step_threads.specs.TraceLabels.{ClearsNext, FinishesEnding, MakesAct}
+use Rattle.step_threads.specs.Rows.{ending_by}
 
 module _ {V : Type 0} where
   -- an object that ends in the desk's hands was made

@@ -1,10 +1,7 @@
 -- Nothing is left to end by an act that takes something.
-use Rattle.std.proofs.Common.{◌≡◌, ℕ, Bool, Option, None, refl}
-use Rattle.step_table.specs.Registers.{Slots}
-use Rattle.step_table.specs.declared.memory.ended.Ended.{Ended}
-use Rattle.step_table.specs.declared.slots.slot.Slot.{Slot}
-use Rattle.step_threads.specs.Rows.{Came, Compared, Found, Got, Left, Plain, Reply, Told, row}
-use Rattle.step_threads.specs.declared.programs.act.Act.{Act}
+use Rattle.std.proofs.Common.{◌≡◌, ℕ, Bool, None, Option, refl}
+use Rattle.script_runner.proofs.Prelude.{Act, Came, Compared, Ended, Found, Got, Left, Plain}
+use Rattle.script_runner.proofs.Prelude.{Reply, row, Slot, Slots, Told}
 use Rattle.step_threads.specs.declared.programs.act.Act.TheVariants as act
 
 -- the act takes something into the hand, or nothing

@@ -1,48 +1,31 @@
 -- Exchanges of a table with cells, and what is to go into one, as acts of a thread.
-use Rattle.std.proofs.Common.{arith, length, ◌≡◌, ℕ, ◌<◌, Bool, true, false, cond, ◌&&◌, Option, Some, None, refl, sym, ap, subst, ◌∙◌}
-use Rattle.std.proofs.Common.{inl, inr}
-use Rattle.std.proofs.lemmas.List.{length-set, set-set}
-use Rattle.std.specs.Prelude.{option_map, slice_get, slice_set}
-use Rattle.control_block.specs.CellCalls.{cell_of_site as desk_cell, handle_in}
-use Rattle.control_block.specs.Desks.{state_of, AddsEvent, DeskNow, HasHandle}
-use Rattle.control_word.specs.declared.site.Site.{Site}
-use Rattle.control_block.specs.declared.handles.Held.TheVariants.{Owner, Weak}
-use Rattle.control_block.specs.declared.handles.Held.{Held}
-use Rattle.control_word.specs.Events.{after}
-use Rattle.control_word.specs.Handles.{handle}
-use Rattle.control_word.specs.State.{State}
+use Rattle.std.proofs.Common.{◌≡◌, ℕ, ◌<◌, Bool, true, false, cond, ◌&&◌, length, slice_get}
+use Rattle.std.proofs.Common.{slice_set, Some, None, Option, option_map, sym, refl, ap, ◌∙◌, subst}
+use Rattle.std.proofs.Common.{inl, inr, arith, length-set, set-set}
+use Rattle.script_runner.proofs.Prelude
+use Prelude.{Acts, AddsEvent, after, as_cell, as_slot, Block, block_of_held, Came, cell_of_name}
+use Prelude.{CellName, copy, DeskNow, Done, Event, ExchangesSlot, FitsSlots, fitting, Form, Got}
+use Prelude.{handle, handle_in, Hands, HasHandle, Held, is_of, IsAt, IsSameEvent, IsSeated}
+use Prelude.{IsSwapEvent, Kind, kind_at, kind_of_cell, kind_of_held, LeavesSlot, may_go}
+use Prelude.{NumberedHandle, offered, Owner, place_of_held, Plain, plain, pointer_of, shown_slots}
+use Prelude.{Site, Slot, slot_by, slot_of, slot_pointer, slot_value, State, state_of, TableNow}
+use Prelude.{TellsSlotHeld, Weak, Where}
+use Rattle.control_block.specs.CellCalls.{cell_of_site as desk_cell}
 use Rattle.control_word.specs.declared.model.event.Cell.TheVariants as named
 use Rattle.control_word.specs.declared.model.event.Cell.{Cell as Named}
 use Rattle.control_word.specs.declared.model.event.Event.TheVariants as event
-use Rattle.control_word.specs.declared.model.event.Event.{Event}
-use Rattle.control_word.specs.declared.model.handle.NumberedHandle.{NumberedHandle}
 use Rattle.control_word.specs.declared.model.handle.Kind.TheVariants as kind
-use Rattle.control_word.specs.declared.model.handle.Kind.{Kind}
-use Rattle.control_word.specs.declared.place.Block.{Block}
-use Rattle.handle_table.specs.Calls.{LeavesSlot}
-use Rattle.handle_table.specs.Cells.{ExchangesSlot, TellsSlotHeld, kind_of_cell}
-use Rattle.handle_table.specs.Parts.{kind_of_held, block_of_held, place_of_held}
-use Rattle.handle_table.specs.Tables.{FitsSlots, IsAt, TableNow}
 use Rattle.script_runner.proofs.Calling as law
 use Rattle.script_runner.proofs.Celled.{IsFound, came_slot, is_found}
 use Rattle.script_runner.proofs.Putting.{slice_get-set_same}
 use Rattle.script_runner.proofs.Seating as seating
 use Rattle.script_runner.proofs.Takings.{copies_taken, weak_nowhere}
 use Rattle.script_runner.specs.Calls as calls
-use Rattle.script_runner.specs.CellCalls.{ExchangesIn, HoldsIn, OffersIn, as_cell}
-use Rattle.script_runner.specs.Seats.{Acts, Done, IsSeated, as_slot, shown_slots}
+use Rattle.script_runner.specs.CellCalls.{ExchangesIn, HoldsIn, OffersIn}
 use Rattle.step_table.specs.CellAtomicSteps.{kind_in_state as kind_there}
 use Rattle.step_table.specs.Contents as contents
-use Rattle.step_table.specs.Contents.{is_of, slot_by, slot_of}
-use Rattle.step_table.specs.Registers.{plain, pointer_of, slot_pointer, slot_value}
-use Rattle.step_table.specs.declared.memory.form.Form.{Form}
-use Rattle.step_table.specs.declared.slots.slot.Slot.{Slot}
-use Rattle.step_threads.specs.Frames.{cell_of_name, fitting, hand as hand_of, offered}
-use Rattle.step_threads.specs.TraceLabels.{IsSameEvent, IsSwapEvent, Where, copy}
-use Rattle.step_threads.specs.Programs.{kind_at}
-use Rattle.step_threads.specs.Rows.{Came, Got, Plain, may_go, Hands}
+use Rattle.step_threads.specs.Frames.{hand as hand_of}
 use Rattle.step_threads.specs.declared.programs.act.Act.TheVariants as act
-use Rattle.step_threads.specs.declared.programs.call.CellName.{CellName}
 
 -- a handle's own kind
 pub is_of_own : (h : Held) (k : Kind) → kind_of_held h ≡ k → is_of k (as_slot (Some h)) ≡ true

@@ -1,27 +1,20 @@
 -- Every object has four fields, and what a table tells of an object that is left to end is what it was made as.
-use Rattle.std.proofs.Common.{length, refl, sym, ap, ◌∙◌, arith, ◌≡◌, ◌⊎◌, ⊎_elim, inl, inr, ℕ, zero, suc, ◌<◌, ◌≤◌}
-use Rattle.std.proofs.Common.{true, false, cond, List, [], ◌∷◌}
-use Rattle.std.specs.Prelude.{slice_index}
-use Rattle.control_block.specs.Desks.{latest_of, object_in}
-use Rattle.control_block.specs.Rule.{opening_of}
-use Rattle.control_word.proofs.history.Kept.{stays_as_made}
-use Rattle.control_word.proofs.history.Legal.{sound}
-use Rattle.control_word.proofs.lists.Tallies.{put_same}
-use Rattle.control_word.specs.Events.{Asks, after}
-use Rattle.control_word.specs.Histories.{IsLegal, leads}
-use Rattle.control_word.specs.State.{Object, Opening, State}
-use Rattle.control_word.specs.declared.model.event.Cell.TheVariants.{Free, Member}
-use Rattle.control_word.specs.declared.model.event.Entry.{Entry}
-use Rattle.control_word.specs.declared.model.event.Event.TheVariants.{ClearMember, Compare, Count, Expired, Finish, Join, Leave, Load, Lock, Make, Read}
-use Rattle.control_word.specs.declared.model.event.Event.TheVariants.{Same, Share, Split, Swap, Visit, WeakLeave, WeakShare}
+use Rattle.std.proofs.Common.{◌≡◌, ℕ, zero, suc, ◌<◌, ◌≤◌, true, false, cond, ◌⊎◌, List, [], ◌∷◌}
+use Rattle.std.proofs.Common.{length, slice_index, sym, refl, ap, ◌∙◌, inl, inr, ⊎_elim, arith}
+use Rattle.script_runner.proofs.Prelude.{after, Asks, Compare, Entry, Event, Free, IsFour, IsLegal}
+use Rattle.script_runner.proofs.Prelude.{Join, latest_of, leads, Object, object_in, Opening}
+use Rattle.script_runner.proofs.Prelude.{opening_of, put_same, Remains, remains, remains_ended}
+use Rattle.script_runner.proofs.Prelude.{sound, Split, State, stays_as_made, Swap}
+use Rattle.control_word.specs.declared.model.event.Cell.TheVariants.{Member}
+use Rattle.control_word.specs.declared.model.event.Event.TheVariants.{ClearMember, Count, Expired}
+use Rattle.control_word.specs.declared.model.event.Event.TheVariants.{Finish, Leave, Load, Lock}
+use Rattle.control_word.specs.declared.model.event.Event.TheVariants.{Make, Read, Same, Share}
+use Rattle.control_word.specs.declared.model.event.Event.TheVariants.{Visit, WeakLeave, WeakShare}
 use Rattle.control_word.specs.declared.model.event.Event.TheVariants.{Shelve, Unshelve}
-use Rattle.control_word.specs.declared.model.event.Event.{Event}
 use Rattle.handle_table.specs.Ends.{IsMadeAs}
 use Rattle.handle_table.specs.declared.ends.Remains.TheVariants as table
-use Rattle.handle_table.specs.declared.ends.Remains.{Remains}
 use Rattle.script_runner.proofs.Ending.{not_none}
-use Rattle.script_runner.specs.EndCalls.{IsFour, RemainsIn, remains_ended}
-use Rattle.step_table.specs.AtomicSteps.{remains}
+use Rattle.script_runner.specs.EndCalls.{RemainsIn}
 use Rattle.step_table.specs.declared.memory.ended.Ended.TheVariants as ended
 
 le_or_lt : (a b : ℕ) → (a ≤ b) ⊎ (b < a)

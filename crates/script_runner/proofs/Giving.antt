@@ -1,44 +1,28 @@
 -- Pointers that an object gives of itself, and what pointers tell by their values, as acts of a thread.
-use Rattle.std.proofs.Common.{◌≡◌, ℕ, ◌<◌, Bool, true, Option, Some, None, refl, sym, ap, subst, ◌∙◌, inl, inr, nat_lt}
-use Rattle.std.specs.Prelude.{option_map, slice_set}
-use Rattle.control_block.proofs.Bags.{shown_held}
-use Rattle.control_block.specs.Desks.{AddsEvent, DeskNow, latest_of, object_in, on_latest, state_of}
-use Rattle.control_block.specs.Rule.{opening_of}
-use Rattle.control_block.specs.declared.handles.Held.TheVariants.{Owner, Weak}
-use Rattle.control_block.specs.declared.handles.Held.{Held}
-use Rattle.control_block.specs.declared.handles.Shared.{Shared}
+use Rattle.std.proofs.Common.{◌≡◌, ℕ, ◌<◌, Bool, true, nat_lt, slice_set, Some, None, Option}
+use Rattle.std.proofs.Common.{option_map, sym, refl, ap, ◌∙◌, subst, inl, inr}
+use Rattle.script_runner.proofs.Prelude
+use Prelude.{Acts, AddsEvent, AreInOrder, Block, block_of_held, blocks_of, DeskNow, Form, Got}
+use Prelude.{handle, handle_of, Held, IsAt, IsHand, IsSeated, Kind, kind_of_held, latest_of}
+use Prelude.{MarksAct, object_in, on, on_latest, opening_of, Owner, Place, place_at, place_of_held}
+use Prelude.{PointAlike, Question, row, Shared, shown_held, shown_slots, slot_by, slot_pointer}
+use Prelude.{state_of, TableNow, taking, this_as, Weak}
 use Rattle.control_block.specs.declared.handles.Weak as weak_handle
-use Rattle.control_word.specs.Events.{place_at}
-use Rattle.control_word.specs.Handles.{empty, handle, rank, same_place}
-use Rattle.control_word.specs.Words.{blocks_of}
+use Rattle.control_word.specs.Handles.{empty, rank, same_place}
 use Rattle.control_word.specs.declared.model.event.Event.TheVariants as event
 use Rattle.control_word.specs.declared.model.handle.Kind.TheVariants as kind
-use Rattle.control_word.specs.declared.model.handle.Kind.{Kind}
-use Rattle.control_word.specs.declared.place.Block.{Block}
-use Rattle.control_word.specs.declared.place.Place.{Place}
 use Rattle.handle_table.specs.Calls.{PointsTo}
-use Rattle.handle_table.specs.Pairs.{AreInOrder, PointAlike}
-use Rattle.handle_table.specs.Parts.{kind_of_held, block_of_held, place_of_held}
-use Rattle.handle_table.specs.Tables.{IsAt, TableNow}
 use Rattle.handle_table.specs.This.{SharesThis, SharesThisWeakly}
 use Rattle.script_runner.proofs.Calling as law
 use Rattle.script_runner.proofs.Looking.{place_shown, within}
 use Rattle.script_runner.proofs.Seating.{has_pointer, no_pointer, came_in, in_hand, same_some}
 use Rattle.script_runner.proofs.Takings.{stayed}
-use Rattle.script_runner.specs.Seats.{Acts, IsSeated, shown_slots, IsHand}
-use Rattle.script_runner.specs.TableCalls.{MarksAct}
 use Rattle.shared_handle.specs.Calls as inner
 use Rattle.shared_handle.specs.Endings.{MayGiveThis}
-use Rattle.step_table.specs.Contents.{slot_by}
-use Rattle.step_table.specs.AtomicSteps.{handle_of, on, this_as}
-use Rattle.step_table.specs.Registers.{slot_pointer}
-use Rattle.step_table.specs.declared.memory.form.Form.{Form}
 use Rattle.step_threads.specs.Frames.{hand as hand_of}
-use Rattle.step_threads.specs.Rows.{Got, row, taking}
 use Rattle.step_threads.specs.AbstractStates.{answers_order}
 use Rattle.step_threads.specs.declared.programs.act.Act.TheVariants as act
 use Rattle.step_threads.specs.declared.programs.act.Question.TheVariants as question
-use Rattle.step_threads.specs.declared.programs.act.Question.{Question}
 use Rattle.step_threads.specs.declared.said.Answer.TheVariants as answer
 
 -- an object that gives one, as an owner that points into it

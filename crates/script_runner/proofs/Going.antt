@@ -1,18 +1,14 @@
 -- How a thread goes on by an act that its table made, and where an act is passed over.
-use Rattle.std.proofs.Common.{◌≡◌, ℕ, List, [], ◌∷◌, ◌++◌, Option, Some, None, refl, sym, ap, subst, ◌∙◌, inl, inr}
-use Rattle.std.proofs.lemmas.Bool.{cond-true}
-use Rattle.control_word.specs.declared.place.Block.{Block}
+use Rattle.std.proofs.Common.{◌≡◌, ℕ, List, [], ◌∷◌, ◌++◌, Some, None, Option, sym, refl, ap, ◌∙◌}
+use Rattle.std.proofs.Common.{subst, inl, inr}
+use Rattle.script_runner.proofs.Prelude.{Begun, Block, cond-true, Done, frame_after_act}
+use Rattle.script_runner.proofs.Prelude.{frame_settled, idle, Piled, row, Said, said_by_row}
+use Rattle.script_runner.proofs.Prelude.{shown_slots, slots_idle, taken_idle, TakesThread, Task}
+use Rattle.script_runner.proofs.Prelude.{task, TellsThread, told_line, with_end}
 use Rattle.script_runner.proofs.Ending.{by_event, by_mark, by_quiet}
-use Rattle.script_runner.specs.EndCalls.{Piled, TakesThread}
-use Rattle.script_runner.specs.Goings.{ActsOn, PassesOver, task}
-use Rattle.script_runner.specs.Logs.{TellsThread, told_line}
-use Rattle.script_runner.specs.Seats.{Begun, Done, shown_slots}
+use Rattle.script_runner.specs.Goings.{ActsOn, PassesOver}
 use Rattle.shared_handle.specs.declared.endings.Ending as pile
 use Rattle.step_threads.proofs.Frames.{settled_still}
-use Rattle.step_threads.specs.Frames.{idle, frame_settled, slots_idle, taken_idle}
-use Rattle.step_threads.specs.Rows.{frame_after_act, row, said_by_row, with_end}
-use Rattle.step_threads.specs.declared.programs.act.Task.{Task}
-use Rattle.step_threads.specs.declared.said.Said.{Said}
 
 module _ {V : Type 0} where
   begun_piled : (k : ℕ) (xs ys : List (pile.Ending V)) (b : Option Block) → xs ≡ [] → Begun xs b ys → Piled k ys (with_end k b [])

@@ -1,47 +1,31 @@
 -- What an act takes into the hand: the table doesn't refuse it, and of which kind it is.
-use Rattle.std.proofs.Common.{◌≡◌, ◌≢◌, ◌⊎◌, ℕ, zero, suc, ◌+◌, ◌<◌, true, false, List, [], ◌∷◌, length, Option, Some}
-use Rattle.std.proofs.Common.{None, Err, inl, inr}
-use Rattle.std.proofs.Common.{refl, sym, ap, subst, ◌∙◌, arith}
-use Rattle.std.proofs.lemmas.List.{length-set, set-set, set_comm}
-use Rattle.std.specs.Prelude.{slice_get, slice_set}
-use Rattle.control_block.specs.Desks.{DeskNow}
-use Rattle.control_block.specs.declared.handles.Held.TheVariants.{Owner, Weak}
-use Rattle.control_block.specs.declared.handles.Held.{Held}
-use Rattle.control_block.specs.declared.handles.Shared.{Shared}
+use Rattle.std.proofs.Common.{◌≡◌, ℕ, zero, suc, ◌+◌, ◌<◌, true, false, ◌≢◌, ◌⊎◌, List, [], ◌∷◌}
+use Rattle.std.proofs.Common.{length, slice_get, slice_set, Some, None, Err, Option, sym, refl, ap}
+use Rattle.std.proofs.Common.{◌∙◌, subst, inl, inr, arith, length-set, set-set}
+use Rattle.script_runner.proofs.Prelude
+use Prelude.{ActResult, aliased, BadWeak, Block, Comes, DeskNow, Fault, Field, fits_at, Form, Full}
+use Prelude.{HasKind, Held, IsActed, IsBelow, IsCopy, IsHand, IsNoSlot, IsOwner, IsPointer, IsWeak}
+use Prelude.{KeepsKinds, Kind, kind_of_held, LeavesSlot, NotGiven, Owner, Place, Refusal, set_comm}
+use Prelude.{SetsKind, Shared, slot_kinds, TableNow, TakesKind, Weak, WhyNotThis, WhyNoWeak}
 use Rattle.control_block.specs.declared.handles.Weak as weak_handle
-use Rattle.control_word.specs.Handles.{IsPointer}
 use Rattle.control_word.specs.declared.model.handle.Kind.TheVariants as kind
-use Rattle.control_word.specs.declared.model.handle.Kind.{Kind}
-use Rattle.control_word.specs.declared.place.Block.{Block}
-use Rattle.control_word.specs.declared.place.Place.{Place}
-use Rattle.control_word.specs.declared.refusal.Refusal.TheVariants.{BadWeak, Full, Limit}
-use Rattle.control_word.specs.declared.refusal.Refusal.{Refusal}
-use Rattle.handle_table.proofs.Filling.{fits_at}
+use Rattle.control_word.specs.declared.refusal.Refusal.TheVariants.{Limit}
 use Rattle.handle_table.specs.Calls as calls
-use Rattle.handle_table.specs.Calls.{Comes, IsBelow, IsCopy, IsNoSlot, IsOwner, IsWeak, LeavesSlot, WhyNoWeak}
 use Rattle.handle_table.specs.Handles as handles
-use Rattle.handle_table.specs.Parts.{kind_of_held}
-use Rattle.handle_table.specs.Tables.{TableNow}
 use Rattle.handle_table.specs.This as this
 use Rattle.handle_table.specs.declared.fault.Fault.TheVariants as fault
-use Rattle.handle_table.specs.declared.fault.Fault.{Fault}
 use Rattle.script_runner.proofs.Acting as law
 use Rattle.script_runner.proofs.Inquiring as inquiring
 use Rattle.script_runner.proofs.Putting.{slice_get-set_other}
-use Rattle.script_runner.proofs.Refusals.{comes_kind, kinds_kept, kind_of_slot, kind_within, kinds_set, no_handle, no_limit, no_owner, no_slot, no_weak}
+use Rattle.script_runner.proofs.Refusals.{comes_kind, kinds_kept, kind_of_slot, kind_within}
+use Rattle.script_runner.proofs.Refusals.{kinds_set, no_handle, no_limit, no_owner, no_slot}
+use Rattle.script_runner.proofs.Refusals.{no_weak}
 use Rattle.script_runner.proofs.Seating.{same_some}
 use Rattle.script_runner.proofs.TableLaws.{as_seated}
-use Rattle.script_runner.specs.Deals.{IsActed, NotGiven}
-use Rattle.script_runner.specs.Kinds.{HasKind, KeepsKinds, SetsKind, TakesKind, slot_kinds}
-use Rattle.script_runner.specs.Seats.{IsHand}
-use Rattle.script_runner.specs.declared.acts.act_result.ActResult.{ActResult}
 use Rattle.shared_handle.proofs.Owned.{points_well}
-use Rattle.shared_handle.specs.Endings.{WhyNotThis}
 use Rattle.shared_handle.specs.Locks.{IsUpgrade}
-use Rattle.step_table.specs.AtomicSteps.{aliased, field_number}
+use Rattle.step_table.specs.AtomicSteps.{field_number}
 use Rattle.step_table.specs.declared.memory.field.Field.TheVariants.{Zero, One, Two, Three}
-use Rattle.step_table.specs.declared.memory.field.Field.{Field}
-use Rattle.step_table.specs.declared.memory.form.Form.{Form}
 use Rattle.step_threads.specs.declared.programs.act.Act.TheVariants as act
 use Rattle.step_threads.specs.declared.said.Answer.TheVariants as answer
 

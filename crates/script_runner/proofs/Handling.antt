@@ -1,28 +1,22 @@
 -- An act that suits a thread's names finds what it asks for, and leaves the slots arranged.
-use Rattle.std.proofs.Common.{◌≡◌, ℕ, zero, suc, ◌-◌, ◌<◌, Bool, true, false, List, [], ◌∷◌, length, Option, Some, None}
-use Rattle.std.proofs.Common.{refl, sym, ap, subst, ◌∙◌, arith}
-use Rattle.std.proofs.lemmas.List.{length-map, length-set}
-use Rattle.std.proofs.lemmas.Option.{slice_get_within}
-use Rattle.std.specs.Prelude.{slice_get, slice_set}
-use Rattle.control_word.specs.declared.model.handle.Kind.{Kind}
+use Rattle.std.proofs.Common.{◌≡◌, ℕ, zero, suc, ◌-◌, ◌<◌, Bool, true, false, List, [], ◌∷◌}
+use Rattle.std.proofs.Common.{length, slice_get, slice_set, Some, None, Option, sym, refl, ap, ◌∙◌}
+use Rattle.std.proofs.Common.{subst, arith, length-set}
+use Rattle.script_runner.proofs.Prelude.{Act, CellName, Changes, HasKind, IsAlone, IsArranged}
+use Rattle.script_runner.proofs.Prelude.{IsInHand, IsName, IsReached, IsVacant, KeepsKinds}
+use Rattle.script_runner.proofs.Prelude.{KeepsLimits, Kind, kind_at, kind_in, length-map, Question}
+use Rattle.script_runner.proofs.Prelude.{SetsAside, SetsKind, slice_get_within, slot_kinds, Stance}
+use Rattle.script_runner.proofs.Prelude.{stance_after, Suits, TableNow, TakesKind}
 use Rattle.control_word.specs.declared.model.handle.Kind.TheVariants as kind
 use Rattle.handle_table.specs.Tables as table
-use Rattle.handle_table.specs.Tables.{TableNow}
 use Rattle.script_runner.proofs.Arranging as arranging
 use Rattle.script_runner.proofs.Endless.{IsTaker}
 use Rattle.script_runner.proofs.Arranging.{set_else, set_here}
 use Rattle.script_runner.specs.Asked.{AsksBelow, HasAsked}
-use Rattle.script_runner.specs.Handling.{Asks, Changes, IsAlone, IsBared, IsCellFor, IsHeld, IsHeldAs, IsHeldByName}
-use Rattle.script_runner.specs.Reached.{SetsAside}
-use Rattle.script_runner.specs.Kinds.{HasKind, IsArranged, IsFree, IsInHand, IsName, IsReached}
-use Rattle.script_runner.specs.Kinds.{IsVacant, KeepsKinds, KeepsLimits, SetsKind, Stance, Suits, SuitsNames}
-use Rattle.script_runner.specs.Kinds.{TakesKind, kind_in, slot_kinds, stance_after}
-use Rattle.step_threads.specs.Programs.{kind_at}
-use Rattle.step_threads.specs.declared.programs.act.Act.{Act}
+use Rattle.script_runner.specs.Handling.{Asks, IsBared, IsCellFor, IsHeld, IsHeldAs, IsHeldByName}
+use Rattle.script_runner.specs.Kinds.{IsFree, SuitsNames}
 use Rattle.step_threads.specs.declared.programs.act.Act.TheVariants as act
-use Rattle.step_threads.specs.declared.programs.act.Question.{Question}
 use Rattle.step_threads.specs.declared.programs.act.Question.TheVariants as question
-use Rattle.step_threads.specs.declared.programs.call.CellName.{CellName}
 use Rattle.step_threads.specs.declared.programs.call.CellName.TheVariants as cell
 
 some_none : {A : Type 0} (a : A) → Some a ≡ None → ⊥

@@ -1,37 +1,23 @@
 -- Acts that only tell something, as a worker does them.
-use Rattle.std.proofs.Common.{◌≡◌, ℕ, ◌<◌, ◌+◌, Bool, true, false, Option, Some, None, refl, sym, ap, subst, ◌∙◌, ◌⊎◌, inl, inr}
-use Rattle.std.proofs.Common.{Ok, Err}
-use Rattle.std.proofs.lemmas.Bool.{cond-true}
-use Rattle.control_word.specs.declared.model.handle.Kind.{Kind}
-use Rattle.control_word.specs.declared.place.Place.{Place}
+use Rattle.std.proofs.Common.{◌≡◌, ℕ, ◌+◌, ◌<◌, Bool, true, false, ◌⊎◌, IfSome, Some, None, Ok}
+use Rattle.std.proofs.Common.{Err, Option, sym, refl, ap, ◌∙◌, subst, inl, inr}
+use Rattle.script_runner.proofs.Prelude.{Act, ActResult, Answer, AreInOrder, Call, cond-true}
+use Rattle.script_runner.proofs.Prelude.{Fault, field_0, Got, idle, inside, is_full, IsActed}
+use Rattle.script_runner.proofs.Prelude.{IsAway, IsSeated, Kind, MarksAct, NotGiven, outside}
+use Rattle.script_runner.proofs.Prelude.{Place, place_in, PointAlike, Refusal, Reply, row, Shared}
+use Rattle.script_runner.proofs.Prelude.{slot_pointer, TableNow, thread_slots, Told}
 use Rattle.control_word.specs.declared.refusal.Refusal.TheVariants as refusal
-use Rattle.control_word.specs.declared.refusal.Refusal.{Refusal}
-use Rattle.control_block.specs.declared.handles.Shared.{Shared}
 use Rattle.handle_table.specs.Calls as calls
-use Rattle.handle_table.specs.Pairs.{AreInOrder, PointAlike}
-use Rattle.handle_table.specs.Tables.{TableNow}
 use Rattle.handle_table.specs.This as this
-use Rattle.handle_table.specs.declared.fault.Fault.TheVariants.{Call}
 use Rattle.script_runner.proofs.Acting.{acted, acted_as, below, went}
 use Rattle.script_runner.proofs.Calling.{is_inside}
 use Rattle.script_runner.proofs.Looking.{within}
 use Rattle.script_runner.proofs.TableLaws as law
 use Rattle.script_runner.proofs.Takings.{same_call}
-use Rattle.std.specs.Prelude.{IfSome}
-use Rattle.handle_table.specs.declared.fault.Fault.{Fault}
-use Rattle.script_runner.specs.Deals.{IsActed, NotGiven, field_0, thread_slots}
-use Rattle.script_runner.specs.Seats.{IsSeated}
-use Rattle.script_runner.specs.TableCalls.{IsAway, MarksAct}
-use Rattle.script_runner.specs.declared.acts.act_result.ActResult.{ActResult}
 use Rattle.shared_handle.specs.Endings.{IsRead}
-use Rattle.step_table.specs.Registers.{inside, is_full, place_in, slot_pointer}
-use Rattle.step_threads.specs.Frames.{idle}
-use Rattle.step_threads.specs.Rows.{Got, Reply, Told, row, outside}
 use Rattle.step_threads.specs.declared.programs.act.Act.TheVariants as act
-use Rattle.step_threads.specs.declared.programs.act.Act.{Act}
 use Rattle.step_threads.specs.declared.programs.act.Question.TheVariants as question
 use Rattle.step_threads.specs.declared.said.Answer.TheVariants as answer
-use Rattle.step_threads.specs.declared.said.Answer.{Answer}
 
 -- a mark, with its answer
 pub marked : (hand : ℕ) (t : TableNow ℕ) (taken : Bool) (a : Act) (r : Reply) (says : Answer) (x : Bool) → idle a (thread_slots hand t) taken ≡ false

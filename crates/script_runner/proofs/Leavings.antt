@@ -1,48 +1,25 @@
 -- Which calls of a table by which a handle leaves are which acts of a thread.
-use Rattle.std.proofs.Common.{inr}
-use Rattle.std.proofs.Common.{◌≡◌, ℕ, Bool, true, false, List, ◌∷◌, ◌++◌, Option, Some, None, refl, sym, ap, subst, ◌∙◌, inl}
-use Rattle.control_block.proofs.Bags.{shown_held}
-use Rattle.control_block.proofs.Latest.{calls_keep_latest}
-use Rattle.control_block.specs.Desks.{AddsEvent, DeskNow, HasHandle, latest_of, object_in, on_latest, state_of}
-use Rattle.control_block.specs.Rule.{opening_of}
-use Rattle.control_block.specs.declared.handles.Held.TheVariants.{Owner, Weak}
-use Rattle.control_block.specs.declared.handles.Held.{Held}
-use Rattle.control_block.specs.declared.handles.Shared.{Shared}
+use Rattle.std.proofs.Common.{◌≡◌, ℕ, Bool, true, false, List, ◌∷◌, ◌++◌, Some, None, Option, sym}
+use Rattle.std.proofs.Common.{refl, ap, ◌∙◌, subst, inl, inr}
+use Rattle.script_runner.proofs.Prelude
+use Prelude.{Act, AddsEvent, Begun, Block, block_of_held, calls_keep_latest, DeskNow, Done, Ended}
+use Prelude.{entry, Event, Form, Gone, Handle, handle, HasHandle, Held, IsLeaveEvent, IsLeft}
+use Prelude.{IsLegal, IsToldEnding, Kind, kind_of_held, latest_of, leads, LeavesSlot, legal_seen}
+use Prelude.{LetsGo, names_an_object, object_in, on_latest, opening_of, Owner, piled, Place}
+use Prelude.{place_of_held, remains, Shared, shown_held, slot_pointer, Slots, State, state_of}
+use Prelude.{stays_as_made, Weak}
 use Rattle.control_block.specs.declared.handles.Weak as weak_handle
-use Rattle.control_word.proofs.history.Given.{legal_seen, names_an_object}
-use Rattle.control_word.proofs.history.Kept.{stays_as_made}
-use Rattle.control_word.specs.Handles.{handle}
-use Rattle.control_word.specs.Histories.{IsLegal, entry, leads}
-use Rattle.control_word.specs.State.{State}
 use Rattle.control_word.specs.declared.model.event.Event.TheVariants as event
-use Rattle.control_word.specs.declared.model.event.Event.{Event}
 use Rattle.control_word.specs.declared.model.handle.Kind.TheVariants as kind
-use Rattle.control_word.specs.declared.model.handle.Kind.{Kind}
-use Rattle.control_word.specs.declared.place.Block.{Block}
-use Rattle.control_word.specs.declared.place.Place.{Place}
-use Rattle.handle_table.specs.Calls.{LeavesSlot, LetsGo}
-use Rattle.handle_table.specs.Parts.{kind_of_held, block_of_held, place_of_held}
 use Rattle.handle_table.specs.Tables as table
 use Rattle.script_runner.proofs.Calling as law
 use Rattle.script_runner.proofs.Seating.{quietly}
 use Rattle.script_runner.specs.Calls as calls
-use Rattle.script_runner.specs.Seats.{Begun, Done, IsToldEnding}
 use Rattle.shared_handle.specs.Calls as inner
-use Rattle.shared_handle.specs.Endings.{IsLeft}
-use Rattle.shared_handle.specs.Piles.{piled}
 use Rattle.shared_handle.specs.declared.endings.Ending.{Ending}
 use Rattle.shared_handle.specs.declared.endings.Left.TheVariants as left
 use Rattle.shared_handle.specs.declared.endings.Left.{Left}
-use Rattle.shared_handle.specs.declared.pile.Gone.{Gone}
-use Rattle.step_table.specs.AtomicSteps.{remains}
-use Rattle.step_table.specs.Registers.{Slots, slot_pointer}
-use Rattle.step_table.specs.declared.memory.ended.Ended.{Ended}
-use Rattle.step_table.specs.declared.memory.form.Form.{Form}
-use Rattle.control_word.specs.declared.handle.Handle.{Handle}
-use Rattle.step_threads.specs.TraceLabels.{IsLeaveEvent}
 use Rattle.step_threads.specs.Rows as rows
-use Rattle.step_threads.specs.Rows.{frame_after_act}
-use Rattle.step_threads.specs.declared.programs.act.Act.{Act}
 
 module _ {V : Type 0} where
   -- what an object is made as is told alike after the desk's call

@@ -1,23 +1,13 @@
 -- Each worker of a script gets a table that fits its thread, so that a run is refused for want of memory alone.
-use Rattle.std.proofs.Common.{◌≡◌, ◌⊎◌, ◌↔◌, inl, inr, ℕ, ◌*◌, ◌/◌, ◌≤◌, List, [], ◌∷◌, ap, sym, subst, arith}
-use Rattle.std.proofs.lemmas.List.Elements.{All-from_recursion}
-use Rattle.std.specs.List.{AllByRecursion, AllZip}
-use Rattle.std.specs.Prelude.{Err, IfErr, Ok, Result}
-use Rattle.atomic_table.specs.Seated.{TableId}
-use Rattle.control_word.specs.declared.refusal.Refusal.{Refusal}
+use Rattle.std.proofs.Common.{◌≡◌, ℕ, ◌*◌, ◌/◌, ◌≤◌, ◌⊎◌, ◌↔◌, List, [], ◌∷◌, IfErr, Ok, Err}
+use Rattle.std.proofs.Common.{Result, sym, ap, subst, inl, inr, arith}
+use Rattle.script_runner.proofs.Prelude.{All-from_recursion, AllByRecursion, AllZip, Assignment}
+use Rattle.script_runner.proofs.Prelude.{HasAssignment, HasTextCells, IsFitting, Refusal, Shape}
+use Rattle.script_runner.proofs.Prelude.{shape_for, Share, TableId, TableNow, Worker}
 use Rattle.control_word.specs.declared.refusal.Refusal.TheVariants as refusal
-use Rattle.control_word.specs.declared.shape.Shape.{Shape}
 use Rattle.handle_table.specs.Parting.{IsNew}
 use Rattle.handle_table.specs.Staffs.{HasShares, IsLent, MeetsNeeds}
-use Rattle.handle_table.specs.Tables.{TableNow}
-use Rattle.handle_table.specs.declared.staff.Share.{Share}
 use Rattle.script_runner.proofs.Assigning.{Needs}
-use Rattle.script_runner.specs.Assignments.{HasAssignment}
-use Rattle.script_runner.specs.Beginnings.{IsFitting}
-use Rattle.script_runner.specs.declared.workers.assignment.Assignment.{Assignment}
-use Rattle.script_runner.specs.declared.workers.worker.Worker.{Worker}
-use Rattle.script_text.specs.Beginnings.{shape_for}
-use Rattle.script_text.specs.Scripts.{HasTextCells}
 
 -- a table that is lent in a domain with the cells that texts name fits
 fits : (shape : Shape) (share : Share) (t : TableNow ℕ) → share.slots ≡ 36 → 36 ≤ share.allowance → HasTextCells shape → IsLent shape share t

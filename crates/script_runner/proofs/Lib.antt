@@ -1,3 +1,4 @@
+pub mod Prelude
 pub mod Arranging
 pub mod Handling
 pub mod Room

@@ -1,37 +1,25 @@
 -- Locks and makes of a table, as acts of a thread.
-use Rattle.std.proofs.Common.{◌∙◌, inl, inr, arith, is_some}
-use Rattle.std.proofs.Common.{◌≡◌, ◌⊎◌, ℕ, ◌<◌, Bool, true, false, cond, Option, Some, None, Ok, Err, refl, sym, ap, subst}
-use Rattle.std.proofs.lemmas.List.{set-get_or}
-use Rattle.std.specs.Prelude.{option_map, slice_set}
-use Rattle.control_block.specs.Desks.{on_latest, state_of}
-use Rattle.control_block.specs.declared.handles.Held.TheVariants.{Weak}
-use Rattle.control_block.specs.declared.handles.Shared.{Shared}
+use Rattle.std.proofs.Common.{◌≡◌, ℕ, ◌<◌, Bool, true, false, cond, ◌⊎◌, is_some, slice_set, Some}
+use Rattle.std.proofs.Common.{None, Ok, Err, Option, option_map, sym, refl, ap, ◌∙◌, subst, inl}
+use Rattle.std.proofs.Common.{inr, arith}
+use Rattle.script_runner.proofs.Prelude
+use Prelude.{Acts, as_owner, as_slot, BadWeak, Block, Call, Comes, Done, Event, Form, Found, Got}
+use Prelude.{Handle, IsAt, IsHand, IsNoSlot, IsOwner, null_form, On, on_latest, owned, plain}
+use Prelude.{set-get_or, Shared, shown_slots, slot_by, slot_pointer, slot_value, state_of}
+use Prelude.{TableNow, taking, Weak, weak_of, weak_slot, WhyNoWeak}
 use Rattle.control_block.specs.declared.handles.Weak as weak_handle
-use Rattle.control_word.specs.Handles.{weak_of}
 use Rattle.control_word.specs.declared.model.event.Event.TheVariants as event
-use Rattle.control_word.specs.declared.model.event.Event.{Event}
 use Rattle.control_word.specs.declared.model.handle.Kind.TheVariants as kind
-use Rattle.control_word.specs.declared.place.Block.{Block}
-use Rattle.control_word.specs.declared.refusal.Refusal.TheVariants.{BadWeak}
-use Rattle.handle_table.specs.Calls.{Comes, IsNoSlot, IsOwner, WhyNoWeak}
 use Rattle.handle_table.specs.Handles as handles
-use Rattle.handle_table.specs.Tables.{IsAt, TableNow}
-use Rattle.handle_table.specs.declared.fault.Fault.TheVariants.{Call}
 use Rattle.script_runner.proofs.Calling as law
-use Rattle.script_runner.proofs.Seating.{Came, came_in, hand_is, has_pointer, in_hand, no_pointer, quietly, shown_at}
+use Rattle.script_runner.proofs.Seating.{Came, came_in, hand_is, has_pointer, in_hand, no_pointer}
+use Rattle.script_runner.proofs.Seating.{quietly, shown_at}
 use Rattle.script_runner.proofs.Takings.{below_last, same_call, stayed}
-use Rattle.script_runner.specs.Seats.{Acts, Done, IsHand, as_slot, shown_slots}
-use Rattle.script_runner.specs.TableCalls.{LocksIn, MakesIn, MakesNot, MakesNullIn, UpgradesIn, UpgradesNot, null_form}
+use Rattle.script_runner.specs.TableCalls.{LocksIn, MakesIn, MakesNot, MakesNullIn, UpgradesIn}
+use Rattle.script_runner.specs.TableCalls.{UpgradesNot}
 use Rattle.shared_handle.specs.Calls as inner
 use Rattle.shared_handle.specs.Locks as locks
-use Rattle.step_table.specs.Contents.{slot_by}
-use Rattle.step_table.specs.AtomicSteps.{as_owner, owned}
-use Rattle.step_table.specs.Registers.{plain, slot_pointer, slot_value, weak_slot}
-use Rattle.step_table.specs.declared.memory.form.Form.{Form}
-use Rattle.control_word.specs.declared.handle.Handle.{Handle}
 use Rattle.step_threads.specs.Frames.{hand as hand_of}
-use Rattle.step_threads.specs.TraceLabels.{On}
-use Rattle.step_threads.specs.Rows.{Found, Got, taking}
 use Rattle.step_threads.specs.declared.programs.act.Act.TheVariants as act
 
 module _ {V : Type 0} (worth : Form → V) (m i hand : ℕ) (taken : Bool) (t u : TableNow V) (is : IsHand m hand t) (lt : i < m) where

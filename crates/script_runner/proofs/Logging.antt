@@ -1,24 +1,14 @@
 -- How a worker's lines go on with its desk's history.
-use Rattle.std.proofs.Common.{◌≡◌, ◌≢◌, ℕ, ◌==◌, ◌||◌, Bool, true, false, cond, List, [], ◌∷◌, ◌++◌, Some, None, is_some, refl}
-use Rattle.std.proofs.Common.{sym, ap, subst, ◌∙◌, inl, inr, arith, eq-eqb}
-use Rattle.std.proofs.lemmas.Bool.{cond-false, cond-true, cond_both}
-use Rattle.std.proofs.lemmas.List.{append-nil}
+use Rattle.std.proofs.Common.{◌≡◌, ℕ, Bool, true, false, cond, ◌||◌, ◌≢◌, List, [], ◌∷◌, ◌++◌}
+use Rattle.std.proofs.Common.{is_some, ◌==◌, Some, None, sym, refl, ap, ◌∙◌, subst, inl, inr}
+use Rattle.std.proofs.Common.{append-nil, arith, eq-eqb}
+use Rattle.script_runner.proofs.Prelude
+use Prelude.{cond-false, cond-true, cond_both, DoesNext, Entry, entry, first_frame, Form}
+use Prelude.{FrameView, GoesThrough, IsLegal, Join, leads, lines, Marked, NoneBy, onto, Opening}
+use Prelude.{opening_of, Part, Said, said_on, silent, spoken, told_line, trace_label, TraceLabel}
 use Rattle.control_word.proofs.history.Names.{joined_is_quiet, unnamed_is_quiet}
-use Rattle.control_word.specs.Histories.{IsLegal, entry, leads}
-use Rattle.control_word.specs.State.{Opening}
-use Rattle.control_word.specs.Views.{NoneBy}
-use Rattle.control_word.specs.declared.model.event.Entry.{Entry}
-use Rattle.control_word.specs.declared.model.event.Event.TheVariants.{Join}
-use Rattle.control_block.specs.Rule.{opening_of}
-use Rattle.step_table.specs.declared.memory.form.Form.{Form}
-use Rattle.step_threads.specs.declared.said.Said.{Said}
-use Rattle.step_threads.specs.Frames.{FrameView}
-use Rattle.step_threads.specs.TraceLabels.{DoesNext, TraceLabel, GoesThrough, lines, onto, spoken}
-use Rattle.step_threads.specs.Interleavings.{Marked, first_frame, said_on}
-use Rattle.step_threads.specs.Programs.{Part}
-use Rattle.step_threads.specs.Steps.{silent}
-use Rattle.script_runner.specs.Laws.{BeginsThread, GoesOnByCall, GoesOnByMark, IsJoined, StaysJoined}
-use Rattle.script_runner.specs.Logs.{trace_label, told_line}
+use Rattle.script_runner.specs.Laws.{BeginsThread, GoesOnByCall, GoesOnByMark, IsJoined}
+use Rattle.script_runner.specs.Laws.{StaysJoined}
 
 -- lines of two lists
 pub said_append : (n : ℕ) (xs ys : List (ℕ × Said)) → said_on n (xs ++ ys) ≡ said_on n xs ++ said_on n ys

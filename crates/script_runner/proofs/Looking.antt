@@ -1,42 +1,25 @@
 -- Which calls of a table that tell something are which acts of a thread.
-use Rattle.std.proofs.Common.{◌∙◌, inl, inr, ◌⊎◌}
-use Rattle.std.proofs.Common.{◌≡◌, ◌≢◌, ℕ, ◌<◌, ◌==◌, Bool, true, false, cond, Option, Some, None, Ok, refl, sym, ap, subst}
-use Rattle.std.proofs.lemmas.Bool.{cond-false, eqb-true}
-use Rattle.std.specs.Prelude.{slice_get}
-use Rattle.control_block.specs.Desks.{object_in, on_latest, state_of}
-use Rattle.control_block.specs.declared.handles.Held.TheVariants.{Owner, Weak}
-use Rattle.control_block.specs.declared.handles.Held.{Held}
-use Rattle.control_block.specs.declared.handles.Shared.{Shared}
+use Rattle.std.proofs.Common.{◌≡◌, ℕ, ◌<◌, Bool, true, false, cond, ◌≢◌, ◌⊎◌, ◌==◌, slice_get}
+use Rattle.std.proofs.Common.{Some, None, Ok, Option, sym, refl, ap, ◌∙◌, subst, inl, inr}
+use Rattle.std.proofs.Common.{eqb-true}
+use Rattle.script_runner.proofs.Prelude
+use Prelude.{Acts, Block, block_of_held, cond-false, copies, Done, Event, Form, Got, Handle}
+use Prelude.{handle_of, Held, inside, is_enabled, is_full, IsAt, IsAway, IsSeated, Kind}
+use Prelude.{kind_of_held, MarksAct, object_in, On, on_latest, outside, owned, Owner, owner, Place}
+use Prelude.{place_at, place_in, place_of_held, Refusal, Shared, shown_slots, slot_by}
+use Prelude.{slot_pointer, state_of, TableNow, Told, Weak, WhyNotThis}
 use Rattle.control_block.specs.declared.handles.Weak as weak_handle
-use Rattle.control_word.specs.Events.{place_at}
-use Rattle.control_word.specs.Handles.{owner}
 use Rattle.control_word.specs.declared.model.event.Event.TheVariants as event
-use Rattle.control_word.specs.declared.model.event.Event.{Event}
 use Rattle.control_word.specs.declared.model.handle.Kind.TheVariants as kind
-use Rattle.control_word.specs.declared.model.handle.Kind.{Kind}
-use Rattle.control_word.specs.declared.place.Block.{Block}
-use Rattle.control_word.specs.declared.place.Place.{Place}
 use Rattle.control_word.specs.declared.refusal.Refusal.TheVariants as refusal
-use Rattle.control_word.specs.declared.refusal.Refusal.{Refusal}
 use Rattle.handle_table.specs.Calls.{CountsSlot, CountsOf, Expires, ReadsSlot}
-use Rattle.handle_table.specs.Parts.{kind_of_held, block_of_held, place_of_held}
-use Rattle.handle_table.specs.Tables.{IsAt, TableNow}
 use Rattle.script_runner.proofs.Calling as law
 use Rattle.script_runner.proofs.Seating.{has_pointer, no_pointer, shown_at}
 use Rattle.script_runner.proofs.Takings.{stayed}
 use Rattle.script_runner.specs.Calls as calls
-use Rattle.script_runner.specs.Seats.{Acts, Done, IsSeated, shown_slots}
-use Rattle.script_runner.specs.TableCalls.{IsAway, MarksAct}
 use Rattle.shared_handle.specs.Calls as inner
-use Rattle.shared_handle.specs.Endings.{IsOutside, IsNotEnabled, WhyNotThis}
-use Rattle.step_table.specs.Contents.{slot_by}
-use Rattle.step_table.specs.AtomicSteps.{handle_of, is_enabled, owned}
+use Rattle.shared_handle.specs.Endings.{IsOutside, IsNotEnabled}
 use Rattle.step_table.specs.Registers as slots
-use Rattle.step_table.specs.Registers.{inside, place_in, slot_pointer, is_full}
-use Rattle.step_table.specs.declared.memory.form.Form.{Form}
-use Rattle.control_word.specs.declared.handle.Handle.{Handle}
-use Rattle.step_threads.specs.TraceLabels.{On, copies}
-use Rattle.step_threads.specs.Rows.{Got, Told, outside}
 use Rattle.step_threads.specs.declared.programs.act.Act.TheVariants as act
 use Rattle.step_threads.specs.declared.said.Answer.TheVariants as answer
 

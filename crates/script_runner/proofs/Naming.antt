@@ -1,25 +1,17 @@
 -- How the names of a worker's thread become empty, where its table is vacant.
-use Rattle.std.proofs.Common.{◌≡◌, ◌≢◌, ◌⊎◌, ℕ, zero, suc, ◌+◌, ◌<◌, ◌≤◌, List, [], ◌∷◌, length, Option, Some, None}
-use Rattle.std.proofs.Common.{refl, sym, ap}
-use Rattle.std.proofs.Common.{subst, ◌∙◌, inl, inr, arith}
-use Rattle.std.proofs.lemmas.List.{length-map, length-set}
-use Rattle.std.proofs.lemmas.Option.{slice_get_within}
-use Rattle.std.specs.Prelude.{replicate, slice_get, slice_set}
-use Rattle.control_block.specs.Desks.{DeskNow, allowance_of}
+use Rattle.std.proofs.Common.{◌≡◌, ℕ, zero, suc, ◌+◌, ◌<◌, ◌≤◌, ◌≢◌, ◌⊎◌, List, [], ◌∷◌, length}
+use Rattle.std.proofs.Common.{replicate, slice_get, slice_set, Some, None, Option, sym, refl, ap}
+use Rattle.std.proofs.Common.{◌∙◌, subst, inl, inr, arith, length-set}
+use Rattle.script_runner.proofs.Prelude
+use Prelude.{allowance_of, AllVacant, as_slot, DeskNow, FitsSlots, HasBegun, HasKind, HasTextCells}
+use Prelude.{IsBelow, IsEmptied, IsFitting, IsName, IsQuiet, IsVacant, Kind, kind_in, length-map}
+use Prelude.{plain, SetsKind, shown_slots, slice_get_within, slot_by, slot_kinds, TableNow}
 use Rattle.control_word.specs.declared.model.handle.Kind.TheVariants as kind
-use Rattle.control_word.specs.declared.model.handle.Kind.{Kind}
-use Rattle.handle_table.specs.Calls.{IsBelow}
-use Rattle.handle_table.specs.Tables.{AllVacant, FitsSlots, Slot, TableNow}
+use Rattle.handle_table.specs.Tables.{Slot}
 use Rattle.script_runner.proofs.Arranging.{same_or, set_else, set_here}
 use Rattle.script_runner.proofs.Room.{spare_below}
 use Rattle.script_runner.proofs.Seating.{came_in, quietly}
-use Rattle.script_runner.specs.Beginnings.{HasBegun, IsFitting, IsUnmoved}
-use Rattle.script_runner.specs.Deals.{IsEmptied}
-use Rattle.script_runner.specs.Kinds.{HasKind, IsName, IsVacant, SetsKind, kind_in, slot_kinds}
-use Rattle.script_runner.specs.Seats.{IsQuiet, as_slot, shown_slots}
-use Rattle.script_text.specs.Scripts.{HasTextCells}
-use Rattle.step_table.specs.Contents.{slot_by}
-use Rattle.step_table.specs.Registers.{plain}
+use Rattle.script_runner.specs.Beginnings.{IsUnmoved}
 
 vacant_at : (ss : List Slot) (i : ℕ) → AllVacant ss → i < length ss → slice_get ss i ≡ Some None
 vacant_at [] i all lt = let no : ⊥ = omega (arith, lt) in absurd no

@@ -1,24 +1,14 @@
 -- What a worker notes, one after the other.
-use Rattle.std.proofs.Common.{◌≡◌, ◌⊎◌, inl, inr, ℕ, ◌+◌, Bool, true, false, List, [], ◌++◌, length, Option, None}
-use Rattle.std.proofs.Common.{append_assoc, refl, sym, ap, subst, ◌∙◌, arith}
-use Rattle.std.proofs.lemmas.List.{append-nil, length-append}
-use Rattle.std.specs.Prelude.{vec_capacity}
-use Rattle.std.specs.Global.{Vec}
-use Rattle.handle_table.specs.Tables.{TableNow}
-use Rattle.ownership_ledger.specs.Now.{ShareNow}
+use Rattle.std.proofs.Common.{◌≡◌, ℕ, ◌+◌, Bool, true, false, ◌⊎◌, List, [], ◌++◌, length, None}
+use Rattle.std.proofs.Common.{vec_capacity, Option, sym, refl, ap, ◌∙◌, subst, inl, inr}
+use Rattle.std.proofs.Common.{append_assoc, append-nil, arith, length-append}
+use Rattle.script_runner.proofs.Prelude.{Answer, Ended, HasNoted, IsHandOfTable, IsPartlySettled}
+use Rattle.script_runner.proofs.Prelude.{IsRound, IsRoundTold, IsTooMuch, Log, Notes, Round, Said}
+use Rattle.script_runner.proofs.Prelude.{Settles, SettlesPartly, ShareNow, TableNow, told_in}
+use Rattle.script_runner.proofs.Prelude.{told_line, Vec}
 use Rattle.script_runner.proofs.Settles as settles
 use Rattle.script_runner.proofs.Stepping as steps
 use Rattle.script_runner.proofs.Summing.{refused_append, told_append}
-use Rattle.script_runner.specs.Deals.{IsHandOfTable, IsPartlySettled, IsRoundTold}
-use Rattle.script_runner.specs.Logs.{told_line}
-use Rattle.script_runner.specs.Notes.{HasNoted, IsTooMuch, Notes, Settles, SettlesPartly}
-use Rattle.script_runner.specs.Totals.{told_in}
-use Rattle.script_runner.specs.declared.workers.log.Log.{Log}
-use Rattle.shared_handle.specs.Piles.{IsRound}
-use Rattle.shared_handle.specs.declared.pile.Round.{Round}
-use Rattle.step_table.specs.declared.memory.ended.Ended.{Ended}
-use Rattle.step_threads.specs.declared.said.Answer.{Answer}
-use Rattle.step_threads.specs.declared.said.Said.{Said}
 
 -- nothing was noted
 pub nothing : (w x : Log) → x.full ≡ w.full → x.said ≡ w.said → x.share.own ≡ w.share.own → Notes w x 0 []

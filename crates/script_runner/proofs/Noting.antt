@@ -1,18 +1,9 @@
 -- What an act's answer counts for.
-use Rattle.std.proofs.Common.{inl, inr, ℕ, ◌≤◌, Bool, Option, Some, None}
-use Rattle.std.proofs.Common.{sym, subst, arith}
-use Rattle.control_block.specs.Desks.{DeskNow, state_of}
-use Rattle.handle_table.specs.Tables.{TableNow}
+use Rattle.std.proofs.Common.{ℕ, ◌≤◌, Bool, Some, None, Option, sym, subst, inl, inr, arith}
+use Rattle.script_runner.proofs.Prelude.{Act, ActResult, Answer, DeskNow, Done, field_0, IsDealt}
+use Rattle.script_runner.proofs.Prelude.{objects_asked, refuses, Reply, row, Slots}
+use Rattle.script_runner.proofs.Prelude.{state_before_event, state_of, TableNow, thread_slots}
 use Rattle.script_runner.proofs.Tallying.{act_counts}
-use Rattle.script_runner.specs.Calls.{state_before_event}
-use Rattle.script_runner.specs.Deals.{IsDealt, field_0, thread_slots}
-use Rattle.script_runner.specs.Seats.{Done}
-use Rattle.script_runner.specs.Totals.{objects_asked, refuses}
-use Rattle.script_runner.specs.declared.acts.act_result.ActResult.{ActResult}
-use Rattle.step_table.specs.Registers.{Slots}
-use Rattle.step_threads.specs.Rows.{Reply, row}
-use Rattle.step_threads.specs.declared.programs.act.Act.{Act}
-use Rattle.step_threads.specs.declared.said.Answer.{Answer}
 
 -- only a make is answered by that there is no block
 row_refuses : (d e : DeskNow ℕ) (l : Slots) (taken : Bool) (a : Act) (r : Reply) → Done field_0 d l a r e

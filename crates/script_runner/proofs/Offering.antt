@@ -1,19 +1,15 @@
 -- Acts on cells, as a worker does them.
-use Rattle.std.proofs.Common.{◌≡◌, ℕ, ◌<◌, ◌+◌, Bool, true, false, cond, List, Some, None, refl, sym, ap}
-use Rattle.std.specs.Prelude.{slice_get}
-use Rattle.control_word.specs.declared.site.Site.{Site}
-use Rattle.control_block.specs.declared.handles.Held.{Held}
-use Rattle.control_word.specs.declared.refusal.Refusal.{Refusal}
-use Rattle.control_word.specs.declared.shape.Shape.{Shape}
+use Rattle.std.proofs.Common.{◌≡◌, ℕ, ◌+◌, ◌<◌, Bool, true, false, cond, List, slice_get, Some}
+use Rattle.std.proofs.Common.{None, sym, refl, ap}
+use Rattle.script_runner.proofs.Prelude
+use Prelude.{Answer, as_cell, Call, Came, CellName, field_0, Got, Hands, Held, is_there, IsActed}
+use Prelude.{IsAt, IsCellAtSite, IsCompared, IsHand, IsIn, IsOfName, IsSeated, IsThird, kind_at}
+use Prelude.{kind_of_held, NamesCell, outside, place_in, Plain, plain, Refusal, refusal}
+use Prelude.{RefusesCell, Shape, Site, Slots, TableNow, thread_slots, unless, WhyNoCell}
 use Rattle.handle_table.specs.Calls as calls
 use Rattle.handle_table.specs.Cells as cells
-use Rattle.handle_table.specs.Cells.{IsCellAtSite, WhyNoCell}
 use Rattle.handle_table.specs.Compares as compares
-use Rattle.handle_table.specs.Ends.{NamesCell}
-use Rattle.handle_table.specs.Parts.{kind_of_held}
 use Rattle.handle_table.specs.Tables as table
-use Rattle.handle_table.specs.Tables.{IsAt, TableNow}
-use Rattle.handle_table.specs.declared.fault.Fault.TheVariants.{Call}
 use Rattle.script_runner.proofs.Acting.{acted_as, below, took, went}
 use Rattle.script_runner.proofs.Celled.{loads, is_found}
 use Rattle.script_runner.proofs.Comparing.{compares_swap}
@@ -22,18 +18,9 @@ use Rattle.script_runner.proofs.Exchanging.{exchanges, holds, offers}
 use Rattle.script_runner.proofs.Inquiring.{marked}
 use Rattle.script_runner.proofs.TableLaws.{as_seated}
 use Rattle.script_runner.proofs.Uncelled.{cells_not}
-use Rattle.script_runner.specs.CellCalls.{IsOfName, RefusesCell, as_cell}
-use Rattle.script_runner.specs.Deals.{IsActed, IsCompared, IsThird, field_0, thread_slots}
-use Rattle.script_runner.specs.Seats.{IsHand, IsSeated}
-use Rattle.step_table.specs.Registers.{Slots, place_in, plain}
-use Rattle.step_threads.specs.Frames.{is_there}
-use Rattle.step_threads.specs.Programs.{IsIn, kind_at}
-use Rattle.step_threads.specs.Rows.{Came, Got, Plain, Hands, outside, refusal, unless}
 use Rattle.step_threads.specs.declared.programs.act.Act.TheVariants as act
 use Rattle.step_threads.specs.declared.programs.call.CellName.TheVariants as cell
-use Rattle.step_threads.specs.declared.programs.call.CellName.{CellName}
 use Rattle.step_threads.specs.declared.said.Answer.TheVariants as answer
-use Rattle.step_threads.specs.declared.said.Answer.{Answer}
 
 -- a cell that a table has is one of its domain's
 pub in_shape : (z : Shape) (ss : List table.Slot) (c : CellName) (at : Site) → IsCellAtSite z ss (as_cell c) at → IsThird c → IsIn z c

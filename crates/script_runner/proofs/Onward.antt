@@ -1,32 +1,19 @@
 -- How a thread goes on by what its worker does, act by act.
-use Rattle.std.proofs.Common.{◌≡◌, ℕ, ◌+◌, Bool, true, false, List, [], ◌∷◌, ◌++◌, Option, Some, None, refl, sym, ap, subst, ◌∙◌}
-use Rattle.std.proofs.Common.{inl, inr}
-use Rattle.std.proofs.Common.{append_assoc}
-use Rattle.std.proofs.lemmas.List.{append-nil}
-use Rattle.std.specs.Prelude.{IfNone, IfSome}
-use Rattle.handle_table.specs.Tables.{TableNow}
+use Rattle.std.proofs.Common.{◌≡◌, ℕ, ◌+◌, Bool, true, false, List, [], ◌∷◌, ◌++◌, IfSome, IfNone}
+use Rattle.std.proofs.Common.{Some, None, Option, sym, refl, ap, ◌∙◌, subst, inl, inr}
+use Rattle.std.proofs.Common.{append_assoc, append-nil}
+use Rattle.script_runner.proofs.Prelude.{Act, ActResult, Acts, Answer, ByCompare, ByDiffering}
+use Rattle.script_runner.proofs.Prelude.{CellName, Ending, field_0, frame_settled, idle, IsDealt}
+use Rattle.script_runner.proofs.Prelude.{IsOnward, IsQuiet, IsToldEnding, IsTop, Piled, Reply, row}
+use Rattle.script_runner.proofs.Prelude.{Said, said_by_row, statement_says, TableNow, TakesThread}
+use Rattle.script_runner.proofs.Prelude.{Task, task, TellsThread, thread_slots, told_line}
 use Rattle.script_runner.proofs.Going.{acts_on, passes_over}
 use Rattle.script_runner.proofs.Parting.{top_told}
 use Rattle.script_runner.proofs.Stages.{some_last}
-use Rattle.script_runner.specs.CellCalls.{ByCompare, ByDiffering}
-use Rattle.script_runner.specs.Deals.{IsDealt, IsOnward, IsTop, field_0, thread_slots, statement_says}
-use Rattle.script_runner.specs.EndCalls.{Piled, TakesThread}
-use Rattle.script_runner.specs.Goings.{task}
-use Rattle.script_runner.specs.Logs.{TellsThread, told_line}
-use Rattle.script_runner.specs.Seats.{Acts, IsQuiet, IsToldEnding}
-use Rattle.script_runner.specs.declared.acts.act_result.ActResult.{ActResult}
 use Rattle.shared_handle.specs.declared.endings.Ending as pile
 use Rattle.step_table.specs.declared.memory.ended.Ended as ended
-use Rattle.step_threads.specs.Frames.{idle, frame_settled}
-use Rattle.step_threads.specs.Rows.{Reply, row, said_by_row}
 use Rattle.step_threads.specs.declared.programs.act.Act.TheVariants as act
-use Rattle.step_threads.specs.declared.programs.act.Act.{Act}
-use Rattle.step_threads.specs.declared.programs.act.Task.{Task}
-use Rattle.step_threads.specs.declared.programs.call.CellName.{CellName}
-use Rattle.step_threads.specs.declared.ending.Ending.{Ending}
 use Rattle.step_threads.specs.declared.said.Answer.TheVariants as answer
-use Rattle.step_threads.specs.declared.said.Answer.{Answer}
-use Rattle.step_threads.specs.declared.said.Said.{Said}
 
 abbrev pub line : ℕ → Option Answer → Option ended.Ended → List Said
 line k a e = told_line (record { statement = k; answer = a; ended = e })

@@ -1,32 +1,20 @@
 -- Acts by which a slot becomes empty, as a worker does them.
-use Rattle.std.proofs.Common.{◌≡◌, ℕ, zero, suc, ◌<◌, ◌+◌, Bool, true, false, [], ◌∷◌, Option, Some, None, refl, sym, ap, subst}
-use Rattle.std.proofs.Common.{◌∙◌, inl, inr, arith}
-use Rattle.std.specs.Prelude.{IfNone, IfSome, not, slice_get, slice_set}
+use Rattle.std.proofs.Common.{◌≡◌, ℕ, zero, suc, ◌+◌, ◌<◌, Bool, true, false, not, [], ◌∷◌, IfSome}
+use Rattle.std.proofs.Common.{IfNone, slice_get, slice_set, Some, None, Option, sym, refl, ap, ◌∙◌}
+use Rattle.std.proofs.Common.{subst, inl, inr, arith}
+use Rattle.script_runner.proofs.Prelude
+use Prelude.{Act, ActResult, Block, block_of_held, Ended, field_0, Gone, idle, is_full, IsActed}
+use Prelude.{IsDealt, IsEmptied, IsQuiet, IsSeated, IsToldEnding, IsTop, Kind, kind_of_held}
+use Prelude.{Leaving, Left, object_in, other, Place, place_of_held, plain, pointer_of, remains}
+use Prelude.{row, shown_slots, slot_by, slot_pointer, slot_value, Slots, TableNow, thread_slots}
 use Rattle.handle_table.specs.Calls as calls
-use Rattle.handle_table.specs.Parts.{kind_of_held, block_of_held, place_of_held}
-use Rattle.handle_table.specs.Tables.{TableNow}
 use Rattle.script_runner.proofs.Acting.{below}
 use Rattle.script_runner.proofs.Putting.{quiet_left}
 use Rattle.script_runner.proofs.Seating as seating
 use Rattle.script_runner.proofs.Stages.{last_same, some_last}
 use Rattle.script_runner.proofs.TableLaws as law
-use Rattle.script_runner.specs.Deals.{IsActed, IsDealt, IsEmptied, IsTop, field_0, thread_slots}
-use Rattle.script_runner.specs.Seats.{IsQuiet, IsSeated, IsToldEnding, Leaving, shown_slots}
-use Rattle.script_runner.specs.declared.acts.act_result.ActResult.{ActResult}
 use Rattle.shared_handle.specs.declared.endings.Ending as pile
-use Rattle.shared_handle.specs.declared.pile.Gone.{Gone}
-use Rattle.step_table.specs.Contents.{slot_by}
-use Rattle.step_table.specs.AtomicSteps.{remains}
-use Rattle.step_table.specs.Registers.{Slots, is_full, plain, pointer_of, slot_pointer, slot_value}
-use Rattle.step_table.specs.declared.memory.ended.Ended.{Ended}
-use Rattle.step_threads.specs.Frames.{idle, other}
-use Rattle.step_threads.specs.Rows.{Left, row}
 use Rattle.step_threads.specs.declared.programs.act.Act.TheVariants as act
-use Rattle.step_threads.specs.declared.programs.act.Act.{Act}
-use Rattle.control_block.specs.Desks.{object_in}
-use Rattle.control_word.specs.declared.model.handle.Kind.{Kind}
-use Rattle.control_word.specs.declared.place.Block.{Block}
-use Rattle.control_word.specs.declared.place.Place.{Place}
 
 abbrev pub left : Bool → Option Ended → ActResult
 left taken e = record { taken = taken; answer = None; ended = e }

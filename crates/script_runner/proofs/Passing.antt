@@ -1,24 +1,15 @@
 -- What a worker does where the cell that what is in hand should go into isn't there: it is to be dropped.
-use Rattle.std.proofs.Common.{◌≡◌, ℕ, ◌+◌, Bool, true, false, not, ◌&&◌, Some, None, refl, sym, ap, ◌∙◌, arith}
-use Rattle.std.specs.Prelude.{slice_get}
-use Rattle.control_word.specs.declared.refusal.Refusal.{Refusal}
-use Rattle.handle_table.specs.Calls.{MovesSlot}
-use Rattle.handle_table.specs.Cells.{WhyNoCell}
-use Rattle.handle_table.specs.Tables.{TableNow}
-use Rattle.handle_table.specs.declared.fault.Fault.TheVariants.{Call}
+use Rattle.std.proofs.Common.{◌≡◌, ℕ, ◌+◌, Bool, true, false, not, ◌&&◌, slice_get, Some, None}
+use Rattle.std.proofs.Common.{sym, refl, ap, ◌∙◌, arith}
+use Rattle.script_runner.proofs.Prelude
+use Prelude.{as_cell, Call, CellName, is_full, is_of, is_there, IsOfName, IsPassedOver, IsQuiet}
+use Prelude.{IsSeated, IsThird, kind_at, MovesSlot, nothing, placed, pointer_of, Refusal}
+use Prelude.{slot_pointer, slot_value, Slots, TableNow, thread_slots, WhyNoCell}
 use Rattle.script_runner.proofs.Offering.{absent}
 use Rattle.script_runner.proofs.Seating.{shown_at, shown_many}
 use Rattle.script_runner.proofs.TableLaws.{puts_idle}
-use Rattle.script_runner.specs.CellCalls.{IsOfName, as_cell}
-use Rattle.script_runner.specs.Deals.{IsPassedOver, IsThird, thread_slots}
-use Rattle.script_runner.specs.Reached.{nothing}
-use Rattle.script_runner.specs.Seats.{IsQuiet, IsSeated}
-use Rattle.step_table.specs.Contents.{is_of}
-use Rattle.step_table.specs.Registers.{Slots, is_full, pointer_of, slot_pointer, slot_value}
-use Rattle.step_threads.specs.Frames.{hand as hand_of, is_there, other as other_of, placed}
-use Rattle.step_threads.specs.Programs.{kind_at}
+use Rattle.step_threads.specs.Frames.{hand as hand_of, other as other_of}
 use Rattle.step_threads.specs.declared.programs.act.Act.TheVariants as act
-use Rattle.step_threads.specs.declared.programs.call.CellName.{CellName}
 
 module _ (hand other : ℕ) (t u : TableNow ℕ) (c : CellName) (of : IsOfName hand c) (third : IsThird c) (at : other + 1 ≡ hand)
     (is : IsSeated (hand + 1) hand t) (r : Refusal) (why : WhyNoCell t.desk.shape t.slots (as_cell c) (Call r))

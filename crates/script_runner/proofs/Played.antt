@@ -1,26 +1,15 @@
 -- How a thread goes on by its acts, and its worker notes what it says.
-use Rattle.std.proofs.Common.{◌≡◌, ℕ, ◌+◌, ◌-◌, ◌≤◌, Bool, true, false, List, [], ◌∷◌, ◌++◌, Option, Some, None}
-use Rattle.std.proofs.Common.{append_assoc, refl, sym, subst, arith}
-use Rattle.std.proofs.lemmas.List.{append-nil}
-use Rattle.std.specs.Prelude.{IfNone, IfSome}
-use Rattle.handle_table.specs.Tables.{TableNow}
+use Rattle.std.proofs.Common.{◌≡◌, ℕ, ◌+◌, ◌-◌, ◌≤◌, Bool, true, false, List, [], ◌∷◌, ◌++◌}
+use Rattle.std.proofs.Common.{IfSome, IfNone, Some, None, Option, sym, refl, subst, append_assoc}
+use Rattle.std.proofs.Common.{append-nil, arith}
+use Rattle.script_runner.proofs.Prelude
+use Prelude.{Act, ActResult, CellName, Ended, field_0, frame_settled, GoesOnWith, IsCompared}
+use Prelude.{IsDealt, IsTop, Log, Notes, objects_asked, PlaysOn, refuses, Said, Settles}
+use Prelude.{statement_says, TableNow, Task, task, TellsThread, thread_slots, told_line}
 use Rattle.script_runner.proofs.Noted.{line_of, noted_then, nothing}
 use Rattle.script_runner.proofs.Stepping as steps
-use Rattle.script_runner.specs.Deals.{GoesOnWith, IsCompared, IsDealt, IsTop, field_0, statement_says, thread_slots}
-use Rattle.script_runner.specs.Goings.{task}
-use Rattle.script_runner.specs.Logs.{TellsThread, told_line}
-use Rattle.script_runner.specs.Notes.{Notes, PlaysOn, Settles}
-use Rattle.script_runner.specs.Totals.{objects_asked, refuses}
-use Rattle.script_runner.specs.declared.acts.act_result.ActResult.{ActResult}
-use Rattle.script_runner.specs.declared.workers.log.Log.{Log}
-use Rattle.step_table.specs.declared.memory.ended.Ended.{Ended}
-use Rattle.step_threads.specs.Frames.{frame_settled}
 use Rattle.step_threads.specs.declared.programs.act.Act.TheVariants as act
-use Rattle.step_threads.specs.declared.programs.act.Act.{Act}
-use Rattle.step_threads.specs.declared.programs.act.Task.{Task}
-use Rattle.step_threads.specs.declared.programs.call.CellName.{CellName}
 use Rattle.step_threads.specs.declared.said.Answer.TheVariants as answer
-use Rattle.step_threads.specs.declared.said.Said.{Said}
 
 -- a thread that is where it was
 pub none_played : (hand : ℕ) (t : TableNow ℕ) (todo : List Task) (w : Log) → PlaysOn hand t todo w t todo w

@@ -1,24 +1,15 @@
 -- What a worker that comes to the end of its tasks has played.
-use Rattle.std.proofs.Common.{◌≡◌, ◌⊎◌, ℕ, zero, suc, ◌<◌, ◌≤◌, ◌+◌, Bool, false, List, [], ◌∷◌, length, Some, None, refl}
-use Rattle.std.proofs.Common.{sym, ap, subst, ◌∙◌, inl, inr, arith}
-use Rattle.std.specs.Prelude.{slice_get}
-use Rattle.control_word.specs.declared.model.handle.Kind.{Kind}
-use Rattle.handle_table.specs.Tables.{Slot, TableNow}
+use Rattle.std.proofs.Common.{◌≡◌, ℕ, zero, suc, ◌+◌, ◌<◌, ◌≤◌, Bool, false, ◌⊎◌, List, [], ◌∷◌}
+use Rattle.std.proofs.Common.{length, slice_get, Some, None, sym, refl, ap, ◌∙◌, subst, inl, inr}
+use Rattle.std.proofs.Common.{arith}
+use Rattle.script_runner.proofs.Prelude.{AllBare, asked_in, GoesOnWith, HasBegun, HasNoObject}
+use Rattle.script_runner.proofs.Prelude.{IsArranged, IsVacant, IsWorked, Kind, Log, MayGoOn}
+use Rattle.script_runner.proofs.Prelude.{no_slots, Notes, PlaysOn, Stance, TableNow, Task}
+use Rattle.handle_table.specs.Tables.{Slot}
 use Rattle.script_runner.proofs.Handling.{free_hand, vacant_hand}
 use Rattle.script_runner.proofs.Refusals.{vacant_slot}
 use Rattle.script_runner.proofs.Seating.{same_some}
 use Rattle.script_runner.proofs.Settles.{played}
-use Rattle.script_runner.specs.Beginnings.{HasBegun}
-use Rattle.script_runner.specs.Deals.{GoesOnWith}
-use Rattle.script_runner.specs.Handling.{MayGoOn}
-use Rattle.script_runner.specs.Kinds.{IsArranged, IsVacant, Stance}
-use Rattle.script_runner.specs.Notes.{Notes, PlaysOn}
-use Rattle.script_runner.specs.Teams.{AllBare, HasNoObject}
-use Rattle.script_runner.specs.Totals.{asked_in}
-use Rattle.script_runner.specs.Works.{IsWorked}
-use Rattle.script_runner.specs.declared.workers.log.Log.{Log}
-use Rattle.step_threads.specs.Interleavings.{no_slots}
-use Rattle.step_threads.specs.declared.programs.act.Task.{Task}
 
 all_bare : (ss : List Slot) → ((i : ℕ) (s : Slot) → i < length ss → slice_get ss i ≡ Some s → HasNoObject s) → AllBare ss
 all_bare [] each = tt

@@ -1,40 +1,26 @@
 -- What goes into a slot of a table or out of it, as acts of a thread.
-use Rattle.std.proofs.Common.{ap, subst, ◌∙◌, inl, inr, arith, ◌+◌, ◌-◌}
-use Rattle.std.proofs.Common.{◌≡◌, ◌≢◌, ℕ, zero, suc, ◌<◌, Bool, false, List, [], ◌∷◌, length, Option, Some, None, refl, sym}
-use Rattle.std.proofs.lemmas.List.{get_or-set_other, length-set, set-set, set_comm}
-use Rattle.std.specs.Prelude.{slice_get, slice_set}
-use Rattle.control_block.specs.Desks.{DeskNow}
-use Rattle.control_block.specs.declared.handles.Held.TheVariants.{Owner, Weak}
-use Rattle.control_block.specs.declared.handles.Held.{Held}
+use Rattle.std.proofs.Common.{◌≡◌, ℕ, zero, suc, ◌+◌, ◌-◌, ◌<◌, Bool, false, ◌≢◌, List, [], ◌∷◌}
+use Rattle.std.proofs.Common.{length, slice_get, slice_set, Some, None, Option, sym, refl, ap, ◌∙◌}
+use Rattle.std.proofs.Common.{subst, inl, inr, arith, length-set, get_or-set_other, set-set}
+use Rattle.script_runner.proofs.Prelude
+use Prelude.{Act, Acts, as_slot, Begun, Block, block_of_held, counting, DeskNow, Done, EmptiesSlot}
+use Prelude.{EmptiesSlotWeakly, Ended, FitsSlots, Form, Gone, Held, is_full, IsAt, IsLeft, IsQuiet}
+use Prelude.{IsSeated, Kind, kind_of_held, LeavesSlot, LeavesWeakly, Leaving, LetsGo, MovesSlot}
+use Prelude.{Owner, piled, Place, place_of_held, placed, plain, pointer_of, row, set_comm}
+use Prelude.{shown_slots, slot_by, slot_pointer, slot_value, Slots, TableNow, Weak}
 use Rattle.control_word.specs.declared.model.handle.Kind.TheVariants as kind
-use Rattle.control_word.specs.declared.model.handle.Kind.{Kind}
-use Rattle.control_word.specs.declared.place.Block.{Block}
-use Rattle.control_word.specs.declared.place.Place.{Place}
-use Rattle.handle_table.specs.Calls.{Assigns, LeavesSlot, LetsGo, MovesSlot, Resets}
-use Rattle.handle_table.specs.Handles.{EmptiesSlot, EmptiesSlotWeakly}
-use Rattle.handle_table.specs.Parts.{kind_of_held, block_of_held, place_of_held}
+use Rattle.handle_table.specs.Calls.{Assigns, Resets}
 use Rattle.handle_table.specs.Tables as table
-use Rattle.handle_table.specs.Tables.{FitsSlots, IsAt, TableNow}
 use Rattle.script_runner.proofs.Leavings.{LeavesAs, slot_left}
-use Rattle.script_runner.proofs.Seating.{has_pointer, no_pointer, quietly, same_some, shown_at, shown_set, hand_at}
+use Rattle.script_runner.proofs.Seating.{has_pointer, no_pointer, quietly, same_some, shown_at}
+use Rattle.script_runner.proofs.Seating.{shown_set, hand_at}
 use Rattle.script_runner.specs.Calls as calls
-use Rattle.script_runner.specs.Seats.{Acts, Done, IsQuiet, Leaving, as_slot, shown_slots, Begun, IsSeated}
-use Rattle.shared_handle.specs.Calls.{counting, LeavesWeakly}
-use Rattle.shared_handle.specs.Endings.{IsLeft}
-use Rattle.shared_handle.specs.Piles.{piled}
 use Rattle.shared_handle.specs.declared.endings.Ending.{Ending}
 use Rattle.shared_handle.specs.declared.endings.Left.TheVariants as left
 use Rattle.shared_handle.specs.declared.endings.Left.{Left}
-use Rattle.shared_handle.specs.declared.pile.Gone.{Gone}
-use Rattle.step_table.specs.Contents.{slot_by}
-use Rattle.step_table.specs.Registers.{Slots, is_full, plain, pointer_of, slot_pointer, slot_value}
-use Rattle.step_table.specs.declared.memory.ended.Ended.{Ended}
-use Rattle.step_table.specs.declared.memory.form.Form.{Form}
-use Rattle.step_threads.specs.Frames.{hand as hand_of, placed}
+use Rattle.step_threads.specs.Frames.{hand as hand_of}
 use Rattle.step_threads.specs.Rows as rows
-use Rattle.step_threads.specs.Rows.{row}
 use Rattle.step_threads.specs.declared.programs.act.Act.TheVariants as act
-use Rattle.step_threads.specs.declared.programs.act.Act.{Act}
 
 pub slice_get-set_other : {A : Type 0} (l : List A) (i k : ℕ) (x : A) → k ≢ i → slice_get (slice_set l i x) k ≡ slice_get l k
 slice_get-set_other [] i k x apart = refl

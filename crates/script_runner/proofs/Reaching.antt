@@ -1,25 +1,17 @@
 -- Why a call on a cell is refused, where a worker's acts reach the cell: what owns it is null or points elsewhere.
-use Rattle.std.proofs.Common.{◌≡◌, ℕ, zero, suc, ◌<◌, ◌≤◌, List, inl, inr, length, refl, subst, arith}
-use Rattle.control_block.specs.declared.handles.Shared.{Shared}
+use Rattle.std.proofs.Common.{◌≡◌, ℕ, zero, suc, ◌<◌, ◌≤◌, List, length, refl, subst, inl, inr}
+use Rattle.std.proofs.Common.{arith}
+use Rattle.script_runner.proofs.Prelude
+use Prelude.{as_cell, Call, CellName, Fault, HasKind, IsBelow, IsReachable, IsThird, Kind, kind_at}
+use Prelude.{kind_of_cell, PointsAway, Refusal, Shared, TableNow, WhyNoCell, WhyNoCopy, WhyNoneOf}
+use Prelude.{WhyNoObject, WhyNotCompared, WhyNotLoaded, WhyNotSwapped}
 use Rattle.control_word.specs.declared.model.handle.Kind.TheVariants.{Owner}
-use Rattle.control_word.specs.declared.model.handle.Kind.{Kind}
 use Rattle.control_word.specs.declared.refusal.Refusal.TheVariants.{Null, Outside}
-use Rattle.control_word.specs.declared.refusal.Refusal.{Refusal}
-use Rattle.handle_table.specs.Calls.{IsBelow, WhyNoCopy, WhyNotMoved}
-use Rattle.handle_table.specs.Cells.{PointsAway, WhyNoCell, WhyNoObject, WhyNoneOf, WhyNotLoaded, WhyNotSwapped, kind_of_cell}
-use Rattle.handle_table.specs.Compares.{WhyNotCompared}
+use Rattle.handle_table.specs.Calls.{WhyNotMoved}
 use Rattle.handle_table.specs.Tables as table
-use Rattle.handle_table.specs.Tables.{TableNow}
-use Rattle.handle_table.specs.declared.fault.Fault.TheVariants.{Call}
-use Rattle.handle_table.specs.declared.fault.Fault.{Fault}
-use Rattle.script_runner.proofs.Refusals.{kind_within, no_handle, no_limit, no_owner, no_slot, none_of}
-use Rattle.script_runner.specs.CellCalls.{as_cell}
-use Rattle.script_runner.specs.Deals.{IsThird}
-use Rattle.script_runner.specs.Kinds.{HasKind}
-use Rattle.script_runner.specs.Reached.{IsReachable}
-use Rattle.step_threads.specs.Programs.{kind_at}
+use Rattle.script_runner.proofs.Refusals.{kind_within, no_handle, no_limit, no_owner, no_slot}
+use Rattle.script_runner.proofs.Refusals.{none_of}
 use Rattle.step_threads.specs.declared.programs.call.CellName.TheVariants as cell
-use Rattle.step_threads.specs.declared.programs.call.CellName.{CellName}
 
 pub third : (t : TableNow ℕ) (c : CellName) → IsReachable t c → IsThird c
 third t (cell.Shared n) reach = tt

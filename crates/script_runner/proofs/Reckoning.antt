@@ -1,21 +1,13 @@
 -- What a thread does, in what it makes, ends and says, and in the tasks that are left.
-use Rattle.std.proofs.Common.{◌≡◌, inl, inr, ◌+◌, Bool, true, false, cond, List, [], ◌∷◌, refl, sym, ap, ◌∙◌, arith}
-use Rattle.std.proofs.lemmas.Bool.{cond_both}
-use Rattle.std.specs.Prelude.{IfSome}
-use Rattle.control_block.specs.Own.{KeepsDesks}
-use Rattle.control_word.specs.State.{State}
+use Rattle.std.proofs.Common.{◌≡◌, ◌+◌, Bool, true, false, cond, List, [], ◌∷◌, IfSome, sym, refl}
+use Rattle.std.proofs.Common.{ap, ◌∙◌, inl, inr, arith}
+use Rattle.script_runner.proofs.Prelude.{Act, Ahead, ahead, ahead_of, AnAct, AnEnd, asked_in}
+use Rattle.script_runner.proofs.Prelude.{cond_both, DoesAhead, Ending, Form, frame_settled}
+use Rattle.script_runner.proofs.Prelude.{FrameView, hand, idle, is_full, KeepsDesks, objects_asked}
+use Rattle.script_runner.proofs.Prelude.{Over, refuses, row, Said, slot_pointer, Slots, slots_idle}
+use Rattle.script_runner.proofs.Prelude.{State, taken_idle, Task, TraceLabel}
 use Rattle.script_runner.proofs.Tallying.{act_counts, ends_of, makes_of, mild_some, tells}
-use Rattle.script_runner.specs.Totals.{asked_in, objects_asked, refuses}
-use Rattle.step_table.specs.Registers.{Slots, is_full, slot_pointer}
-use Rattle.step_table.specs.declared.memory.form.Form.{Form}
-use Rattle.step_threads.specs.Frames.{FrameView, hand, idle, frame_settled, slots_idle, taken_idle}
-use Rattle.step_threads.specs.TraceLabels.{Ahead, AnAct, AnEnd, TraceLabel, DoesAhead, Over, ahead, ahead_of}
-use Rattle.step_threads.specs.Rows.{row}
-use Rattle.step_threads.specs.declared.programs.act.Act.{Act}
 use Rattle.step_threads.specs.declared.programs.act.Act.TheVariants as act
-use Rattle.step_threads.specs.declared.programs.act.Task.{Task}
-use Rattle.step_threads.specs.declared.ending.Ending.{Ending}
-use Rattle.step_threads.specs.declared.said.Said.{Said}
 
 -- tasks that are passed over ask for no object
 idle_asks : (a : Act) (l : Slots) (taken : Bool) → idle a l taken ≡ true → objects_asked a ≡ 0

@@ -1,23 +1,18 @@
 -- A call on a slot that has a handle of the asked kind isn't refused for want of one; and how calls change the kinds of
 -- what slots have.
-use Rattle.std.proofs.Common.{◌≡◌, ℕ, zero, suc, ◌<◌, ◌≤◌, List, [], ◌∷◌, length, Some, None, inl, inr}
-use Rattle.std.proofs.Common.{refl, sym, ap, subst, ◌∙◌, arith}
-use Rattle.std.proofs.lemmas.Option.{slice_get-map, slice_get_within}
-use Rattle.std.specs.Prelude.{option_map, slice_get, slice_set}
-use Rattle.control_block.specs.Desks.{DeskNow}
-use Rattle.control_block.specs.declared.handles.Held.TheVariants.{Owner, Weak}
-use Rattle.control_block.specs.declared.handles.Held.{Held}
+use Rattle.std.proofs.Common.{◌≡◌, ℕ, zero, suc, ◌<◌, ◌≤◌, List, [], ◌∷◌, length, slice_get}
+use Rattle.std.proofs.Common.{slice_set, Some, None, option_map, sym, refl, ap, ◌∙◌, subst, inl}
+use Rattle.std.proofs.Common.{inr, arith}
+use Rattle.script_runner.proofs.Prelude.{Comes, DeskNow, Fault, HasKind, Held, IsBelow, IsNoSlot}
+use Rattle.script_runner.proofs.Prelude.{IsVacant, KeepsKinds, Kind, kind_in, kind_of_held, Owner}
+use Rattle.script_runner.proofs.Prelude.{SetsKind, slice_get_within, slot_kinds, TableNow, Weak}
+use Rattle.script_runner.proofs.Prelude.{WhyNoHandle, WhyNoneOf, WhyNoOwner, WhyNoWeak}
+use Rattle.std.proofs.lemmas.Option.{slice_get-map}
 use Rattle.control_word.specs.declared.model.handle.Kind.TheVariants as kind
-use Rattle.control_word.specs.declared.model.handle.Kind.{Kind}
-use Rattle.handle_table.specs.Calls.{Comes, IsAtLimit, IsBelow, IsNoSlot, WhyNoHandle, WhyNoOwner, WhyNoWeak}
-use Rattle.handle_table.specs.Cells.{WhyNoneOf}
-use Rattle.handle_table.specs.Parts.{kind_of_held}
+use Rattle.handle_table.specs.Calls.{IsAtLimit}
 use Rattle.handle_table.specs.Tables as table
-use Rattle.handle_table.specs.Tables.{TableNow}
 use Rattle.handle_table.specs.declared.fault.Fault.TheVariants as fault
-use Rattle.handle_table.specs.declared.fault.Fault.{Fault}
 use Rattle.script_runner.proofs.Seating.{same_some}
-use Rattle.script_runner.specs.Kinds.{HasKind, IsVacant, KeepsKinds, SetsKind, kind_in, slot_kinds}
 
 -- the kinds of what slots have, by the slots and back
 pub kind_at_handle : (ss : List table.Slot) (i : ℕ) (s : table.Slot) → slice_get ss i ≡ Some s → slice_get (slot_kinds ss) i ≡ Some (kind_in s)

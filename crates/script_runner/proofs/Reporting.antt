@@ -1,42 +1,22 @@
 -- What workers of a script leave is the script's report.
-use Rattle.std.proofs.Common.{◌≡◌, ◌⊎◌, inl, inr, ℕ, ◌*◌, ◌/◌, ◌≤◌, List, [], ◌∷◌, length, map}
-use Rattle.std.proofs.Common.{refl, sym, ap, subst, ◌∙◌, arith}
-use Rattle.std.proofs.lemmas.List.{length-map}
-use Rattle.std.proofs.lemmas.List.Elements.{All-from_recursion, recursion_from_All}
-use Rattle.std.proofs.lemmas.List.Sums.{sum_by-cons}
-use Rattle.std.specs.Global.{Vec}
-use Rattle.std.specs.List.{AllByRecursion, AllZip}
-use Rattle.std.specs.Prelude.{All, Err, IfErr, IfOk, Ok, Result, sum_by}
-use Rattle.atomic_table.specs.Seated.{TableId}
-use Rattle.control_block.specs.Desks.{DeskNow, DomainNow}
-use Rattle.control_block.specs.Rule.{opening_of}
-use Rattle.control_word.specs.Histories.{IsLegal}
-use Rattle.control_word.specs.State.{Has}
-use Rattle.control_word.specs.declared.model.event.Entry.{Entry}
-use Rattle.control_word.specs.declared.refusal.Refusal.{Refusal}
+use Rattle.std.proofs.Common.{◌≡◌, ℕ, ◌*◌, ◌/◌, ◌≤◌, ◌⊎◌, List, [], ◌∷◌, map, length, IfOk, IfErr}
+use Rattle.std.proofs.Common.{Ok, Err, All, sum_by, Result, sym, refl, ap, ◌∙◌, subst, inl, inr}
+use Rattle.std.proofs.Common.{arith}
+use Rattle.script_runner.proofs.Prelude
+use Prelude.{All-from_recursion, AllByRecursion, AllZip, asked_by_all, Assignment, DeskNow}
+use Prelude.{DomainNow, Entry, field_0, Has, HasAdded, HasAssignment, IsInterleaved, IsLegal}
+use Prelude.{IsReadyFor, IsReport, IsSplitOrJoin, length-map, opening_of, part_in, program_in}
+use Prelude.{recursion_from_All, Refusal, Report, Said, ScriptView, Shape, shape_for, Share}
+use Prelude.{ShareNow, sum_by-cons, TableId, Totals, Vec, Worker}
 use Rattle.control_word.specs.declared.refusal.Refusal.TheVariants.{NotSole}
-use Rattle.control_word.specs.declared.shape.Shape.{Shape}
 use Rattle.handle_table.specs.Staffs.{StaffsOpen}
-use Rattle.handle_table.specs.declared.staff.Share.{Share}
-use Rattle.ownership_ledger.specs.Now.{ShareNow}
-use Rattle.ownership_ledger.specs.declared.share.Totals.{Totals}
-use Rattle.script_runner.proofs.Assigning.{AllShare, Does, all_play, all_share, as_many, same_many, still_share}
+use Rattle.script_runner.proofs.Assigning.{AllShare, Does, all_play, all_share, as_many, same_many}
+use Rattle.script_runner.proofs.Assigning.{still_share}
 use Rattle.script_runner.proofs.Rooms.{all_added, all_say_few}
 use Rattle.script_runner.proofs.Summing.{all_ended, all_made, sum_ended, sum_made}
 use Rattle.script_runner.proofs.Weaving.{teams_interleave}
-use Rattle.script_runner.specs.Assignments.{HasAssignment, IsReadyFor, asked_by_all}
-use Rattle.script_runner.specs.Deals.{field_0}
-use Rattle.script_runner.specs.Reports.{HadWorkers, HasAdded, IsCounted, IsReport, domain_shape, share_for}
-use Rattle.script_runner.specs.Teams.{IsInterleaved}
-use Rattle.script_runner.specs.declared.reports.report.Report.{Report}
-use Rattle.script_runner.specs.declared.workers.assignment.Assignment.{Assignment}
-use Rattle.script_runner.specs.declared.workers.worker.Worker.{Worker}
-use Rattle.script_text.specs.Beginnings.{shape_for}
-use Rattle.script_text.specs.Drafts.{ScriptView}
-use Rattle.script_text.specs.Scripts.{part_in, program_in}
+use Rattle.script_runner.specs.Reports.{HadWorkers, IsCounted, domain_shape, share_for}
 use Rattle.script_text.specs.Versions.{blocks_in}
-use Rattle.step_threads.specs.Interleavings.{IsSplitOrJoin}
-use Rattle.step_threads.specs.declared.said.Said.{Said}
 
 -- the shape of a script's domain
 pub in_shape : (script : ScriptView) (blocks threads : ℕ) (shape : Shape)

@@ -1,13 +1,12 @@
 -- A desk whose table has two slots to spare is below its allowance.
-use Rattle.std.proofs.Common.{◌≡◌, ℕ, zero, suc, ◌+◌, ◌<◌, ◌≤◌, Bool, List, [], ◌∷◌, length, Option, Some, None, refl, ap, arith}
-use Rattle.std.specs.Prelude.{min}
-use Rattle.control_block.specs.Desks.{allowance_of, endings_of}
+use Rattle.std.proofs.Common.{◌≡◌, ℕ, zero, suc, ◌+◌, ◌<◌, ◌≤◌, min, Bool, List, [], ◌∷◌, length}
+use Rattle.std.proofs.Common.{Some, None, Option, refl, ap, arith}
+use Rattle.script_runner.proofs.Prelude.{allowance_of, FitsSlots, IsArranged, IsBelow, IsVacant}
+use Rattle.script_runner.proofs.Prelude.{Kind, kind_in, Stance, TableNow}
+use Rattle.control_block.specs.Desks.{endings_of}
 use Rattle.control_word.specs.Views.{total}
-use Rattle.control_word.specs.declared.model.handle.Kind.{Kind}
-use Rattle.handle_table.specs.Calls.{IsBelow}
 use Rattle.handle_table.specs.Tables as table
-use Rattle.handle_table.specs.Tables.{FitsSlots, TableNow, is_filled}
-use Rattle.script_runner.specs.Kinds.{IsArranged, IsVacant, Stance, kind_in}
+use Rattle.handle_table.specs.Tables.{is_filled}
 
 some_kind : (s : table.Slot) (k : Option Kind) → Some (kind_in s) ≡ Some k → kind_in s ≡ k
 some_kind s k e = ap (or_else k) e

@@ -1,26 +1,14 @@
 -- Each worker has room for all that its thread says and adds.
-use Rattle.std.proofs.Common.{Bool, ◌≡◌, ◌⊎◌, inl, inr, ℕ, ◌+◌, ◌≤◌, true, false, List, [], ◌∷◌, ◌++◌, length, map, refl}
-use Rattle.std.proofs.Common.{ap, subst, ◌∙◌, arith}
-use Rattle.std.specs.Global.{Vec}
-use Rattle.std.specs.List.{AllByRecursion, AllZip}
-use Rattle.control_word.specs.State.{Opening}
-use Rattle.control_word.specs.declared.model.event.Entry.{Entry}
-use Rattle.ownership_ledger.specs.declared.share.Totals.{Totals}
+use Rattle.std.proofs.Common.{◌≡◌, ℕ, ◌+◌, ◌≤◌, Bool, true, false, ◌⊎◌, List, [], ◌∷◌, ◌++◌, map}
+use Rattle.std.proofs.Common.{length, refl, ap, ◌∙◌, subst, inl, inr, arith}
+use Rattle.script_runner.proofs.Prelude.{AllByRecursion, AllMarked, AllZip, asked_by_all, asked_in}
+use Rattle.script_runner.proofs.Prelude.{Entry, field_0, HasAdded, HasNoted, IsInterleaved}
+use Rattle.script_runner.proofs.Prelude.{IsReadyFor, IsTooMuch, Marked, Notes, Opening, Part, Said}
+use Rattle.script_runner.proofs.Prelude.{tasks_from, told_in, Totals, Vec, Worker}
 use Rattle.script_runner.proofs.Assigning.{AllNote}
 use Rattle.script_runner.proofs.Bounding.{AllFew, all_asked, interleaved_few, interleaved_told}
 use Rattle.script_runner.proofs.Summing.{marked_ended, marked_made}
 use Rattle.script_runner.proofs.TasksAsk.{tasks_ask}
-use Rattle.script_runner.specs.Assignments.{IsReadyFor, asked_by_all}
-use Rattle.script_runner.specs.Deals.{field_0}
-use Rattle.script_runner.specs.Notes.{HasNoted, IsTooMuch, Notes}
-use Rattle.script_runner.specs.Reports.{HasAdded}
-use Rattle.script_runner.specs.Teams.{AllMarked, IsInterleaved}
-use Rattle.script_runner.specs.Totals.{asked_in, told_in}
-use Rattle.script_runner.specs.declared.workers.worker.Worker.{Worker}
-use Rattle.step_threads.specs.Acts.{tasks_from}
-use Rattle.step_threads.specs.Interleavings.{Marked}
-use Rattle.step_threads.specs.Programs.{Part}
-use Rattle.step_threads.specs.declared.said.Said.{Said}
 
 clash : (b : Bool) → b ≡ true → b ≡ false → ⊥
 clash true a b = cc

@@ -1,53 +1,34 @@
 -- Rounds of what a table was left to end, as acts of a thread.
-use Rattle.std.proofs.Common.{subst, ◌∙◌, arith, ◌+◌, ◌-◌}
-use Rattle.std.proofs.Common.{◌≡◌, ℕ, ◌<◌, Bool, true, false, List, [], ◌∷◌, ◌++◌, length, Option, Some, None, refl, sym, ap}
-use Rattle.std.proofs.lemmas.List.{append-nil}
-use Rattle.std.specs.Prelude.{slice_set}
-use Rattle.control_block.specs.CellCalls.{handle_in}
-use Rattle.control_block.specs.Desks.{AddsEvent, DeskNow, latest_of, object_in, on_latest, IsEnding}
+use Rattle.std.proofs.Common.{◌≡◌, ℕ, ◌+◌, ◌-◌, ◌<◌, Bool, true, false, List, [], ◌∷◌, ◌++◌}
+use Rattle.std.proofs.Common.{length, slice_set, Some, None, Option, sym, refl, ap, ◌∙◌, subst}
+use Rattle.std.proofs.Common.{append-nil, arith}
+use Rattle.script_runner.proofs.Prelude
+use Prelude.{AddsEvent, AllEnd, Block, Cleared, counting, DeskNow, Ending, Event, First, Form}
+use Prelude.{frame_settled, FrameView, Gone, handle_in, IsAtStage, IsClearing, IsEnding, IsGone}
+use Prelude.{IsHand, IsLeft, IsMakeEvent, IsRound, Kind, latest_of, Leave, LeavesWeakly, Member}
+use Prelude.{Next, object_in, on_latest, Piled, piled, Place, plain, remains, Round, RoundSays}
+use Prelude.{Said, Settled, shown_slots, slot_of, slot_value, Slots, staged, TableNow, TakesThread}
+use Prelude.{Task, TellsThread, told_line, Up, with_clear, with_end}
 use Rattle.control_word.specs.declared.model.event.Event.TheVariants as event
-use Rattle.control_word.specs.declared.model.event.Event.{Event}
 use Rattle.control_word.specs.declared.model.handle.Kind.TheVariants as kind
-use Rattle.control_word.specs.declared.model.handle.Kind.{Kind}
-use Rattle.control_word.specs.declared.place.Block.{Block}
-use Rattle.control_word.specs.declared.place.Place.{Place}
-use Rattle.handle_table.specs.Tables.{TableNow}
 use Rattle.script_runner.proofs.Calling as law
 use Rattle.script_runner.proofs.Ending as ending
 use Rattle.script_runner.proofs.Leavings.{remains_kept}
 use Rattle.script_runner.proofs.Seating.{hand_is, quietly, shown_at, shown_many}
-use Rattle.script_runner.proofs.Stages.{last_same, some_last, stage_of, ends_last, next_stage, block_of, IsStarting, clearing_starts, all_clear}
+use Rattle.script_runner.proofs.Stages.{last_same, some_last, stage_of, ends_last, next_stage}
+use Rattle.script_runner.proofs.Stages.{block_of, IsStarting, clearing_starts, all_clear}
 use Rattle.script_runner.proofs.Takings.{stayed}
 use Rattle.script_runner.specs.Calls as calls
-use Rattle.script_runner.specs.EndCalls.{IsAtStage, Piled, RoundsIn, RoundSays, TakesThread}
-use Rattle.script_runner.specs.Logs.{TellsThread, told_line}
-use Rattle.script_runner.specs.Seats.{IsHand, shown_slots}
-use Rattle.shared_handle.specs.Calls.{LeavesWeakly, counting}
-use Rattle.shared_handle.specs.Endings.{IsClearing, IsGone, IsLeft, with_clear}
-use Rattle.shared_handle.specs.Piles.{AllEnd, ClearsTop, IsRound, gone_of, piled}
+use Rattle.script_runner.specs.EndCalls.{RoundsIn}
+use Rattle.shared_handle.specs.Piles.{ClearsTop, gone_of}
 use Rattle.shared_handle.specs.declared.endings.Ending as pile
 use Rattle.shared_handle.specs.declared.endings.Left.TheVariants as left
 use Rattle.shared_handle.specs.declared.endings.Left.{Left}
-use Rattle.shared_handle.specs.declared.endings.Member.TheVariants.{First, Next, Up}
-use Rattle.shared_handle.specs.declared.endings.Member.{Member}
-use Rattle.shared_handle.specs.declared.pile.Gone.{Gone}
-use Rattle.shared_handle.specs.declared.pile.Round.TheVariants.{Settled, Cleared, Ended}
-use Rattle.shared_handle.specs.declared.pile.Round.{Round}
-use Rattle.step_table.specs.Contents.{slot_of}
-use Rattle.step_table.specs.AtomicSteps.{remains}
-use Rattle.step_table.specs.Registers.{Slots, plain, slot_value}
+use Rattle.shared_handle.specs.declared.pile.Round.TheVariants.{Ended}
 use Rattle.step_table.specs.declared.memory.ended.Ended as said_end
-use Rattle.step_table.specs.declared.memory.form.Form.{Form}
 use Rattle.step_table.specs.declared.slots.slot.Slot.TheVariants.{Full}
-use Rattle.step_threads.specs.Frames.{hand as hand_of, frame_settled, FrameView}
-use Rattle.step_threads.specs.TraceLabels.{IsMakeEvent}
-use Rattle.step_threads.specs.Endings.{staged}
+use Rattle.step_threads.specs.Frames.{hand as hand_of}
 use Rattle.step_threads.specs.Rows as rows
-use Rattle.step_threads.specs.Rows.{frame_after_act, with_end}
-use Rattle.step_threads.specs.declared.programs.act.Act.TheVariants.{Leave}
-use Rattle.step_threads.specs.declared.programs.act.Task.{Task}
-use Rattle.step_threads.specs.declared.ending.Ending.{Ending}
-use Rattle.step_threads.specs.declared.said.Said.{Said}
 
 -- by a round the thread goes on, with this in hand and these tasks after it
 record ByRound {V : Type 0} (worth : Form → V) (m k : ℕ) (t u : TableNow V) (round : Round V) (es : List Ending)

@@ -1,27 +1,15 @@
 -- What a thread has in its slots, by those of a table.
-use Rattle.std.proofs.Common.{subst, ◌∙◌, arith}
-use Rattle.std.proofs.Common.{◌≡◌, ℕ, zero, suc, ◌+◌, ◌<◌, ◌≤◌, List, [], ◌∷◌, length, Option, Some, None, refl, sym, ap}
-use Rattle.std.specs.Prelude.{slice_get, slice_set}
+use Rattle.std.proofs.Common.{◌≡◌, ℕ, zero, suc, ◌+◌, ◌<◌, ◌≤◌, List, [], ◌∷◌, length, slice_get}
+use Rattle.std.proofs.Common.{slice_set, Some, None, Option, sym, refl, ap, ◌∙◌, subst, arith}
+use Rattle.script_runner.proofs.Prelude.{as_slot, Block, block_of_held, Comes, counting, DeskNow}
+use Rattle.script_runner.proofs.Prelude.{fits_at, FitsSlots, hand, HasHandle, Held, IsHand}
+use Rattle.script_runner.proofs.Prelude.{IsQuiet, Kind, kind_of_held, LeavesSlot, Owner, Place}
+use Rattle.script_runner.proofs.Prelude.{place_of_held, pointer_of, shown_slots, Slot, slot_by}
+use Rattle.script_runner.proofs.Prelude.{slot_pointer, slot_value, TableNow, Weak}
 use Rattle.control_block.specs.CellCalls.{HoldsHandle}
-use Rattle.control_block.specs.Desks.{DeskNow, HasHandle}
-use Rattle.control_block.specs.declared.handles.Held.TheVariants.{Owner, Weak}
-use Rattle.control_block.specs.declared.handles.Held.{Held}
 use Rattle.control_word.specs.declared.model.handle.Kind.TheVariants as kind
-use Rattle.control_word.specs.declared.model.handle.Kind.{Kind}
-use Rattle.control_word.specs.declared.place.Block.{Block}
-use Rattle.control_word.specs.declared.place.Place.{Place}
-use Rattle.handle_table.proofs.Filling.{fits_at}
-use Rattle.handle_table.specs.Calls.{Comes, LeavesSlot}
-use Rattle.handle_table.specs.Parts.{kind_of_held, block_of_held, place_of_held}
 use Rattle.handle_table.specs.Tables as table
-use Rattle.handle_table.specs.Tables.{FitsSlots, TableNow}
 use Rattle.script_runner.specs.Calls.{HasPointer}
-use Rattle.script_runner.specs.Seats.{IsHand, IsQuiet, as_slot, shown_slots}
-use Rattle.shared_handle.specs.Calls.{counting}
-use Rattle.step_table.specs.Contents.{slot_by}
-use Rattle.step_table.specs.Registers.{pointer_of, slot_pointer, slot_value}
-use Rattle.step_table.specs.declared.slots.slot.Slot.{Slot}
-use Rattle.step_threads.specs.Frames.{hand}
 
 abbrev or_else : {A : Type 0} → A → Option A → A
 or_else a None = a

@@ -1,30 +1,20 @@
 -- How what an act left to end does so, and how a worker plays its thread from the first act to the last.
-use Rattle.std.proofs.Common.{◌≡◌, ℕ, ◌+◌, Bool, false, List, [], ◌++◌, length, Option, Some, None, refl}
-use Rattle.std.proofs.Common.{sym, ap, subst, ◌∙◌}
-use Rattle.handle_table.specs.Tables.{TableNow}
+use Rattle.std.proofs.Common.{◌≡◌, ℕ, ◌+◌, Bool, false, List, [], ◌++◌, length, Some, None, Option}
+use Rattle.std.proofs.Common.{sym, refl, ap, ◌∙◌, subst}
+use Rattle.script_runner.proofs.Prelude
+use Prelude.{AllBare, Cleared, field_0, first_frame, frame_settled, GoesOnWith, IsHand}
+use Prelude.{IsHandOfTable, IsOnward, IsPartlySettled, IsQuiet, IsRound, IsRoundTold, IsSettledBy}
+use Prelude.{no_slots, object_in, Part, remains, Round, RoundSays, Said, Settled, TableNow}
+use Prelude.{TakesThread, Task, tasks_from, TellsThread, thread_slots, told_line}
 use Rattle.script_runner.proofs.Ending.{by_quiet}
 use Rattle.script_runner.proofs.Onward.{none_piled}
 use Rattle.script_runner.proofs.Rounds.{rounds}
 use Rattle.script_runner.proofs.Stages.{last_same, some_last}
-use Rattle.script_runner.specs.Deals.{GoesOnWith, IsOnward, IsRoundTold, IsHandOfTable, IsSettledBy, IsPartlySettled, field_0, thread_slots}
-use Rattle.script_runner.specs.EndCalls.{RoundSays, TakesThread}
-use Rattle.script_runner.specs.Logs.{TellsThread, told_line}
-use Rattle.script_runner.specs.Seats.{IsHand, IsQuiet}
-use Rattle.script_runner.specs.Teams.{AllBare, PlaysThread}
-use Rattle.shared_handle.specs.Piles.{IsRound}
+use Rattle.script_runner.specs.Teams.{PlaysThread}
 use Rattle.shared_handle.specs.declared.endings.Ending as pile
 use Rattle.shared_handle.specs.declared.pile.Gone.TheVariants as gone
-use Rattle.shared_handle.specs.declared.pile.Round.TheVariants.{Settled, Cleared, Ended}
-use Rattle.shared_handle.specs.declared.pile.Round.{Round}
-use Rattle.step_table.specs.AtomicSteps.{remains}
+use Rattle.shared_handle.specs.declared.pile.Round.TheVariants.{Ended}
 use Rattle.step_table.specs.declared.memory.ended.Ended as ended
-use Rattle.step_threads.specs.Acts.{tasks_from}
-use Rattle.step_threads.specs.Frames.{frame_settled}
-use Rattle.step_threads.specs.Interleavings.{first_frame, no_slots}
-use Rattle.step_threads.specs.Programs.{Part}
-use Rattle.step_threads.specs.declared.programs.act.Task.{Task}
-use Rattle.step_threads.specs.declared.said.Said.{Said}
-use Rattle.control_block.specs.Desks.{object_in}
 
 pub in_seat : (hand : ℕ) (t : TableNow ℕ) → IsHandOfTable hand t false → IsHand (hand + 1) hand t
 in_seat hand t s =

@@ -1,15 +1,15 @@
 -- A thread that passes over acts, with endings under way.
-use Rattle.std.proofs.Common.{◌≡◌, ℕ, zero, suc, Bool, true, false, cond, List, [], ◌∷◌, length, refl, sym, ap, ◌∙◌, ◌-◌}
-use Rattle.std.proofs.lemmas.Bool.{cond-false, cond_both}
-use Rattle.std.proofs.lemmas.List.{length-set}
-use Rattle.std.specs.Prelude.{slice_set}
-use Rattle.step_table.specs.Registers.{Slots, plain, slot_value}
-use Rattle.step_threads.specs.Frames.{FrameView, hand, idle, other, placed, frame_settled, slots_idle, taken_idle}
-use Rattle.step_threads.specs.declared.programs.act.Act.TheVariants.{Make, Share, Downgrade, Lock, Put, Leave, Clear, Count, Expired, Read, FromThis, Alias}
-use Rattle.step_threads.specs.declared.programs.act.Act.TheVariants.{Move, Ask, Offer, Swap, Exchange, Load, Compare, Holds, Drop, OnShelf}
-use Rattle.step_threads.specs.declared.programs.act.Act.{Act}
-use Rattle.step_threads.specs.declared.programs.act.Task.{Task}
-use Rattle.step_threads.specs.declared.ending.Ending.{Ending}
+use Rattle.std.proofs.Common.{◌≡◌, ℕ, zero, suc, ◌-◌, Bool, true, false, cond, List, [], ◌∷◌}
+use Rattle.std.proofs.Common.{length, slice_set, sym, refl, ap, ◌∙◌, length-set}
+use Rattle.script_runner.proofs.Prelude.{Act, cond-false, cond_both, Ending, frame_settled}
+use Rattle.script_runner.proofs.Prelude.{FrameView, hand, idle, Leave, other, placed, plain}
+use Rattle.script_runner.proofs.Prelude.{slot_value, Slots, slots_idle, taken_idle, Task}
+use Rattle.step_threads.specs.declared.programs.act.Act.TheVariants.{Make, Share, Downgrade, Lock}
+use Rattle.step_threads.specs.declared.programs.act.Act.TheVariants.{Put, Clear, Count, Expired}
+use Rattle.step_threads.specs.declared.programs.act.Act.TheVariants.{Read, FromThis, Alias, Move}
+use Rattle.step_threads.specs.declared.programs.act.Act.TheVariants.{Ask, Offer, Swap, Exchange}
+use Rattle.step_threads.specs.declared.programs.act.Act.TheVariants.{Load, Compare, Holds, Drop}
+use Rattle.step_threads.specs.declared.programs.act.Act.TheVariants.{OnShelf}
 
 -- one of two walks, with these endings or none
 either : (b : Bool) (es : List Ending) (f g : List Ending → FrameView) → f es ≡ record (f []) { endings = es } → g es ≡ record (g []) { endings = es }

@@ -1,29 +1,16 @@
 -- How many lines a thread has: one at most for each task, and one for each object that ends by it.
-use Rattle.std.proofs.Common.{◌≡◌, ◌≢◌, inl, inr, ℕ, ◌+◌, ◌≤◌, ◌==◌, Bool, true, false, cond, ◌||◌}
-use Rattle.std.proofs.Common.{List, [], ◌∷◌, ◌++◌, length, Option, Some, None, refl, ap, ◌∙◌, arith, length-append, ne_eqb}
-use Rattle.std.proofs.lemmas.Bool.{cond-false, cond_both}
-use Rattle.std.proofs.lemmas.List.{append-nil}
-use Rattle.std.specs.Prelude.{is_some}
-use Rattle.control_word.specs.Histories.{leads}
-use Rattle.control_word.specs.State.{Opening, State}
-use Rattle.control_word.specs.declared.model.event.Entry.{Entry}
+use Rattle.std.proofs.Common.{◌≡◌, ℕ, ◌+◌, ◌≤◌, Bool, true, false, cond, ◌||◌, ◌≢◌, List, [], ◌∷◌}
+use Rattle.std.proofs.Common.{◌++◌, length, is_some, ◌==◌, Some, None, Option, refl, ap, ◌∙◌, inl}
+use Rattle.std.proofs.Common.{inr, append-nil, arith, length-append, ne_eqb}
+use Rattle.script_runner.proofs.Prelude
+use Prelude.{Ahead, ahead, ahead_of, AnAct, AnEnd, Answer, cond-false, cond_both, DoesAhead, Ended}
+use Prelude.{Ending, Entry, first_frame, Form, frame_settled, FrameView, GoesThrough, hand, idle}
+use Prelude.{is_full, leads, Left, lines, Marked, no_slots, onto, Opening, Over, Part, Reply, row}
+use Prelude.{Said, said_on, slot_pointer, Slots, slots_idle, spoken, State, taken_idle, Task}
+use Prelude.{tasks_from, told_in, TraceLabel, with_end}
 use Rattle.script_runner.proofs.Logging.{own_said, said_append}
 use Rattle.script_runner.proofs.Summing.{line_tells, told_append}
-use Rattle.script_runner.specs.Totals.{told_in}
-use Rattle.step_table.specs.Registers.{Slots, is_full, slot_pointer}
-use Rattle.step_table.specs.declared.memory.ended.Ended.{Ended}
-use Rattle.step_table.specs.declared.memory.form.Form.{Form}
-use Rattle.step_threads.specs.Acts.{tasks_from}
-use Rattle.step_threads.specs.Frames.{FrameView, hand, idle, slots_idle, taken_idle, frame_settled}
-use Rattle.step_threads.specs.TraceLabels.{Ahead, AnAct, AnEnd, TraceLabel, DoesAhead, GoesThrough, Over, ahead, ahead_of, lines, onto, spoken}
-use Rattle.step_threads.specs.Interleavings.{Marked, first_frame, no_slots, said_on}
-use Rattle.step_threads.specs.Programs.{Part}
-use Rattle.step_threads.specs.Rows.{Left, Reply, row, with_end}
-use Rattle.step_threads.specs.declared.ending.Ending.{Ending}
 use Rattle.step_threads.specs.declared.programs.act.Act.TheVariants as act
-use Rattle.step_threads.specs.declared.programs.act.Task.{Task}
-use Rattle.step_threads.specs.declared.said.Answer.{Answer}
-use Rattle.step_threads.specs.declared.said.Said.{Said}
 
 -- the tasks of a part of a script, from its first act to the end of its names
 abbrev pub tasks_of : Part → List Task

@@ -1,17 +1,13 @@
 -- How far an object that ends is, and what lies on a pile.
-use Rattle.std.proofs.Common.{subst, ◌∙◌, arith, ◌+◌}
-use Rattle.std.proofs.Common.{◌≡◌, ℕ, zero, suc, ◌<◌, cond, List, [], ◌∷◌, ◌++◌, length, Option, Some, None, refl, sym, ap}
-use Rattle.control_block.specs.Desks.{DeskNow}
-use Rattle.control_word.specs.declared.place.Block.{Block}
-use Rattle.control_word.specs.declared.place.Place.{Place}
-use Rattle.script_runner.specs.EndCalls.{IsAtStage}
-use Rattle.shared_handle.specs.Endings.{EndsInHand, IsClearing, IsGone, IsLeft, IsUncleared, with_clear, IsAllClear}
-use Rattle.shared_handle.specs.Piles.{AllEnd, next_member}
+use Rattle.std.proofs.Common.{◌≡◌, ℕ, zero, suc, ◌+◌, ◌<◌, cond, List, [], ◌∷◌, ◌++◌, length, Some}
+use Rattle.std.proofs.Common.{None, Option, sym, refl, ap, ◌∙◌, subst, arith}
+use Rattle.script_runner.proofs.Prelude.{AllEnd, Block, DeskNow, First, IsAtStage, IsClearing}
+use Rattle.script_runner.proofs.Prelude.{IsGone, IsLeft, Member, Next, Place, Up, with_clear}
+use Rattle.shared_handle.specs.Endings.{EndsInHand, IsUncleared, IsAllClear}
+use Rattle.shared_handle.specs.Piles.{next_member}
 use Rattle.shared_handle.specs.declared.endings.Ending as pile
 use Rattle.shared_handle.specs.declared.endings.Left.TheVariants as left
 use Rattle.shared_handle.specs.declared.endings.Left.{Left}
-use Rattle.shared_handle.specs.declared.endings.Member.TheVariants.{First, Next, Up}
-use Rattle.shared_handle.specs.declared.endings.Member.{Member}
 
 abbrev pub first_or : {A : Type 0} → A → List A → A
 first_or a [] = a

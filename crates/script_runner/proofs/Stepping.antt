@@ -1,21 +1,14 @@
 -- A worker's acts, one after another.
-use Rattle.std.proofs.Common.{◌≡◌, ◌⊎◌, ℕ, zero, suc, ◌+◌, Bool, true, false, List, [], ◌∷◌, ◌++◌, Option, Some, None, sym}
-use Rattle.std.proofs.Common.{ap, subst, ◌∙◌, inl, inr, arith}
-use Rattle.std.specs.Prelude.{IfNone, IfSome, drop, slice_get}
-use Rattle.handle_table.specs.Tables.{TableNow}
+use Rattle.std.proofs.Common.{◌≡◌, ℕ, zero, suc, ◌+◌, Bool, true, false, ◌⊎◌, List, [], ◌∷◌, ◌++◌}
+use Rattle.std.proofs.Common.{drop, IfSome, IfNone, slice_get, Some, None, Option, sym, ap, ◌∙◌}
+use Rattle.std.proofs.Common.{subst, inl, inr, arith}
+use Rattle.script_runner.proofs.Prelude.{Act, ActResult, CellName, Ended, GoesOnWith, IsCompared}
+use Rattle.script_runner.proofs.Prelude.{IsDealt, IsSettledBy, IsTop, Said, statement_says}
+use Rattle.script_runner.proofs.Prelude.{TableNow, Task, task, told_line}
 use Rattle.script_runner.proofs.Onward.{compared_on, deal_on, differs_on, line}
 use Rattle.script_runner.proofs.Settles.{then_settled}
-use Rattle.script_runner.specs.Deals.{GoesOnWith, IsCompared, IsDealt, IsSettledBy, IsTop, statement_says}
-use Rattle.script_runner.specs.Goings.{task}
-use Rattle.script_runner.specs.Logs.{told_line}
-use Rattle.script_runner.specs.declared.acts.act_result.ActResult.{ActResult}
-use Rattle.step_table.specs.declared.memory.ended.Ended.{Ended}
 use Rattle.step_threads.specs.declared.programs.act.Act.TheVariants as act
-use Rattle.step_threads.specs.declared.programs.act.Act.{Act}
-use Rattle.step_threads.specs.declared.programs.act.Task.{Task}
-use Rattle.step_threads.specs.declared.programs.call.CellName.{CellName}
 use Rattle.step_threads.specs.declared.said.Answer.TheVariants as answer
-use Rattle.step_threads.specs.declared.said.Said.{Said}
 
 pub or_then : {A B C : Type 0} → A ⊎ B → (B → C) → A ⊎ C
 or_then (inl a) f = inl a

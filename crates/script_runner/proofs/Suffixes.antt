@@ -1,14 +1,9 @@
 -- What is left of tasks that suit suits where the thread is.
-use Rattle.std.proofs.Common.{◌≡◌, ℕ, zero, suc, ◌+◌, Bool, List, [], ◌∷◌, Some, refl, sym, ap, subst}
-use Rattle.std.proofs.Common.{◌∙◌, arith}
-use Rattle.std.specs.Prelude.{drop, slice_get}
-use Rattle.control_word.specs.declared.model.handle.Kind.{Kind}
+use Rattle.std.proofs.Common.{◌≡◌, ℕ, zero, suc, ◌+◌, Bool, List, [], ◌∷◌, drop, slice_get, Some}
+use Rattle.std.proofs.Common.{sym, refl, ap, ◌∙◌, subst, arith}
+use Rattle.script_runner.proofs.Prelude.{AllSuit, CellName, Kind, Stance, Task, task}
 use Rattle.script_runner.proofs.Stepping.{drop_at}
-use Rattle.script_runner.specs.Goings.{task}
-use Rattle.script_runner.specs.Kinds.{AllSuit, Stance}
 use Rattle.step_threads.specs.declared.programs.act.Act.TheVariants as act
-use Rattle.step_threads.specs.declared.programs.act.Task.{Task}
-use Rattle.step_threads.specs.declared.programs.call.CellName.{CellName}
 
 -- the first of what is left
 first_left : {A : Type 0} (xs : List A) (n : ℕ) → slice_get (drop n xs) 0 ≡ slice_get xs n

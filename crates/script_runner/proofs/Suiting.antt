@@ -1,30 +1,21 @@
 -- The tasks of a part of a program suit its names, where its cells are those that texts name and no call shelves.
-use Rattle.std.proofs.Common.{◌≡◌, ℕ, zero, suc, ◌+◌, ◌<◌, false, List, [], ◌∷◌, ◌++◌, length, Option, Some, None, refl, sym}
-use Rattle.std.proofs.Common.{◌∙◌, arith, subst}
-use Rattle.std.specs.Prelude.{All, IsTrue, get_or, is_some, slice_get}
-use Rattle.std.specs.List.{AllByRecursion}
-use Rattle.std.proofs.lemmas.List.Elements.{recursion_from_All}
-use Rattle.std.proofs.lemmas.Option.{slice_get_within}
+use Rattle.std.proofs.Common.{◌≡◌, ℕ, zero, suc, ◌+◌, ◌<◌, false, List, [], ◌∷◌, ◌++◌, length}
+use Rattle.std.proofs.Common.{get_or, is_some, IsTrue, slice_get, Some, None, All, Option, sym}
+use Rattle.std.proofs.Common.{refl, ◌∙◌, subst, arith}
+use Rattle.script_runner.proofs.Prelude
+use Prelude.{acts, AllByRecursion, AllSuit, CellName, clearing, first_stance, HasTextCells, IsIn}
+use Prelude.{IsName, IsNoShelf, IsPart, IsProgram, IsReached, IsSuited, IsUnshelved, Kind, kind_at}
+use Prelude.{Name, numbered_tasks, Part, program_in, ReadsAs, recursion_from_All, ScriptView}
+use Prelude.{Shape, slice_get_within, Task, task, tasks_from}
 use Rattle.control_word.specs.declared.model.handle.Kind.TheVariants as kind
-use Rattle.control_word.specs.declared.model.handle.Kind.{Kind}
-use Rattle.control_word.specs.declared.shape.Shape.{Shape}
 use Rattle.script_runner.proofs.Unshelved.{program_unshelved}
-use Rattle.script_runner.specs.Goings.{task}
-use Rattle.script_runner.specs.Kinds.{AllSuit, IsName, IsReached, first_stance}
-use Rattle.script_runner.specs.Unshelved.{IsNoShelf, IsSuited, IsUnshelved}
 use Rattle.script_text.specs.Canonical.{canonical}
-use Rattle.script_text.specs.Drafts.{ScriptView}
-use Rattle.script_text.specs.Grammar.{ReadsAs}
-use Rattle.script_text.specs.Scripts.{HasTextCells, program_in}
-use Rattle.step_threads.specs.Acts.{acts, clearing, numbered_tasks, tasks_from}
-use Rattle.step_threads.specs.Programs.{AllHaveCells, HasCells, IsDeclared, IsIn, IsPart, IsProgram, IsWellNamed, Part, cells_of, kind_at, names_of, through}
+use Rattle.step_threads.specs.Programs.{AllHaveCells, HasCells, IsDeclared, IsWellNamed, cells_of}
+use Rattle.step_threads.specs.Programs.{names_of, through}
 use Rattle.step_threads.specs.declared.programs.act.Act.TheVariants as act
-use Rattle.step_threads.specs.declared.programs.act.Task.{Task}
 use Rattle.step_threads.specs.declared.programs.call.Call.TheVariants as call
 use Rattle.step_threads.specs.declared.programs.call.Call.{Call}
 use Rattle.step_threads.specs.declared.programs.call.CellName.TheVariants as cell
-use Rattle.step_threads.specs.declared.programs.call.CellName.{CellName}
-use Rattle.step_threads.specs.declared.programs.call.Name.{Name}
 
 -- a shape with just the cells that texts name
 abbrev pub text_shape : Shape

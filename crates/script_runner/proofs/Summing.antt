@@ -1,35 +1,21 @@
 -- What a history makes and ends is what its threads do, and what these say of it.
-use Rattle.std.proofs.Common.{◌≡◌, ◌≢◌, ◌⊎◌, inl, inr, ℕ, ◌+◌, ◌<◌, ◌==◌, Bool, true, false, cond, ◌||◌}
-use Rattle.std.proofs.Common.{List, [], ◌∷◌, ◌++◌, length, Option, Some, None, refl, sym, ap, subst, ◌∙◌, arith}
-use Rattle.std.proofs.Common.{eq-eqb, ne_eqb}
-use Rattle.std.proofs.lemmas.Bool.{cond-false, cond-true, cond_both}
-use Rattle.std.proofs.lemmas.List.{append-nil}
-use Rattle.std.specs.List.{AllByRecursion}
-use Rattle.std.specs.Prelude.{IfSome, is_some}
-use Rattle.control_block.specs.Own.{KeepsDesks}
-use Rattle.control_word.specs.Histories.{leads}
-use Rattle.control_word.specs.State.{Has, Opening}
-use Rattle.control_word.specs.declared.model.event.Entry.{Entry}
-use Rattle.control_word.specs.declared.model.event.Event.{Event}
+use Rattle.std.proofs.Common.{◌≡◌, ℕ, ◌+◌, ◌<◌, Bool, true, false, cond, ◌||◌, ◌≢◌, ◌⊎◌, List, []}
+use Rattle.std.proofs.Common.{◌∷◌, ◌++◌, length, is_some, IfSome, ◌==◌, Some, None, Option, sym}
+use Rattle.std.proofs.Common.{refl, ap, ◌∙◌, subst, inl, inr, append-nil, arith, eq-eqb, ne_eqb}
+use Rattle.script_runner.proofs.Prelude
+use Prelude.{ahead, ahead_of, AllAbove, AllByRecursion, AnAct, AnEnd, Answer, AreRising, asked_in}
+use Prelude.{cond-false, cond-true, cond_both, count_ended_by, count_ended_in, count_made_in}
+use Prelude.{Ended, Ending, ends, Entry, Event, first_frame, Form, FrameView, GoesThrough, hand}
+use Prelude.{Has, is_full, IsSplitOrJoin, KeepsDesks, leads, lines, made_by, makes, Marked}
+use Prelude.{no_slots, onto, Opening, Over, Part, refuses, Said, said_on, slot_pointer, Slots}
+use Prelude.{spoken, Task, tasks_from, told_in, TraceLabel}
 use Rattle.control_word.specs.declared.model.event.Event.TheVariants as event
 use Rattle.script_runner.proofs.Logging.{own_said, said_append}
 use Rattle.script_runner.proofs.Reckoning.{does_at, settled_asks}
 use Rattle.script_runner.proofs.Tallying.{ends_of, makes_of}
-use Rattle.script_runner.specs.Teams.{AllAbove, AreRising}
-use Rattle.script_runner.specs.Totals.{asked_in, count_ended_by, count_ended_in, ends, made_by, count_made_in, makes, refused_in, refuses, told_in}
-use Rattle.step_table.specs.declared.memory.ended.Ended.{Ended}
-use Rattle.step_table.specs.declared.memory.form.Form.{Form}
-use Rattle.step_threads.specs.Acts.{tasks_from}
-use Rattle.step_table.specs.Registers.{Slots, is_full, slot_pointer}
-use Rattle.step_threads.specs.Frames.{FrameView, hand}
+use Rattle.script_runner.specs.Totals.{refused_in}
 use Rattle.step_threads.specs.declared.programs.act.Act.TheVariants as act
-use Rattle.step_threads.specs.TraceLabels.{AnAct, AnEnd, TraceLabel, GoesThrough, Over, ahead, ahead_of, lines, onto, put_on, spoken}
-use Rattle.step_threads.specs.Interleavings.{IsSplitOrJoin, Marked, first_frame, no_slots, said_on}
-use Rattle.step_threads.specs.Programs.{Part}
-use Rattle.step_threads.specs.declared.programs.act.Task.{Task}
-use Rattle.step_threads.specs.declared.ending.Ending.{Ending}
-use Rattle.step_threads.specs.declared.said.Answer.{Answer}
-use Rattle.step_threads.specs.declared.said.Said.{Said}
+use Rattle.step_threads.specs.TraceLabels.{put_on}
 
 -- lines of two lists
 pub refused_append : (xs ys : List Said) → refused_in (xs ++ ys) ≡ refused_in xs + refused_in ys

@@ -1,30 +1,22 @@
 -- What was in hand goes into a cell, and what that held is to be dropped.
-use Rattle.std.proofs.Common.{◌≡◌, ◌≢◌, ℕ, ◌<◌, ◌+◌, true, false, ◌&&◌, cond, length, Some, None, refl, sym, ap, subst}
-use Rattle.std.proofs.Common.{◌∙◌, inl, inr, arith}
-use Rattle.std.proofs.lemmas.List.{get_or-set_same, set-set, set_comm}
-use Rattle.std.specs.Prelude.{not, slice_get, slice_set}
+use Rattle.std.proofs.Common.{◌≡◌, ℕ, ◌+◌, ◌<◌, true, false, cond, not, ◌&&◌, ◌≢◌, length}
+use Rattle.std.proofs.Common.{slice_get, slice_set, Some, None, sym, refl, ap, ◌∙◌, subst, inl}
+use Rattle.std.proofs.Common.{inr, arith, get_or-set_same, set-set}
+use Rattle.script_runner.proofs.Prelude
+use Prelude.{Acts, as_cell, as_slot, Came, CellName, Done, field_0, idle, is_of, IsDealt, IsOfName}
+use Prelude.{IsQuiet, IsSeated, IsThird, kind_at, LeavesSlot, may_go, plain, set_comm, shown_slots}
+use Prelude.{Slot, slot_value, Slots, TableNow, thread_slots}
 use Rattle.handle_table.specs.Calls as calls
-use Rattle.handle_table.specs.Calls.{LeavesSlot}
 use Rattle.handle_table.specs.Cells as cells
-use Rattle.handle_table.specs.Tables.{TableNow}
 use Rattle.script_runner.proofs.Acting.{acted_as, went}
 use Rattle.script_runner.proofs.Celled.{IsFound, is_found}
 use Rattle.script_runner.proofs.Exchanging.{exchanges_in, is_of_own}
 use Rattle.script_runner.proofs.Offering.{in_shape, named_below}
 use Rattle.script_runner.proofs.Putting.{slice_get-set_other}
 use Rattle.script_runner.proofs.Seating as seating
-use Rattle.script_runner.specs.CellCalls.{IsOfName, as_cell}
-use Rattle.script_runner.specs.Deals.{IsDealt, IsThird, field_0, thread_slots}
-use Rattle.script_runner.specs.Seats.{Acts, Done, IsQuiet, IsSeated, as_slot, shown_slots}
 use Rattle.step_table.specs.Contents as contents
-use Rattle.step_table.specs.Contents.{is_of}
-use Rattle.step_table.specs.Registers.{Slots, plain, slot_value}
-use Rattle.step_table.specs.declared.slots.slot.Slot.{Slot}
-use Rattle.step_threads.specs.Frames.{hand as hand_of, idle, other as other_of}
-use Rattle.step_threads.specs.Programs.{kind_at}
-use Rattle.step_threads.specs.Rows.{Came, may_go}
+use Rattle.step_threads.specs.Frames.{hand as hand_of, other as other_of}
 use Rattle.step_threads.specs.declared.programs.act.Act.TheVariants as act
-use Rattle.step_threads.specs.declared.programs.call.CellName.{CellName}
 
 stays : (t : TableNow ℕ) → IsQuiet t.desk t.desk
 stays t = record { shape = refl; name = refl; seen = refl }

@@ -1,18 +1,15 @@
 -- Which calls of a table are which acts of a thread: the laws as they are stated.
-use Rattle.std.proofs.Common.{inl, inr, ℕ, ap, arith, refl, subst, sym, ◌≡◌}
-use Rattle.std.specs.Prelude.{slice_set}
-use Rattle.handle_table.specs.Tables.{TableNow}
+use Rattle.std.proofs.Common.{◌≡◌, ℕ, slice_set, sym, refl, ap, subst, inl, inr, arith}
+use Rattle.script_runner.proofs.Prelude.{IsHand, IsSeated, other, plain, shown_slots, slot_pointer}
+use Rattle.script_runner.proofs.Prelude.{TableNow, WhyNotThis}
 use Rattle.script_runner.proofs.Giving as giving
 use Rattle.script_runner.proofs.Looking as looking
 use Rattle.script_runner.proofs.Putting as putting
 use Rattle.script_runner.proofs.Seating.{shown_many}
 use Rattle.script_runner.proofs.Takings.{same_call}
-use Rattle.script_runner.specs.Seats.{IsHand, IsSeated, shown_slots}
-use Rattle.script_runner.specs.TableCalls.{AlikeIn, CountsIn, EmptiesIn, ExpiresIn, MarksOrder, MovesIn, PlacesIn, PutsIdle, PutsIn, ReadsIn, ReadsNot}
+use Rattle.script_runner.specs.TableCalls.{AlikeIn, CountsIn, EmptiesIn, ExpiresIn, MarksOrder}
+use Rattle.script_runner.specs.TableCalls.{MovesIn, PlacesIn, PutsIdle, PutsIn, ReadsIn, ReadsNot}
 use Rattle.script_runner.specs.TableCalls.{ResetsIn, ThisIn, ThisNot, WeakThisIn}
-use Rattle.shared_handle.specs.Endings.{WhyNotThis}
-use Rattle.step_table.specs.Registers.{plain, slot_pointer}
-use Rattle.step_threads.specs.Frames.{other}
 use Rattle.step_threads.specs.Rows as rows
 use Rattle.step_threads.specs.declared.programs.act.Act.TheVariants as act
 

@@ -1,35 +1,24 @@
 -- Which calls of a table into the hand are which acts of a thread.
-use Rattle.std.proofs.Common.{◌≡◌, ℕ, ◌<◌, Bool, Option, Some, None, refl, sym, ap, subst, ◌∙◌, inl, inr, arith}
-use Rattle.std.specs.Prelude.{option_map}
-use Rattle.control_block.specs.Desks.{DeskNow, latest_of, on_latest, state_of}
+use Rattle.std.proofs.Common.{◌≡◌, ℕ, ◌<◌, Bool, Some, None, Option, option_map, sym, refl, ap}
+use Rattle.std.proofs.Common.{◌∙◌, subst, inl, inr, arith}
+use Rattle.script_runner.proofs.Prelude
+use Prelude.{Acts, aliased, as_slot, Block, Call, copies, copy, DeskNow, Done, Fault, Field, Form}
+use Prelude.{Handle, Held, IsAt, IsCopy, IsHand, IsOwner, IsQuiet, IsWeak, latest_of, on_latest}
+use Prelude.{Owner, owner_slot, Place, place_in, Plain, Refusal, Shared, shown_slots, slot_by}
+use Prelude.{slot_pointer, slot_value, state_of, TableNow, Weak}
 use Rattle.control_block.specs.Handles.{IsProper}
-use Rattle.control_block.specs.declared.handles.Held.TheVariants.{Owner, Weak}
-use Rattle.control_block.specs.declared.handles.Held.{Held}
-use Rattle.control_block.specs.declared.handles.Shared.{Shared}
 use Rattle.control_block.specs.declared.handles.Weak as weak_handle
 use Rattle.control_word.specs.declared.model.event.Event.TheVariants as event
 use Rattle.control_word.specs.declared.model.handle.Kind.TheVariants as kind
-use Rattle.control_word.specs.declared.place.Block.{Block}
-use Rattle.control_word.specs.declared.place.Place.{Place}
 use Rattle.control_word.specs.declared.refusal.Refusal.TheVariants.{Memory}
-use Rattle.control_word.specs.declared.refusal.Refusal.{Refusal}
-use Rattle.handle_table.specs.Calls.{IsCopy, IsOwner, IsWeak}
-use Rattle.handle_table.specs.Tables.{IsAt, TableNow}
-use Rattle.handle_table.specs.declared.fault.Fault.TheVariants.{Call}
-use Rattle.handle_table.specs.declared.fault.Fault.{Fault}
 use Rattle.script_runner.proofs.Calling as law
-use Rattle.script_runner.proofs.Seating.{Came, came_in, has_pointer, in_hand, no_pointer, quietly, shown_at}
-use Rattle.script_runner.specs.Seats.{Acts, Done, IsHand, IsQuiet, as_slot, shown_slots}
+use Rattle.script_runner.proofs.Seating.{Came, came_in, has_pointer, in_hand, no_pointer, quietly}
+use Rattle.script_runner.proofs.Seating.{shown_at}
 use Rattle.script_runner.specs.TableCalls.{AliasesIn, CopiesIn, DowngradesIn}
 use Rattle.shared_handle.specs.Calls as inner
-use Rattle.step_table.specs.Contents.{slot_by}
-use Rattle.step_table.specs.AtomicSteps.{aliased, as_weak}
-use Rattle.step_table.specs.Registers.{filled, owner_slot, place_in, slot_pointer, slot_value}
-use Rattle.step_table.specs.declared.memory.field.Field.{Field}
-use Rattle.step_table.specs.declared.memory.form.Form.{Form}
-use Rattle.control_word.specs.declared.handle.Handle.{Handle}
-use Rattle.step_threads.specs.TraceLabels.{copy, copies}
-use Rattle.step_threads.specs.Rows.{Plain, alias_of}
+use Rattle.step_table.specs.AtomicSteps.{as_weak}
+use Rattle.step_table.specs.Registers.{filled}
+use Rattle.step_threads.specs.Rows.{alias_of}
 use Rattle.step_threads.specs.declared.programs.act.Act.TheVariants as act
 
 -- an empty weak handle points nowhere

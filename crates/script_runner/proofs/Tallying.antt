@@ -1,34 +1,23 @@
 -- What a thread's acts make, end and say, as numbers; and none of them is a split or a join.
+use Rattle.std.proofs.Common.{◌≡◌, ℕ, ◌+◌, Bool, true, false, cond, is_some, IfSome, Some, None}
+use Rattle.std.proofs.Common.{Option, option_map, sym, refl, subst, arith}
+use Rattle.script_runner.proofs.Prelude
+use Prelude.{Act, aliased, Answer, Block, Came, CellName, Compared, copies, copy, Ended, ends}
+use Prelude.{Event, Form, Found, Full, Got, hand, Handle, inside, is_enabled, is_full, is_there}
+use Prelude.{IsLeaveEvent, IsLoadEvent, IsMakeEvent, IsSameEvent, IsSwapEvent, KeepsDesks, Kind}
+use Prelude.{Left, makes, may_go, objects_asked, offered, On, other, outside, owned, owner_slot}
+use Prelude.{Place, place_at, place_in, Plain, Question, refusal, refuses, Reply, row}
+use Prelude.{slot_pointer, Slots, State, Told, unless, weak_slot, Where}
 use Rattle.step_threads.specs.declared.programs.act.ShelfAct.TheVariants.{Shelve, Unshelve}
-use Rattle.std.proofs.Common.{◌≡◌, ℕ, ◌+◌, Bool, true, false, cond, Option, Some, None, refl, sym, subst, arith}
-use Rattle.std.specs.Prelude.{IfSome, is_some, option_map}
-use Rattle.control_block.specs.Own.{KeepsDesks}
-use Rattle.control_word.specs.Events.{place_at}
-use Rattle.control_word.specs.State.{State}
-use Rattle.control_word.specs.declared.model.event.Event.{Event}
 use Rattle.control_word.specs.declared.model.event.Event.TheVariants as event
-use Rattle.control_word.specs.declared.model.handle.Kind.{Kind}
 use Rattle.control_word.specs.declared.model.handle.Kind.TheVariants.{Owner, Weak}
-use Rattle.control_word.specs.declared.place.Block.{Block}
-use Rattle.control_word.specs.declared.place.Place.{Place}
-use Rattle.control_word.specs.declared.refusal.Refusal.TheVariants.{Full, NotEnabled}
-use Rattle.script_runner.specs.Totals.{objects_asked, ends, makes, refuses}
-use Rattle.step_table.specs.AtomicSteps.{aliased, is_enabled, owned}
-use Rattle.step_table.specs.Registers.{Slots, inside, is_full, owner_slot, place_in, slot_pointer, weak_slot}
-use Rattle.step_table.specs.declared.memory.ended.Ended.{Ended}
-use Rattle.step_table.specs.declared.memory.form.Form.{Form}
-use Rattle.control_word.specs.declared.handle.Handle.{Handle}
-use Rattle.step_threads.specs.Frames.{hand, is_there, offered, other}
-use Rattle.step_threads.specs.TraceLabels.{IsLeaveEvent, IsMakeEvent, IsLoadEvent, On, IsSameEvent, IsSwapEvent, Where, copies, copy, leaves_as}
-use Rattle.step_threads.specs.Rows.{Came, Compared, Found, Got, Left, Plain, Reply, Told, asked, may_go, not_given, row, unless, lock_answer, outside, refusal}
+use Rattle.control_word.specs.declared.refusal.Refusal.TheVariants.{NotEnabled}
+use Rattle.step_threads.specs.TraceLabels.{leaves_as}
+use Rattle.step_threads.specs.Rows.{asked, not_given, lock_answer}
 use Rattle.step_threads.specs.AbstractStates.{remains_as}
-use Rattle.step_threads.specs.declared.programs.act.Act.{Act}
 use Rattle.step_threads.specs.declared.programs.act.Act.TheVariants as act
-use Rattle.step_threads.specs.declared.programs.act.Question.{Question}
 use Rattle.step_threads.specs.declared.programs.act.Question.TheVariants as question
-use Rattle.step_threads.specs.declared.programs.call.CellName.{CellName}
 use Rattle.step_threads.specs.declared.programs.call.CellName.TheVariants as cell
-use Rattle.step_threads.specs.declared.said.Answer.{Answer}
 use Rattle.step_threads.specs.declared.said.Answer.TheVariants as answer
 
 -- which answers say that there was no block

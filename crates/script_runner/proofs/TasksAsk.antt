@@ -1,20 +1,16 @@
 -- How many objects a script asks for: no more than it has calls.
-use Rattle.std.proofs.Common.{◌≡◌, ℕ, zero, suc, ◌+◌, ◌<◌, ◌≤◌, List, [], ◌∷◌, ◌++◌, length, map, take, get_or, replicate}
-use Rattle.std.proofs.Common.{refl, sym, ap, ◌∙◌, arith}
-use Rattle.std.proofs.lemmas.List.{length-take-le, map_more, take-map, take_more}
-use Rattle.std.proofs.lemmas.List.Sums.{sum_by-cons, sum_by-take-le}
-use Rattle.script_runner.specs.Assignments.{asked_by, asked_by_all, asked_by_calls}
-use Rattle.script_runner.specs.Totals.{asked_in}
-use Rattle.step_threads.specs.Acts.{acts, clearing, numbered_tasks, tasks_from}
-use Rattle.step_threads.specs.Programs.{Part, call_count, part_of}
-use Rattle.step_threads.specs.declared.programs.act.Act.{Act}
+use Rattle.std.proofs.Common.{◌≡◌, ℕ, zero, suc, ◌+◌, ◌<◌, ◌≤◌, List, [], ◌∷◌, ◌++◌, map, length}
+use Rattle.std.proofs.Common.{get_or, take, replicate, sym, refl, ap, ◌∙◌, arith, length-take-le}
+use Rattle.script_runner.proofs.Prelude.{Act, Actor, acts, asked_by_all, asked_by_calls, asked_in}
+use Rattle.script_runner.proofs.Prelude.{call_count, clearing, map_more, Name, numbered_tasks}
+use Rattle.script_runner.proofs.Prelude.{Part, part_of, sum_by-cons, take_more, Task, tasks_from}
+use Rattle.std.proofs.lemmas.List.{take-map}
+use Rattle.std.proofs.lemmas.List.Sums.{sum_by-take-le}
+use Rattle.script_runner.specs.Assignments.{asked_by}
 use Rattle.step_threads.specs.declared.programs.act.Act.TheVariants as act
 use Rattle.step_threads.specs.declared.programs.act.ShelfAct.TheVariants as shelf
-use Rattle.step_threads.specs.declared.programs.call.Actor.{Actor}
 use Rattle.step_threads.specs.declared.programs.call.Call.{Call}
 use Rattle.step_threads.specs.declared.programs.call.Call.TheVariants as call
-use Rattle.step_threads.specs.declared.programs.call.Name.{Name}
-use Rattle.step_threads.specs.declared.programs.act.Task.{Task}
 
 -- the tasks of a thread ask for what its calls ask for
 numbered_ask : (k : ℕ) (xs : List Act) (ts : List Task) → asked_in (numbered_tasks k xs ++ ts) ≡ asked_by xs + asked_in ts

@@ -1,48 +1,28 @@
 -- What a domain's history has of each thread of a script.
-use Rattle.std.proofs.Common.{Bool, ◌≡◌, ℕ, suc, ◌<◌, List, [], ◌∷◌, ◌++◌, Option, Some, None, true, refl, sym, ap, subst, ◌∙◌}
-use Rattle.std.proofs.Common.{◌-◌, arith}
+use Rattle.std.proofs.Common.{◌≡◌, ℕ, suc, ◌-◌, ◌<◌, Bool, true, List, [], ◌∷◌, ◌++◌, Some, None}
+use Rattle.std.proofs.Common.{Option, sym, refl, ap, ◌∙◌, subst, arith}
+use Rattle.script_runner.proofs.Prelude
+use Prelude.{AbsorbsAll, AddsEvent, ahead, AllAbove, AllBare, AllMarked, AllPlay, AreRising}
+use Prelude.{AreRounds, Block, Cleared, counting, desk_names, DeskNow, Event, First, Form}
+use Prelude.{FrameView, Gone, Held, IsClearing, IsLeft, IsLegal, IsPartedInto, IsQuiet, IsRound}
+use Prelude.{leads, LeavesSlot, LeavesWeakly, LetsGo, Marked, Member, Next, opening_of, Over}
+use Prelude.{Owner, Part, Past, Place, put_same, Round, Said, Settled, Shape, state_of, TableNow}
+use Prelude.{TellsThread, Up, Weak}
 use Rattle.control_block.proofs.Own.{goes_by_call, goes_by_join, goes_by_none, goes_in_turn}
-use Rattle.control_block.specs.Desks.{AddsEvent, DeskNow, state_of}
 use Rattle.control_block.specs.Own as own
-use Rattle.control_block.specs.Rule.{opening_of}
-use Rattle.control_block.specs.declared.handles.Held.TheVariants.{Owner, Weak}
-use Rattle.control_block.specs.declared.handles.Held.{Held}
-use Rattle.control_word.proofs.lists.Tallies.{put_same}
-use Rattle.control_word.specs.Histories.{IsLegal, leads}
 use Rattle.control_word.specs.declared.model.event.Event.TheVariants as event
-use Rattle.control_word.specs.declared.model.event.Event.{Event}
-use Rattle.control_word.specs.declared.place.Block.{Block}
-use Rattle.control_word.specs.declared.place.Place.{Place}
-use Rattle.control_word.specs.declared.shape.Shape.{Shape}
-use Rattle.handle_table.specs.Calls.{LeavesSlot, LetsGo}
-use Rattle.handle_table.specs.Parting.{AbsorbsAll, IsPartedInto, LeaveSlots, WindsUp}
+use Rattle.handle_table.specs.Parting.{LeaveSlots, WindsUp}
 use Rattle.handle_table.specs.Tables as table
-use Rattle.handle_table.specs.Tables.{TableNow}
 use Rattle.script_runner.proofs.Ending.{by_quiet}
 use Rattle.script_runner.proofs.Logging as log
 use Rattle.script_runner.proofs.Putting.{quiet_left}
 use Rattle.script_runner.proofs.Seating.{quietly}
 use Rattle.script_runner.proofs.Stages.{some_last}
-use Rattle.script_runner.specs.Logs.{TellsThread}
-use Rattle.script_runner.specs.Seats.{IsQuiet}
-use Rattle.script_runner.specs.Teams.{AllAbove, AllBare, AllMarked, AllPlay, AreRising, TeamsPlay, desk_names}
-use Rattle.shared_handle.specs.Calls.{LeavesWeakly, counting}
-use Rattle.shared_handle.specs.Endings.{IsClearing, IsLeft}
-use Rattle.shared_handle.specs.Piles.{AreRounds, IsRound, Past}
+use Rattle.script_runner.specs.Teams.{TeamsPlay}
 use Rattle.shared_handle.specs.declared.endings.Ending as pile
 use Rattle.shared_handle.specs.declared.endings.Left.TheVariants as left
 use Rattle.shared_handle.specs.declared.endings.Left.{Left}
-use Rattle.shared_handle.specs.declared.endings.Member.TheVariants.{First, Next, Up}
-use Rattle.shared_handle.specs.declared.endings.Member.{Member}
-use Rattle.shared_handle.specs.declared.pile.Gone.{Gone}
-use Rattle.shared_handle.specs.declared.pile.Round.TheVariants.{Settled, Cleared, Ended}
-use Rattle.shared_handle.specs.declared.pile.Round.{Round}
-use Rattle.step_table.specs.declared.memory.form.Form.{Form}
-use Rattle.step_threads.specs.Frames.{FrameView}
-use Rattle.step_threads.specs.TraceLabels.{Over, ahead}
-use Rattle.step_threads.specs.Interleavings.{Marked}
-use Rattle.step_threads.specs.Programs.{Part}
-use Rattle.step_threads.specs.declared.said.Said.{Said}
+use Rattle.shared_handle.specs.declared.pile.Round.TheVariants.{Ended}
 
 module _ {V : Type 0} where
   -- the desk's history goes on, by some events of its own

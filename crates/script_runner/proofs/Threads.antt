@@ -1,16 +1,11 @@
 -- The lines of threads, one thread after the other, and then those of a report.
-use Rattle.std.proofs.Common.{◌≡◌, ℕ, suc, ◌+◌, ◌<◌, List, [], ◌∷◌, ◌++◌, length, take, get_or, ap, sym, ◌∙◌, arith}
-use Rattle.std.proofs.Common.{append_assoc}
-use Rattle.std.specs.Global.{Vec}
-use Rattle.std.specs.List.{flat_map}
-use Rattle.std.proofs.lemmas.List.{append-nil, length-take-le, take_more}
-use Rattle.control_block.specs.Census.{CensusNow}
-use Rattle.step_threads.specs.declared.said.Said.{Said}
-use Rattle.script_text.specs.Grammar.{ended}
+use Rattle.std.proofs.Common.{◌≡◌, ℕ, suc, ◌+◌, ◌<◌, List, [], ◌∷◌, ◌++◌, length, get_or, take}
+use Rattle.std.proofs.Common.{sym, ap, ◌∙◌, append_assoc, append-nil, arith, length-take-le}
+use Rattle.script_runner.proofs.Prelude.{CensusNow, ended, flat_map, Report, report_lines, Said}
+use Rattle.script_runner.proofs.Prelude.{take_more, threads_lines, Vec}
 use Rattle.script_stepper.specs.Lines.{said_lines, totals_text}
 use Rattle.script_stepper.proofs.LineLemmas.{lines_then}
-use Rattle.script_runner.specs.Telling.{closed_census_lines, report_lines, threads_lines}
-use Rattle.script_runner.specs.declared.reports.report.Report.{Report}
+use Rattle.script_runner.specs.Telling.{closed_census_lines}
 
 -- one thread more
 threads_last : (k : ℕ) (xs : List (Vec Said)) (x : Vec Said)

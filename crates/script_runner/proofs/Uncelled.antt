@@ -1,32 +1,19 @@
 -- Cells that aren't there, as acts of a thread.
-use Rattle.std.proofs.Common.{sym, ap, subst}
-use Rattle.std.proofs.Common.{◌∙◌, inl, inr, ◌≡◌, ℕ, zero, suc, ◌<◌, Bool, true, false, cond, ◌&&◌, Option, Some, None, refl}
-use Rattle.std.specs.Prelude.{option_map, slice_set}
-use Rattle.control_block.specs.Desks.{state_of}
-use Rattle.control_block.specs.declared.handles.Shared.{Shared}
-use Rattle.control_word.specs.declared.model.event.Event.{Event}
+use Rattle.std.proofs.Common.{◌≡◌, ℕ, zero, suc, ◌<◌, Bool, true, false, cond, ◌&&◌, slice_set}
+use Rattle.std.proofs.Common.{Some, None, Option, option_map, sym, refl, ap, ◌∙◌, subst, inl, inr}
+use Rattle.script_runner.proofs.Prelude
+use Prelude.{as_cell, Call, CellName, copy, Event, fitting, Form, Hands, is_full, is_of, is_there}
+use Prelude.{IsAway, IsLoadEvent, IsOfName, IsSameEvent, IsSeated, IsSwapEvent, kind_at, may_go}
+use Prelude.{Name, outside, place_in, plain, pointer_of, PointsAway, Refusal, refusal, RefusesCell}
+use Prelude.{Shared, shown_slots, slot_value, Slots, state_of, TableNow, unless, Where}
+use Prelude.{WhyNoObject, WhyNoOwner}
 use Rattle.control_word.specs.declared.refusal.Refusal.TheVariants as refusal_of
-use Rattle.control_word.specs.declared.refusal.Refusal.{Refusal}
-use Rattle.handle_table.specs.Calls.{WhyNoOwner}
 use Rattle.handle_table.specs.Cells as cells
-use Rattle.handle_table.specs.Cells.{PointsAway, WhyNoObject}
-use Rattle.handle_table.specs.Tables.{TableNow}
-use Rattle.handle_table.specs.declared.fault.Fault.TheVariants.{Call}
 use Rattle.script_runner.proofs.Looking.{is_away, outside_as}
 use Rattle.script_runner.proofs.Takings.{same_call, stayed}
-use Rattle.script_runner.specs.CellCalls.{CellsNot, IsOfName, RefusesCell, as_cell}
-use Rattle.script_runner.specs.Seats.{IsSeated, shown_slots}
-use Rattle.script_runner.specs.TableCalls.{IsAway}
-use Rattle.step_table.specs.Contents.{is_of}
-use Rattle.step_table.specs.Registers.{Slots, is_full, place_in, plain, pointer_of, slot_value}
-use Rattle.step_table.specs.declared.memory.form.Form.{Form}
-use Rattle.step_threads.specs.Frames.{is_there, fitting, hand as hand_of}
-use Rattle.step_threads.specs.TraceLabels.{copy, IsLoadEvent, IsSameEvent, IsSwapEvent, Where}
-use Rattle.step_threads.specs.Programs.{kind_at}
-use Rattle.step_threads.specs.Rows.{may_go, Hands, outside, refusal, unless}
+use Rattle.script_runner.specs.CellCalls.{CellsNot}
+use Rattle.step_threads.specs.Frames.{hand as hand_of}
 use Rattle.step_threads.specs.declared.programs.call.CellName.TheVariants as cell
-use Rattle.step_threads.specs.declared.programs.call.CellName.{CellName}
-use Rattle.step_threads.specs.declared.programs.call.Name.{Name}
 use Rattle.step_threads.specs.declared.said.Answer.TheVariants as answer
 
 module _ {V : Type 0} (worth : Form → V) (m hand : ℕ) (taken : Bool) (t : TableNow V) (is : IsSeated m hand t) where

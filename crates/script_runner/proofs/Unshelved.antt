@@ -1,14 +1,14 @@
 -- No line of a text asks for a shelve or an unshelve.
-use Rattle.std.proofs.Common.{◌≡◌, ◌∙◌, ℕ, Bool, true, false, List, [], ◌∷◌, Result, Ok, Err, ap, refl, subst, sym}
-use Rattle.std.specs.Prelude.{All, codes}
+use Rattle.std.proofs.Common.{◌≡◌, ℕ, Bool, true, false, List, [], ◌∷◌, Ok, Err, codes, All}
+use Rattle.std.proofs.Common.{Result, sym, refl, ap, ◌∙◌, subst}
+use Rattle.script_runner.proofs.Prelude.{IsNoShelf, IsUnshelved, part_in, program_in, ReadsAs}
+use Rattle.script_runner.proofs.Prelude.{ScriptView}
 use Rattle.std.proofs.lemmas.List.Elements.{All-map, All-nil, All-push}
-use Rattle.script_runner.specs.Unshelved.{IsNoShelf, IsUnshelved}
 use Rattle.script_text.proofs.Changes.{Change, IsAdded, added, began, headed, line_change, skipped}
 use Rattle.script_text.specs.Canonical.{call_words}
-use Rattle.script_text.specs.Drafts.{Draft, ScriptView, Section, new_draft}
-use Rattle.script_text.specs.Grammar.{Leads, ReadsAs}
+use Rattle.script_text.specs.Drafts.{Draft, Section, new_draft}
+use Rattle.script_text.specs.Grammar.{Leads}
 use Rattle.script_text.specs.Keywords.{keyword_at}
-use Rattle.script_text.specs.Scripts.{part_in, program_in}
 use Rattle.step_threads.specs.declared.programs.call.Call.TheVariants as call
 use Rattle.step_threads.specs.declared.programs.call.Call.{Call}
 

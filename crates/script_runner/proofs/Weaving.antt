@@ -1,32 +1,20 @@
 -- A history has nothing but what its threads do, and the splits and joins of the desk that lent them their tables.
-use Rattle.std.proofs.Common.{◌≡◌, ◌⊎◌, inl, inr, ℕ, ◌<◌, ◌≤◌, ◌==◌, true, false}
-use Rattle.std.proofs.Common.{List, [], ◌∷◌, refl, sym, ap, subst, ◌∙◌, arith}
-use Rattle.std.proofs.Common.{eq-eqb}
-use Rattle.std.proofs.lemmas.Bool.{cases_lt, cond-true, cond_both}
-use Rattle.std.proofs.lemmas.List.Elements.{All-from_recursion}
-use Rattle.std.specs.List.{AllByRecursion}
+use Rattle.std.proofs.Common.{◌≡◌, ℕ, ◌<◌, ◌≤◌, true, false, ◌⊎◌, List, [], ◌∷◌, ◌==◌, sym, refl}
+use Rattle.std.proofs.Common.{ap, ◌∙◌, subst, inl, inr, arith, eq-eqb}
+use Rattle.script_runner.proofs.Prelude
+use Prelude.{AbsorbsAll, after, All-from_recursion, AllBare, AllByRecursion, AllMarked, AllVacant}
+use Prelude.{Asks, cond-true, cond_both, desk_names, DeskNow, Entry, Event, Form, Free, Has}
+use Prelude.{HasNoObject, IsLegal, IsPartedInto, IsSplitOrJoin, KeepsDesks, leads, Opening}
+use Prelude.{opening_of, Part, Said, State, TableNow}
+use Rattle.std.proofs.lemmas.Bool.{cases_lt}
 use Rattle.control_block.proofs.Own.{joins_add, splits_add}
-use Rattle.control_block.specs.Desks.{DeskNow}
-use Rattle.control_block.specs.Own.{KeepsDesks, events_of, own_of}
-use Rattle.control_block.specs.Rule.{opening_of}
-use Rattle.control_word.specs.Events.{Asks, after}
-use Rattle.control_word.specs.Histories.{IsLegal, leads}
-use Rattle.control_word.specs.State.{Has, Opening, State}
-use Rattle.control_word.specs.declared.model.event.Cell.TheVariants.{Free, Member}
-use Rattle.control_word.specs.declared.model.event.Entry.{Entry}
-use Rattle.control_word.specs.declared.model.event.Event.{Event}
+use Rattle.control_block.specs.Own.{events_of, own_of}
+use Rattle.control_word.specs.declared.model.event.Cell.TheVariants.{Member}
 use Rattle.control_word.specs.declared.model.event.Event.TheVariants as event
-use Rattle.handle_table.specs.Parting.{AbsorbsAll, IsPartedInto}
 use Rattle.handle_table.specs.Tables as table
-use Rattle.handle_table.specs.Tables.{AllVacant, TableNow}
 use Rattle.script_runner.proofs.Summing.{KeepsAt, marked_keeps}
 use Rattle.script_runner.proofs.Teams.{quiet_wound, teams_play}
-use Rattle.script_runner.specs.Teams.{AllBare, AllMarked, HasNoObject, IsSplitOff, SplitsOffTo, TeamsInterleave}
-use Rattle.script_runner.specs.Teams.{desk_names}
-use Rattle.step_table.specs.declared.memory.form.Form.{Form}
-use Rattle.step_threads.specs.Interleavings.{IsSplitOrJoin}
-use Rattle.step_threads.specs.Programs.{Part}
-use Rattle.step_threads.specs.declared.said.Said.{Said}
+use Rattle.script_runner.specs.Teams.{IsSplitOff, SplitsOffTo, TeamsInterleave}
 
 vacant_bare : (ss : List table.Slot) → AllVacant ss → AllBare ss
 vacant_bare [] none = tt

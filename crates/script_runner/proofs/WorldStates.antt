@@ -1,29 +1,15 @@
 -- What a worker sees of its table's slots and of what is left to end.
-use Rattle.std.proofs.Common.{◌≡◌, ℕ, zero, suc, ◌<◌, ◌≤◌, ◌-◌, false, List, [], ◌∷◌, ◌++◌, length, Option, Some, None}
-use Rattle.std.proofs.Common.{is_some, refl, ap, subst, ◌∙◌, arith}
-use Rattle.std.specs.Prelude.{slice_get}
-use Rattle.control_block.specs.Standing.{Standing}
-use Rattle.control_block.specs.declared.handles.Held.{Held}
-use Rattle.control_word.specs.declared.model.handle.Kind.{Kind}
-use Rattle.control_word.specs.declared.place.Block.{Block}
-use Rattle.control_word.specs.declared.place.Place.{Place}
-use Rattle.handle_table.specs.Calls.{WhyNoHandle}
-use Rattle.handle_table.specs.Ends.{IsToEnd}
-use Rattle.handle_table.specs.Parts.{kind_of_held, block_of_held, place_of_held}
+use Rattle.std.proofs.Common.{◌≡◌, ℕ, zero, suc, ◌-◌, ◌<◌, ◌≤◌, false, List, [], ◌∷◌, ◌++◌, length}
+use Rattle.std.proofs.Common.{is_some, slice_get, Some, None, Option, refl, ap, ◌∙◌, subst, arith}
+use Rattle.script_runner.proofs.Prelude
+use Prelude.{AllEnd, Block, block_of_held, Fault, Held, is_full, IsFour, IsToEnd, IsTop, Kind}
+use Prelude.{kind_of_held, Place, place_of_held, plain, pointer_of, Remains, remains_ended}
+use Prelude.{shown_slots, slot_by, slot_pointer, slot_value, Standing, TableNow, WhyNoHandle}
 use Rattle.handle_table.specs.Tables as table
-use Rattle.handle_table.specs.Tables.{TableNow}
-use Rattle.handle_table.specs.declared.ends.Remains.{Remains}
 use Rattle.handle_table.specs.declared.fault.Fault.TheVariants as fault
-use Rattle.handle_table.specs.declared.fault.Fault.{Fault}
 use Rattle.script_runner.proofs.Fields.{remains_in}
 use Rattle.script_runner.proofs.Seating as seating
 use Rattle.script_runner.proofs.Stages.{ends_last}
-use Rattle.script_runner.specs.Deals.{IsTop}
-use Rattle.script_runner.specs.EndCalls.{IsFour, remains_ended}
-use Rattle.script_runner.specs.Seats.{shown_slots}
-use Rattle.shared_handle.specs.Piles.{AllEnd}
-use Rattle.step_table.specs.Contents.{slot_by}
-use Rattle.step_table.specs.Registers.{is_full, plain, pointer_of, slot_pointer, slot_value}
 
 full_as : (k : Kind) (b : Option Block) (p : Option Place) → is_full (pointer_of (slot_by k b p)) ≡ is_some b
 full_as k None p = refl

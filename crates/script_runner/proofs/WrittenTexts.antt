@@ -1,22 +1,19 @@
 -- The text of a report that is written, or the refusal in its place.
-use Rattle.std.proofs.Common.{◌≡◌, ℕ, List, Option, Result, Ok, Err, inl, inr, refl, sym, subst, ap}
-use Rattle.control_block.specs.Census.{CensusNow}
-use Rattle.control_block.specs.Desks.{DeskNow, DomainNow}
-use Rattle.control_word.specs.declared.shape.Shape.{Shape}
+use Rattle.std.proofs.Common.{◌≡◌, ℕ, List, IfErr, Ok, Err, Option, Result, sym, refl, ap, subst}
+use Rattle.std.proofs.Common.{inl, inr}
+use Rattle.script_runner.proofs.Prelude.{CensusNow, DeskNow, DomainNow, ended, IsReport, Report}
+use Rattle.script_runner.proofs.Prelude.{report_lines, ScriptView, Shape, TellsReport}
 use Rattle.handle_table.specs.Programs.{IsClosed}
-use Rattle.std.specs.Prelude.{IfErr}
 use Rattle.std.specs.Io.KnownBytes.{Appends}
 use Rattle.script_text.specs.declared.fault.Cause.{Cause}
 use Rattle.script_text.specs.declared.fault.Fault.{Fault}
-use Rattle.script_text.specs.declared.fault.Fault.TheVariants.{Memory, Syntax, BadTurn, Output, Input}
-use Rattle.script_text.specs.Drafts.{ScriptView}
-use Rattle.script_text.specs.Grammar.{Faulty, IsUnlessMemory, ended}
+use Rattle.script_text.specs.declared.fault.Fault.TheVariants.{Memory, Syntax, BadTurn, Output}
+use Rattle.script_text.specs.declared.fault.Fault.TheVariants.{Input}
+use Rattle.script_text.specs.Grammar.{Faulty, IsUnlessMemory}
 use Rattle.script_stepper.specs.Runs.{Delivers, Writes}
 use Rattle.script_stepper.specs.Sinks.{AppendsBeginning}
 use Rattle.script_stepper.proofs.Answering.{not_both, same_fault}
-use Rattle.script_runner.specs.Reports.{IsReport}
-use Rattle.script_runner.specs.Telling.{IsReportText, TellsReport, report_lines}
-use Rattle.script_runner.specs.declared.reports.report.Report.{Report}
+use Rattle.script_runner.specs.Telling.{IsReportText}
 
 -- a report's text, once the desk has closed the domain
 pub report_text : (script : ScriptView) (report : Report) (domain : DomainNow) (desk : DeskNow ℕ) (census : CensusNow) (text : List ℕ)

@@ -1,12 +1,10 @@
-use Rattle.std.proofs.Common.{◌≡◌, ℕ, ◌/◌, length, refl, subst, sym, ap, ◌∙◌, arith}
-use Rattle.std.proofs.lemmas.List.{length-map}
+use Rattle.std.proofs.Common.{◌≡◌, ℕ, ◌/◌, length, sym, refl, ap, ◌∙◌, subst, arith}
+use Rattle.script_runner.proofs.Prelude.{asked_by_all, HasAssignment, HasTextCells}
+use Rattle.script_runner.proofs.Prelude.{IsAssignmentFor, length-map, part_in, program_in, Share}
 use Rattle.control_word.specs.Layout.{IsWithinLimits}
-use Rattle.handle_table.specs.declared.staff.Share.{Share}
 use Rattle.script_runner.proofs.Assigning.{all_ready, same_many}
 use Rattle.script_runner.proofs.Lending.{all_need, has_shares, only_memory}
 use Rattle.script_runner.proofs.Reporting as reporting
-use Rattle.script_runner.specs.Assignments.{HasAssignment, IsAssignmentFor, asked_by_all}
-use Rattle.script_text.specs.Scripts.{HasTextCells, part_in, program_in}
 use Rattle.script_runner.proofs.running.perform.Goals as goal
 
 pub run_workers_open-worked-requires-clause-needs : goal.run_workers_open-worked-requires-clause-needs

@@ -1,10 +1,10 @@
 use Rattle.std.proofs.Common.{◌≡◌, length, sym, ap, ◌∙◌, arith}
-use Rattle.std.proofs.lemmas.List.{length-map, length-replicate}
+use Rattle.script_runner.proofs.Prelude.{asked_by_all, IsAssignmentFor, length-map, part_in}
+use Rattle.script_runner.proofs.Prelude.{program_in}
+use Rattle.std.proofs.lemmas.List.{length-replicate}
 use Rattle.ownership_ledger.specs.Now.{new_share}
 use Rattle.script_runner.proofs.Assigning.{same_many}
 use Rattle.script_runner.proofs.Reporting.{reported}
-use Rattle.script_runner.specs.Assignments.{IsAssignmentFor, asked_by_all}
-use Rattle.script_text.specs.Scripts.{part_in, program_in}
 use Rattle.script_runner.proofs.running.run_script.Goals as goal
 
 pub perform-worked-requires-clause-many : goal.perform-worked-requires-clause-many

@@ -1,8 +1,7 @@
 use Rattle.std.proofs.Common.{sym, subst}
-use Rattle.script_runner.specs.Deals.{IsActed}
+use Rattle.script_runner.proofs.Prelude.{IsActed, Question}
 use Rattle.script_runner.proofs.acts.asking.ask.Goals as goal
 use Rattle.step_threads.specs.declared.programs.act.Act.TheVariants as act
-use Rattle.step_threads.specs.declared.programs.act.Question.{Question}
 
 pub returns-in-Place-clause-acts : goal.returns-in-Place-clause-acts
 returns-in-Place-clause-acts g c =

@@ -1,6 +1,6 @@
-use Rattle.std.proofs.Common.{◌⊎◌, ℕ, subst, Ok, ap}
+use Rattle.std.proofs.Common.{ℕ, ◌⊎◌, Ok, ap, subst}
+use Rattle.script_runner.proofs.Prelude.{TableNow}
 use Rattle.handle_table.specs.Calls as calls
-use Rattle.handle_table.specs.Tables.{TableNow}
 use Rattle.script_runner.proofs.Asking as asking
 use Rattle.script_runner.proofs.Inquiring as law
 use Rattle.script_runner.proofs.acts.asking.read.Goals as goal

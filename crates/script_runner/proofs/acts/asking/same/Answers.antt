@@ -1,9 +1,9 @@
 use Rattle.std.proofs.Common.{Some, sym, subst}
+use Rattle.script_runner.proofs.Prelude.{IsActed}
 use Rattle.handle_table.specs.Pairs as pairs
 use Rattle.step_threads.specs.declared.programs.act.Act.TheVariants as act
 use Rattle.step_threads.specs.declared.programs.act.Question.TheVariants as question
 use Rattle.step_threads.specs.declared.said.Answer.TheVariants as says
-use Rattle.script_runner.specs.Deals.{IsActed}
 use Rattle.script_runner.proofs.Acting.{went}
 use Rattle.script_runner.proofs.Asking as asking
 use Rattle.script_runner.proofs.Inquiring as law

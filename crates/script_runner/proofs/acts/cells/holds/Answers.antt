@@ -1,6 +1,5 @@
 use Rattle.std.proofs.Common.{ℕ, ap, subst}
-use Rattle.handle_table.specs.Cells.{TellsSlotHeld, WhyNotSwapped}
-use Rattle.handle_table.specs.Tables.{TableNow}
+use Rattle.script_runner.proofs.Prelude.{TableNow, TellsSlotHeld, WhyNotSwapped}
 use Rattle.script_runner.proofs.CellActs as law
 use Rattle.script_runner.proofs.acts.cells.holds.Goals as goal
 

@@ -1,4 +1,4 @@
-use Rattle.step_threads.specs.Programs.{kind_at}
+use Rattle.script_runner.proofs.Prelude.{kind_at}
 use Rattle.script_runner.proofs.CellActs as law
 use Rattle.script_runner.proofs.acts.cells.load.Goals as goal
 

@@ -1,6 +1,5 @@
-use Rattle.std.proofs.Common.{◌<◌, refl, subst, arith, length}
-use Rattle.handle_table.specs.Calls.{WhyNoCopy}
-use Rattle.step_threads.specs.Programs.{kind_at}
+use Rattle.std.proofs.Common.{◌<◌, length, refl, subst, arith}
+use Rattle.script_runner.proofs.Prelude.{kind_at, WhyNoCopy}
 use Rattle.script_runner.proofs.CellActs as law
 use Rattle.script_runner.proofs.Reaching.{no_copy}
 use Rattle.script_runner.proofs.acts.cells.offer.Goals as goal

@@ -1,8 +1,7 @@
 use Rattle.std.proofs.Common.{None, sym, subst}
+use Rattle.script_runner.proofs.Prelude.{IsDealt, nothing}
 use Rattle.script_runner.proofs.Acting.{went}
 use Rattle.script_runner.proofs.Swapping.{swap_none}
-use Rattle.script_runner.specs.Deals.{IsDealt}
-use Rattle.script_runner.specs.Reached.{nothing}
 use Rattle.step_threads.specs.declared.programs.act.Act.TheVariants as act
 use Rattle.script_runner.proofs.acts.cells.swap.Goals as goal
 

@@ -1,6 +1,5 @@
 use Rattle.std.proofs.Common.{ℕ, ap}
-use Rattle.handle_table.specs.Tables.{TableNow}
-use Rattle.step_threads.specs.Programs.{kind_at}
+use Rattle.script_runner.proofs.Prelude.{kind_at, TableNow}
 use Rattle.script_runner.proofs.CellActs as law
 use Rattle.script_runner.proofs.CellKinds.{kept_aside, kept_kind}
 use Rattle.script_runner.proofs.Refusals.{kinds_kept}

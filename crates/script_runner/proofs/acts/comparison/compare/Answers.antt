@@ -1,10 +1,7 @@
-use Rattle.std.proofs.Common.{ℕ, ◌<◌, arith, refl, subst, sym}
-use Rattle.handle_table.specs.Tables.{TableNow}
-use Rattle.step_threads.specs.Programs.{kind_at}
+use Rattle.std.proofs.Common.{ℕ, ◌<◌, sym, refl, subst, arith}
+use Rattle.script_runner.proofs.Prelude.{HasKind, kind_at, SetsAside, TableNow}
 use Rattle.script_runner.proofs.CellActs as law
 use Rattle.script_runner.proofs.CellKinds.{kept_aside, kept_kind}
-use Rattle.script_runner.specs.Kinds.{HasKind}
-use Rattle.script_runner.specs.Reached.{SetsAside}
 use Rattle.script_runner.proofs.acts.comparison.compare.Goals as goal
 
 pub set_aside-requires-clause-full : goal.set_aside-requires-clause-full

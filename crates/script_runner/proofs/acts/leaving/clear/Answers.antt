@@ -1,8 +1,6 @@
-use Rattle.std.proofs.Common.{◌≡◌, ◌+◌, true, false, Some, inr, sym, subst, ◌∙◌, arith}
-use Rattle.std.specs.Prelude.{slice_get}
-use Rattle.step_table.specs.Registers.{is_full, slot_pointer}
-use Rattle.script_runner.specs.Deals.{IsEmptied, thread_slots}
-use Rattle.script_runner.specs.Kinds.{KeepsKinds, SetsKind}
+use Rattle.std.proofs.Common.{◌≡◌, ◌+◌, true, false, slice_get, Some, sym, ◌∙◌, subst, inr, arith}
+use Rattle.script_runner.proofs.Prelude.{is_full, IsEmptied, KeepsKinds, SetsKind, slot_pointer}
+use Rattle.script_runner.proofs.Prelude.{thread_slots}
 use Rattle.script_runner.proofs.Emptying as kinds
 use Rattle.script_runner.proofs.Parting as law
 use Rattle.script_runner.proofs.acts.leaving.clear.Goals as goal

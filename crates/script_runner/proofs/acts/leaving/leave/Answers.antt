@@ -1,7 +1,5 @@
-use Rattle.std.proofs.Common.{◌≡◌, Some, inr, sym, subst, arith}
-use Rattle.std.specs.Prelude.{slice_get}
-use Rattle.script_runner.specs.Deals.{IsEmptied}
-use Rattle.script_runner.specs.Kinds.{KeepsKinds, SetsKind}
+use Rattle.std.proofs.Common.{◌≡◌, slice_get, Some, sym, subst, inr, arith}
+use Rattle.script_runner.proofs.Prelude.{IsEmptied, KeepsKinds, SetsKind}
 use Rattle.script_runner.proofs.Emptying as kinds
 use Rattle.script_runner.proofs.Parting as law
 use Rattle.script_runner.proofs.acts.leaving.leave.Goals as goal

@@ -1,8 +1,7 @@
-use Rattle.std.proofs.Common.{◌≡◌, ◌+◌, ◌-◌, None, sym, subst, ◌∙◌, arith}
+use Rattle.std.proofs.Common.{◌≡◌, ◌+◌, ◌-◌, None, sym, ◌∙◌, subst, arith}
+use Rattle.script_runner.proofs.Prelude.{IsDealt, SetsKind}
 use Rattle.handle_table.specs.Calls as calls
 use Rattle.step_threads.specs.declared.programs.act.Act.TheVariants as act
-use Rattle.script_runner.specs.Deals.{IsDealt}
-use Rattle.script_runner.specs.Kinds.{SetsKind}
 use Rattle.script_runner.proofs.Emptying as kinds
 use Rattle.script_runner.proofs.Parting as law
 use Rattle.script_runner.proofs.acts.leaving.let_drop.Goals as goal

@@ -1,9 +1,7 @@
-use Rattle.std.proofs.Common.{◌≡◌, ◌+◌, true, false, None, sym, subst, ◌∙◌, arith}
+use Rattle.std.proofs.Common.{◌≡◌, ◌+◌, true, false, None, sym, ◌∙◌, subst, arith}
+use Rattle.script_runner.proofs.Prelude.{is_full, IsDealt, SetsKind, slot_pointer, thread_slots}
 use Rattle.handle_table.specs.Calls as calls
-use Rattle.step_table.specs.Registers.{is_full, slot_pointer}
 use Rattle.step_threads.specs.declared.programs.act.Act.TheVariants as act
-use Rattle.script_runner.specs.Deals.{IsDealt, thread_slots}
-use Rattle.script_runner.specs.Kinds.{SetsKind}
 use Rattle.script_runner.proofs.Emptying as kinds
 use Rattle.script_runner.proofs.Parting as law
 use Rattle.script_runner.proofs.acts.leaving.put.Goals as goal

@@ -1,7 +1,7 @@
 use Rattle.std.proofs.Common.{refl}
+use Rattle.script_runner.proofs.Prelude.{null_form}
 use Rattle.script_runner.proofs.Acting as law
 use Rattle.script_runner.proofs.Granting as granting
-use Rattle.script_runner.specs.TableCalls.{null_form}
 use Rattle.script_runner.proofs.acts.making.make_null.Goals as goal
 
 pub returns-in-Ok : goal.returns-in-Ok

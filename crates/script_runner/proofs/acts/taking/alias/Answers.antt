@@ -1,13 +1,10 @@
-use Rattle.std.proofs.Common.{◌≡◌, ◌∙◌, ◌+◌, ap, subst, sym}
-use Rattle.control_word.specs.Handles.{IsPointer}
+use Rattle.std.proofs.Common.{◌≡◌, ◌+◌, sym, ap, ◌∙◌, subst}
+use Rattle.script_runner.proofs.Prelude.{aliased, IsPointer, place_in, thread_slots}
 use Rattle.handle_table.specs.Calls as calls
 use Rattle.handle_table.specs.This as this
 use Rattle.script_runner.proofs.Acting as law
 use Rattle.script_runner.proofs.Granting as granting
 use Rattle.script_runner.proofs.Refusals.{no_owner}
-use Rattle.script_runner.specs.Deals.{thread_slots}
-use Rattle.step_table.specs.AtomicSteps.{aliased}
-use Rattle.step_table.specs.Registers.{place_in}
 use Rattle.script_runner.proofs.acts.taking.alias.Goals as goal
 
 pub unreachable-requires : goal.unreachable-requires

@@ -1,11 +1,9 @@
-use Rattle.std.proofs.Common.{◌≡◌, ◌<◌, Some, length, subst, sym}
-use Rattle.std.specs.Prelude.{slice_get}
+use Rattle.std.proofs.Common.{◌≡◌, ◌<◌, length, slice_get, Some, sym, subst}
+use Rattle.script_runner.proofs.Prelude.{IsEmptied, SetsKind}
 use Rattle.handle_table.specs.Calls as calls
 use Rattle.script_runner.proofs.Acting as law
 use Rattle.script_runner.proofs.Granting as granting
 use Rattle.script_runner.proofs.Refusals.{below_same, same_kind}
-use Rattle.script_runner.specs.Deals.{IsEmptied}
-use Rattle.script_runner.specs.Kinds.{SetsKind}
 use Rattle.script_runner.proofs.acts.taking.move_out.Goals as goal
 
 pub returns : goal.returns

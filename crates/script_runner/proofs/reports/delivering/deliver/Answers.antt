@@ -1,5 +1,5 @@
-use Rattle.std.specs.Prelude.{string_bytes}
-use Rattle.script_runner.specs.Telling.{TellsReport}
+use Rattle.std.proofs.Common.{string_bytes}
+use Rattle.script_runner.proofs.Prelude.{TellsReport}
 use Rattle.script_runner.proofs.WrittenTexts.{delivered}
 use Rattle.script_runner.proofs.reports.delivering.deliver.Goals as goal
 

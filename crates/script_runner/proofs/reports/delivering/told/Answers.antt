@@ -1,4 +1,4 @@
-use Rattle.std.specs.Prelude.{string_bytes}
+use Rattle.std.proofs.Common.{string_bytes}
 use Rattle.script_runner.proofs.WrittenTexts.{report_text}
 use Rattle.script_runner.proofs.reports.delivering.told.Goals as goal
 

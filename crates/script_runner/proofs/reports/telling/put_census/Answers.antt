@@ -1,6 +1,6 @@
-use Rattle.std.specs.Prelude.{string_bytes}
+use Rattle.std.proofs.Common.{string_bytes}
+use Rattle.script_runner.proofs.Prelude.{closed_block_lines}
 use Rattle.script_stepper.proofs.ClosingLemmas.{numbered_then}
-use Rattle.script_runner.specs.Telling.{closed_block_lines}
 use Rattle.script_runner.proofs.reports.telling.put_census.Goals as goal
 
 pub loop-before-preserved : goal.loop-before-preserved

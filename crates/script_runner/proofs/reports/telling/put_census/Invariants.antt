@@ -1,9 +1,6 @@
-use Rattle.std.proofs.Common.{◌≡◌, ◌++◌}
-use Rattle.std.specs.Prelude.{string_bytes}
-use Rattle.std.specs.List.{flat_map}
-use Rattle.script_text.specs.Grammar.{ended}
+use Rattle.std.proofs.Common.{◌≡◌, ◌++◌, string_bytes}
+use Rattle.script_runner.proofs.Prelude.{closed_block_lines, ended, flat_map}
 use Rattle.step_threads.specs.Stocks.{from}
-use Rattle.script_runner.specs.Telling.{closed_block_lines}
 use Rattle.script_runner.proofs.reports.telling.put_census.Given as goal
 
 abbrev pub invariant-loop-before : goal.invariant-loop-before

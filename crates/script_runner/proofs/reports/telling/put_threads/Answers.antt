@@ -1,7 +1,5 @@
-use Rattle.std.proofs.Common.{◌∙◌, ap}
-use Rattle.std.specs.Global.{Vec}
-use Rattle.std.specs.Prelude.{string_bytes}
-use Rattle.step_threads.specs.declared.said.Said.{Said}
+use Rattle.std.proofs.Common.{string_bytes, ap, ◌∙◌}
+use Rattle.script_runner.proofs.Prelude.{Said, Vec}
 use Rattle.script_runner.proofs.Threads.{threads_then}
 use Rattle.script_runner.proofs.reports.telling.put_threads.Goals as goal
 

@@ -1,7 +1,5 @@
-use Rattle.std.proofs.Common.{◌≡◌, ◌++◌, take}
-use Rattle.std.specs.Prelude.{string_bytes}
-use Rattle.script_text.specs.Grammar.{ended}
-use Rattle.script_runner.specs.Telling.{threads_lines}
+use Rattle.std.proofs.Common.{◌≡◌, ◌++◌, take, string_bytes}
+use Rattle.script_runner.proofs.Prelude.{ended, threads_lines}
 use Rattle.script_runner.proofs.reports.telling.put_threads.Given as goal
 
 abbrev pub invariant-loop-at : goal.invariant-loop-at

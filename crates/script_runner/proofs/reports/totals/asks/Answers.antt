@@ -1,5 +1,5 @@
-use Rattle.std.proofs.Common.{ap, sym}
-use Rattle.script_runner.specs.Totals.{objects_asked}
+use Rattle.std.proofs.Common.{sym, ap}
+use Rattle.script_runner.proofs.Prelude.{objects_asked}
 use Rattle.script_runner.proofs.reports.totals.asks.Goals as goal
 
 pub returns-in-Make-clause-is : goal.returns-in-Make-clause-is

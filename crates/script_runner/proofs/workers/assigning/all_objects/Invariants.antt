@@ -1,6 +1,5 @@
 use Rattle.std.proofs.Common.{◌≡◌, map, take}
-use Rattle.script_runner.specs.Assignments.{asked_by_all}
-use Rattle.step_threads.specs.Programs.{part_of}
+use Rattle.script_runner.proofs.Prelude.{asked_by_all, part_of}
 use Rattle.script_runner.proofs.workers.assigning.all_objects.Given as goal
 
 abbrev pub invariant-loop-at : goal.invariant-loop-at

@@ -1,8 +1,7 @@
-use Rattle.std.proofs.Common.{◌≡◌, ◌+◌, [], ◌∷◌, length, Some, ap, ◌∙◌, arith}
-use Rattle.std.proofs.lemmas.List.{length-append}
+use Rattle.std.proofs.Common.{◌≡◌, ◌+◌, [], ◌∷◌, length, Some, ap, ◌∙◌, arith, length-append}
+use Rattle.script_runner.proofs.Prelude.{HasAssignment, IsNewShare}
 use Rattle.std.proofs.lemmas.List.Elements.{All-pop}
 use Rattle.script_runner.proofs.Assigning.{gone_then, same_room, zip_turned}
-use Rattle.script_runner.specs.Assignments.{HasAssignment, IsNewShare}
 use Rattle.script_runner.proofs.workers.assigning.assign.Goals as goal
 
 pub loop-assignment-preserved : goal.loop-assignment-preserved

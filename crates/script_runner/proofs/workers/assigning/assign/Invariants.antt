@@ -1,8 +1,5 @@
-use Rattle.std.proofs.Common.{◌≡◌, ◌≤◌, ◌+◌, ◌++◌, List, length, reverse, vec_capacity}
-use Rattle.std.specs.List.{AllZip}
-use Rattle.std.specs.Prelude.{All}
-use Rattle.script_runner.specs.Assignments.{HasAssignment, IsNewShare}
-use Rattle.script_runner.specs.declared.workers.assignment.Assignment.{Assignment}
+use Rattle.std.proofs.Common.{◌≡◌, ◌+◌, ◌≤◌, List, ◌++◌, reverse, length, vec_capacity, All}
+use Rattle.script_runner.proofs.Prelude.{AllZip, Assignment, HasAssignment, IsNewShare}
 use Rattle.script_runner.proofs.workers.assigning.assign.Given as goal
 
 abbrev pub invariant-loop-assignment : goal.invariant-loop-assignment

@@ -1,7 +1,5 @@
 use Rattle.std.proofs.Common.{map, take}
-use Rattle.std.specs.List.{AllZip}
-use Rattle.script_runner.specs.Assignments.{IsAssignmentFor}
-use Rattle.step_threads.specs.Programs.{part_of}
+use Rattle.script_runner.proofs.Prelude.{AllZip, IsAssignmentFor, part_of}
 use Rattle.script_runner.proofs.workers.assigning.assignments_for.Given as goal
 
 abbrev pub invariant-loop-at : goal.invariant-loop-at

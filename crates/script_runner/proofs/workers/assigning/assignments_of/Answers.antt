@@ -1,9 +1,7 @@
-use Rattle.std.proofs.Common.{List, map, sym, subst}
-use Rattle.std.specs.Prelude.{All}
+use Rattle.std.proofs.Common.{List, map, All, sym, subst}
+use Rattle.script_runner.proofs.Prelude.{Actor, IsSuited, part_of}
 use Rattle.script_runner.proofs.Suiting.{script_suits}
-use Rattle.script_runner.specs.Unshelved.{IsSuited}
-use Rattle.step_threads.specs.Programs.{part_of, parts_of}
-use Rattle.step_threads.specs.declared.programs.call.Actor.{Actor}
+use Rattle.step_threads.specs.Programs.{parts_of}
 use Rattle.script_runner.proofs.workers.assigning.assignments_of.Goals as goal
 
 pub assignments_for-requires-clause-suits : goal.assignments_for-requires-clause-suits

@@ -1,5 +1,4 @@
-use Rattle.std.proofs.Common.{[], length, reverse, sym, ap, arith}
-use Rattle.std.proofs.lemmas.List.{append-nil}
+use Rattle.std.proofs.Common.{[], reverse, length, sym, ap, append-nil, arith}
 use Rattle.script_runner.proofs.workers.assigning.collect.Goals as goal
 
 pub loop-worker-init : goal.loop-worker-init

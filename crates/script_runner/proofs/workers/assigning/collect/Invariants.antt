@@ -1,5 +1,5 @@
-use Rattle.std.proofs.Common.{◌≡◌, ◌≤◌, ◌+◌, ◌++◌, List, length, map, reverse, vec_capacity}
-use Rattle.script_runner.specs.declared.workers.worker.Worker.{Worker}
+use Rattle.std.proofs.Common.{◌≡◌, ◌+◌, ◌≤◌, List, ◌++◌, map, reverse, length, vec_capacity}
+use Rattle.script_runner.proofs.Prelude.{Worker}
 use Rattle.script_runner.proofs.workers.assigning.collect.Given as goal
 
 abbrev pub invariant-loop-worker : goal.invariant-loop-worker

@@ -1,5 +1,5 @@
 use Rattle.std.proofs.Common.{◌≡◌, take}
-use Rattle.script_runner.specs.Assignments.{asked_by_calls}
+use Rattle.script_runner.proofs.Prelude.{asked_by_calls}
 use Rattle.script_runner.proofs.workers.assigning.objects_for.Given as goal
 
 abbrev pub invariant-loop-at : goal.invariant-loop-at

@@ -1,10 +1,8 @@
-use Rattle.std.proofs.Common.{◌≡◌, ◌+◌, ◌≤◌, length, refl, subst, ◌∙◌, arith}
+use Rattle.std.proofs.Common.{◌≡◌, ◌+◌, ◌≤◌, length, drop, refl, ◌∙◌, subst, arith}
+use Rattle.script_runner.proofs.Prelude.{MayGoOn, PlaysOn}
 use Rattle.std.proofs.lemmas.List.{drop_all}
-use Rattle.std.specs.Prelude.{drop}
 use Rattle.script_runner.proofs.Played as played
 use Rattle.script_runner.proofs.Playing as playing
-use Rattle.script_runner.specs.Handling.{MayGoOn}
-use Rattle.script_runner.specs.Notes.{PlaysOn}
 use Rattle.script_runner.proofs.workers.playing.play.Goals as goal
 
 pub loop-init : goal.loop-init

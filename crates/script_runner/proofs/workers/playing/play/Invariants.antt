@@ -1,8 +1,5 @@
-use Rattle.std.proofs.Common.{◌≡◌, ◌≤◌, ◌+◌, length}
-use Rattle.std.specs.Prelude.{drop}
-use Rattle.script_runner.specs.Handling.{MayGoOn}
-use Rattle.script_runner.specs.Kinds.{KeepsLimits}
-use Rattle.script_runner.specs.Notes.{PlaysOn}
+use Rattle.std.proofs.Common.{◌≡◌, ◌+◌, ◌≤◌, length, drop}
+use Rattle.script_runner.proofs.Prelude.{KeepsLimits, MayGoOn, PlaysOn}
 use Rattle.script_runner.proofs.workers.playing.play.Given as goal
 
 abbrev pub invariant-loop : goal.invariant-loop

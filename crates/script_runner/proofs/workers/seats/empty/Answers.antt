@@ -1,6 +1,5 @@
-use Rattle.std.proofs.Common.{◌≡◌, length, Some, refl, ap, subst, ◌∙◌}
-use Rattle.std.proofs.lemmas.Option.{slice_get_read}
-use Rattle.std.specs.Prelude.{slice_get}
+use Rattle.std.proofs.Common.{◌≡◌, length, slice_get, Some, refl, ap, ◌∙◌, subst}
+use Rattle.script_runner.proofs.Prelude.{slice_get_read}
 use Rattle.script_runner.proofs.Emptying as law
 use Rattle.script_runner.proofs.workers.seats.empty.Goals as goal
 

@@ -1,4 +1,4 @@
-use Rattle.std.specs.Prelude.{string_bytes}
+use Rattle.std.proofs.Common.{string_bytes}
 use Rattle.script_runner.proofs.Threads.{report_then}
 use Rattle.script_runner.proofs.reports.report.Report.text.Goals as goal
 

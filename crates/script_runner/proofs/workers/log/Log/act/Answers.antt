@@ -1,5 +1,5 @@
 use Rattle.std.proofs.Common.{◌-◌, [], refl, ◌∙◌}
-use Rattle.script_runner.specs.Totals.{objects_asked, refuses}
+use Rattle.script_runner.proofs.Prelude.{objects_asked, refuses}
 use Rattle.script_runner.proofs.Allowances.{stays_dealt}
 use Rattle.script_runner.proofs.Noted as noted
 use Rattle.script_runner.proofs.Noting.{dealt_refuses}

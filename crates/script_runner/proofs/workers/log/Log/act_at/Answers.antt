@@ -1,10 +1,7 @@
-use Rattle.std.proofs.Common.{◌+◌, sym, subst, arith}
-use Rattle.std.proofs.lemmas.Option.{slice_get_within}
-use Rattle.std.specs.Prelude.{drop}
+use Rattle.std.proofs.Common.{◌+◌, drop, sym, subst, arith}
+use Rattle.script_runner.proofs.Prelude.{PlaysOn, slice_get_within, stance_after}
 use Rattle.script_runner.proofs.Stepping as steps
 use Rattle.script_runner.proofs.Suffixes.{suits_at}
-use Rattle.script_runner.specs.Kinds.{stance_after}
-use Rattle.script_runner.specs.Notes.{PlaysOn}
 use Rattle.script_runner.proofs.workers.log.Log.act_at.Goals as goal
 
 pub act-requires-clause-suits : goal.act-requires-clause-suits

@@ -1,12 +1,9 @@
-use Rattle.std.proofs.Common.{◌≡◌, true, false, Some, refl, sym, ap, subst, ◌∙◌, inr, arith}
+use Rattle.std.proofs.Common.{◌≡◌, true, false, drop, Some, sym, refl, ap, ◌∙◌, subst, inr, arith}
+use Rattle.script_runner.proofs.Prelude.{comparison_tasks, IsDealt, MayGoOn, nothing}
 use Rattle.script_runner.proofs.Allowances.{stays_compared}
 use Rattle.script_runner.proofs.Comparisons as comparisons
 use Rattle.script_runner.proofs.Noted as noted
 use Rattle.script_runner.proofs.Played as played
-use Rattle.script_runner.specs.Deals.{IsDealt}
-use Rattle.script_runner.specs.Handling.{MayGoOn, comparison_tasks}
-use Rattle.script_runner.specs.Reached.{nothing}
-use Rattle.std.specs.Prelude.{drop}
 use Rattle.step_threads.specs.declared.programs.act.Act.TheVariants as act
 use Rattle.script_runner.proofs.workers.log.Log.compare.Goals as goal
 

@@ -1,10 +1,7 @@
-use Rattle.std.proofs.Common.{◌+◌, sym, subst}
-use Rattle.std.specs.Prelude.{drop}
+use Rattle.std.proofs.Common.{◌+◌, drop, sym, subst}
+use Rattle.script_runner.proofs.Prelude.{AllSuit, IsArranged, MayGoOn, PlaysOn}
 use Rattle.script_runner.proofs.Comparisons as comparisons
 use Rattle.script_runner.proofs.Suffixes.{suits_at}
-use Rattle.script_runner.specs.Handling.{MayGoOn}
-use Rattle.script_runner.specs.Kinds.{AllSuit, IsArranged}
-use Rattle.script_runner.specs.Notes.{PlaysOn}
 use Rattle.script_runner.proofs.workers.log.Log.compare_at.Goals as goal
 
 pub compare-requires-clause-suits : goal.compare-requires-clause-suits

@@ -1,10 +1,8 @@
 use Rattle.std.proofs.Common.{ℕ, sym, subst}
-use Rattle.handle_table.specs.Tables.{TableNow}
+use Rattle.script_runner.proofs.Prelude.{IsVacant, SettlesPartly, TableNow}
 use Rattle.script_runner.proofs.Allowances.{stays_round}
 use Rattle.script_runner.proofs.Comparisons as comparisons
 use Rattle.script_runner.proofs.Noted as noted
-use Rattle.script_runner.specs.Kinds.{IsVacant}
-use Rattle.script_runner.specs.Notes.{SettlesPartly}
 use Rattle.script_runner.proofs.workers.log.Log.round.Goals as goal
 
 pub returns-in-None-clause-goes : goal.returns-in-None-clause-goes

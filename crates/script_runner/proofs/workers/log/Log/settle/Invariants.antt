@@ -1,7 +1,5 @@
 use Rattle.std.proofs.Common.{◌≡◌}
-use Rattle.script_runner.specs.Handling.{MaySettle}
-use Rattle.script_runner.specs.Kinds.{KeepsLimits}
-use Rattle.script_runner.specs.Notes.{SettlesPartly}
+use Rattle.script_runner.proofs.Prelude.{KeepsLimits, MaySettle, SettlesPartly}
 use Rattle.script_runner.proofs.workers.log.Log.settle.Given as goal
 
 abbrev pub invariant-loop : goal.invariant-loop

@@ -1,9 +1,7 @@
-use Rattle.std.proofs.Common.{◌≡◌, length, Some, refl, ap, subst, ◌∙◌}
-use Rattle.std.proofs.lemmas.Option.{slice_get_read}
-use Rattle.std.specs.Prelude.{drop, slice_get}
+use Rattle.std.proofs.Common.{◌≡◌, length, drop, slice_get, Some, refl, ap, ◌∙◌, subst}
+use Rattle.script_runner.proofs.Prelude.{slice_get_read, task}
 use Rattle.script_runner.proofs.Comparisons as comparisons
 use Rattle.script_runner.proofs.Played as played
-use Rattle.script_runner.specs.Goings.{task}
 use Rattle.script_runner.proofs.workers.log.Log.step.Goals as goal
 
 pub returns-in-None-clause-goes : goal.returns-in-None-clause-goes

@@ -1,7 +1,7 @@
-use Rattle.std.proofs.Common.{◌+◌, length, subst, sym, ◌∙◌}
+use Rattle.std.proofs.Common.{◌+◌, length, sym, ◌∙◌, subst}
+use Rattle.script_runner.proofs.Prelude.{first_stance, IsArranged}
 use Rattle.script_runner.proofs.Naming.{allowance_same}
 use Rattle.script_runner.proofs.Playing as playing
-use Rattle.script_runner.specs.Kinds.{IsArranged, first_stance}
 use Rattle.script_runner.proofs.workers.worker.WorkerWorkU64.work.Goals as goal
 
 pub play-requires : goal.play-requires
