@@ -1,23 +1,13 @@
 -- What an act alone does to where a thread is: its tasks, its slots and its endings.
-use Rattle.std.proofs.Common.{◌≡◌, ℕ, suc, ◌≤◌, Bool, true, false, List, [], ◌∷◌, inl, inr, length, refl, sym, ◌∙◌, subst, arith}
-use Rattle.std.proofs.Common.{get_or-set_same}
-use Rattle.std.proofs.Common.{get_or-set_other}
-use Rattle.std.specs.Prelude.{slice_set}
-use Rattle.std.proofs.lemmas.Bool.{cases_eq, cases_lt, cond_both}
-use Rattle.std.proofs.lemmas.List.{get_or_past, length-set}
-use Rattle.control_word.specs.State.{State}
-use Rattle.step_threads.specs.declared.programs.act.Act.{Act}
-use Rattle.step_threads.specs.declared.programs.act.Act.TheVariants.{Make, Share, Downgrade, Alias, Move, FromThis, Lock, Put, Leave, Clear, Count, Expired}
-use Rattle.step_threads.specs.declared.programs.act.Act.TheVariants.{Read, Ask}
-use Rattle.step_threads.specs.declared.programs.act.Act.TheVariants.{Offer, Swap, Exchange, Load, Compare, Holds, Drop, OnShelf}
-use Rattle.step_threads.specs.declared.programs.act.Task.{Task}
-use Rattle.step_threads.specs.declared.ending.Ending.{Ending}
-use Rattle.step_threads.specs.Frames.{FrameView, hand, idle, other, placed, frame_settled, slots_idle}
-use Rattle.step_threads.specs.Frames.{taken_idle}
-use Rattle.step_table.specs.Registers.{Slots, plain, slot_value}
-use Rattle.step_table.specs.AtomicSteps.{exact}
-use Rattle.step_threads.specs.Rows.{with_end}
-use Rattle.step_threads.specs.AbstractStates.{row_in, went}
+use Rattle.std.proofs.Common.{◌≡◌, ℕ, suc, ◌≤◌, Bool, true, false, List, [], ◌∷◌, length}
+use Rattle.std.proofs.Common.{slice_set, sym, refl, ◌∙◌, subst, inl, inr, arith, length-set}
+use Rattle.std.proofs.Common.{get_or-set_other, get_or-set_same}
+use Rattle.script_stepper.proofs.Prelude
+use Prelude.{Act, Alias, Ask, cases_eq, cases_lt, Clear, Compare, cond_both, Count, Downgrade}
+use Prelude.{Drop, Ending, exact, Exchange, Expired, FrameView, FromThis, get_or_past, hand, Holds}
+use Prelude.{Leave, Load, Lock, Make, Move, Offer, OnShelf, other, placed, plain, Put, Read}
+use Prelude.{row_in, Share, slot_value, Slots, State, Swap, Task, went, with_end}
+use Rattle.step_threads.specs.Frames.{idle, frame_settled, slots_idle, taken_idle}
 use Rattle.step_core.proofs.telling.Tidying.{idle_size, row_size}
 
 -- ---- the tasks of a settled thread

@@ -1,10 +1,9 @@
 -- One script and one list have one answer.
-use Rattle.std.proofs.Common.{◌≡◌, ℕ, List, inl, inr, length, Option, Result, Ok, Err, refl, sym, subst, ap, ◌∙◌}
-use Rattle.std.specs.Prelude.{IfErr, IfOk, String, string_bytes}
+use Rattle.std.proofs.Common.{◌≡◌, ℕ, List, length, IfOk, IfErr, Ok, Err, string_bytes, Option}
+use Rattle.std.proofs.Common.{Result, String, sym, refl, ap, ◌∙◌, subst, inl, inr}
+use Rattle.script_stepper.proofs.Prelude.{BadTurn, Fault, Input, Output, ScriptView, Syntax}
 use Rattle.script_text.specs.declared.fault.Cause.{Cause}
-use Rattle.script_text.specs.declared.fault.Fault.{Fault}
-use Rattle.script_text.specs.declared.fault.Fault.TheVariants.{Memory, Syntax, BadTurn, Output, Input}
-use Rattle.script_text.specs.Drafts.{ScriptView}
+use Rattle.script_text.specs.declared.fault.Fault.TheVariants.{Memory}
 use Rattle.script_text.specs.Grammar.{Faulty, IsUnlessMemory, ReadsAs}
 use Rattle.script_text.proofs.OneReading.{faulty_answer, reads_answer}
 use Rattle.script_stepper.specs.Runs.{Delivers, IsScriptRun, TellsRun, WritesOne, text_in}

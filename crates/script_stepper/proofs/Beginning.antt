@@ -1,16 +1,11 @@
 -- A script's world is within the limits.
-use Rattle.std.proofs.Common.{◌≡◌, ℕ, ◌+◌, ◌*◌, ◌/◌, ◌%◌, ◌<◌, ◌≤◌, List, length, arith, ap, ◌∙◌}
+use Rattle.std.proofs.Common.{◌≡◌, ℕ, ◌+◌, ◌*◌, ◌/◌, ◌%◌, ◌<◌, ◌≤◌, List, length, All, ap, ◌∙◌}
+use Rattle.std.proofs.Common.{div-add-mod', arith}
+use Rattle.script_stepper.proofs.Prelude.{CanBegin, IsWithinLimits, length-map, Part, program_in}
+use Rattle.script_stepper.proofs.Prelude.{script_shape, ScriptView, Shape, shape_for}
 use Rattle.std.proofs.Math.Nat.{mod-lt}
-use Rattle.std.proofs.lemmas.Nat.{div-add-mod'}
-use Rattle.std.proofs.lemmas.List.{length-map}
-use Rattle.std.specs.Prelude.{All}
-use Rattle.control_word.specs.Layout.{IsWithinLimits}
-use Rattle.step_threads.specs.Programs.{AllHaveCells, IsProgram, Part}
-use Rattle.step_core.specs.Starts.{CanBegin}
-use Rattle.script_text.specs.Drafts.{ScriptView}
-use Rattle.script_text.specs.Scripts.{HasTextCells, part_in, program_in}
-use Rattle.control_word.specs.declared.shape.Shape.{Shape}
-use Rattle.script_text.specs.Beginnings.{script_shape, shape_for}
+use Rattle.step_threads.specs.Programs.{AllHaveCells, IsProgram}
+use Rattle.script_text.specs.Scripts.{HasTextCells, part_in}
 
 -- so many blocks, of which each of the threads has the same number
 pub shape_fits : (blocks threads : ℕ) → 64 ≤ blocks → blocks ≤ 65535 → 1 ≤ threads → threads ≤ 64

@@ -1,12 +1,9 @@
 -- The census, block by block.
 use Rattle.std.proofs.Common.{◌≡◌, ℕ, zero, suc, ◌+◌, List, [], ◌∷◌, ◌++◌, sym, ap, ◌∙◌, arith}
-use Rattle.std.specs.List.{flat_map}
-use Rattle.std.proofs.lemmas.Grind.{flat_map-append}
-use Rattle.script_text.specs.Grammar.{ended}
+use Rattle.script_stepper.proofs.Prelude.{AbstractState, census_lines, closing_lines, ended}
+use Rattle.script_stepper.proofs.Prelude.{ended_in, flat_map, flat_map-append, made_in, state_in}
 use Rattle.step_threads.specs.Stocks.{from}
-use Rattle.step_threads.specs.AbstractStates.{AbstractState, state_in}
-use Rattle.step_core.specs.Totals.{ended_in, made_in}
-use Rattle.script_stepper.specs.Lines.{census_lines, closing_lines, totals_text}
+use Rattle.script_stepper.specs.Lines.{totals_text}
 use Rattle.script_stepper.proofs.LineLemmas.{flat_map-one, lines_then}
 
 from-suc : (b n : ℕ) → from b (suc n) ≡ from b n ++ (b + n) ∷ []

@@ -1,14 +1,9 @@
 -- Each thread to its end, in number order.
-use Rattle.std.proofs.Common.{◌≡◌, ℕ, ◌+◌, ◌-◌, ◌<◌, ◌≤◌, List, [], ◌∷◌, ◌++◌, replicate, inl, inr, length, refl, sym}
-use Rattle.std.proofs.Common.{◌∙◌, ap, subst}
-use Rattle.std.proofs.Common.{arith, append_assoc, length-append}
-use Rattle.std.specs.Prelude.{None}
-use Rattle.std.proofs.lemmas.Bool.{cases_eq, cases_lt}
-use Rattle.std.proofs.lemmas.List.{append-nil}
-use Rattle.step_threads.specs.AbstractStates.{AbstractState, next, frame_of}
-use Rattle.step_core.specs.Worlds.{WorldState, abstraction}
-use Rattle.script_stepper.specs.Running.{AllOver, HasRun, RunsAlone}
-use Rattle.script_text.specs.Traces.{in_order}
+use Rattle.std.proofs.Common.{◌≡◌, ℕ, ◌+◌, ◌-◌, ◌<◌, ◌≤◌, List, [], ◌∷◌, ◌++◌, length, replicate}
+use Rattle.std.proofs.Common.{None, sym, refl, ap, ◌∙◌, subst, inl, inr, append_assoc, append-nil}
+use Rattle.std.proofs.Common.{arith, length-append}
+use Rattle.script_stepper.proofs.Prelude.{abstraction, AbstractState, AllOver, cases_eq, cases_lt}
+use Rattle.script_stepper.proofs.Prelude.{frame_of, HasRun, in_order, next, RunsAlone, WorldState}
 use Rattle.script_stepper.proofs.TraceLemmas.{done_past, plays_over}
 use Rattle.script_stepper.proofs.RunLemmas.{run_plays, run_same, run_size, run_then}
 

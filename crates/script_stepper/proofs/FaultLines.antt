@@ -1,10 +1,8 @@
 -- The pieces of a fault's line make the line.
-use Rattle.std.proofs.Common.{◌≡◌, ℕ, List, [], ◌∷◌, ◌++◌, Option, Result, refl, sym, ap, subst, ◌∙◌, append_assoc}
-use Rattle.std.specs.Prelude.{codes, decimal}
-use Rattle.script_text.specs.declared.fault.Fault.{Fault}
-use Rattle.script_text.specs.declared.fault.Fault.TheVariants.{BadTurn}
-use Rattle.script_text.specs.Faults.{fault_line, faulty_line}
-use Rattle.script_stepper.specs.Sinks.{IsWritten}
+use Rattle.std.proofs.Common.{◌≡◌, ℕ, List, ◌++◌, codes, decimal, Option, Result, sym, ap, ◌∙◌}
+use Rattle.std.proofs.Common.{subst, append_assoc}
+use Rattle.script_stepper.proofs.Prelude.{BadTurn, Fault, faulty_line, IsWritten}
+use Rattle.script_text.specs.Faults.{fault_line}
 
 pub same_line : {A E : Type 0} (r : Result A E) (old new : Option (List ℕ)) (fault is : Fault) (text : List ℕ) → fault ≡ is → text ≡ fault_line is
     → IsWritten text r old new → IsWritten (fault_line fault) r old new

@@ -1,48 +1,31 @@
 -- Turns follow the statements of all threads.
-use Rattle.std.proofs.Common.{◌≡◌, ℕ, zero, suc, ◌+◌, ◌-◌, ◌<◌, ◌==◌, Bool, false, cond, List, [], ◌∷◌, ◌++◌, length}
-use Rattle.std.proofs.Common.{get_or, set, refl, sym, ap, subst, ◌∙◌, inl, inr, arith}
-use Rattle.std.proofs.Common.{append_assoc, get_or-set_same, get_or-set_other}
-use Rattle.std.specs.Prelude.{Option, Some, None}
-use Rattle.std.specs.List.{flat_map}
-use Rattle.std.proofs.lemmas.Bool.{cases_eq, cases_lt, cond-false, cond_both}
-use Rattle.std.proofs.lemmas.Grind.{flat_map-append}
-use Rattle.std.proofs.lemmas.List.{append-nil, get_or_past, set-get_or}
-use Rattle.control_word.specs.declared.model.event.Event.{Event}
+use Rattle.std.proofs.Common.{◌≡◌, ℕ, zero, suc, ◌+◌, ◌-◌, ◌<◌, Bool, false, cond, List, [], ◌∷◌}
+use Rattle.std.proofs.Common.{◌++◌, length, get_or, set, ◌==◌, Some, None, Option, sym, refl, ap}
+use Rattle.std.proofs.Common.{◌∙◌, subst, inl, inr, append_assoc, append-nil, arith}
+use Rattle.std.proofs.Common.{get_or-set_other, get_or-set_same}
+use Rattle.script_stepper.proofs.Prelude
+use Prelude.{AbstractState, acted, ahead, AnEnd, cases_eq, cases_lt, cond_both, DoesNext, Ending}
+use Prelude.{entry, Event, exact, flat_map, flat_map-append, frame_of, FrameView, get_or_past}
+use Prelude.{GoesThrough, hand, has_object, heard, History, history_clears, in_order, is_full}
+use Prelude.{IsTrace, Item, leads, next, no_worth, Nothing, nowhere, onto, Opening, opening}
+use Prelude.{program_in, put_on, reply_in, rest_of, rested_frame, row_in, Said, said_by_row}
+use Prelude.{script_abstraction, script_shape, script_world_state, ScriptView, set-get_or, Slot}
+use Prelude.{slot_of, slot_pointer, Slots, state_in, stops, Task, TraceLabel, unwinds_on, unwound}
+use Prelude.{Waits, weak, went, Wound}
+use Rattle.std.proofs.lemmas.Bool.{cond-false}
 use Rattle.control_word.specs.declared.model.event.Event.TheVariants as event
-use Rattle.control_word.specs.Handles.{has_object}
-use Rattle.control_word.specs.Histories.{entry, leads}
-use Rattle.control_word.specs.State.{Opening, weak}
-use Rattle.step_table.specs.declared.slots.slot.Slot.{Slot}
-use Rattle.step_table.specs.Contents.{slot_of}
-use Rattle.step_table.specs.AtomicSteps.{exact}
-use Rattle.step_table.specs.Registers.{Slots, is_full, slot_pointer}
-use Rattle.step_table.specs.Openings.{opening}
-use Rattle.step_table.specs.GhostStates.{Nothing}
-use Rattle.step_threads.specs.declared.programs.act.Task.{Task}
-use Rattle.step_threads.specs.declared.ending.Ending.{Ending}
-use Rattle.step_threads.specs.declared.said.Said.{Said}
-use Rattle.step_threads.specs.Frames.{FrameView, hand}
-use Rattle.step_threads.specs.TraceLabels.{Ahead, AnEnd, DoesNext, DoesAhead, TraceLabel, GoesThrough, ahead, lines, onto, put_on, spoken}
+use Rattle.step_threads.specs.TraceLabels.{Ahead, DoesAhead, lines, spoken}
 use Rattle.step_threads.specs.Endings.{staged}
-use Rattle.step_threads.specs.Entries.{History}
-use Rattle.step_core.proofs.Entries.{acted}
-use Rattle.step_threads.specs.AbstractStates.{AbstractState, frame_of, next, nowhere, reply_in, rest_of, rested_frame, row_in, state_in, went}
-use Rattle.step_threads.specs.Rows.{said_by_row}
-use Rattle.step_threads.specs.Unwinding.{Stop, Wound, history_clears, unwinds_on, stops, unwound}
+use Rattle.step_threads.specs.Unwinding.{Stop}
 use Rattle.step_threads.specs.Steps.{silent}
-use Rattle.step_core.specs.Following.{no_worth}
 use Rattle.step_core.proofs.following.Replies.{replied}
-use Rattle.script_text.specs.Drafts.{ScriptView}
-use Rattle.script_text.specs.Scripts.{program_in}
-use Rattle.script_text.specs.Beginnings.{script_abstraction, script_shape, script_world_state}
 use Rattle.script_stepper.specs.Followed.{TurnsFollow, spoken_of}
-use Rattle.script_stepper.specs.Running.{Waits, heard}
-use Rattle.script_text.specs.Traces.{IsTrace, Item, in_order}
 use Rattle.script_stepper.proofs.Plays.{items_told, play, play_from, plays, said, said_from}
 use Rattle.script_stepper.proofs.LineLemmas.{flat_map-one}
 use Rattle.script_stepper.proofs.OneTurn.{play_waits}
 use Rattle.script_stepper.proofs.StepLemmas.{first_rests}
-use Rattle.script_stepper.proofs.TraceLemmas.{over_of, play_done, play_size, plays_extent, said_done, there}
+use Rattle.script_stepper.proofs.TraceLemmas.{over_of, play_done, play_size, plays_extent}
+use Rattle.script_stepper.proofs.TraceLemmas.{said_done, there}
 use Rattle.script_stepper.proofs.Takings.{turns_are}
 use Rattle.script_stepper.proofs.Unwinding.{ahead_next, still}
 

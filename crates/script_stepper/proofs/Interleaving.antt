@@ -1,33 +1,18 @@
 -- The history of a run by single steps is an interleaving of its threads.
-use Rattle.std.proofs.Common.{◌≡◌, ◌≢◌, ℕ, ◌+◌, ◌<◌, ◌≤◌, List, [], ◌∷◌, length, get_or, map, refl, sym, ap, subst, ◌∙◌}
-use Rattle.std.proofs.Common.{inl, inr, arith, ⊎_elim}
-use Rattle.std.specs.Prelude.{◌⊎◌, All, Option, Some, None, slice_get}
-use Rattle.std.proofs.lemmas.Bool.{cases_lt}
-use Rattle.std.proofs.lemmas.List.{get_or-map, get_or_past, length-map}
-use Rattle.std.proofs.lemmas.List.Elements.{All-cons, All-get_or, All-head, All-nil, All-tail}
-use Rattle.std.proofs.lemmas.Option.{same_Some, slice_get_cases}
+use Rattle.std.proofs.Common.{◌≡◌, ℕ, ◌+◌, ◌<◌, ◌≤◌, ◌≢◌, ◌⊎◌, List, [], ◌∷◌, map, length, get_or}
+use Rattle.std.proofs.Common.{slice_get, Some, None, All, Option, sym, refl, ap, ◌∙◌, subst, inl}
+use Rattle.std.proofs.Common.{inr, ⊎_elim, arith}
+use Rattle.script_stepper.proofs.Prelude
+use Prelude.{abstraction, ahead, ahead_of, All-cons, All-get_or, All-head, All-nil, All-tail}
+use Prelude.{cases_lt, DoesNext, Ending, entry, Event, first_frame, frame_of, FrameView}
+use Prelude.{get_or_past, GoesThrough, IsAtEnd, IsFineText, IsRun, leads, length-map, no_worth}
+use Prelude.{Nothing, nowhere, onto, Opening, opening, Over, Part, program_in, put_on, same_Some}
+use Prelude.{script_world_state, ScriptView, Task, TraceLabel, TraceStep, WorldState}
+use Rattle.std.proofs.lemmas.List.{get_or-map}
+use Rattle.std.proofs.lemmas.Option.{slice_get_cases}
 use Rattle.control_word.specs.declared.model.event.Entry.{Entry}
-use Rattle.control_word.specs.declared.model.event.Event.{Event}
-use Rattle.control_word.specs.Histories.{entry, leads}
-use Rattle.control_word.specs.State.{Opening}
-use Rattle.step_table.specs.Openings.{opening}
-use Rattle.step_table.specs.GhostStates.{Nothing}
-use Rattle.step_threads.specs.declared.ending.Ending.{Ending}
-use Rattle.step_threads.specs.declared.programs.act.Task.{Task}
-use Rattle.step_threads.specs.Frames.{FrameView}
-use Rattle.step_threads.specs.TraceLabels.{DoesNext, TraceLabel, GoesThrough, Over, ahead, ahead_of, onto, put_on}
-use Rattle.step_threads.specs.Interleavings.{IsSplitOrJoin, Marked, first_frame, said_on}
-use Rattle.step_threads.specs.Programs.{Part}
-use Rattle.step_threads.specs.AbstractStates.{nowhere, frame_of}
-use Rattle.step_core.specs.declared.trace.TraceStep.{TraceStep}
-use Rattle.step_core.specs.Following.{Follows, lines_of, no_worth}
-use Rattle.step_core.specs.Runs.{IsRun}
-use Rattle.step_core.specs.Totals.{IsAtEnd}
-use Rattle.step_core.specs.Worlds.{WorldState, abstraction}
-use Rattle.script_text.specs.Beginnings.{script_world_state}
-use Rattle.script_text.specs.Drafts.{ScriptView}
-use Rattle.script_text.specs.Scripts.{program_in}
-use Rattle.script_stepper.specs.Runs.{IsFineText}
+use Rattle.step_threads.specs.Interleavings.{IsSplitOrJoin, Marked, said_on}
+use Rattle.step_core.specs.Following.{Follows, lines_of}
 use Rattle.script_stepper.specs.StepRuns.{IsInterleaving}
 
 -- where there is no thread nothing is done

@@ -1,10 +1,10 @@
 -- What is the least block of a desk's store, if there is one.
-use Rattle.std.proofs.Common.{◌≡◌, ℕ, ◌==◌, Bool, true, false, cond, List, [], ◌∷◌, refl, sym, ◌∙◌}
-use Rattle.std.specs.Prelude.{Option, Some, None}
+use Rattle.std.proofs.Common.{◌≡◌, ℕ, Bool, true, false, cond, List, [], ◌∷◌, ◌==◌, Some, None}
+use Rattle.std.proofs.Common.{Option, sym, refl, ◌∙◌}
+use Rattle.script_stepper.proofs.Prelude.{least, same_Some}
 use Rattle.std.specs.List.{filter}
-use Rattle.std.proofs.lemmas.Option.{same_Some}
 use Rattle.control_word.specs.State.{Stored}
-use Rattle.step_threads.specs.Entries.{least, lesser}
+use Rattle.step_threads.specs.Entries.{lesser}
 
 none_some : (b : ℕ) → None ≡ Some b → ⊥
 none_some b e = cc

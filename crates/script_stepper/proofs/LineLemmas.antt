@@ -1,11 +1,9 @@
 -- Lines that are put one after the other.
-use Rattle.std.proofs.Common.{◌≡◌, ℕ, ◌+◌, ◌<◌, List, [], ◌∷◌, ◌++◌, length, take, get_or, ap, sym, append_assoc, ◌∙◌}
-use Rattle.std.specs.List.{flat_map}
-use Rattle.std.proofs.lemmas.Grind.{flat_map-append}
-use Rattle.std.proofs.lemmas.List.{append-nil, take_more}
+use Rattle.std.proofs.Common.{◌≡◌, ℕ, ◌+◌, ◌<◌, List, [], ◌∷◌, ◌++◌, length, get_or, take, sym, ap}
+use Rattle.std.proofs.Common.{◌∙◌, append_assoc, append-nil}
+use Rattle.script_stepper.proofs.Prelude.{ended, ended-append, flat_map, flat_map-append}
+use Rattle.script_stepper.proofs.Prelude.{take_more}
 use Rattle.std.proofs.lemmas.List.Concat.{flat_map-cons}
-use Rattle.script_text.specs.Grammar.{ended}
-use Rattle.text_lines.proofs.Ended.{ended-append}
 
 pub flat_map-one : {A B : Type 0} (f : A → List B) (x : A) → flat_map f (x ∷ []) ≡ f x
 flat_map-one f x = flat_map-cons f x [] ∙ append-nil (f x)

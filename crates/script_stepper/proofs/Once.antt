@@ -1,16 +1,15 @@
 -- A run by single steps has no choice: there is one for each list of turns.
-use Rattle.std.proofs.Common.{◌≡◌, ℕ, zero, suc, ◌-◌, Bool, true, false, List, [], ◌∷◌, ◌++◌, length, map, get_or, refl, sym, ap, subst}
-use Rattle.std.proofs.Common.{◌∙◌, arith}
-use Rattle.std.specs.Prelude.{All}
+use Rattle.std.proofs.Common.{◌≡◌, ℕ, zero, suc, ◌-◌, Bool, true, false, List, [], ◌∷◌, ◌++◌, map}
+use Rattle.std.proofs.Common.{length, get_or, All, sym, refl, ap, ◌∙◌, subst, arith}
+use Rattle.script_stepper.proofs.Prelude.{All-head, All-tail, ended, IsRun, IsStepText, TraceStep}
+use Rattle.script_stepper.proofs.Prelude.{WorldState}
 use Rattle.std.proofs.lemmas.Bool.{false≢true}
-use Rattle.std.proofs.lemmas.List.Elements.{All-head, All-tail}
 use Rattle.step_threads.specs.declared.said.Stepped.{Stepped}
-use Rattle.step_core.specs.declared.trace.TraceStep.{TraceStep}
-use Rattle.step_core.specs.Runs.{CallsOn, InOrder, IsRun, IsScheduled, IsStepOf, RunsToEnd, Settles, call_under_way, is_calling, is_owing}
-use Rattle.step_core.specs.WorldStates.{IsOver, WorldState}
+use Rattle.step_core.specs.Runs.{CallsOn, InOrder, IsScheduled, IsStepOf, RunsToEnd, Settles}
+use Rattle.step_core.specs.Runs.{call_under_way, is_calling, is_owing}
+use Rattle.step_core.specs.WorldStates.{IsOver}
 use Rattle.step_core.specs.Worlds.{Advances, answer_at, world_state_by, step_of}
-use Rattle.script_text.specs.Grammar.{ended}
-use Rattle.script_stepper.specs.StepRuns.{IsStepText, shown_steps}
+use Rattle.script_stepper.specs.StepRuns.{shown_steps}
 
 -- the same steps, which lead to the same
 abbrev Same : List TraceStep → List TraceStep → WorldState → WorldState → Type 0

@@ -1,29 +1,24 @@
 -- Of two replies of an act that are right and chosen one is as the other, as far as the reply matters.
-use Rattle.step_threads.specs.declared.programs.act.ShelfAct.TheVariants.{Shelve, Unshelve}
-use Rattle.std.proofs.Common.{◌≡◌, ℕ, Bool, true, false, cond, refl, sym, ap, subst, ◌∙◌}
-use Rattle.std.specs.Prelude.{Option, Some, None, slice_set}
+use Rattle.std.proofs.Common.{◌≡◌, ℕ, Bool, true, false, cond, slice_set, Some, None, Option, sym}
+use Rattle.std.proofs.Common.{refl, ap, ◌∙◌, subst}
+use Rattle.script_stepper.proofs.Prelude
+use Prelude.{Act, Alias, Answer, Ask, Clear, Compare, copies, Count, Downgrade, Drop, Exchange}
+use Prelude.{Expired, Form, FromThis, hand, Handle, Hands, History, Holds, inside, is_there, leads}
+use Prelude.{Leave, Load, Lock, Make, may_go, Move, no_worth, Offer, OnShelf, Opening, other}
+use Prelude.{place_in, placed, plain, Put, put_on, Read, row, Share, Shelve, Slot, slot_pointer}
+use Prelude.{Slots, State, Swap, Unshelve, weak_slot}
 use Rattle.control_word.specs.declared.model.event.Event.TheVariants as event
 use Rattle.control_word.specs.Events.{place_at}
-use Rattle.control_word.specs.Histories.{IsLegal, leads}
-use Rattle.control_word.specs.State.{Opening, State}
-use Rattle.step_table.specs.declared.memory.form.Form.{Form}
-use Rattle.control_word.specs.declared.handle.Handle.{Handle}
-use Rattle.step_table.specs.declared.slots.slot.Slot.{Slot}
+use Rattle.control_word.specs.Histories.{IsLegal}
 use Rattle.step_table.specs.Contents.{slots_swapped}
 use Rattle.step_table.specs.AtomicSteps.{is_enabled}
-use Rattle.step_table.specs.Registers.{Slots, inside, place_in, plain, slot_pointer, weak_slot}
-use Rattle.step_threads.specs.declared.programs.act.Act.{Act}
-use Rattle.step_threads.specs.declared.programs.act.Act.TheVariants.{Make, Share, Downgrade, Lock, Put, Leave, Clear, Count, Expired, Read, FromThis, Alias}
-use Rattle.step_threads.specs.declared.programs.act.Act.TheVariants.{Move, Ask, Offer, Swap, Exchange, Load, Compare, Holds, Drop, OnShelf}
-use Rattle.step_threads.specs.declared.said.Answer.{Answer}
-use Rattle.step_threads.specs.Frames.{hand, is_there, other, placed}
-use Rattle.step_threads.specs.TraceLabels.{IsMakeEvent, copies, put_on}
-use Rattle.step_threads.specs.Entries.{History}
-use Rattle.step_threads.specs.Rows.{Reply, Plain, Found, Got, Told, Came, Compared, Left, having, may_go, row}
-use Rattle.step_threads.specs.Rows.{Hands, full_answer, holding, outside, refusal}
-use Rattle.step_core.specs.Following.{no_worth}
-use Rattle.script_stepper.proofs.OneEvent.{Chosen, Comes, Events, Right, compares_once, counts_once, expires_once, gives_once, leaving_once, loads_once}
-use Rattle.script_stepper.proofs.OneEvent.{locks_once, reads_once, same_once, swaps_once}
+use Rattle.step_threads.specs.TraceLabels.{IsMakeEvent}
+use Rattle.step_threads.specs.Rows.{Reply, Plain, Found, Got, Told, Came, Compared, Left, having}
+use Rattle.step_threads.specs.Rows.{full_answer, holding, outside, refusal}
+use Rattle.script_stepper.proofs.OneEvent.{Chosen, Comes, Events, Right, compares_once}
+use Rattle.script_stepper.proofs.OneEvent.{counts_once, expires_once, gives_once, leaving_once}
+use Rattle.script_stepper.proofs.OneEvent.{loads_once, locks_once, reads_once, same_once}
+use Rattle.script_stepper.proofs.OneEvent.{swaps_once}
 use Rattle.script_stepper.proofs.LeastBlocks.{least_is_one, least_of_none}
 
 module _ (s : State) (d : ℕ) where

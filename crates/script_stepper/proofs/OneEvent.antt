@@ -1,32 +1,25 @@
 -- Of two events that are right and chosen, and make the same of a reply, one is as the other.
-use Rattle.std.proofs.Common.{◌≡◌, ℕ, ◌==◌, ◌&&◌, Bool, true, false, not, cond, refl, sym, ap, subst, ◌∙◌}
-use Rattle.std.specs.Prelude.{Option, Some, None, slice_index}
-use Rattle.control_word.specs.declared.model.event.Event.{Event}
+use Rattle.std.proofs.Common.{◌≡◌, ℕ, Bool, true, false, cond, not, ◌&&◌, ◌==◌, slice_index, Some}
+use Rattle.std.proofs.Common.{None, Option, sym, refl, ap, ◌∙◌, subst}
+use Rattle.script_stepper.proofs.Prelude.{Always, Answer, Event, hand, Handle, Hands, is_full}
+use Rattle.script_stepper.proofs.Prelude.{IsChosen, Kind, leaves_as, Nothing, NumberedHandle}
+use Rattle.script_stepper.proofs.Prelude.{owned, Owner, Place, Slot, slot_of, slot_value, Slots}
+use Rattle.script_stepper.proofs.Prelude.{State, Weak, weak}
 use Rattle.control_word.specs.declared.model.event.Event.TheVariants as event
-use Rattle.control_word.specs.declared.model.handle.NumberedHandle.{NumberedHandle}
-use Rattle.control_word.specs.declared.model.handle.Kind.{Kind}
-use Rattle.control_word.specs.declared.model.handle.Kind.TheVariants.{Owner, Weak}
-use Rattle.control_word.specs.declared.place.Place.{Place}
 use Rattle.control_word.specs.Events.{Asks, cell_of, is_gone}
 use Rattle.control_word.specs.Handles.{equivalent, object_of, owner, weak_of}
-use Rattle.control_word.specs.State.{State, count, weak}
+use Rattle.control_word.specs.State.{count}
 use Rattle.step_table.specs.declared.memory.ended.Ended.{Ended}
-use Rattle.control_word.specs.declared.handle.Handle.{Handle}
-use Rattle.step_table.specs.declared.slots.slot.Slot.{Slot}
 use Rattle.step_table.specs.CellAtomicSteps.{cell_in, kind_in_state}
-use Rattle.step_table.specs.Contents.{slot_of, named_handle}
-use Rattle.step_table.specs.AtomicSteps.{handle_of, owned}
-use Rattle.step_table.specs.Registers.{Slots, is_full, slot_value}
-use Rattle.step_table.specs.GhostStates.{Nothing}
+use Rattle.step_table.specs.Contents.{named_handle}
+use Rattle.step_table.specs.AtomicSteps.{handle_of}
 use Rattle.step_threads.specs.declared.programs.call.CellName.{CellName}
-use Rattle.step_threads.specs.declared.said.Answer.{Answer}
 use Rattle.step_threads.specs.declared.said.Answer.TheVariants as answer
-use Rattle.step_threads.specs.Frames.{cell_of_name, hand, other}
-use Rattle.step_threads.specs.TraceLabels.{IsLeaveEvent, IsLoadEvent, On, IsSwapEvent, IsSameEvent, IsCompareEvent, Where, leaves_as}
+use Rattle.step_threads.specs.Frames.{cell_of_name}
+use Rattle.step_threads.specs.TraceLabels.{IsLeaveEvent, IsLoadEvent, On, IsSwapEvent, IsSameEvent}
+use Rattle.step_threads.specs.TraceLabels.{IsCompareEvent, Where}
 use Rattle.step_threads.specs.Rows.{leaving}
-use Rattle.step_threads.specs.Rows.{Hands}
 use Rattle.step_threads.specs.AbstractStates.{remains_as}
-use Rattle.step_core.specs.Turns.{Always, IsChosen}
 
 abbrev pub Events : Type 0
 Events = Option (Event Nothing)

@@ -1,16 +1,13 @@
 -- A script and its turns have one trace.
-use Rattle.std.proofs.Common.{◌≡◌, ◌≢◌, ℕ, zero, suc, ◌+◌, ◌-◌, ◌<◌, ◌≤◌, List, [], ◌∷◌, ◌++◌, replicate, length}
-use Rattle.std.proofs.Common.{refl, sym, ◌∙◌, ap, subst, arith}
-use Rattle.std.specs.Prelude.{None}
-use Rattle.script_text.specs.Grammar.{ended}
-use Rattle.step_threads.specs.AbstractStates.{AbstractState, next, frame_of}
-use Rattle.script_text.specs.Traces.{IsTrace, Item, in_order}
-use Rattle.script_stepper.specs.Running.{heard}
+use Rattle.std.proofs.Common.{◌≡◌, ℕ, zero, suc, ◌+◌, ◌-◌, ◌<◌, ◌≤◌, ◌≢◌, List, [], ◌∷◌, ◌++◌}
+use Rattle.std.proofs.Common.{length, replicate, None, sym, refl, ap, ◌∙◌, subst, arith}
+use Rattle.script_stepper.proofs.Prelude.{AbstractState, ended, frame_of, heard, in_order, IsTrace}
+use Rattle.script_stepper.proofs.Prelude.{IsTurnText, Item, next}
 use Rattle.script_stepper.proofs.Plays.{items_told, play, plays, said}
 use Rattle.script_stepper.proofs.Takings.{turns_are}
 use Rattle.script_stepper.specs.Lines.{run_lines}
-use Rattle.script_stepper.specs.Runs.{IsTurnText}
-use Rattle.script_stepper.proofs.TraceLemmas.{idle_plays, idle_told, play_other, plays-append, told-append}
+use Rattle.script_stepper.proofs.TraceLemmas.{idle_plays, idle_told, play_other, plays-append}
+use Rattle.script_stepper.proofs.TraceLemmas.{told-append}
 
 abbrev AllDone : AbstractState → Type 0
 AllDone c = (d : ℕ) → next (frame_of c d) ≡ None

@@ -1,37 +1,27 @@
 -- One turn of a world at rest.
-use Rattle.std.proofs.Common.{◌≡◌, ℕ, ◌-◌, ◌<◌, ◌≤◌, List, [], ◌∷◌, ◌++◌, inl, inr, length, refl, sym, ◌∙◌, ap, subst, arith}
-use Rattle.std.proofs.Common.{get_or, get_or-set_same, get_or-set_other}
-use Rattle.std.specs.Prelude.{Option, Some, None, is_some, slice_set}
-use Rattle.std.specs.List.{flat_map}
-use Rattle.std.proofs.lemmas.Bool.{cases_eq, cases_lt}
-use Rattle.std.proofs.lemmas.List.{append-nil, get_or_past, length-set, set-get_or}
-use Rattle.step_threads.specs.declared.programs.act.Task.{Task}
-use Rattle.step_threads.specs.declared.pending_call.PendingCall.{PendingCall}
-use Rattle.step_threads.specs.declared.pending_call.PendingCall.TheVariants.{Rest}
-use Rattle.step_threads.specs.declared.said.Said.{Said}
+use Rattle.std.proofs.Common.{◌≡◌, ℕ, ◌-◌, ◌<◌, ◌≤◌, List, [], ◌∷◌, ◌++◌, length, get_or, is_some}
+use Rattle.std.proofs.Common.{slice_set, Some, None, Option, sym, refl, ap, ◌∙◌, subst, inl, inr}
+use Rattle.std.proofs.Common.{append-nil, arith, length-set, get_or-set_other, get_or-set_same}
+use Rattle.script_stepper.proofs.Prelude
+use Prelude.{abstraction, AbstractState, acted, AllRest, Always, cases_eq, cases_lt, ended, exact}
+use Prelude.{flat_map, frame_of, FrameView, get_or_past, HasRun, heard, Item, item_lines, next}
+use Prelude.{nowhere, opening, PendingCall, put_frame, Rest, rest_of, Said, said_lines, set-get_or}
+use Prelude.{state_in, TakesTurn, Task, turns_left, Waits, WorldState}
 use Rattle.step_threads.specs.declared.said.Turned.{Turned}
 use Rattle.step_threads.specs.declared.said.Turned.TheVariants.{Acted, Done}
-use Rattle.step_threads.specs.Frames.{FrameView}
-use Rattle.step_table.specs.AtomicSteps.{exact}
-use Rattle.step_table.specs.Openings.{opening}
-use Rattle.step_core.proofs.Entries.{acted}
-use Rattle.step_threads.specs.AbstractStates.{AbstractState, next, nowhere, put_frame, rest_of, rested, state_in, frame_of}
+use Rattle.step_threads.specs.AbstractStates.{rested}
 use Rattle.step_table.specs.GhostStates.{TableInvariant}
-use Rattle.step_core.specs.Turns.{Always, TurnIs}
-use Rattle.step_core.specs.Worlds.{CountsAll, NoneLoads, WorldState, TakesWholeTurn, is_loading, abstraction}
+use Rattle.step_core.specs.Turns.{TurnIs}
+use Rattle.step_core.specs.Worlds.{CountsAll, NoneLoads, TakesWholeTurn, is_loading}
 use Rattle.step_core.proofs.turning.Turns.{turn_less}
 use Rattle.step_core.proofs.telling.Order.{ended_few}
-use Rattle.script_text.specs.Grammar.{ended}
-use Rattle.script_stepper.specs.Lines.{item_lines, said_lines}
-use Rattle.script_stepper.specs.Running.{AllRest, HasRun, Waits, turns_left}
-use Rattle.script_text.specs.Traces.{Item, TakesTurn}
 use Rattle.script_stepper.proofs.Takings.{turn_is}
-use Rattle.script_stepper.specs.Running.{heard}
 use Rattle.script_stepper.proofs.Plays.{play, play_from}
 use Rattle.script_stepper.proofs.Acting.{went_size}
 use Rattle.script_stepper.proofs.LineLemmas.{flat_map-one}
 use Rattle.script_stepper.proofs.TraceLemmas.{play_other, play_size}
-use Rattle.script_stepper.proofs.TurnsLeft.{InOrder, next_frame, next_wound, play_less, play_most, put}
+use Rattle.script_stepper.proofs.TurnsLeft.{InOrder, next_frame, next_wound, play_less, play_most}
+use Rattle.script_stepper.proofs.TurnsLeft.{put}
 use Rattle.script_stepper.proofs.Unwinding.{rested_size, rested_still, rested_waits}
 
 -- endings that wait go on no further by themselves

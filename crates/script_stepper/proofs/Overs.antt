@@ -1,13 +1,8 @@
 -- All threads at their ends.
 use Rattle.std.proofs.Common.{◌≡◌, []}
+use Rattle.script_stepper.proofs.Prelude.{abstraction, AllOver, AllRest, frame_of, FrameView}
+use Rattle.script_stepper.proofs.Prelude.{IsAtEnd, nowhere, PendingCall, Rest, WorldState}
 use Rattle.std.proofs.lemmas.List.Elements.{All-from_get_or}
-use Rattle.step_threads.specs.declared.pending_call.PendingCall.{PendingCall}
-use Rattle.step_threads.specs.declared.pending_call.PendingCall.TheVariants.{Rest}
-use Rattle.step_threads.specs.Frames.{FrameView}
-use Rattle.step_threads.specs.AbstractStates.{nowhere, frame_of}
-use Rattle.step_core.specs.Totals.{IsAtEnd}
-use Rattle.step_core.specs.Worlds.{WorldState, abstraction}
-use Rattle.script_stepper.specs.Running.{AllOver, AllRest}
 use Rattle.script_stepper.proofs.TraceLemmas.{none_endings, none_todo}
 
 pub at_end : (u : WorldState) → AllRest u → AllOver u → IsAtEnd u

@@ -1,15 +1,8 @@
 -- Turns, as functions of the abstract state: the machine's replies are what the state has.
-use Rattle.std.specs.Prelude.{ℕ, ◌-◌, List, [], ◌∷◌, ◌++◌, Option, Some, None}
-use Rattle.step_threads.specs.declared.programs.act.Task.{Task}
-use Rattle.step_threads.specs.declared.said.Said.{Said}
-use Rattle.step_threads.specs.Frames.{FrameView}
-use Rattle.step_threads.specs.Rows.{said_by_row}
-use Rattle.step_threads.specs.AbstractStates.{AbstractState, next, put_frame, rest_of, rested_frame, row_in, state_in, frame_of, went}
-use Rattle.step_table.specs.AtomicSteps.{exact}
-use Rattle.step_table.specs.Openings.{opening}
-use Rattle.step_core.proofs.Entries.{acted}
-use Rattle.script_text.specs.Traces.{Item}
-use Rattle.script_stepper.specs.Running.{heard}
+use Rattle.std.proofs.Common.{ℕ, ◌-◌, List, [], ◌∷◌, ◌++◌, Some, None, Option}
+use Rattle.script_stepper.proofs.Prelude.{AbstractState, acted, exact, frame_of, FrameView, heard}
+use Rattle.script_stepper.proofs.Prelude.{Item, next, opening, put_frame, rest_of, rested_frame}
+use Rattle.script_stepper.proofs.Prelude.{row_in, Said, said_by_row, state_in, Task, went}
 
 abbrev pub play_from : AbstractState → ℕ → FrameView → Option Task → AbstractState
 play_from c d w None = c

@@ -1,19 +1,12 @@
 -- Turns of a world, one after the other.
-use Rattle.std.proofs.Common.{◌≡◌, ℕ, ◌+◌, ◌-◌, ◌<◌, ◌≤◌, List, [], ◌∷◌, ◌++◌, replicate, length, get_or}
-use Rattle.std.proofs.Common.{refl, sym, ◌∙◌, ap}
-use Rattle.std.proofs.Common.{subst, arith, append_assoc, take}
-use Rattle.std.specs.Prelude.{Option, Some, None, false, is_some}
-use Rattle.std.specs.List.{flat_map}
-use Rattle.std.proofs.lemmas.Grind.{flat_map-append}
-use Rattle.std.proofs.lemmas.List.{append-nil, replicate_more, take_more}
-use Rattle.script_text.specs.Grammar.{ended}
-use Rattle.text_lines.proofs.Ended.{ended-append}
-use Rattle.step_threads.specs.declared.programs.act.Task.{Task}
-use Rattle.step_threads.specs.AbstractStates.{AbstractState, frame_of, next}
-use Rattle.step_core.specs.Worlds.{WorldState, abstraction}
-use Rattle.script_stepper.specs.Lines.{item_lines}
-use Rattle.script_stepper.specs.Running.{AllRest, HasRun, IsThread, RunsAlone, turns_left}
-use Rattle.script_text.specs.Traces.{Item, TakeTurns}
+use Rattle.std.proofs.Common.{◌≡◌, ℕ, ◌+◌, ◌-◌, ◌<◌, ◌≤◌, false, List, [], ◌∷◌, ◌++◌, length}
+use Rattle.std.proofs.Common.{get_or, take, replicate, is_some, Some, None, Option, sym, refl, ap}
+use Rattle.std.proofs.Common.{◌∙◌, subst, append_assoc, append-nil, arith}
+use Rattle.script_stepper.proofs.Prelude.{abstraction, AbstractState, AllRest, ended, ended-append}
+use Rattle.script_stepper.proofs.Prelude.{flat_map, flat_map-append, frame_of, HasRun, IsThread}
+use Rattle.script_stepper.proofs.Prelude.{Item, item_lines, next, RunsAlone, take_more, TakeTurns}
+use Rattle.script_stepper.proofs.Prelude.{Task, turns_left, WorldState}
+use Rattle.std.proofs.lemmas.List.{replicate_more}
 use Rattle.script_stepper.proofs.Plays.{plays}
 use Rattle.script_stepper.proofs.Takings.{turns_are}
 use Rattle.script_stepper.proofs.TraceLemmas.{play_done, plays_size}

@@ -1,30 +1,19 @@
 -- The text of a whole run.
-use Rattle.std.proofs.Common.{◌≡◌, ℕ, zero, suc, ◌+◌, ◌<◌, false, List, [], ◌∷◌, ◌++◌, inl, get_or, length, map, refl, subst, sym, ap}
-use Rattle.std.proofs.Common.{◌∙◌, arith}
+use Rattle.std.proofs.Common.{◌≡◌, ℕ, zero, suc, ◌+◌, ◌<◌, false, List, [], ◌∷◌, ◌++◌, map, length}
+use Rattle.std.proofs.Common.{get_or, sym, refl, ap, ◌∙◌, subst, inl, arith}
+use Rattle.script_stepper.proofs.Prelude
+use Prelude.{abstraction, AbstractState, AllOver, AllRest, closing_lines, ended, ended-append}
+use Prelude.{first_frame, flat_map, HasRun, IsTrace, IsTurnText, item_lines, nowhere, Part}
+use Prelude.{PendingCall, plain, program_in, Rest, script_shape, script_world_state, ScriptView}
+use Prelude.{Shape, shape_for, Waits, WorldState}
 use Rattle.std.proofs.lemmas.List.{length-replicate}
-use Rattle.std.specs.List.{flat_map}
-use Rattle.script_text.specs.Grammar.{ended}
-use Rattle.text_lines.proofs.Ended.{ended-append}
-use Rattle.control_word.specs.declared.shape.Shape.{Shape}
-use Rattle.script_text.specs.Drafts.{ScriptView}
-use Rattle.script_text.specs.Scripts.{program_in}
-use Rattle.step_threads.specs.declared.pending_call.PendingCall.{PendingCall}
-use Rattle.step_threads.specs.declared.pending_call.PendingCall.TheVariants.{Rest}
 use Rattle.step_threads.specs.Acts.{tasks_from}
-use Rattle.step_table.specs.Registers.{plain}
-use Rattle.step_threads.specs.Programs.{Part}
-use Rattle.step_core.specs.Starts.{first_world_state, first_frame, no_slots}
+use Rattle.step_core.specs.Starts.{first_world_state, no_slots}
 use Rattle.step_table.specs.declared.memory.extent.Extent.{Extent}
-use Rattle.step_threads.specs.AbstractStates.{AbstractState, nowhere}
-use Rattle.step_core.specs.Worlds.{WorldState, abstraction}
-use Rattle.script_text.specs.Beginnings.{script_shape, script_world_state, shape_for}
 use Rattle.script_text.specs.Versions.{blocks_in}
-use Rattle.script_stepper.specs.Runs.{IsTurnText}
-use Rattle.script_stepper.specs.Lines.{closing_lines, item_lines}
-use Rattle.script_stepper.specs.Running.{AllOver, AllRest, HasRun, RunsOut, Waits}
+use Rattle.script_stepper.specs.Running.{RunsOut}
 use Rattle.step_core.proofs.telling.Leaves.{settled_endings}
 use Rattle.script_stepper.proofs.Acting.{settled_size}
-use Rattle.script_text.specs.Traces.{IsTrace}
 use Rattle.script_stepper.proofs.RunLemmas.{run_plays}
 use Rattle.script_stepper.proofs.TraceLemmas.{plays_extent}
 

@@ -1,11 +1,8 @@
 -- Runs by single steps, and their text.
-use Rattle.std.proofs.Common.{◌≡◌, ℕ, List, [], ◌++◌, sym, ap, subst, ◌∙◌}
-use Rattle.std.specs.List.{flat_map}
-use Rattle.step_core.specs.declared.trace.TraceStep.{TraceStep}
-use Rattle.step_core.specs.Worlds.{WorldState, abstraction}
-use Rattle.script_text.specs.Grammar.{ended}
-use Rattle.script_stepper.specs.Lines.{closing_lines}
-use Rattle.script_stepper.specs.StepRuns.{IsStepRun, IsStepText, step_lines}
+use Rattle.std.proofs.Common.{◌≡◌, ℕ, List, [], ◌++◌, sym, ap, ◌∙◌, subst}
+use Rattle.script_stepper.proofs.Prelude.{abstraction, closing_lines, ended, flat_map, IsStepText}
+use Rattle.script_stepper.proofs.Prelude.{step_lines, TraceStep, WorldState}
+use Rattle.script_stepper.specs.StepRuns.{IsStepRun}
 use Rattle.script_stepper.proofs.LineLemmas.{lines_then}
 
 pub step_text_is : (turns : List ℕ) (u u' : WorldState) (steps told : List TraceStep) (a b c : List ℕ) → IsStepRun turns u steps u'

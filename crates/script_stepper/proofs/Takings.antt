@@ -1,36 +1,19 @@
 -- Turns by replies are the turns of the machine.
-use Rattle.step_threads.specs.declared.programs.act.ShelfAct.TheVariants.{Shelve, Unshelve}
-use Rattle.std.proofs.Common.{◌≡◌, ℕ, ◌-◌, Bool, true, false, cond, List, [], ◌∷◌, ◌++◌, refl, sym, ap, ◌∙◌}
-use Rattle.std.specs.Prelude.{Option, Some, None, option_map}
-use Rattle.control_word.specs.declared.model.event.Event.{Event}
+use Rattle.std.proofs.Common.{◌≡◌, ℕ, ◌-◌, Bool, true, false, cond, List, [], ◌∷◌, ◌++◌, Some}
+use Rattle.std.proofs.Common.{None, Option, option_map, sym, refl, ap, ◌∙◌}
+use Rattle.script_stepper.proofs.Prelude
+use Prelude.{AbstractState, Act, Alias, Always, Ask, Clear, Compare, copies, Count, Downgrade}
+use Prelude.{Drop, Event, exact, Exchange, Expired, frame_of, FrameView, FromThis, giving, hand}
+use Prelude.{Handle, heard, History, Holds, inside, is_there, IsChosen, Item, Kind, leads, least}
+use Prelude.{Leave, leaves_as, Load, Lock, Make, may_go, Move, next, Nothing, Offer, offered}
+use Prelude.{OnShelf, Opening, opening, other, owned, Owner, owner_slot, Place, Put, put_on, Read}
+use Prelude.{reply_in, rest_of, row, row_in, Said, said_by_row, Share, Shelve, slot_pointer, State}
+use Prelude.{state_in, Swap, TakesTurn, TakeTurns, Task, Unshelve, Weak, weak_slot, went}
 use Rattle.control_word.specs.declared.model.event.Event.TheVariants as event
-use Rattle.control_word.specs.declared.model.handle.Kind.{Kind}
-use Rattle.control_word.specs.declared.model.handle.Kind.TheVariants.{Owner, Weak}
-use Rattle.control_word.specs.declared.place.Place.{Place}
-use Rattle.control_word.specs.Histories.{leads}
-use Rattle.control_word.specs.State.{Opening, State}
-use Rattle.control_word.specs.declared.handle.Handle.{Handle}
-use Rattle.step_table.specs.AtomicSteps.{exact, field_at, last_as, owned}
-use Rattle.step_table.specs.Registers.{inside, owner_slot, slot_pointer, weak_slot}
-use Rattle.step_table.specs.Openings.{opening}
-use Rattle.step_table.specs.GhostStates.{Nothing}
-use Rattle.step_threads.specs.declared.programs.act.Act.{Act}
-use Rattle.step_threads.specs.declared.programs.act.Act.TheVariants.{Make, Share, Downgrade, Lock, Put, Leave, Clear, Count, Expired, Read, FromThis, Alias}
-use Rattle.step_threads.specs.declared.programs.act.Act.TheVariants.{Move, Ask}
-use Rattle.step_threads.specs.declared.programs.act.Act.TheVariants.{Offer, Swap, Exchange, Load, Compare, Holds, Drop, OnShelf}
-use Rattle.step_threads.specs.declared.programs.act.Task.{Task}
-use Rattle.step_threads.specs.declared.said.Said.{Said}
-use Rattle.step_threads.specs.Frames.{FrameView, hand, is_there, offered, other}
-use Rattle.step_threads.specs.TraceLabels.{copies, leaves_as, put_on}
-use Rattle.step_threads.specs.Entries.{History, least}
-use Rattle.step_core.proofs.Entries.{giving}
-use Rattle.step_threads.specs.Rows.{Row, frame_after_act, may_go, row, said_by_row}
-use Rattle.step_threads.specs.AbstractStates.{AbstractState, next, rest_of, reply_in, row_in, state_in}
-use Rattle.step_threads.specs.AbstractStates.{frame_of, went}
+use Rattle.step_table.specs.AtomicSteps.{field_at, last_as}
+use Rattle.step_threads.specs.Rows.{Row, frame_after_act}
 use Rattle.step_core.proofs.following.Replies.{replied}
-use Rattle.step_core.specs.Turns.{ActsNow, Always, IsChosen, abstraction_after}
-use Rattle.script_text.specs.Traces.{Item, TakeTurns, TakesTurn}
-use Rattle.script_stepper.specs.Running.{heard}
+use Rattle.step_core.specs.Turns.{ActsNow, abstraction_after}
 use Rattle.script_stepper.proofs.Plays.{play_from, plays, said, said_from, items_told}
 use Rattle.script_stepper.proofs.OneAct.{comes, one_reply}
 use Rattle.script_stepper.proofs.OneEvent.{Events, Right}

@@ -1,33 +1,24 @@
 -- What an act does to the totals of a history, and to the parts that endings have left.
+use Rattle.std.proofs.Common.{◌≡◌, ℕ, ◌+◌, ◌*◌, ◌≤◌, Bool, true, false, cond, List, Some, None}
+use Rattle.std.proofs.Common.{Option, option_map, refl, arith}
+use Rattle.script_stepper.proofs.Prelude
+use Prelude.{Act, acted, Alias, Ask, Clear, Compare, Count, Downgrade, Drop, ended_in, Ending}
+use Prelude.{exact, Exchange, Expired, Form, FromThis, giving, Handle, History, Holds, inside}
+use Prelude.{is_there, Kind, leads, least, Leave, Load, Lock, made_in, Make, may_go, Move, Offer}
+use Prelude.{offered, OnShelf, Opening, other, Owner, owner_slot, parts_left, place_in, Put, Read}
+use Prelude.{Share, Shelve, slot_pointer, Slots, State, Swap, Unshelve, Weak, with_end}
 use Rattle.step_threads.specs.declared.programs.act.ShelfAct.{ShelfAct}
-use Rattle.step_threads.specs.declared.programs.act.ShelfAct.TheVariants.{Shelve, Unshelve}
 use Rattle.step_threads.specs.Shelving.{shelf_block, shelf_step}
-use Rattle.std.proofs.Common.{◌≡◌, ℕ, ◌+◌, ◌*◌, ◌≤◌, Bool, true, false, List, refl, arith}
-use Rattle.std.specs.Prelude.{Option, Some, None, cond, option_map}
-use Rattle.control_word.specs.declared.model.handle.Kind.{Kind}
-use Rattle.control_word.specs.declared.model.handle.Kind.TheVariants.{Owner, Weak}
-use Rattle.control_word.specs.Histories.{leads}
-use Rattle.control_word.specs.State.{Opening, State}
-use Rattle.step_threads.specs.declared.programs.act.Act.{Act}
-use Rattle.step_threads.specs.declared.programs.act.Act.TheVariants.{Make, Share, Downgrade, Alias, Move, FromThis, Lock, Put, Leave, Clear, Count, Expired}
-use Rattle.step_threads.specs.declared.programs.act.Act.TheVariants.{Read, Ask}
-use Rattle.step_threads.specs.declared.programs.act.Act.TheVariants.{Offer, Swap, Exchange, Load, Compare, Holds, Drop, OnShelf}
-use Rattle.step_table.specs.declared.memory.form.Form.{Form}
-use Rattle.step_threads.specs.declared.ending.Ending.{Ending}
-use Rattle.control_word.specs.declared.handle.Handle.{Handle}
 use Rattle.step_table.specs.declared.memory.ghost_history.AtomicStep.{AtomicStep}
 use Rattle.step_table.specs.GhostStates.{event_added, event_of}
-use Rattle.step_threads.specs.Frames.{Going, going, is_there, locked_pointer, offered, on_going, other}
-use Rattle.step_table.specs.AtomicSteps.{alias, aliased, downgrade, exact, give, is_last, leave, leave_as, lock, read_atomic_step, share, share_as, tell_count}
+use Rattle.step_threads.specs.Frames.{Going, going, locked_pointer, on_going}
+use Rattle.step_table.specs.AtomicSteps.{alias, aliased, downgrade, give, is_last, leave, leave_as}
+use Rattle.step_table.specs.AtomicSteps.{lock, read_atomic_step, share, share_as, tell_count}
 use Rattle.step_table.specs.AtomicSteps.{tell_expired}
-use Rattle.step_threads.specs.Rows.{ending_as, with_end}
+use Rattle.step_threads.specs.Rows.{ending_as}
 use Rattle.step_core.proofs.telling.Leaves.{begun_by, leaves_by}
-use Rattle.step_table.specs.Registers.{Slots, inside, owner_slot, place_in, slot_pointer}
-use Rattle.step_threads.specs.Entries.{History, least}
-use Rattle.step_threads.specs.Rows.{may_go}
-use Rattle.step_core.proofs.Entries.{acted, history_asks, history_compares, does, giving, loads, make_step, history_swaps}
-use Rattle.step_core.specs.Totals.{ended_in, made_in}
-use Rattle.script_stepper.specs.Running.{parts_left}
+use Rattle.step_core.proofs.Entries.{history_asks, history_compares, does, loads, make_step}
+use Rattle.step_core.proofs.Entries.{history_swaps}
 
 -- how many objects an act makes at most
 abbrev pub may_make : Act → ℕ

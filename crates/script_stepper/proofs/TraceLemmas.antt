@@ -1,19 +1,11 @@
 -- Laws of turns.
-use Rattle.std.proofs.Common.{◌≡◌, ◌≢◌, ℕ, zero, suc, ◌-◌, ◌<◌, ◌≤◌, List, [], ◌∷◌, ◌++◌, replicate, inl, inr}
-use Rattle.std.proofs.Common.{length, refl, sym, ◌∙◌, ap, subst, append_assoc, get_or-set_other}
-use Rattle.std.specs.Prelude.{Option, Some, None}
-use Rattle.std.proofs.lemmas.Bool.{cases_eq, cases_lt}
-use Rattle.std.proofs.lemmas.List.{get_or_past, length-set}
-use Rattle.step_threads.specs.declared.programs.act.Task.{Task}
-use Rattle.step_threads.specs.declared.ending.Ending.{Ending}
-use Rattle.step_threads.specs.declared.said.Said.{Said}
-use Rattle.step_threads.specs.Frames.{FrameView}
-use Rattle.step_threads.specs.TraceLabels.{Over, ahead_of}
-use Rattle.step_table.specs.Registers.{Slots}
-use Rattle.step_threads.specs.AbstractStates.{AbstractState, next, next_of, nowhere, frame_of}
+use Rattle.std.proofs.Common.{◌≡◌, ℕ, zero, suc, ◌-◌, ◌<◌, ◌≤◌, ◌≢◌, List, [], ◌∷◌, ◌++◌, length}
+use Rattle.std.proofs.Common.{replicate, Some, None, Option, sym, refl, ap, ◌∙◌, subst, inl, inr}
+use Rattle.std.proofs.Common.{append_assoc, length-set, get_or-set_other}
+use Rattle.script_stepper.proofs.Prelude.{AbstractState, ahead_of, cases_eq, cases_lt, Ending}
+use Rattle.script_stepper.proofs.Prelude.{frame_of, FrameView, get_or_past, heard, Item, next}
+use Rattle.script_stepper.proofs.Prelude.{next_of, nowhere, Over, Said, Slots, Task}
 use Rattle.script_stepper.proofs.Plays.{items_told, play, play_from, plays, said, said_from}
-use Rattle.script_text.specs.Traces.{Item}
-use Rattle.script_stepper.specs.Running.{heard}
 
 pub plays-append : (xs ys : List ℕ) (c : AbstractState) → plays (xs ++ ys) c ≡ plays ys (plays xs c)
 plays-append [] ys c = refl

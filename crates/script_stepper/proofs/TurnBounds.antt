@@ -1,17 +1,14 @@
 -- The numbers of a list name threads.
-use Rattle.std.proofs.Common.{◌≡◌, ℕ, ◌+◌, ◌<◌, ◌≤◌, Bool, true, false, List, [], ◌∷◌, length, get_or, Some, None, Result}
-use Rattle.std.proofs.Common.{Ok, Err, Option, refl, arith, cond, not, leb, ltb, eqb, All, subst, sym}
-use Rattle.std.specs.Prelude.{◌&&◌}
-use Rattle.std.specs.List.{list_all, slice_split}
+use Rattle.std.proofs.Common.{◌≡◌, ℕ, ◌+◌, ◌<◌, ◌≤◌, Bool, true, false, cond, not, ◌&&◌, eqb, ltb}
+use Rattle.std.proofs.Common.{leb, List, [], ◌∷◌, length, get_or, Some, None, Ok, Err, All, Option}
+use Rattle.std.proofs.Common.{Result, sym, refl, subst, arith, ltb-true, leb-true}
+use Rattle.script_stepper.proofs.Prelude.{All-cons, All-nil, digits_value, is_comma, is_digit}
+use Rattle.script_stepper.proofs.Prelude.{is_turn, list_all, nat_tests, slice_split, turn_at}
+use Rattle.script_stepper.proofs.Prelude.{turns_from}
 use Rattle.std.specs.Char.{digit_value}
-use Rattle.std.specs.Str.Parse.{digits_value}
-use Rattle.std.proofs.lemmas.Bool.{leb-true, ltb-true}
-use Rattle.std.proofs.lemmas.Bool.Decides.{nat_tests}
-use Rattle.std.proofs.lemmas.List.Elements.{All-cons, All-nil}
 use Rattle.std.proofs.lemmas.Str.{digit_value_digit}
 use Rattle.std.proofs.lemmas.Str.Parse.{digits_value-take-le}
-use Rattle.script_stepper.specs.TurnLists.{is_turn, is_comma, turn_at, with_first, turns_from, list_at}
-use Rattle.script_text.specs.Words.{is_digit}
+use Rattle.script_stepper.specs.TurnLists.{with_first, list_at}
 
 -- a thread's number, from 1
 abbrev pub Names : ℕ → ℕ → Type 0

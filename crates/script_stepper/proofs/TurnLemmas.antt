@@ -1,19 +1,18 @@
 -- A list, cut at its commas.
-use Rattle.std.proofs.Common.{◌≡◌, ℕ, zero, suc, ◌+◌, ◌-◌, ◌^◌, ◌<◌, ◌≤◌, Bool, true, false, not, cond, ltb, leb, eqb}
-use Rattle.std.proofs.Common.{List, [], ◌∷◌, ◌++◌, length, get_or, take, drop, Some, None, Result, Ok, Err, refl}
-use Rattle.std.proofs.Common.{subst, ◌∙◌, arith, rules}
-use Rattle.std.specs.Prelude.{◌&&◌}
-use Rattle.std.specs.List.{position, position_or_len, slice_split, onto_first, list_all}
+use Rattle.std.proofs.Common.{◌≡◌, ℕ, zero, suc, ◌+◌, ◌-◌, ◌^◌, ◌<◌, ◌≤◌, Bool, true, false, cond}
+use Rattle.std.proofs.Common.{not, ◌&&◌, eqb, ltb, leb, List, [], ◌∷◌, ◌++◌, length, get_or, take}
+use Rattle.std.proofs.Common.{drop, Some, None, Ok, Err, Result, refl, ◌∙◌, subst, arith, rules}
+use Rattle.std.proofs.Common.{ltb-false, ltb-true, leb-true}
+use Rattle.script_stepper.proofs.Prelude.{digits_value, is_comma, is_digit, is_turn, list_all}
+use Rattle.script_stepper.proofs.Prelude.{nat_tests, slice_split, take_rest, turn_at, turns_from}
+use Rattle.std.specs.List.{position, position_or_len, onto_first}
 use Rattle.std.specs.Str.{IsAscii, IsUtf8}
-use Rattle.std.specs.Str.Parse.{digits_value, ParsesUnsigned}
-use Rattle.std.proofs.lemmas.Bool.{ltb-true, ltb-false, leb-true, false_from_ne_true}
-use Rattle.std.proofs.lemmas.Bool.Decides.{nat_tests}
+use Rattle.std.specs.Str.Parse.{ParsesUnsigned}
+use Rattle.std.proofs.lemmas.Bool.{false_from_ne_true}
 use Rattle.std.proofs.lemmas.List.Splits.{slice_split_first}
-use Rattle.std.proofs.lemmas.List.{take_rest}
 use Rattle.std.proofs.lemmas.Str.{IsUtf8-from_ascii}
 use Rattle.std.proofs.lemmas.Str.Parse.{IsNumeralModel, numerals_by_value, parse_digits}
-use Rattle.script_stepper.specs.TurnLists.{is_comma, is_turn, turn_at, turns_from, list_at}
-use Rattle.script_text.specs.Words.{is_digit}
+use Rattle.script_stepper.specs.TurnLists.{list_at}
 
 -- where nothing passes, the list is the one part
 one_by : (b : Bool) (x : ℕ) (xs : List ℕ) (m : ℕ) → suc (length xs) ≤ cond (not b) (1 + m) 0

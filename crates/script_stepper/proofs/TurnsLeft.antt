@@ -1,24 +1,13 @@
 -- Each turn leaves its thread fewer turns, and no other thread more.
-use Rattle.std.proofs.Common.{◌≡◌, ◌≢◌, ℕ, suc, ◌+◌, ◌*◌, ◌<◌, ◌≤◌, List, [], ◌∷◌, inl, inr, length, refl, sym, ◌∙◌}
-use Rattle.std.proofs.Common.{ap, subst, arith, get_or-set_same, get_or-set_other}
-use Rattle.std.specs.Prelude.{Option, Some, None, is_some, slice_set, true}
-use Rattle.std.proofs.lemmas.Bool.{cases_eq, cases_lt}
-use Rattle.std.proofs.lemmas.List.{get_or_past}
-use Rattle.std.proofs.lemmas.Option.{same_Some}
+use Rattle.std.proofs.Common.{◌≡◌, ℕ, suc, ◌+◌, ◌*◌, ◌<◌, ◌≤◌, true, ◌≢◌, List, [], ◌∷◌, length}
+use Rattle.std.proofs.Common.{is_some, slice_set, Some, None, Option, sym, refl, ap, ◌∙◌, subst}
+use Rattle.std.proofs.Common.{inl, inr, arith, get_or-set_other, get_or-set_same}
+use Rattle.script_stepper.proofs.Prelude
+use Prelude.{AbstractState, Act, acted, cases_eq, cases_lt, ended_in, Ending, exact, frame_of}
+use Prelude.{FrameView, get_or_past, hand, Leave, made_in, next, next_of, nowhere, opening}
+use Prelude.{parts_left, rest_of, rested_frame, same_Some, state_in, Task, turns_left, went, Wound}
 use Rattle.std.proofs.lemmas.List.Sums.{sum_by-set}
-use Rattle.step_threads.specs.declared.programs.act.Act.{Act}
-use Rattle.step_threads.specs.declared.programs.act.Act.TheVariants.{Leave}
-use Rattle.step_threads.specs.declared.programs.act.Task.{Task}
-use Rattle.step_threads.specs.declared.ending.Ending.{Ending}
-use Rattle.step_threads.specs.Frames.{FrameView, hand}
-use Rattle.step_table.specs.AtomicSteps.{exact}
-use Rattle.step_table.specs.Openings.{opening}
-use Rattle.step_core.proofs.Entries.{acted}
-use Rattle.step_threads.specs.AbstractStates.{AbstractState, next, next_of, nowhere, rest_of, rested_frame}
-use Rattle.step_threads.specs.Unwinding.{Wound}
-use Rattle.step_threads.specs.AbstractStates.{state_in, frame_of, went}
-use Rattle.step_core.specs.Totals.{ended_in, made_in}
-use Rattle.script_stepper.specs.Running.{parts_left, turns_left, tasks_in}
+use Rattle.script_stepper.specs.Running.{tasks_in}
 use Rattle.script_stepper.proofs.Plays.{play, play_from}
 use Rattle.script_stepper.proofs.Acting.{went_free, went_less}
 use Rattle.step_core.proofs.telling.Leaves.{act_endings}

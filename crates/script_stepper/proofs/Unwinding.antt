@@ -1,27 +1,16 @@
 -- What endings do that go on by themselves.
-use Rattle.std.proofs.Common.{◌≡◌, ℕ, zero, suc, ◌-◌, ◌<◌, ◌≤◌, true, false, List, [], ◌∷◌, inl, inr, length, refl, sym, ◌∙◌}
-use Rattle.std.proofs.Common.{ap, subst, arith, get_or-set_same}
-use Rattle.std.specs.Prelude.{◌⊎◌, Option, Some, None, slice_set}
-use Rattle.std.proofs.lemmas.Bool.{cond-true, cond_both}
-use Rattle.std.proofs.lemmas.List.{length-set}
-use Rattle.std.proofs.lemmas.Option.{same_Some}
-use Rattle.control_word.specs.declared.model.handle.NumberedHandle.{NumberedHandle}
-use Rattle.control_word.specs.Handles.{has_object}
-use Rattle.control_word.specs.Histories.{leads}
-use Rattle.control_word.specs.State.{Opening, State}
-use Rattle.step_threads.specs.declared.ending.Ending.{Ending}
-use Rattle.step_table.specs.declared.slots.slot.Slot.{Slot}
-use Rattle.step_threads.specs.Frames.{FrameView, hand}
-use Rattle.step_table.specs.Registers.{Slots, is_full, plain, pointer_of, slot_pointer}
-use Rattle.step_threads.specs.Entries.{History}
-use Rattle.step_table.specs.Contents.{slot_as, slot_of}
-use Rattle.step_threads.specs.declared.programs.act.Act.TheVariants.{Leave}
-use Rattle.step_threads.specs.declared.programs.act.Task.{Task}
-use Rattle.step_threads.specs.TraceLabels.{AnAct, AnEnd, ahead_of}
-use Rattle.step_threads.specs.AbstractStates.{next_of, rest_of, rested_frame}
-use Rattle.step_threads.specs.Unwinding.{Wound, history_clears, unwinds_on, stops, unwound}
-use Rattle.step_core.specs.Totals.{ended_in, made_in}
-use Rattle.script_stepper.specs.Running.{parts_left}
+use Rattle.std.proofs.Common.{◌≡◌, ℕ, zero, suc, ◌-◌, ◌<◌, ◌≤◌, true, false, ◌⊎◌, List, [], ◌∷◌}
+use Rattle.std.proofs.Common.{length, slice_set, Some, None, Option, sym, refl, ap, ◌∙◌, subst}
+use Rattle.std.proofs.Common.{inl, inr, arith, length-set, get_or-set_same}
+use Rattle.script_stepper.proofs.Prelude
+use Prelude.{ahead_of, AnEnd, cond_both, ended_in, Ending, FrameView, hand, has_object, History}
+use Prelude.{history_clears, is_full, leads, Leave, made_in, next_of, NumberedHandle, Opening}
+use Prelude.{parts_left, plain, rest_of, rested_frame, same_Some, Slot, slot_of, slot_pointer}
+use Prelude.{Slots, State, stops, Task, unwinds_on, unwound, Wound}
+use Rattle.std.proofs.lemmas.Bool.{cond-true}
+use Rattle.step_table.specs.Registers.{pointer_of}
+use Rattle.step_table.specs.Contents.{slot_as}
+use Rattle.step_threads.specs.TraceLabels.{AnAct}
 use Rattle.script_stepper.proofs.Acting.{IsFree}
 
 -- ---- an ending that goes on by itself

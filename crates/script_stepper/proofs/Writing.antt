@@ -1,10 +1,10 @@
 -- Writes one after the other.
-use Rattle.std.proofs.Common.{◌≡◌, ℕ, ◌-◌, List, [], ◌++◌, length, take, drop, Option, Some, None, Result, Ok, Err, sym, ap, ◌∙◌}
-use Rattle.std.proofs.Common.{append_assoc}
+use Rattle.std.proofs.Common.{◌≡◌, ℕ, ◌-◌, List, [], ◌++◌, length, take, drop, OnOk, OnErr, Some}
+use Rattle.std.proofs.Common.{None, Ok, Err, Option, Result, sym, ap, ◌∙◌, append_assoc}
+use Rattle.std.proofs.Common.{append-nil, take-append-drop}
+use Rattle.script_stepper.proofs.Prelude.{IsWritten, take_rest}
 use Rattle.std.specs.Io.KnownBytes.{Appends, Keeps}
-use Rattle.std.specs.Prelude.{OnErr, OnOk}
-use Rattle.std.proofs.lemmas.List.{append-nil, take-append-drop, take_rest}
-use Rattle.script_stepper.specs.Sinks.{AppendsBeginning, IsWritten}
+use Rattle.script_stepper.specs.Sinks.{AppendsBeginning}
 
 -- what was taken so far, and what is left
 pub record Progress (old new : Option (List ℕ)) (bs rest : List ℕ) : Type 0 where

@@ -1,6 +1,5 @@
 use Rattle.std.proofs.Common.{refl, ap, ◌∙◌}
-use Rattle.script_text.specs.Faults.{faulty_line}
-use Rattle.script_text.specs.declared.fault.Fault.TheVariants.{Syntax, BadTurn, Output, Input}
+use Rattle.script_stepper.proofs.Prelude.{BadTurn, faulty_line, Input, Output, Syntax}
 use Rattle.script_stepper.proofs.FaultLines.{same_line, turn_line}
 use Rattle.script_stepper.proofs.faults.put_fault.Goals as goal
 

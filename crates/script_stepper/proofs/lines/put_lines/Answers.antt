@@ -1,7 +1,5 @@
-use Rattle.std.proofs.Common.{None, length, ◌<◌, arith}
-use Rattle.std.specs.Prelude.{string_bytes}
-use Rattle.step_threads.specs.declared.said.Said.{Said}
-use Rattle.script_stepper.specs.Lines.{said_lines}
+use Rattle.std.proofs.Common.{◌<◌, length, None, string_bytes, arith}
+use Rattle.script_stepper.proofs.Prelude.{Said, said_lines}
 use Rattle.script_stepper.proofs.LineLemmas.{lines_on}
 use Rattle.script_stepper.proofs.lines.put_lines.Goals as goal
 

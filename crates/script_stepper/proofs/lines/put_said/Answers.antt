@@ -1,5 +1,4 @@
-use Rattle.std.proofs.Common.{◌++◌}
-use Rattle.std.specs.Prelude.{string_bytes}
+use Rattle.std.proofs.Common.{◌++◌, string_bytes}
 use Rattle.script_stepper.specs.Lines.{answer_text, ended_text, line_of, line_start}
 use Rattle.script_stepper.proofs.LineLemmas.{lines_then}
 use Rattle.script_stepper.proofs.lines.put_said.Goals as goal

@@ -1,5 +1,5 @@
 use Rattle.std.proofs.Common.{arith}
-use Rattle.std.proofs.lemmas.Bool.Decides.{nat_tests}
+use Rattle.script_stepper.proofs.Prelude.{nat_tests}
 use Rattle.script_stepper.proofs.Writing.{more_rest}
 use Rattle.script_stepper.proofs.sink.write_all.Goals as goal
 

@@ -1,4 +1,4 @@
-use Rattle.std.proofs.Common.{rules, arith}
+use Rattle.std.proofs.Common.{arith, rules}
 use Rattle.script_stepper.proofs.TurnLemmas.{digits_utf8, no_turn}
 use Rattle.script_stepper.proofs.turns.turn_of.Goals as goal
 

@@ -1,4 +1,4 @@
-use Rattle.std.proofs.Common.{◌≡◌, ◌<◌, length, rules, arith}
+use Rattle.std.proofs.Common.{◌≡◌, ◌<◌, length, arith, rules}
 use Rattle.script_stepper.proofs.TurnLemmas.{list_some, list_none}
 use Rattle.script_stepper.proofs.turns.turns_of.Goals as goal
 

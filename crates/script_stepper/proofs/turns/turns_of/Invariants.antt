@@ -1,6 +1,6 @@
 use Rattle.std.proofs.Common.{◌≡◌, ◌+◌, ◌≤◌, length}
-use Rattle.std.specs.List.{slice_split}
-use Rattle.script_stepper.specs.TurnLists.{is_comma, turns_from, list_at}
+use Rattle.script_stepper.proofs.Prelude.{is_comma, slice_split, turns_from}
+use Rattle.script_stepper.specs.TurnLists.{list_at}
 use Rattle.script_stepper.proofs.TurnLemmas.{with_front}
 use Rattle.script_stepper.proofs.turns.turns_of.Given as goal
 

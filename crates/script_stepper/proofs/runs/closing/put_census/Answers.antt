@@ -1,6 +1,5 @@
-use Rattle.std.specs.Prelude.{string_bytes}
-use Rattle.step_threads.specs.AbstractStates.{state_in}
-use Rattle.step_core.specs.Worlds.{abstraction}
+use Rattle.std.proofs.Common.{string_bytes}
+use Rattle.script_stepper.proofs.Prelude.{abstraction, state_in}
 use Rattle.script_stepper.specs.Lines.{block_lines}
 use Rattle.script_stepper.proofs.ClosingLemmas.{numbered_then}
 use Rattle.script_stepper.proofs.runs.closing.put_census.Goals as goal

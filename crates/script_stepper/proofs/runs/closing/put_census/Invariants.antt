@@ -1,9 +1,5 @@
-use Rattle.std.proofs.Common.{◌≡◌, ◌++◌}
-use Rattle.std.specs.Prelude.{string_bytes}
-use Rattle.script_text.specs.Grammar.{ended}
-use Rattle.step_threads.specs.AbstractStates.{state_in}
-use Rattle.step_core.specs.Worlds.{abstraction}
-use Rattle.script_stepper.specs.Lines.{census_lines}
+use Rattle.std.proofs.Common.{◌≡◌, ◌++◌, string_bytes}
+use Rattle.script_stepper.proofs.Prelude.{abstraction, census_lines, ended, state_in}
 use Rattle.script_stepper.proofs.runs.closing.put_census.Given as goal
 
 abbrev pub invariant-loop-before : goal.invariant-loop-before

@@ -1,6 +1,5 @@
-use Rattle.std.proofs.Common.{◌∙◌}
-use Rattle.std.specs.Prelude.{string_bytes}
-use Rattle.step_core.specs.Worlds.{abstraction}
+use Rattle.std.proofs.Common.{string_bytes, ◌∙◌}
+use Rattle.script_stepper.proofs.Prelude.{abstraction}
 use Rattle.script_stepper.proofs.ClosingLemmas.{closing_then}
 use Rattle.script_stepper.proofs.runs.closing.put_closing.Goals as goal
 

@@ -1,8 +1,5 @@
 use Rattle.std.proofs.Common.{◌≡◌, ℕ, List, length}
-use Rattle.step_threads.specs.AbstractStates.{AbstractState}
-use Rattle.script_text.specs.Beginnings.{script_abstraction}
-use Rattle.script_text.specs.Drafts.{ScriptView}
-use Rattle.script_stepper.specs.Ends.{IsRunOut}
+use Rattle.script_stepper.proofs.Prelude.{AbstractState, IsRunOut, script_abstraction, ScriptView}
 use Rattle.script_stepper.proofs.OneTrace.{one_trace}
 use Rattle.script_stepper.proofs.TurnBounds.{items_named}
 use Rattle.script_stepper.proofs.runs.ending.end_of.Goals as goal

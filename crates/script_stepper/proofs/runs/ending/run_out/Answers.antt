@@ -1,9 +1,5 @@
-use Rattle.std.proofs.Common.{◌≡◌, ◌∙◌, ◌+◌, ℕ, ap, subst, sym}
-use Rattle.std.specs.Prelude.{◌≤◌, All}
-use Rattle.control_word.specs.declared.shape.Shape.{Shape}
-use Rattle.step_core.specs.Worlds.{WorldState, abstraction}
-use Rattle.script_text.specs.Beginnings.{script_shape}
-use Rattle.script_stepper.specs.Ends.{IsRunOut}
+use Rattle.std.proofs.Common.{◌≡◌, ℕ, ◌+◌, ◌≤◌, All, sym, ap, ◌∙◌, subst}
+use Rattle.script_stepper.proofs.Prelude.{abstraction, IsRunOut, script_shape, Shape, WorldState}
 use Rattle.script_stepper.proofs.Overs.{at_end}
 use Rattle.script_stepper.proofs.StepLemmas.{same_blocks, same_shape, traced}
 use Rattle.script_stepper.proofs.runs.ending.run_out.Goals as goal

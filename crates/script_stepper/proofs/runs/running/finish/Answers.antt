@@ -1,6 +1,6 @@
-use Rattle.std.proofs.Common.{◌∙◌, sym}
-use Rattle.std.specs.Prelude.{string_bytes}
-use Rattle.script_stepper.proofs.RunLemmas.{alone_ends, alone_more, alone_none, run_thread, still_over}
+use Rattle.std.proofs.Common.{string_bytes, sym, ◌∙◌}
+use Rattle.script_stepper.proofs.RunLemmas.{alone_ends, alone_more, alone_none, run_thread}
+use Rattle.script_stepper.proofs.RunLemmas.{still_over}
 use Rattle.script_stepper.proofs.runs.running.finish.Goals as goal
 
 pub loop-init : goal.loop-init

@@ -1,7 +1,5 @@
-use Rattle.std.proofs.Common.{◌-◌}
-use Rattle.std.specs.Prelude.{string_bytes}
-use Rattle.step_core.specs.Worlds.{abstraction}
-use Rattle.script_stepper.specs.Running.{turns_left}
+use Rattle.std.proofs.Common.{◌-◌, string_bytes}
+use Rattle.script_stepper.proofs.Prelude.{abstraction, turns_left}
 use Rattle.script_stepper.proofs.RunLemmas.{Alone}
 use Rattle.script_stepper.proofs.runs.running.finish.Given as goal
 

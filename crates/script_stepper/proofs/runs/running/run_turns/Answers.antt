@@ -1,5 +1,4 @@
-use Rattle.std.proofs.Common.{◌+◌, arith}
-use Rattle.std.specs.Prelude.{string_bytes}
+use Rattle.std.proofs.Common.{◌+◌, string_bytes, arith}
 use Rattle.script_stepper.proofs.EndLemmas.{all_over, ended_then, none_ended}
 use Rattle.script_stepper.proofs.RunLemmas.{run_thread}
 use Rattle.script_stepper.proofs.runs.running.run_turns.Goals as goal

@@ -1,4 +1,4 @@
-use Rattle.std.specs.Prelude.{string_bytes}
+use Rattle.std.proofs.Common.{string_bytes}
 use Rattle.script_stepper.proofs.EndLemmas.{Ended}
 use Rattle.script_stepper.proofs.runs.running.run_turns.Given as goal
 

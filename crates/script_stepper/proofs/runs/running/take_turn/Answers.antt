@@ -1,6 +1,6 @@
-use Rattle.std.proofs.Common.{◌-◌, ◌<◌, length, arith}
-use Rattle.std.specs.Prelude.{None, Some, string_bytes}
-use Rattle.script_stepper.proofs.OneTurn.{acted_text, acted_turn, done_text, done_turn, turn_fewer, turn_run}
+use Rattle.std.proofs.Common.{◌-◌, ◌<◌, length, Some, None, string_bytes, arith}
+use Rattle.script_stepper.proofs.OneTurn.{acted_text, acted_turn, done_text, done_turn, turn_fewer}
+use Rattle.script_stepper.proofs.OneTurn.{turn_run}
 use Rattle.script_stepper.proofs.runs.running.take_turn.Goals as goal
 
 pub returns-in_ok-put_said-in-Acted-clause-run : goal.returns-in_ok-put_said-in-Acted-clause-run

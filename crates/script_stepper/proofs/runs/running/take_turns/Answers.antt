@@ -1,7 +1,5 @@
-use Rattle.std.proofs.Common.{arith, get_or, length, ◌<◌}
-use Rattle.std.specs.Prelude.{string_bytes}
-use Rattle.std.proofs.lemmas.List.Elements.{All-get_or}
-use Rattle.script_stepper.specs.Running.{IsThread}
+use Rattle.std.proofs.Common.{◌<◌, length, get_or, string_bytes, arith}
+use Rattle.script_stepper.proofs.Prelude.{All-get_or, IsThread}
 use Rattle.script_stepper.proofs.RunLemmas.{run_more, run_none, run_thread}
 use Rattle.script_stepper.proofs.runs.running.take_turns.Goals as goal
 

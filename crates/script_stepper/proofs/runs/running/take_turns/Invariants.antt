@@ -1,6 +1,5 @@
-use Rattle.std.proofs.Common.{take}
-use Rattle.std.specs.Prelude.{string_bytes}
-use Rattle.script_stepper.specs.Running.{HasRun}
+use Rattle.std.proofs.Common.{take, string_bytes}
+use Rattle.script_stepper.proofs.Prelude.{HasRun}
 use Rattle.script_stepper.proofs.runs.running.take_turns.Given as goal
 
 abbrev pub invariant-loop-thread : goal.invariant-loop-thread

@@ -1,5 +1,4 @@
-use Rattle.script_text.specs.Beginnings.{script_world_state}
-use Rattle.script_stepper.specs.Runs.{IsFineText}
+use Rattle.script_stepper.proofs.Prelude.{IsFineText, script_world_state}
 use Rattle.script_stepper.proofs.Answering.{steps_syntax, steps_turns, steps_runs}
 use Rattle.script_stepper.proofs.Interleaving.{interleaves}
 use Rattle.script_stepper.proofs.Once.{one_text}

@@ -1,6 +1,5 @@
-use Rattle.std.proofs.Common.{ℕ, subst, sym}
-use Rattle.std.specs.Prelude.{◌≤◌, All, string_bytes}
-use Rattle.step_core.specs.Worlds.{WorldState}
+use Rattle.std.proofs.Common.{ℕ, ◌≤◌, string_bytes, All, sym, subst}
+use Rattle.script_stepper.proofs.Prelude.{WorldState}
 use Rattle.script_stepper.specs.Runs.{IsShown}
 use Rattle.script_stepper.proofs.runs.stepping.run.Goals as goal
 

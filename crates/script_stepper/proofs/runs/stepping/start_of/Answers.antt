@@ -1,4 +1,4 @@
-use Rattle.script_text.specs.Scripts.{program_in}
+use Rattle.script_stepper.proofs.Prelude.{program_in}
 use Rattle.script_stepper.proofs.StepLemmas.{first_rests, world_state_is}
 use Rattle.script_stepper.proofs.runs.stepping.start_of.Goals as goal
 

@@ -1,6 +1,6 @@
+use Rattle.script_stepper.proofs.Prelude.{script_abstraction}
 use Rattle.script_stepper.specs.Runs.{IsRunText}
 use Rattle.script_stepper.proofs.Answering.{steps_syntax, steps_turns, steps_runs}
-use Rattle.script_text.specs.Beginnings.{script_abstraction}
 use Rattle.script_stepper.proofs.Following.{turns_follow}
 use Rattle.script_stepper.proofs.OneTrace.{one_turn_text}
 use Rattle.script_stepper.proofs.runs.stepping.step_text.Goals as goal

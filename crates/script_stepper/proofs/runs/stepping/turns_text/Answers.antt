@@ -1,5 +1,4 @@
-use Rattle.std.proofs.Common.{sym, ◌∙◌}
-use Rattle.std.specs.Prelude.{string_bytes}
+use Rattle.std.proofs.Common.{string_bytes, sym, ◌∙◌}
 use Rattle.script_stepper.proofs.Overs.{at_end}
 use Rattle.script_stepper.proofs.StepLemmas.{same_blocks, shown_text}
 use Rattle.script_stepper.proofs.runs.stepping.turns_text.Goals as goal

@@ -1,9 +1,6 @@
-use Rattle.std.proofs.Common.{rules, subst, sym}
-use Rattle.control_word.specs.declared.shape.Shape.{Shape}
+use Rattle.std.proofs.Common.{sym, subst, rules}
+use Rattle.script_stepper.proofs.Prelude.{CanBegin, IsWithinLimits, script_shape, Shape}
 use Rattle.step_threads.specs.Programs.{parts_of}
-use Rattle.step_core.specs.Starts.{CanBegin}
-use Rattle.control_word.specs.Layout.{IsWithinLimits}
-use Rattle.script_text.specs.Beginnings.{script_shape}
 use Rattle.script_stepper.proofs.Beginning.{can_begin}
 use Rattle.script_stepper.proofs.runs.stepping.world_of.Goals as goal
 

@@ -1,8 +1,6 @@
-use Rattle.std.proofs.Common.{None, arith, length, ◌<◌}
-use Rattle.std.specs.Prelude.{string_bytes}
+use Rattle.std.proofs.Common.{◌<◌, length, None, string_bytes, arith}
+use Rattle.script_stepper.proofs.Prelude.{step_lines, TraceStep}
 use Rattle.step_threads.specs.declared.said.Stepped.TheVariants.{Event}
-use Rattle.step_core.specs.declared.trace.TraceStep.{TraceStep}
-use Rattle.script_stepper.specs.StepRuns.{step_lines}
 use Rattle.script_stepper.proofs.LineLemmas.{lines_on}
 use Rattle.script_stepper.proofs.runs.steps.put_steps.Goals as goal
 

@@ -1,4 +1,4 @@
-use Rattle.std.specs.Prelude.{string_bytes}
+use Rattle.std.proofs.Common.{string_bytes}
 use Rattle.script_stepper.proofs.StepRunLemmas.{step_text_is}
 use Rattle.script_stepper.proofs.runs.steps.steps_text.Goals as goal
 
