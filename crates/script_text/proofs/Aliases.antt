@@ -1,21 +1,14 @@
 -- What was read of an alias is read again from its canonical words.
-use Rattle.std.proofs.Common.{◌≡◌, ℕ, suc, ◌<◌, ◌^◌, Bool, true, false, cond, List, [], ◌∷◌, ◌++◌}
-use Rattle.std.proofs.Common.{length, Some, None, Ok, refl, ap}
-use Rattle.std.proofs.Common.{subst, lit<}
-use Rattle.std.specs.Prelude.{codes, decimal}
-use Rattle.std.specs.List.{AllByRecursion}
-use Rattle.std.specs.Str.{bytes_eq}
+use Rattle.std.proofs.Common.{◌≡◌, ℕ, suc, ◌^◌, ◌<◌, Bool, true, false, cond, List, [], ◌∷◌, ◌++◌}
+use Rattle.std.proofs.Common.{length, Some, None, Ok, codes, decimal, refl, ap, subst, lit<}
+use Rattle.script_text.proofs.Prelude.{AllByRecursion, Asked, bytes_eq, field_number, IsDeclared}
+use Rattle.script_text.proofs.Prelude.{kinds_in, Name, name_text, NameList, Owner, ◌>>=◌}
 use Rattle.step_table.specs.declared.memory.field.Field.{Field}
 use Rattle.step_table.specs.declared.memory.field.Field.TheVariants.{Zero, One, Two, Three}
-use Rattle.control_word.specs.declared.model.handle.Kind.TheVariants.{Owner}
-use Rattle.step_threads.specs.declared.programs.call.Name.{Name}
-use Rattle.step_threads.specs.Programs.{Asked, IsDeclared, owner_asked}
-use Rattle.step_table.specs.AtomicSteps.{field_number}
-use Rattle.text_lines.specs.Reading.{◌>>=◌}
+use Rattle.step_threads.specs.Programs.{owner_asked}
 use Rattle.script_text.specs.Words.{field_of_word, numbered_field}
-use Rattle.script_text.specs.Names.{NameList, source_at, target_at, declared, name_text}
+use Rattle.script_text.specs.Names.{source_at, target_at, declared}
 use Rattle.script_text.specs.Shapes.{Aim, aim_of, aim_at, alias_at}
-use Rattle.script_text.specs.Scripts.{kinds_in}
 use Rattle.script_text.proofs.TidyWords.{IsTidy, name_is_tidy}
 use Rattle.script_text.proofs.ReadNames.{both_give, given, same_given, with_names, name_text-Entry}
 use Rattle.script_text.proofs.ReadNames.{IsDeclared-Entry, source_is, Grows, target_is}

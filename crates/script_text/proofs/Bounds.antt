@@ -1,30 +1,20 @@
 -- A script that was read is within the limits, its calls are well named, and their cells are among
 -- those that texts name.
-use Rattle.std.proofs.Common.{◌≡◌, ℕ, zero, suc, Option, None, Some, ◌+◌, ◌<◌, ◌≤◌, List, [], ◌∷◌}
-use Rattle.std.proofs.Common.{◌++◌, length, refl, ap}
-use Rattle.std.proofs.Common.{subst, ◌∙◌, arith, length-append}
-use Rattle.std.specs.Prelude.{slice_get, sum_by}
-use Rattle.std.specs.List.{AllByRecursion}
-use Rattle.std.proofs.lemmas.List.{map-append, length-map}
-use Rattle.std.proofs.lemmas.List.Elements.{All-from_recursion}
+use Rattle.std.proofs.Common.{◌≡◌, ℕ, zero, suc, ◌+◌, ◌<◌, ◌≤◌, List, [], ◌∷◌, ◌++◌, length}
+use Rattle.std.proofs.Common.{slice_get, Some, None, sum_by, Option, refl, ap, ◌∙◌, subst, arith}
+use Rattle.std.proofs.Common.{length-append}
+use Rattle.script_text.proofs.Prelude
+use Prelude.{All-from_recursion, AllByRecursion, Asked, BeginsWithDraft, Call, CellName, cells_of}
+use Prelude.{converted, Draft, draft_in, HasTextCells, IsApartFromCell, IsDeclared, IsIn}
+use Prelude.{IsNameFound, Kind, kinds_in, Leads, length-map, most_threads, NameList, names_of}
+use Prelude.{new_draft, no_section, One, program_in, script_of, ScriptView, Section, sections}
+use Prelude.{Shape, Two, Version, with_call}
+use Rattle.std.proofs.lemmas.List.{map-append}
 use Rattle.std.proofs.lemmas.List.Sums.{sum_by-append, sum_by-cons}
-use Rattle.step_threads.specs.declared.programs.call.Call.{Call}
-use Rattle.control_word.specs.declared.model.handle.Kind.{Kind}
-use Rattle.control_word.specs.declared.shape.Shape.{Shape}
-use Rattle.step_threads.specs.declared.programs.call.CellName.{CellName}
-use Rattle.step_threads.specs.Programs.{AllHaveCells, Asked, HasCells, IsApartFromCell, IsNameFound}
-use Rattle.step_threads.specs.Programs.{IsIn, Part, names_of, IsDeclared, IsWellNamed, IsPart}
-use Rattle.step_threads.specs.Programs.{cells_of}
-use Rattle.script_text.specs.Names.{NameList}
-use Rattle.script_text.specs.Drafts.{Section, ScriptView, Draft, draft_in, new_draft, sections}
-use Rattle.script_text.specs.Drafts.{script_of, no_section, with_call}
-use Rattle.script_text.specs.Grammar.{Leads, BeginsWithDraft}
-use Rattle.script_text.specs.Scripts.{HasTextCells, converted, kinds_in, part_in, program_in}
-use Rattle.script_text.specs.Scripts.{statement_count, IsScript}
+use Rattle.step_threads.specs.Programs.{AllHaveCells, HasCells, Part, IsWellNamed, IsPart}
+use Rattle.script_text.specs.Scripts.{part_in, statement_count, IsScript}
 use Rattle.script_text.proofs.ReadNames.{slice_get-more, Grows}
-use Rattle.script_text.specs.declared.parts.version.Version.{Version}
-use Rattle.script_text.specs.declared.parts.version.Version.TheVariants.{One, Two}
-use Rattle.script_text.specs.Versions.{blocks_in, most_threads}
+use Rattle.script_text.specs.Versions.{blocks_in}
 use Rattle.script_text.proofs.Headers.{IsHeader, most_allow}
 use Rattle.script_text.proofs.Changes.{with_thread, IsAdded, Change, skipped, headed, began, added}
 use Rattle.script_text.proofs.Changes.{line_change}

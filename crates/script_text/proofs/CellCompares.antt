@@ -1,12 +1,10 @@
 -- What was read of a compare is read again from its canonical words.
-use Rattle.std.proofs.Common.{◌≡◌, ℕ, Bool, List, [], ◌∷◌, Ok, refl, sym, subst}
+use Rattle.std.proofs.Common.{◌≡◌, ℕ, Bool, List, [], ◌∷◌, Ok, sym, refl, subst}
+use Rattle.script_text.proofs.Prelude.{as_in, cell_text, CellName, kind_at, Name, name_text}
+use Rattle.script_text.proofs.Prelude.{NameList, through, ◌>>=◌}
 use Rattle.step_threads.specs.declared.programs.call.Call.TheVariants as call
-use Rattle.step_threads.specs.declared.programs.call.CellName.{CellName}
-use Rattle.step_threads.specs.declared.programs.call.Name.{Name}
-use Rattle.step_threads.specs.Programs.{as_in, kind_at, through}
-use Rattle.text_lines.specs.Reading.{◌>>=◌}
-use Rattle.script_text.specs.Names.{NameList, name_text, source_at}
-use Rattle.script_text.specs.Cells.{cell_of_word, cell_text}
+use Rattle.script_text.specs.Names.{source_at}
+use Rattle.script_text.specs.Cells.{cell_of_word}
 use Rattle.script_text.specs.Shapes.{cell_and_sources}
 use Rattle.script_text.proofs.Cells.{as_kind, cell_again, cell_entry, cell_is, cell_still}
 use Rattle.script_text.proofs.Cells.{cell_tidy, through_named}

@@ -1,18 +1,14 @@
 -- What was read of a statement on a cell, by its shape, is read again from its canonical words.
-use Rattle.std.proofs.Common.{◌≡◌, ℕ, Bool, true, false, cond, List, [], ◌∷◌, Ok, Err, refl, sym}
+use Rattle.std.proofs.Common.{◌≡◌, ℕ, Bool, true, false, cond, List, [], ◌∷◌, Ok, Err, sym, refl}
 use Rattle.std.proofs.Common.{subst}
-use Rattle.std.specs.List.{AllByRecursion}
-use Rattle.step_threads.specs.declared.programs.call.Call.{Call}
+use Rattle.script_text.proofs.Prelude.{AllByRecursion, as_in, Call, Cause, cell_text, CellName}
+use Rattle.script_text.proofs.Prelude.{cells_of, IsApartFromCell, kind_at, Name, name_text}
+use Rattle.script_text.proofs.Prelude.{NameList, through, ◌>>=◌}
 use Rattle.step_threads.specs.declared.programs.call.Call.TheVariants as call
-use Rattle.step_threads.specs.declared.programs.call.CellName.{CellName}
-use Rattle.step_threads.specs.declared.programs.call.Name.{Name}
-use Rattle.step_threads.specs.Programs.{IsApartFromCell, as_in, kind_at, cells_of, is_member_of}
-use Rattle.step_threads.specs.Programs.{through}
-use Rattle.script_text.specs.declared.fault.Cause.{Cause}
+use Rattle.step_threads.specs.Programs.{is_member_of}
 use Rattle.script_text.specs.declared.fault.Cause.TheVariants.{NameUsedTwice}
-use Rattle.text_lines.specs.Reading.{◌>>=◌}
-use Rattle.script_text.specs.Names.{NameList, declared, name_text, source_at, target_at}
-use Rattle.script_text.specs.Cells.{apart, cell_of_word, cell_text}
+use Rattle.script_text.specs.Names.{declared, source_at, target_at}
+use Rattle.script_text.specs.Cells.{apart, cell_of_word}
 use Rattle.script_text.specs.Shapes.{cell_and_other, cell_and_source, target_and_cell}
 use Rattle.script_text.proofs.Cells.{IsTextCell, as_kind, cell_again, cell_entry, cell_grown}
 use Rattle.script_text.proofs.Cells.{cell_is, cell_still, cell_tidy, through_named}

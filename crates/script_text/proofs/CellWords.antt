@@ -1,22 +1,14 @@
 -- A word, cut at its first dot, and members spelled and read again.
-use Rattle.std.proofs.Common.{◌≡◌, ℕ, zero, suc, ◌+◌, ◌-◌, ◌<◌, ◌≤◌, Bool, true, false, not, cond}
-use Rattle.std.proofs.Common.{ltb, List}
-use Rattle.std.proofs.Common.{[], ◌∷◌, ◌++◌, length, take, drop, Some, None, Ok, Err, refl, arith}
-use Rattle.std.proofs.Common.{◌∙◌}
-use Rattle.std.specs.List.{list_all, position, position_or_len}
-use Rattle.std.specs.Prelude.{codes, ◌&&◌}
-use Rattle.std.specs.Str.{bytes_eq}
-use Rattle.std.proofs.lemmas.Bool.{ltb-true, ltb-false}
-use Rattle.std.proofs.lemmas.Bool.Decides.{nat_tests}
-use Rattle.std.proofs.lemmas.List.{take_rest}
-use Rattle.std.proofs.lemmas.List.Folds.{list_all-append}
-use Rattle.script_text.specs.declared.fault.Cause.TheVariants.{BadCell}
-use Rattle.script_text.specs.Words.{is_digit, is_lower, is_name, is_name_byte}
-use Rattle.script_text.specs.Cells.{is_dot, member_number_at, member_text, split_dot}
+use Rattle.std.proofs.Common.{◌≡◌, ℕ, zero, suc, ◌+◌, ◌-◌, ◌<◌, ◌≤◌, Bool, true, false, cond, not}
+use Rattle.std.proofs.Common.{◌&&◌, ltb, List, [], ◌∷◌, ◌++◌, length, take, drop, Some, None, Ok}
+use Rattle.std.proofs.Common.{Err, codes, refl, ◌∙◌, arith, ltb-false, ltb-true}
+use Rattle.script_text.proofs.Prelude.{and_both, BadCell, bytes_eq, is_digit, is_lower, is_name}
+use Rattle.script_text.proofs.Prelude.{is_name_byte, list_all, list_all-append, member_text}
+use Rattle.script_text.proofs.Prelude.{nat_tests, position, position_or_len, split_dot, take_rest}
+use Rattle.script_text.specs.Cells.{is_dot, member_number_at}
 use Rattle.text_lines.proofs.LineLemmas.{none_by, some_by}
 use Rattle.script_text.proofs.ReadNames.{same_given}
 use Rattle.script_text.proofs.TidyWords.{IsTidy, both_true, is_tidy_byte, name_is_tidy}
-use Rattle.text_lines.proofs.ByteTests.{and_both}
 
 -- ---- where the first dot is
 

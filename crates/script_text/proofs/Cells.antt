@@ -1,26 +1,16 @@
 -- What was read of a statement on a cell is read again from its canonical words.
-use Rattle.std.proofs.Common.{◌≡◌, ℕ, ◌^◌, ◌<◌, Bool, true, false, cond, ltb, eqb, List, [], ◌∷◌}
-use Rattle.std.proofs.Common.{◌++◌, Option, Some, None, Result}
-use Rattle.std.proofs.Common.{Ok, Err, refl, ap, subst, arith, lit<}
-use Rattle.std.specs.Prelude.{decimal}
-use Rattle.std.specs.List.{AllByRecursion, list_all}
-use Rattle.std.proofs.lemmas.Bool.{lt-ltb, ltb-true}
-use Rattle.std.proofs.lemmas.Fmt.{digits_decimal}
-use Rattle.control_word.specs.declared.shape.Shape.{Shape}
-use Rattle.step_threads.specs.declared.programs.call.CellName.{CellName}
+use Rattle.std.proofs.Common.{◌≡◌, ℕ, ◌^◌, ◌<◌, Bool, true, false, cond, eqb, ltb, List, [], ◌∷◌}
+use Rattle.std.proofs.Common.{◌++◌, Some, None, Ok, Err, decimal, Option, Result, refl, ap, subst}
+use Rattle.std.proofs.Common.{arith, lit<, ltb-true, lt-ltb}
+use Rattle.script_text.proofs.Prelude.{AllByRecursion, as_in, BadCell, Cause, cell_text, CellName}
+use Rattle.script_text.proofs.Prelude.{digits_decimal, HasTextCells, is_digit, is_name, IsDeclared}
+use Rattle.script_text.proofs.Prelude.{IsIn, kind_at, kinds_in, list_all, member_text, Name}
+use Rattle.script_text.proofs.Prelude.{name_text, NameList, number_at, numerals, Owner, Shape}
+use Rattle.script_text.proofs.Prelude.{split_dot, through, ◌>>=◌}
 use Rattle.step_threads.specs.declared.programs.call.CellName.TheVariants as free
-use Rattle.control_word.specs.declared.model.handle.Kind.TheVariants.{Owner}
-use Rattle.step_threads.specs.declared.programs.call.Name.{Name}
-use Rattle.step_threads.specs.Programs.{IsDeclared, IsIn, as_in, kind_at, through}
-use Rattle.script_text.specs.declared.fault.Cause.{Cause}
-use Rattle.script_text.specs.declared.fault.Cause.TheVariants.{BadCell}
-use Rattle.text_lines.specs.Reading.{◌>>=◌}
-use Rattle.script_text.specs.Words.{cell_number_at, cell_of_kind, free_cell_at, is_digit, is_name}
-use Rattle.script_text.specs.Words.{number_at, numbered_cell}
-use Rattle.script_text.specs.Names.{NameList, name_text, source_at}
-use Rattle.script_text.specs.Cells.{cell_of_word, cell_by, cell_text, member_at, member_number_at}
-use Rattle.script_text.specs.Cells.{member_text, split_dot}
-use Rattle.script_text.specs.Scripts.{HasTextCells, kinds_in}
+use Rattle.script_text.specs.Words.{cell_number_at, cell_of_kind, free_cell_at, numbered_cell}
+use Rattle.script_text.specs.Names.{source_at}
+use Rattle.script_text.specs.Cells.{cell_of_word, cell_by, member_at, member_number_at}
 use Rattle.script_text.proofs.CellWords.{digit_dot, dotted_tidy, member_again, member_below}
 use Rattle.script_text.proofs.CellWords.{name_cut, uncut}
 use Rattle.script_text.proofs.TidyWords.{IsTidy, both_true, is_tidy_byte}
@@ -29,7 +19,6 @@ use Rattle.script_text.proofs.ReadNames.{grows_by_none, if_given, name_text-Entr
 use Rattle.script_text.proofs.ReadNames.{source_is}
 use Rattle.script_text.proofs.ReadNumbers.{decimal_reads, decimal_tidy}
 use Rattle.script_text.proofs.Reversible.{grown_entry, still}
-use Rattle.text_lines.proofs.NumberLemmas.{numerals}
 
 -- a free cell that texts name, or one of an object's three members
 abbrev pub IsTextCell : CellName → Type 0

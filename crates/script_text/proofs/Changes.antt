@@ -1,28 +1,19 @@
 -- What a good line changes: nothing, or the version by a header, or a thread begins, or a statement
 -- is added.
-use Rattle.std.proofs.Common.{◌≡◌, ℕ, ◌+◌, ◌<◌, Bool, true, false, cond, ltb, eqb, List, [], ◌∷◌}
-use Rattle.std.proofs.Common.{◌++◌, length, Option, Some, None}
-use Rattle.std.proofs.Common.{Ok, Err, find, refl, subst}
-use Rattle.std.specs.Prelude.{codes, nat_eq, ◌&&◌}
-use Rattle.std.specs.List.{list_all, starts_with, AllByRecursion}
-use Rattle.std.specs.Str.{bytes_eq}
-use Rattle.std.proofs.lemmas.Bool.{ltb-true}
-use Rattle.std.proofs.lemmas.Slice.Eq.{bytes_eq-Decides}
-use Rattle.step_threads.specs.declared.programs.call.Call.{Call}
+use Rattle.std.proofs.Common.{◌≡◌, ℕ, ◌+◌, ◌<◌, Bool, true, false, cond, ◌&&◌, eqb, ltb, List, []}
+use Rattle.std.proofs.Common.{◌∷◌, ◌++◌, length, nat_eq, Some, None, Ok, Err, codes, Option, find}
+use Rattle.std.proofs.Common.{refl, subst, ltb-true}
+use Rattle.script_text.proofs.Prelude
+use Prelude.{after_line, after_words, AllByRecursion, bytes_eq, bytes_eq-Decides, Call, Draft}
+use Prelude.{header_line, is_clean_byte, Keyword, line_content, list_all, most_threads, NameList}
+use Prelude.{next_call, no_section, spelling_of, takes_words, with_call, words_of, ◌>>=◌}
+use Rattle.std.specs.List.{starts_with}
 use Rattle.script_text.specs.declared.fault.Cause.TheVariants.{BadByte, UnknownStatement}
 use Rattle.script_text.specs.declared.fault.Cause.TheVariants.{WrongNumberOfWords, TooManyThreads}
 use Rattle.script_text.specs.declared.fault.Cause.TheVariants.{TooManyStatements}
-use Rattle.script_text.specs.declared.words.keyword.Keyword.{Keyword}
-use Rattle.text_lines.specs.Reading.{◌>>=◌}
-use Rattle.script_text.specs.Words.{is_clean_byte, line_content, words_of}
-use Rattle.script_text.specs.Names.{NameList}
-use Rattle.script_text.specs.Keywords.{spelling_of, keywords, find_keyword, known_keyword}
-use Rattle.script_text.specs.Keywords.{keyword_at, takes_words}
+use Rattle.script_text.specs.Keywords.{keywords, find_keyword, known_keyword, keyword_at}
 use Rattle.script_text.specs.Calls.{call_at}
-use Rattle.script_text.specs.Versions.{most_threads}
-use Rattle.script_text.specs.Drafts.{Draft, no_section, next_thread, with_call, next_call, is_new}
-use Rattle.script_text.specs.Drafts.{header_line, thread_line, statement_line, other_line}
-use Rattle.script_text.specs.Drafts.{after_words, after_line}
+use Rattle.script_text.specs.Drafts.{next_thread, is_new, thread_line, statement_line, other_line}
 use Rattle.script_text.proofs.TidyWords.{IsTidy, words_tidy}
 use Rattle.script_text.proofs.ReadNames.{both_give, given, same_given, if_given}
 use Rattle.script_text.proofs.Rewrites.{Rewrites, rewrites}

@@ -1,21 +1,12 @@
 -- What was read of a header is read again from its canonical words.
-use Rattle.std.proofs.Common.{◌≡◌, ℕ, ◌^◌, ◌<◌, ◌≤◌, Bool, true, false, cond, ltb, [], ◌∷◌, List}
-use Rattle.std.proofs.Common.{Result, Ok, Err, refl, ap}
-use Rattle.std.proofs.Common.{◌∙◌, arith, lit<}
-use Rattle.std.specs.Prelude.{codes, decimal}
-use Rattle.std.specs.List.{AllByRecursion}
-use Rattle.std.specs.Str.{bytes_eq}
-use Rattle.std.proofs.lemmas.Bool.{ltb-false, le-ltb}
-use Rattle.script_text.specs.declared.fault.Cause.{Cause}
-use Rattle.script_text.specs.declared.fault.Cause.TheVariants.{BadNumber, BadVersion}
-use Rattle.script_text.specs.declared.parts.version.Version.{Version}
-use Rattle.script_text.specs.declared.parts.version.Version.TheVariants.{One, Two}
-use Rattle.text_lines.specs.Reading.{◌>>=◌}
-use Rattle.script_text.specs.Words.{number_at}
-use Rattle.script_text.specs.Versions.{most_threads, header_number, blocks_at, version_named}
-use Rattle.script_text.specs.Versions.{version_at}
-use Rattle.script_text.specs.Drafts.{Draft, draft_in, new_draft, header_line, after_line}
-use Rattle.script_text.specs.Canonical.{header_words, spaced}
+use Rattle.std.proofs.Common.{◌≡◌, ℕ, ◌^◌, ◌<◌, ◌≤◌, Bool, true, false, cond, ltb, List, [], ◌∷◌}
+use Rattle.std.proofs.Common.{Ok, Err, codes, decimal, Result, refl, ap, ◌∙◌, arith, lit<}
+use Rattle.std.proofs.Common.{ltb-false, le-ltb}
+use Rattle.script_text.proofs.Prelude.{after_line, AllByRecursion, BadNumber, bytes_eq, Cause}
+use Rattle.script_text.proofs.Prelude.{Draft, draft_in, header_line, header_words, most_threads}
+use Rattle.script_text.proofs.Prelude.{new_draft, number_at, One, spaced, Two, Version, ◌>>=◌}
+use Rattle.script_text.specs.declared.fault.Cause.TheVariants.{BadVersion}
+use Rattle.script_text.specs.Versions.{header_number, blocks_at, version_named, version_at}
 use Rattle.script_text.proofs.TidyWords.{IsTidy, after_tidy_line}
 use Rattle.script_text.proofs.ReadNames.{both_give, given, same_given}
 use Rattle.script_text.proofs.ReadNumbers.{decimal_reads, decimal_tidy}

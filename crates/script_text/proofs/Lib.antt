@@ -1,3 +1,4 @@
+pub mod Prelude
 pub mod WordLemmas
 pub mod NameLemmas
 pub mod ShapeLemmas

@@ -1,19 +1,14 @@
 -- Looking a name up in a table, and adding one.
-use Rattle.std.proofs.Common.{◌≡◌, ℕ, suc, ◌+◌, ◌<◌, Bool, true, false, not, cond, ltb, List, []}
-use Rattle.std.proofs.Common.{◌∷◌, ◌++◌, length, map, Option}
-use Rattle.std.proofs.Common.{Some, None, Ok, refl, sym, ap, ◌∙◌, arith, rules}
-use Rattle.std.specs.Prelude.{String}
-use Rattle.std.specs.Option.{option_map}
-use Rattle.std.specs.List.{AllZip, position, position_or_len}
+use Rattle.std.proofs.Common.{◌≡◌, ℕ, suc, ◌+◌, ◌<◌, Bool, true, false, cond, not, ltb, List, []}
+use Rattle.std.proofs.Common.{◌∷◌, ◌++◌, map, length, Some, None, Ok, Option, String, sym, refl}
+use Rattle.std.proofs.Common.{ap, ◌∙◌, arith, rules, lt-ltb}
+use Rattle.script_text.proofs.Prelude.{bytes_eq, find_name, Kind, length-map, NameList, names_in}
+use Rattle.script_text.proofs.Prelude.{nat_tests, numbered, option_map, position, position_or_len}
+use Rattle.std.specs.List.{AllZip}
 use Rattle.std.specs.Map.{lookup, keys_of, values_of}
-use Rattle.std.specs.Str.{bytes_eq}
 use Rattle.std.specs.String.{string_bytes, string_eq}
-use Rattle.std.proofs.lemmas.Bool.Decides.{nat_tests}
-use Rattle.std.proofs.lemmas.Bool.{lt-ltb}
-use Rattle.std.proofs.lemmas.List.{length-map}
 use Rattle.indexmap.specs.IndexMap.{insert_entry}
-use Rattle.control_word.specs.declared.model.handle.Kind.{Kind}
-use Rattle.script_text.specs.Names.{NameList, names_in, numbered, find_name, declared}
+use Rattle.script_text.specs.Names.{declared}
 
 -- what `find_name` gives at a first name that is the one looked for, and at another
 abbrev here : Kind → Option (ℕ × Kind)

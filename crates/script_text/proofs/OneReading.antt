@@ -1,11 +1,9 @@
 -- A text has one reading: one script, or one first faulty line with one cause.
-use Rattle.std.proofs.Common.{◌≡◌, ℕ, List, inl, inr, Result, Ok, Err, refl, sym, ap, ◌∙◌}
-use Rattle.script_text.specs.declared.fault.Cause.{Cause}
-use Rattle.script_text.specs.declared.fault.Cause.TheVariants.{UnfinishedLine}
-use Rattle.script_text.specs.declared.fault.Fault.{Fault}
+use Rattle.std.proofs.Common.{◌≡◌, ℕ, List, Ok, Err, Result, sym, refl, ap, ◌∙◌, inl, inr}
+use Rattle.script_text.proofs.Prelude.{after_line, Answers, Cause, Draft, Fault, new_draft}
+use Rattle.script_text.proofs.Prelude.{ReadsAs, script_of, ScriptView, UnfinishedLine}
 use Rattle.script_text.specs.declared.fault.Fault.TheVariants as fault
-use Rattle.script_text.specs.Drafts.{Draft, ScriptView, after_line, new_draft, script_of}
-use Rattle.script_text.specs.Grammar.{Answers, Faulty, IsUnlessMemory, ReadsAs}
+use Rattle.script_text.specs.Grammar.{Faulty, IsUnlessMemory}
 use Rattle.text_lines.proofs.OneReading as lines
 
 -- a script, or the number of a line and a cause

@@ -1,21 +1,14 @@
 -- The parts of lines, and threads, one after the other.
-use Rattle.std.proofs.Common.{◌≡◌, ℕ, ◌-◌, ◌≤◌, List, [], ◌∷◌, ◌++◌, length, map, take, drop}
-use Rattle.std.proofs.Common.{get_or, sym, ap, ◌∙◌}
-use Rattle.std.proofs.Common.{arith, append_assoc}
-use Rattle.std.specs.Prelude.{codes, decimal}
-use Rattle.std.specs.List.{flat_map}
-use Rattle.std.proofs.lemmas.List.{append-nil, take_rest}
+use Rattle.std.proofs.Common.{◌≡◌, ℕ, ◌-◌, ◌≤◌, List, [], ◌∷◌, ◌++◌, map, length, get_or, take}
+use Rattle.std.proofs.Common.{drop, codes, decimal, sym, ap, ◌∙◌, append_assoc, append-nil, arith}
+use Rattle.script_text.proofs.Prelude.{begun_lines, cell_text, ended, field_number, flat_map}
+use Rattle.script_text.proofs.Prelude.{name_text, NameList, number_after, section_lines}
+use Rattle.script_text.proofs.Prelude.{section_of, spaced, take_rest, thread_lines, word_after}
 use Rattle.script_text.specs.declared.parts.thread.Thread.{Thread}
-use Rattle.script_text.specs.Drafts.{section_of}
-use Rattle.script_text.specs.Grammar.{ended}
 use Rattle.text_lines.proofs.Ended.{ended-append}
-use Rattle.step_table.specs.AtomicSteps.{field_number}
 use Rattle.script_text.specs.declared.line.Word.{Word}
 use Rattle.script_text.specs.declared.line.Word.TheVariants.{Of, In, Fields, Field, Number, Null}
-use Rattle.script_text.specs.Names.{NameList, name_text}
-use Rattle.script_text.specs.Cells.{cell_text}
-use Rattle.script_text.specs.Canonical.{number_after, spaced, section_lines, begun_lines}
-use Rattle.script_text.specs.Canonical.{thread_lines, word_after, word_texts}
+use Rattle.script_text.specs.Canonical.{word_texts}
 
 -- numbers, and what follows them
 numbers_then : (word : List ℕ) (numbers : List ℕ) (more : List (List ℕ)) (after : List ℕ)

@@ -1,12 +1,9 @@
 -- What the lines of a text come to, from the draft before the first one on.
 use Rattle.std.proofs.Common.{◌≡◌, ℕ, List, [], subst}
+use Rattle.script_text.proofs.Prelude.{after_line, Cause, Draft, Fault, new_draft, UnfinishedLine}
 use Rattle.text_lines.specs.declared.fault.LineFault.{LineFault}
 use Rattle.text_lines.specs.declared.fault.LineFault.TheVariants as line
 use Rattle.text_lines.specs.Grammar.{IsReadAs, Refuses}
-use Rattle.script_text.specs.declared.fault.Cause.{Cause}
-use Rattle.script_text.specs.declared.fault.Cause.TheVariants.{UnfinishedLine}
-use Rattle.script_text.specs.declared.fault.Fault.{Fault}
-use Rattle.script_text.specs.Drafts.{Draft, after_line, new_draft}
 use Rattle.script_text.specs.Grammar as grammar
 use Rattle.script_text.specs.Faults.{fault_of}
 

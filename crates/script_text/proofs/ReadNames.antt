@@ -1,29 +1,18 @@
 -- What was read of names: the word is the name with that number, and stays so as names are added.
 use Rattle.std.proofs.Common.{◌≡◌, ℕ, zero, suc, ◌+◌, ◌≤◌, Bool, true, false, cond, ltb, List, []}
-use Rattle.std.proofs.Common.{◌∷◌, ◌++◌, length}
-use Rattle.std.proofs.Common.{map, Option, Some, None, Result, Ok, Err, refl, sym, ap, subst, ◌∙◌}
-use Rattle.std.proofs.Common.{arith}
-use Rattle.std.proofs.Common.{length-append}
-use Rattle.std.specs.Option.{option_map}
-use Rattle.std.specs.Prelude.{slice_get}
-use Rattle.std.specs.Str.{bytes_eq}
-use Rattle.std.proofs.lemmas.Bool.{ltb-true}
-use Rattle.std.proofs.lemmas.Slice.Eq.{bytes_eq-Decides}
-use Rattle.std.proofs.lemmas.List.{append-nil}
-use Rattle.control_word.specs.declared.model.handle.Kind.{Kind}
-use Rattle.control_word.specs.declared.model.handle.Kind.TheVariants.{Owner, Weak}
-use Rattle.step_threads.specs.declared.programs.call.Name.{Name}
-use Rattle.step_threads.specs.Programs.{IsDeclared, IsNameFound}
-use Rattle.script_text.specs.declared.fault.Cause.{Cause}
+use Rattle.std.proofs.Common.{◌∷◌, ◌++◌, map, length, slice_get, Some, None, Ok, Err, Option}
+use Rattle.std.proofs.Common.{Result, sym, refl, ap, ◌∙◌, subst, append-nil, arith, length-append}
+use Rattle.std.proofs.Common.{ltb-true}
+use Rattle.script_text.proofs.Prelude.{asked_source_at, bytes_eq, bytes_eq-Decides, Cause}
+use Rattle.script_text.proofs.Prelude.{find_name, is_name, IsDeclared, IsNameFound, Kind, kinds_in}
+use Rattle.script_text.proofs.Prelude.{Name, name_text, NameList, numbered, option_map, Owner}
+use Rattle.script_text.proofs.Prelude.{Weak, ◌>>=◌}
 use Rattle.script_text.specs.declared.fault.Cause.TheVariants.{BadName, TooManyNames}
 use Rattle.script_text.specs.declared.fault.Cause.TheVariants.{WrongKindOfName}
-use Rattle.text_lines.specs.Reading.{◌>>=◌}
-use Rattle.script_text.specs.Words.{is_name, name_at}
-use Rattle.script_text.specs.Names.{NameList, numbered, find_name, found_source, found_target}
-use Rattle.script_text.specs.Names.{found_any, source_at, any_source_at, asked_source_at}
+use Rattle.script_text.specs.Words.{name_at}
+use Rattle.script_text.specs.Names.{found_source, found_target, found_any, source_at}
+use Rattle.script_text.specs.Names.{any_source_at, target_at, declared_at, declared, text_of_entry}
 use Rattle.control_word.specs.Handles.{same_kind}
-use Rattle.script_text.specs.Names.{target_at, declared_at, declared, name_text, text_of_entry}
-use Rattle.script_text.specs.Scripts.{kinds_in}
 
 -- ---- readings in a row
 

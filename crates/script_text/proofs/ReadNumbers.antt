@@ -1,19 +1,13 @@
 -- What was read of numbers is read again from its decimal text.
-use Rattle.std.proofs.Common.{◌≡◌, ℕ, ◌^◌, ◌<◌, true, ltb, List, [], ◌∷◌, length, map, Option, Some}
-use Rattle.std.proofs.Common.{None, Result, Ok, refl, sym, subst}
-use Rattle.std.proofs.Common.{lit<}
-use Rattle.std.specs.Prelude.{decimal, slice_get, ◌&&◌}
-use Rattle.std.specs.List.{AllByRecursion, list_all}
+use Rattle.std.proofs.Common.{◌≡◌, ℕ, ◌^◌, ◌<◌, true, ◌&&◌, ltb, List, [], ◌∷◌, map, length}
+use Rattle.std.proofs.Common.{slice_get, Some, None, Ok, decimal, Option, Result, sym, refl, subst}
+use Rattle.std.proofs.Common.{lit<, ltb-true, lt-ltb}
+use Rattle.script_text.proofs.Prelude.{AllByRecursion, and_both, BadNumber, Cause, digits_decimal}
+use Rattle.script_text.proofs.Prelude.{is_digit, list_all, number_at, numerals, ◌>>=◌}
 use Rattle.std.specs.Str.Parse.{digits_value}
-use Rattle.std.proofs.lemmas.Bool.{lt-ltb, ltb-true}
-use Rattle.std.proofs.lemmas.Fmt.{digits_decimal, digits_value-decimal, decimal_nonempty}
-use Rattle.script_text.specs.declared.fault.Cause.{Cause}
-use Rattle.script_text.specs.declared.fault.Cause.TheVariants.{BadNumber}
-use Rattle.text_lines.specs.Reading.{◌>>=◌}
-use Rattle.script_text.specs.Words.{is_number, is_digit, number_at}
+use Rattle.std.proofs.lemmas.Fmt.{digits_value-decimal, decimal_nonempty}
+use Rattle.script_text.specs.Words.{is_number}
 use Rattle.script_text.specs.Shapes.{number_if, number_or_zero, fields_at}
-use Rattle.text_lines.proofs.ByteTests.{and_both}
-use Rattle.text_lines.proofs.NumberLemmas.{numerals}
 use Rattle.script_text.proofs.TidyWords.{IsTidy, is_tidy_byte, digit_tidy, both_true, list_weaker}
 use Rattle.script_text.proofs.ReadNames.{both_give, same_given, if_given}
 

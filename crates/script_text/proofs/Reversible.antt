@@ -1,23 +1,16 @@
 -- What was read of the words after the first is read again from its canonical words:
 -- a lemma for each shape of statement.
-use Rattle.std.proofs.Common.{◌≡◌, ℕ, List, [], ◌∷◌, ◌++◌, length, map, Option, Some, Result, Ok, refl, sym, ap}
-use Rattle.std.proofs.Common.{subst, ◌∙◌}
-use Rattle.std.specs.Prelude.{decimal}
-use Rattle.std.specs.List.{AllByRecursion}
-use Rattle.control_word.specs.declared.model.handle.Kind.{Kind}
-use Rattle.control_word.specs.declared.model.handle.Kind.TheVariants.{Owner}
-use Rattle.step_threads.specs.declared.programs.call.Name.{Name}
-use Rattle.step_threads.specs.Programs.{Asked, IsDeclared}
-use Rattle.script_text.specs.declared.fault.Cause.{Cause}
-use Rattle.text_lines.specs.Reading.{◌>>=◌}
-use Rattle.script_text.specs.Names.{NameList, asked_source_at, source_at, target_at, declared, name_text}
-use Rattle.script_text.specs.Shapes.{one_target, one_source, target_and_source, two_sources, fields_at}
-use Rattle.script_text.specs.Shapes.{target_and_fields}
-use Rattle.script_text.specs.Scripts.{kinds_in}
+use Rattle.std.proofs.Common.{◌≡◌, ℕ, List, [], ◌∷◌, ◌++◌, map, length, Some, Ok, decimal, Option}
+use Rattle.std.proofs.Common.{Result, sym, refl, ap, ◌∙◌, subst}
+use Rattle.script_text.proofs.Prelude.{AllByRecursion, Asked, asked_source_at, Cause, IsDeclared}
+use Rattle.script_text.proofs.Prelude.{Kind, kinds_in, Name, name_text, NameList, Owner, ◌>>=◌}
+use Rattle.script_text.specs.Names.{source_at, target_at, declared}
+use Rattle.script_text.specs.Shapes.{one_target, one_source, target_and_source, two_sources}
+use Rattle.script_text.specs.Shapes.{fields_at, target_and_fields}
 use Rattle.script_text.proofs.TidyWords.{IsTidy, name_is_tidy}
-use Rattle.script_text.proofs.ReadNames.{both_give, given, same_given, with_names, Entry, name_text-Entry}
-use Rattle.script_text.proofs.ReadNames.{Entry-more, IsDeclared-Entry, source_is, asked_is}
-use Rattle.script_text.proofs.ReadNames.{Grows, grows_by_none, target_is}
+use Rattle.script_text.proofs.ReadNames.{both_give, given, same_given, with_names, Entry}
+use Rattle.script_text.proofs.ReadNames.{name_text-Entry, Entry-more, IsDeclared-Entry, source_is}
+use Rattle.script_text.proofs.ReadNames.{asked_is, Grows, grows_by_none, target_is}
 use Rattle.script_text.proofs.ReadNumbers.{are_fields, fields_again, fields_tidy, fields_size}
 
 -- how the words of a shape are read

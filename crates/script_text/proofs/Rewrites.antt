@@ -1,13 +1,10 @@
 -- A statement that was read is read again from its canonical words.
-use Rattle.std.proofs.Common.{◌≡◌, ℕ, true, false, List, ◌∷◌, ◌++◌, length, Some, None, Ok, refl}
-use Rattle.std.proofs.Common.{sym, ap, subst, ◌∙◌}
-use Rattle.std.specs.Prelude.{codes}
-use Rattle.std.specs.List.{AllByRecursion}
-use Rattle.step_threads.specs.declared.programs.call.Call.{Call}
+use Rattle.std.proofs.Common.{◌≡◌, ℕ, true, false, List, ◌∷◌, ◌++◌, length, Some, None, Ok, codes}
+use Rattle.std.proofs.Common.{sym, refl, ap, ◌∙◌, subst}
+use Rattle.script_text.proofs.Prelude.{AllByRecursion, Call, call_words, IsDeclared, Keyword}
+use Rattle.script_text.proofs.Prelude.{kinds_in, NameList, names_of, Owner, spelling_of}
+use Rattle.script_text.proofs.Prelude.{takes_words, Weak}
 use Rattle.step_threads.specs.declared.programs.call.Call.TheVariants as call
-use Rattle.control_word.specs.declared.model.handle.Kind.TheVariants.{Owner, Weak}
-use Rattle.step_threads.specs.Programs.{IsDeclared, names_of}
-use Rattle.script_text.specs.declared.words.keyword.Keyword.{Keyword}
 use Rattle.script_text.specs.declared.words.keyword.Keyword.TheVariants as key
 use Rattle.script_text.specs.declared.words.keyword.PlaceKeyword.{PlaceKeyword}
 use Rattle.script_text.specs.declared.words.keyword.PlaceKeyword.TheVariants as place
@@ -15,30 +12,26 @@ use Rattle.script_text.specs.declared.words.keyword.CellKeyword.{CellKeyword}
 use Rattle.script_text.specs.declared.words.keyword.CellKeyword.TheVariants as cell
 use Rattle.script_text.specs.declared.words.keyword.WeakKeyword.{WeakKeyword}
 use Rattle.script_text.specs.declared.words.keyword.WeakKeyword.TheVariants as weak
-use Rattle.script_text.specs.Names.{NameList}
-use Rattle.script_text.specs.Keywords.{spelling_of, takes_words}
 use Rattle.script_text.specs.Shapes.{alias_at, cell_and_other, cell_and_source, cell_and_sources}
 use Rattle.script_text.specs.Shapes.{target_and_cell, one_target, one_source, target_and_source}
 use Rattle.script_text.specs.Shapes.{two_sources, target_and_fields}
 use Rattle.script_text.specs.Calls.{alias_call, as_call, call_at, cell_call_at, place_call_at}
 use Rattle.script_text.specs.Calls.{weak_call_at}
-use Rattle.script_text.specs.Canonical.{call_words}
-use Rattle.script_text.specs.Scripts.{kinds_in}
 use Rattle.script_text.proofs.TidyWords.{IsTidy}
 use Rattle.script_text.proofs.ReadNames.{both_give, given, same_given, with_names, Grows}
 use Rattle.script_text.proofs.Reversible.{Reader, Writer, Asker, Sizer, IsReversible, always}
 use Rattle.script_text.proofs.Reversible.{write_one, asks_one, target_reversible}
 use Rattle.script_text.proofs.Reversible.{source_reversible, write_two, asks_two}
 use Rattle.script_text.proofs.Reversible.{target_and_source_reversible, asks_both}
-use Rattle.script_text.proofs.Reversible.{two_sources_reversible}
-use Rattle.script_text.proofs.Aliases.{Parts, write_alias, asks_alias, alias_size, alias_reversible}
+use Rattle.script_text.proofs.Reversible.{two_sources_reversible, write_fields, asks_first}
+use Rattle.script_text.proofs.Reversible.{target_and_fields_reversible}
+use Rattle.script_text.proofs.Aliases.{Parts, write_alias, asks_alias, alias_size}
+use Rattle.script_text.proofs.Aliases.{alias_reversible}
 use Rattle.script_text.proofs.CellShapes.{Fits, asks_cell, cell_reversible, holds_fits, store_fits}
 use Rattle.script_text.proofs.CellShapes.{other_reversible, exchange_fits, write_cell, asks_load}
-use Rattle.script_text.proofs.CellShapes.{load_reversible}
-use Rattle.script_text.proofs.CellShapes.{load_fits, write_load}
+use Rattle.script_text.proofs.CellShapes.{load_reversible, load_fits, write_load}
 use Rattle.script_text.proofs.CellCompares.{asks_compare, compare_reversible, compare_fits}
 use Rattle.script_text.proofs.CellCompares.{write_compare}
-use Rattle.script_text.proofs.Reversible.{write_fields, asks_first, target_and_fields_reversible}
 
 -- later names change no word of the statement
 abbrev pub IsSettled : NameList → Call → Type 0

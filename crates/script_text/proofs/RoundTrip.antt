@@ -1,29 +1,20 @@
 -- The canonical text of a script that was read is read as the same script.
-use Rattle.std.proofs.Common.{◌≡◌, ℕ, ◌+◌, ◌<◌, ◌≤◌, true, List, [], ◌∷◌, ◌++◌, length, map, Ok}
-use Rattle.std.proofs.Common.{refl, sym, ap, subst}
-use Rattle.std.proofs.Common.{◌∙◌, lit<, lt-ltb, append_assoc, arith}
-use Rattle.std.specs.Prelude.{codes, ltb}
-use Rattle.std.specs.List.{flat_map, AllByRecursion}
-use Rattle.std.proofs.lemmas.List.{append-nil}
+use Rattle.std.proofs.Common.{◌≡◌, ℕ, ◌+◌, ◌<◌, ◌≤◌, true, ltb, List, [], ◌∷◌, ◌++◌, map, length}
+use Rattle.std.proofs.Common.{Ok, codes, sym, refl, ap, ◌∙◌, subst, append_assoc, append-nil}
+use Rattle.std.proofs.Common.{arith, lit<, lt-ltb}
+use Rattle.script_text.proofs.Prelude
+use Prelude.{after_line, AllByRecursion, BeginsWithDraft, begun_lines, Call, call_line, call_words}
+use Prelude.{converted, Draft, draft_in, ended, flat_map, HasNoFeed, header_words, Keyword, Leads}
+use Prelude.{most_threads, NameList, new_draft, next_call, no_section, One, ReadsAs, script_of}
+use Prelude.{ScriptView, Section, section_lines, sections, spaced, takes_words, thread_lines, Two}
+use Prelude.{Version, with_call}
 use Rattle.std.proofs.lemmas.List.Concat.{flat_map-cons, flat_map-append}
-use Rattle.step_threads.specs.declared.programs.call.Call.{Call}
-use Rattle.script_text.specs.declared.words.keyword.Keyword.{Keyword}
-use Rattle.script_text.specs.Names.{NameList}
-use Rattle.script_text.specs.Keywords.{takes_words}
 use Rattle.script_text.specs.Calls.{call_at}
-use Rattle.script_text.specs.Drafts.{Section, ScriptView, Draft, draft_in, new_draft, sections}
-use Rattle.script_text.specs.Drafts.{script_of, no_section, with_call, next_call, after_line}
-use Rattle.script_text.specs.Grammar.{HasNoFeed, ended, Leads, BeginsWithDraft, ReadsAs}
-use Rattle.script_text.specs.Canonical.{call_words, spaced, call_line, section_lines, begun_lines}
-use Rattle.script_text.specs.Canonical.{thread_lines, header_words, header_lines, script_lines}
-use Rattle.script_text.specs.Canonical.{canonical}
+use Rattle.script_text.specs.Canonical.{header_lines, script_lines, canonical}
 use Rattle.script_text.proofs.TidyWords.{IsTidy, after_tidy_line, no_feed_in}
 use Rattle.text_lines.proofs.GrammarLemmas.{clean-last, Leads-last}
 use Rattle.script_text.proofs.Rewrites.{IsSettled, Rewrites}
-use Rattle.script_text.specs.declared.parts.version.Version.{Version}
-use Rattle.script_text.specs.declared.parts.version.Version.TheVariants.{One, Two}
-use Rattle.script_text.specs.Versions.{as_two, most_threads}
-use Rattle.script_text.specs.Scripts.{converted}
+use Rattle.script_text.specs.Versions.{as_two}
 use Rattle.script_text.proofs.Headers.{IsHeader, header_again, header_tidy}
 use Rattle.script_text.proofs.Changes.{IsFirstWord, with_thread, Change, skipped, headed, began}
 use Rattle.script_text.proofs.Changes.{added, line_change, other_words}

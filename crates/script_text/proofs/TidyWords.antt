@@ -1,20 +1,17 @@
 -- Words of visible characters, joined by single spaces, are read as they are.
-use Rattle.std.proofs.Common.{◌≡◌, ℕ, ◌-◌, ◌<◌, Bool, true, false, cond, ltb, eqb, List, [], ◌∷◌}
-use Rattle.std.proofs.Common.{◌++◌, length, get_or, filter, refl}
-use Rattle.std.proofs.Common.{ap, subst, ◌∙◌, arith}
-use Rattle.std.specs.Prelude.{◌&&◌, nat_le, nat_lt}
-use Rattle.std.specs.List.{list_all, slice_split, onto_first, join_with_byte, AllByRecursion}
-use Rattle.std.proofs.lemmas.Bool.{lt-ltb, ltb-true, eqb-true, false_from_ne_true}
-use Rattle.std.proofs.lemmas.Bool.Decides.{nat_tests}
-use Rattle.std.proofs.lemmas.List.Elements.{All-from_recursion}
-use Rattle.std.proofs.lemmas.List.Folds.{list_all-append}
+use Rattle.std.proofs.Common.{◌≡◌, ℕ, ◌-◌, ◌<◌, Bool, true, false, cond, ◌&&◌, eqb, ltb, List, []}
+use Rattle.std.proofs.Common.{◌∷◌, ◌++◌, length, get_or, nat_lt, nat_le, filter, refl, ap, ◌∙◌}
+use Rattle.std.proofs.Common.{subst, arith, ltb-true, lt-ltb, eqb-true}
+use Rattle.script_text.proofs.Prelude.{after_line, after_words, All-from_recursion, AllByRecursion}
+use Rattle.script_text.proofs.Prelude.{and_both, Draft, HasNoFeed, is_clean_byte, is_digit}
+use Rattle.script_text.proofs.Prelude.{is_lower, is_name, is_name_byte, line_content, list_all}
+use Rattle.script_text.proofs.Prelude.{list_all-append, nat_tests, words_of}
+use Rattle.std.specs.List.{slice_split, onto_first, join_with_byte}
+use Rattle.std.proofs.lemmas.Bool.{false_from_ne_true}
 use Rattle.std.proofs.lemmas.List.Sums.{AllPass-from_list_all}
 use Rattle.std.proofs.lemmas.List.Splits.{slice_split_at, slice_split_none}
-use Rattle.script_text.specs.Words.{is_space, is_clean_byte, is_name_byte, is_lower, is_digit}
-use Rattle.script_text.specs.Words.{is_name, words_of, line_content}
-use Rattle.script_text.specs.Drafts.{Draft, after_line, after_words}
-use Rattle.script_text.specs.Grammar.{is_feed, HasNoFeed}
-use Rattle.text_lines.proofs.ByteTests.{and_both}
+use Rattle.script_text.specs.Words.{is_space}
+use Rattle.script_text.specs.Grammar.{is_feed}
 
 -- a character that can be seen
 abbrev pub is_tidy_byte : ℕ → Bool

@@ -1,13 +1,11 @@
 -- Names are ASCII.
-use Rattle.std.proofs.Common.{◌≡◌, ℕ, zero, suc, ◌<◌, true, ltb, List, [], ◌∷◌, length, get_or}
-use Rattle.std.proofs.Common.{arith}
-use Rattle.std.specs.Prelude.{◌&&◌}
-use Rattle.std.specs.List.{list_all}
+use Rattle.std.proofs.Common.{◌≡◌, ℕ, zero, suc, ◌<◌, true, ◌&&◌, ltb, List, [], ◌∷◌, length}
+use Rattle.std.proofs.Common.{get_or, arith}
+use Rattle.script_text.proofs.Prelude.{and_both, is_lower, is_name, is_name_byte, list_all}
+use Rattle.script_text.proofs.Prelude.{nat_tests}
 use Rattle.std.specs.Str.{IsAscii, IsUtf8}
 use Rattle.std.proofs.lemmas.Str.{IsUtf8-from_ascii}
-use Rattle.std.proofs.lemmas.Bool.Decides.{nat_tests}
-use Rattle.script_text.specs.Words.{is_lower, is_name, is_name_byte}
-use Rattle.text_lines.proofs.ByteTests.{and_both, ascii_from_test}
+use Rattle.text_lines.proofs.ByteTests.{ascii_from_test}
 
 name_byte_low : (b : ℕ) → is_name_byte b ≡ true → b < 128
 name_byte_low b h = grind (arith, nat_tests)

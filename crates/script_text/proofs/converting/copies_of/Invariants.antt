@@ -1,5 +1,5 @@
 use Rattle.std.proofs.Common.{◌≡◌, map, take}
-use Rattle.script_text.specs.Drafts.{section_of}
+use Rattle.script_text.proofs.Prelude.{section_of}
 use Rattle.script_text.proofs.converting.copies_of.Given as goal
 
 abbrev pub invariant-loop-thread : goal.invariant-loop-thread

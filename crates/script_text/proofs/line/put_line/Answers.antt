@@ -1,7 +1,5 @@
-use Rattle.std.proofs.Common.{ℕ, List, ◌∷◌, ◌++◌, [], ap, ◌∙◌}
-use Rattle.std.specs.Prelude.{string_bytes}
-use Rattle.std.specs.List.{flat_map}
-use Rattle.script_text.specs.Canonical.{word_after}
+use Rattle.std.proofs.Common.{ℕ, List, [], ◌∷◌, ◌++◌, string_bytes, ap, ◌∙◌}
+use Rattle.script_text.proofs.Prelude.{flat_map, word_after}
 use Rattle.script_text.proofs.PrintLemmas.{words_line}
 use Rattle.script_text.proofs.line.put_line.Goals as goal
 

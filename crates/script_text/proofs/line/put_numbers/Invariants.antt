@@ -1,7 +1,5 @@
-use Rattle.std.proofs.Common.{◌≡◌, ◌++◌, take}
-use Rattle.std.specs.Prelude.{string_bytes}
-use Rattle.std.specs.List.{flat_map}
-use Rattle.script_text.specs.Canonical.{number_after}
+use Rattle.std.proofs.Common.{◌≡◌, ◌++◌, take, string_bytes}
+use Rattle.script_text.proofs.Prelude.{flat_map, number_after}
 use Rattle.script_text.proofs.line.put_numbers.Given as goal
 
 abbrev pub invariant-loop-number : goal.invariant-loop-number

@@ -1,7 +1,5 @@
-use Rattle.std.proofs.Common.{◌≡◌, ◌++◌, take}
-use Rattle.std.specs.Prelude.{string_bytes}
-use Rattle.std.specs.List.{flat_map}
-use Rattle.script_text.specs.Canonical.{word_after}
+use Rattle.std.proofs.Common.{◌≡◌, ◌++◌, take, string_bytes}
+use Rattle.script_text.proofs.Prelude.{flat_map, word_after}
 use Rattle.script_text.proofs.line.put_words.Given as goal
 
 abbrev pub invariant-loop-word : goal.invariant-loop-word

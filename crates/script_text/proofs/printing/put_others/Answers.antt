@@ -1,6 +1,5 @@
-use Rattle.std.specs.Prelude.{string_bytes}
-use Rattle.script_text.specs.Drafts.{section_of}
-use Rattle.script_text.specs.Canonical.{begun_lines}
+use Rattle.std.proofs.Common.{string_bytes}
+use Rattle.script_text.proofs.Prelude.{begun_lines, section_of}
 use Rattle.text_lines.proofs.Ended.{parts_done}
 use Rattle.script_text.proofs.printing.put_others.Goals as goal
 

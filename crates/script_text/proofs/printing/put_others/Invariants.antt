@@ -1,9 +1,5 @@
-use Rattle.std.proofs.Common.{◌≡◌, ◌++◌, take, map}
-use Rattle.std.specs.Prelude.{string_bytes}
-use Rattle.std.specs.List.{flat_map}
-use Rattle.script_text.specs.Drafts.{section_of}
-use Rattle.script_text.specs.Grammar.{ended}
-use Rattle.script_text.specs.Canonical.{begun_lines}
+use Rattle.std.proofs.Common.{◌≡◌, ◌++◌, map, take, string_bytes}
+use Rattle.script_text.proofs.Prelude.{begun_lines, ended, flat_map, section_of}
 use Rattle.script_text.proofs.printing.put_others.Given as goal
 
 abbrev pub invariant-loop-thread : goal.invariant-loop-thread

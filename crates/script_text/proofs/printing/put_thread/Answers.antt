@@ -1,6 +1,5 @@
-use Rattle.std.proofs.Common.{length, ap, arith}
-use Rattle.std.specs.Prelude.{string_bytes}
-use Rattle.script_text.specs.Canonical.{call_line}
+use Rattle.std.proofs.Common.{length, string_bytes, ap, arith}
+use Rattle.script_text.proofs.Prelude.{call_line}
 use Rattle.text_lines.proofs.Ended.{lines_done}
 use Rattle.script_text.proofs.printing.put_thread.Goals as goal
 

@@ -1,7 +1,5 @@
-use Rattle.std.proofs.Common.{◌≡◌, ◌++◌, take}
-use Rattle.std.specs.Prelude.{string_bytes}
-use Rattle.std.specs.List.{flat_map}
-use Rattle.script_text.specs.Canonical.{call_line}
+use Rattle.std.proofs.Common.{◌≡◌, ◌++◌, take, string_bytes}
+use Rattle.script_text.proofs.Prelude.{call_line, flat_map}
 use Rattle.text_lines.proofs.Ended.{with_feed}
 use Rattle.script_text.proofs.printing.put_thread.Given as goal
 

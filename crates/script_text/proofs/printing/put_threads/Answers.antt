@@ -1,4 +1,4 @@
-use Rattle.std.specs.Prelude.{string_bytes}
+use Rattle.std.proofs.Common.{string_bytes}
 use Rattle.script_text.proofs.PrintLemmas.{threads_done}
 use Rattle.script_text.proofs.printing.put_threads.Goals as goal
 

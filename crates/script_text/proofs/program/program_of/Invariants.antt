@@ -1,7 +1,6 @@
 use Rattle.std.proofs.Common.{◌≡◌, map, take}
+use Rattle.script_text.proofs.Prelude.{program_in, section_of}
 use Rattle.step_threads.specs.Programs.{part_of}
-use Rattle.script_text.specs.Drafts.{section_of}
-use Rattle.script_text.specs.Scripts.{program_in}
 use Rattle.script_text.proofs.program.program_of.Given as goal
 
 abbrev pub invariant-loop-thread : goal.invariant-loop-thread

@@ -1,6 +1,5 @@
 use Rattle.std.proofs.Common.{map, Ok, rules}
-use Rattle.script_text.specs.Drafts.{section_of, draft_of}
-use Rattle.script_text.specs.Grammar.{Answers, ReadsAs}
+use Rattle.script_text.proofs.Prelude.{Answers, draft_of, ReadsAs, section_of}
 use Rattle.script_text.proofs.Bounds.{script_is}
 use Rattle.script_text.proofs.OneReading.{reads_answer, faulty_answer}
 use Rattle.script_text.proofs.text.parse.Goals as goal

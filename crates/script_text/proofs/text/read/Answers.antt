@@ -1,4 +1,4 @@
-use Rattle.script_text.specs.Drafts.{draft_of}
+use Rattle.script_text.proofs.Prelude.{draft_of}
 use Rattle.script_text.proofs.Reaching.{reached, refused}
 use Rattle.script_text.proofs.text.read.Goals as goal
 

@@ -1,4 +1,4 @@
-use Rattle.std.proofs.Common.{ℕ, Bor, List, [], rules}
+use Rattle.std.proofs.Common.{ℕ, List, [], Bor, rules}
 use Rattle.script_text.proofs.ShapeLemmas.{pair_of}
 use Rattle.script_text.proofs.words.shape.two_sources.Goals as goal
 

@@ -1,6 +1,6 @@
-use Rattle.std.proofs.Common.{◌≡◌, rules, arith, None}
+use Rattle.std.proofs.Common.{◌≡◌, None, arith, rules}
+use Rattle.script_text.proofs.Prelude.{find_name, names_in}
 use Rattle.script_text.proofs.NameLemmas.{declared_new}
-use Rattle.script_text.specs.Names.{find_name, names_in}
 use Rattle.script_text.proofs.parts.names.Names.declare.Goals as goal
 
 pub returns : goal.returns

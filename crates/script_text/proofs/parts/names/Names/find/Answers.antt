@@ -1,4 +1,4 @@
-use Rattle.std.proofs.Common.{◌∙◌, sym}
+use Rattle.std.proofs.Common.{sym, ◌∙◌}
 use Rattle.script_text.proofs.NameLemmas.{number-find_name, kind-find_name, none_found, both_found}
 use Rattle.script_text.proofs.parts.names.Names.find.Goals as goal
 

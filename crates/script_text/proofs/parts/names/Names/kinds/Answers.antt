@@ -1,7 +1,7 @@
-use Rattle.std.proofs.Common.{◌∙◌, ap, map}
+use Rattle.std.proofs.Common.{map, ap, ◌∙◌}
+use Rattle.script_text.proofs.Prelude.{NameList}
 use Rattle.std.proofs.lemmas.Iterator.{items_from_collect}
 use Rattle.std.proofs.lemmas.Iterator.Consumers.{YieldsList-from_copied, YieldsList-from_rest}
-use Rattle.script_text.specs.Names.{NameList}
 use Rattle.script_text.proofs.NameLemmas.{values_of-names_in}
 use Rattle.script_text.proofs.parts.names.Names.kinds.Goals as goal
 
