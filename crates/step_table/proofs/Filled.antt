@@ -1,8 +1,9 @@
 -- Lists of words of which only a beginning is filled, with others behind.
-use Rattle.std.proofs.Common.{◌≡◌, ℕ, ◌+◌, ◌-◌, ◌<◌, ◌≤◌, ◌++◌, List, [], length, set, replicate, sym, ap, ◌∙◌}
-use Rattle.std.proofs.Common.{append_assoc, arith, length-append, length-set}
-use Rattle.std.proofs.lemmas.List.{length-replicate, replicate-append-replicate, set-append_left, set-append_right}
-use Rattle.step_table.specs.Filled.{padded}
+use Rattle.std.proofs.Common.{◌≡◌, ℕ, ◌+◌, ◌-◌, ◌<◌, ◌≤◌, List, [], ◌++◌, length, set, replicate}
+use Rattle.std.proofs.Common.{sym, ap, ◌∙◌, append_assoc, arith, length-append, length-set}
+use Rattle.step_table.proofs.Prelude.{padded}
+use Rattle.std.proofs.lemmas.List.{length-replicate, replicate-append-replicate, set-append_left}
+use Rattle.std.proofs.lemmas.List.{set-append_right}
 
 padded_length : (n : ℕ) (words : List ℕ) → length words ≤ n → length (padded n words) ≡ n
 padded_length n words le =

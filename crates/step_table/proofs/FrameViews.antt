@@ -1,11 +1,9 @@
 -- A step that the frames of `src/ghost_history.rt` share. Assumes `Logic`.
 use Rattle.std.proofs.Common.{List, [], ◌∷◌, refl}
-use seplogic.Ra.Ura.{Ura}
-use mir.Val.{Val, vstruct, vnil}
-use types.Logic.{Logic}
-use types.Kit.{Goal, Step, step, Item, ‵, ◌$◌, fjoin, fpack, feq_i}
+use Rattle.step_table.proofs.Prelude.{fjoin, Logic, nothing, Ura, Val, ‵, ◌$◌}
+use mir.Val.{vstruct, vnil}
+use types.Kit.{Goal, Step, step, Item, fpack, feq_i}
 use denote.RattleType.{RattleType, Valss}
-use denote.Steps.{nothing}
 use denote.Struct.Struct.{Struct, within}
 
 abbrev pub none : Val

@@ -1,3 +1,4 @@
+pub mod Prelude
 pub mod tables
 pub mod Filled
 pub mod FrameViews

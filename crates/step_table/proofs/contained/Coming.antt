@@ -1,26 +1,13 @@
 -- What comes out of a cell, and into a slot.
-use Rattle.std.proofs.Common.{◌≡◌, ℕ, ◌<◌, get_or, length, set, false, Option, Some, None, refl, sym, ap, subst, ◌∙◌, arith}
-use Rattle.std.specs.Prelude.{IfSome, is_some}
-use Rattle.control_word.specs.declared.packed.cell.CellWord.{CellWord}
-use Rattle.control_word.specs.declared.model.handle.Kind.{Kind}
-use Rattle.control_word.specs.declared.place.Block.{Block}
-use Rattle.control_word.specs.declared.place.Place.{Place}
-use Rattle.control_word.specs.Events.{gets}
-use Rattle.control_word.specs.Handles.{IsPointer, handle}
-use Rattle.control_word.specs.Packing.{IsCellWord, IsPlace, cell_bits}
-use Rattle.control_word.specs.State.{ending, kind_of_member}
-use Rattle.control_word.specs.Words.{blocks_of, shown}
-use Rattle.control_word.specs.declared.site.Site.{Site}
-use Rattle.control_word.specs.declared.site.Site.TheVariants.{Member}
-use Rattle.step_table.specs.declared.cell_steps.cell_step.CellStep.TheVariants.{Look, Take, TakeOut}
-use Rattle.step_table.specs.declared.cell_steps.cell_step.Compared.{Compared}
-use Rattle.step_table.specs.declared.memory.ghost_history.AtomicStep.TheVariants.{OnCell}
-use Rattle.step_table.specs.declared.slots.slot.Slot.{Slot}
-use Rattle.step_table.specs.CellAtomicSteps.{cell_in, handle_as, kind_in_state, object_at}
-use Rattle.step_table.specs.Cells.{IsOpenTo, ShowsCell, word_of_cell}
-use Rattle.step_table.specs.Contents.{held_in, seen, slot_by, slot_in, slot_of}
-use Rattle.step_table.specs.Registers.{HoldsBag, Slots, slot_pointer}
-use Rattle.step_table.specs.GhostStates.{TableInvariant, GhostState, ghost_after_step, object_of_block, model_state}
+use Rattle.std.proofs.Common.{◌≡◌, ℕ, ◌<◌, false, length, get_or, set, is_some, IfSome, Some, None}
+use Rattle.std.proofs.Common.{Option, sym, refl, ap, ◌∙◌, subst, arith}
+use Rattle.step_table.proofs.Prelude
+use Prelude.{Block, blocks_of, cell_bits, cell_in, CellWord, Compared, ending, gets}
+use Prelude.{ghost_after_step, GhostState, handle, handle_as, held_in, HoldsBag, IsCellWord}
+use Prelude.{IsOpenTo, IsPlace, IsPointer, Kind, kind_in_state, kind_of_member, Look, Member}
+use Prelude.{model_state, object_at, object_of_block, OnCell, Place, seen, shown, ShowsCell, Site}
+use Prelude.{Slot, slot_by, slot_in, slot_of, slot_pointer, Slots, TableInvariant, Take, TakeOut}
+use Prelude.{word_of_cell}
 use Rattle.step_table.proofs.contained.Told.{shows_seen, shows_slot}
 use Rattle.step_table.proofs.holding.Owning.{holds_empty, holds_look, holds_more}
 use Rattle.step_table.proofs.tables.Cells.{decoded}

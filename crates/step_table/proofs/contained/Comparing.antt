@@ -1,19 +1,12 @@
 -- Compares of a cell with slots' values, by words.
-use Rattle.std.proofs.Common.{◌≡◌, ◌≢◌, ℕ, ◌<◌, Bool, true, false, cond, length, set, Some, None, refl, ap, subst, ◌∙◌, arith}
-use Rattle.std.proofs.Common.{get_or-set_same, length-set}
-use Rattle.std.specs.Prelude.{◌||◌, is_some}
-use Rattle.std.proofs.lemmas.List.{set-set}
-use Rattle.control_word.specs.declared.packed.cell.CellWord.{CellWord}
-use Rattle.control_word.specs.Handles.{equivalent}
-use Rattle.control_word.specs.declared.site.Site.{Site}
-use Rattle.step_table.specs.declared.cell_steps.cell_step.CellStep.TheVariants.{Look, Take}
-use Rattle.step_table.specs.declared.cell_steps.cell_step.Compared.{Compared}
-use Rattle.step_table.specs.declared.cell_steps.comparing.Comparing.{Comparing}
-use Rattle.step_table.specs.declared.memory.ghost_history.AtomicStep.TheVariants.{OnCell}
-use Rattle.step_table.specs.CellAtomicSteps.{handle_told}
-use Rattle.step_table.specs.Contents.{as_word, compared_in, differed, held_in, same_value, slot_of}
-use Rattle.step_table.specs.Registers.{HoldsBag, Slots, plain, pointer_of, slot_pointer, slot_value}
-use Rattle.step_table.specs.GhostStates.{TableInvariant, GhostState, ghost_after_step, model_state}
+use Rattle.std.proofs.Common.{◌≡◌, ℕ, ◌<◌, Bool, true, false, cond, ◌||◌, ◌≢◌, length, set}
+use Rattle.std.proofs.Common.{is_some, Some, None, refl, ap, ◌∙◌, subst, arith, length-set}
+use Rattle.std.proofs.Common.{get_or-set_same, set-set}
+use Rattle.step_table.proofs.Prelude.{as_word, CellWord, Compared, compared_in, Comparing}
+use Rattle.step_table.proofs.Prelude.{differed, equivalent, ghost_after_step, GhostState}
+use Rattle.step_table.proofs.Prelude.{handle_told, held_in, HoldsBag, Look, model_state, OnCell}
+use Rattle.step_table.proofs.Prelude.{plain, pointer_of, same_value, Site, slot_of, slot_pointer}
+use Rattle.step_table.proofs.Prelude.{slot_value, Slots, TableInvariant, Take}
 use Rattle.step_table.proofs.contained.Coming.{holds_seen, holds_taken}
 use Rattle.step_table.proofs.contained.Told.{alike, slot_busy}
 use Rattle.step_table.proofs.holding.Owning.{holds_move}

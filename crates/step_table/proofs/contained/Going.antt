@@ -1,30 +1,17 @@
 -- What goes into a cell from a slot, in place of what comes out.
-use Rattle.std.proofs.Common.{◌≡◌, ◌≢◌, ℕ, ◌<◌, ◌∷◌, true, false, cond, List, length, set, Option, Some, None, refl, sym, ap, subst}
-use Rattle.std.proofs.Common.{◌∙◌, arith}
-use Rattle.std.proofs.Common.{get_or-set_same, get_or-set_other, length-set}
-use Rattle.std.proofs.lemmas.List.{set-set, set_comm}
-use Rattle.control_word.specs.declared.packed.cell.CellWord.{CellWord}
+use Rattle.std.proofs.Common.{◌≡◌, ℕ, ◌<◌, true, false, cond, ◌≢◌, List, ◌∷◌, length, set, Some}
+use Rattle.std.proofs.Common.{None, Option, sym, refl, ap, ◌∙◌, subst, arith, length-set}
+use Rattle.std.proofs.Common.{get_or-set_other, get_or-set_same, set-set}
+use Rattle.step_table.proofs.Prelude
+use Prelude.{as_word, Block, cell_in, CellWord, Compared, CompareSwap, Empty, Full}
+use Prelude.{ghost_after_step, GhostState, Handle, handle, handle_as, handle_in_block, handle_told}
+use Prelude.{has_object, Held, held, held_in, HoldsBag, is_of, Kind, kind_in_state, leave_as}
+use Prelude.{model_state, NumberedHandle, object_at, OnCell, Owner, plain, pointer_of, same_held}
+use Prelude.{Site, Slot, slot_of, slot_pointer, slot_value, Slots, slots_swapped, State, Swap}
+use Prelude.{swaps, Weak, without}
+use Rattle.std.proofs.lemmas.List.{set_comm}
 use Rattle.control_word.specs.declared.model.event.Cell.{Cell as Named}
 use Rattle.control_word.specs.declared.model.event.Cell.TheVariants as named
-use Rattle.control_word.specs.declared.model.handle.NumberedHandle.{NumberedHandle}
-use Rattle.control_word.specs.declared.model.handle.Kind.{Kind}
-use Rattle.control_word.specs.declared.model.handle.Kind.TheVariants.{Owner, Weak}
-use Rattle.control_word.specs.declared.place.Block.{Block}
-use Rattle.control_word.specs.Events.{swaps}
-use Rattle.control_word.specs.Handles.{handle, has_object}
-use Rattle.control_word.specs.State.{Held, State, held, same_held, without}
-use Rattle.control_word.specs.declared.site.Site.{Site}
-use Rattle.step_table.specs.declared.cell_steps.cell_step.CellStep.TheVariants.{CompareSwap, Swap}
-use Rattle.step_table.specs.declared.cell_steps.cell_step.Compared.{Compared}
-use Rattle.control_word.specs.declared.handle.Handle.{Handle}
-use Rattle.step_table.specs.declared.memory.ghost_history.AtomicStep.TheVariants.{OnCell}
-use Rattle.step_table.specs.declared.slots.slot.Slot.{Slot}
-use Rattle.step_table.specs.declared.slots.slot.Slot.TheVariants.{Empty, Full}
-use Rattle.step_table.specs.CellAtomicSteps.{cell_in, handle_as, handle_told, kind_in_state, object_at}
-use Rattle.step_table.specs.Contents.{as_word, held_in, is_of, slot_of, slots_swapped}
-use Rattle.step_table.specs.AtomicSteps.{leave_as}
-use Rattle.step_table.specs.Registers.{HoldsBag, Slots, plain, pointer_of, slot_pointer, slot_value}
-use Rattle.step_table.specs.GhostStates.{GhostState, ghost_after_step, handle_in_block, model_state}
 use Rattle.step_table.proofs.contained.Coming.{holds_got, pointer_valid}
 use Rattle.step_table.proofs.contained.Told.{kind_is, shows_slot}
 use Rattle.step_table.proofs.holding.Owning.{holds_empty, holds_less}

@@ -1,25 +1,14 @@
 -- Looks at cells that ask whether they hold what a desk has in hand.
-use Rattle.std.proofs.Common.{◌≡◌, ℕ, ◌<◌, Bool, true, Option, Some, None, refl, sym, ap, subst, ◌∙◌, ⊎_elim}
-use Rattle.control_word.proofs.history.Soundness.{IsBusy}
-use Rattle.control_word.proofs.steps.Look.{look_event}
-use Rattle.control_word.specs.declared.packed.cell.CellWord.{CellWord}
-use Rattle.control_word.specs.declared.model.event.Event.{Event}
+use Rattle.std.proofs.Common.{◌≡◌, ℕ, ◌<◌, Bool, true, Some, None, Option, sym, refl, ap, ◌∙◌}
+use Rattle.std.proofs.Common.{subst, ⊎_elim}
+use Rattle.step_table.proofs.Prelude
+use Prelude.{as_word, Block, cell_in, CellWord, equivalent, Event, event_of, ghost_after_step}
+use Prelude.{GhostState, handle, handle_told, Has, HasInHand, held, held_in, Holds, Idle, InHand}
+use Prelude.{is_of, IsBusy, IsOpen, IsOpenTo, kind_in_state, look_event, model_state, Nothing}
+use Prelude.{NumberedHandle, object_at, object_of_block, OnCell, opening, pending, same_value}
+use Prelude.{ShowsCell, Site, Slot, TableInvariant, view_in}
 use Rattle.control_word.specs.declared.model.event.Event.TheVariants as event
-use Rattle.control_word.specs.declared.model.handle.NumberedHandle.{NumberedHandle}
-use Rattle.control_word.specs.declared.place.Block.{Block}
-use Rattle.control_word.specs.declared.model.view.Pending.TheVariants.{Idle}
-use Rattle.control_word.specs.declared.site.Site.{Site}
-use Rattle.control_word.specs.Events.{InHand, IsOpen}
-use Rattle.control_word.specs.Handles.{equivalent, handle}
-use Rattle.control_word.specs.State.{Has, held}
-use Rattle.step_table.specs.declared.cell_steps.cell_step.CellStep.TheVariants.{Holds}
-use Rattle.step_table.specs.declared.memory.ghost_history.AtomicStep.TheVariants.{OnCell}
-use Rattle.step_table.specs.declared.slots.slot.Slot.{Slot}
-use Rattle.step_table.specs.CellAtomicSteps.{cell_in, handle_told, kind_in_state, object_at}
-use Rattle.step_table.specs.Cells.{HasInHand, IsOpenTo, ShowsCell}
-use Rattle.step_table.specs.Contents.{as_word, held_in, is_held, is_of, same_of, same_value}
-use Rattle.step_table.specs.Openings.{opening}
-use Rattle.step_table.specs.GhostStates.{TableInvariant, Nothing, GhostState, event_of, ghost_after_step, model_state, object_of_block, pending, view_in}
+use Rattle.step_table.specs.Contents.{is_held, same_of}
 use Rattle.step_table.proofs.contained.Told.{alike, word_told}
 use Rattle.step_table.proofs.tables.Places.{event_by, handle_busy, named as own}
 use Rattle.step_table.proofs.tables.Standing.{kept_after, ready}

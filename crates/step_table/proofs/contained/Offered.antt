@@ -1,17 +1,9 @@
 -- What is asked of a slot's value that goes into a cell, by its word.
-use Rattle.std.proofs.Common.{◌≡◌, ℕ, ◌<◌, true, length, Some, None, refl, sym, ap, subst, ◌∙◌}
-use Rattle.control_word.specs.declared.packed.cell.CellWord.{CellWord}
-use Rattle.control_word.specs.declared.model.handle.Kind.{Kind}
-use Rattle.control_word.specs.Packing.{IsCellWord}
-use Rattle.control_word.specs.State.{State, bag_size}
-use Rattle.control_word.specs.declared.site.Site.{Site}
-use Rattle.step_table.specs.declared.slots.slot.Slot.{Slot}
-use Rattle.step_table.specs.declared.slots.slot.Slot.TheVariants.{Empty, Full}
-use Rattle.step_table.specs.CellAtomicSteps.{kind_in_state, owing_funds}
-use Rattle.step_table.specs.Cells.{HasInHand}
-use Rattle.step_table.specs.Contents.{as_word, is_of, owing_for, block_of_value}
-use Rattle.step_table.specs.Registers.{HoldsBag, Slots, place_of, pointer_of, slot_value}
-use Rattle.step_table.specs.GhostStates.{TableInvariant, GhostState, pending, model_state}
+use Rattle.std.proofs.Common.{◌≡◌, ℕ, ◌<◌, true, length, Some, None, sym, refl, ap, ◌∙◌, subst}
+use Rattle.step_table.proofs.Prelude
+use Prelude.{as_word, bag_size, block_of_value, CellWord, Empty, Full, GhostState, HasInHand}
+use Prelude.{HoldsBag, is_of, IsCellWord, Kind, kind_in_state, model_state, owing_for, owing_funds}
+use Prelude.{pending, place_of, pointer_of, Site, Slot, slot_value, Slots, State, TableInvariant}
 use Rattle.step_table.proofs.contained.Told.{in_hand, kind_is, word_valid}
 use Rattle.step_table.proofs.holding.Owning.{has_room}
 

@@ -1,40 +1,18 @@
 -- What other desks do leaves a desk's call on a cell.
-use Rattle.std.proofs.Common.{◌≡◌, ◌≢◌, ℕ, ◌<◌, Option, Some, None, refl, sym, ap, subst, ◌∙◌, arith}
-use Rattle.control_word.proofs.history.Kept.{cells_led, has_same}
-use Rattle.control_word.proofs.history.Legal.{held_busy, sound, written}
-use Rattle.control_word.proofs.history.Soundness.{IsBusy}
-use Rattle.control_word.specs.declared.packed.cell.CellWord.{CellWord}
-use Rattle.control_word.specs.declared.model.event.Event.{Event}
-use Rattle.control_word.specs.declared.model.handle.Kind.{Kind}
-use Rattle.control_word.specs.declared.model.handle.Kind.TheVariants.{Owner}
-use Rattle.control_word.specs.declared.place.Block.{Block}
-use Rattle.control_word.specs.declared.place.Place.{Place}
-use Rattle.control_word.specs.declared.model.view.Pending.{Pending}
-use Rattle.control_word.specs.declared.model.view.Pending.TheVariants.{Paying}
-use Rattle.control_word.specs.Handles.{handle, object_of}
-use Rattle.control_word.specs.Histories.{leads, value}
-use Rattle.control_word.specs.Layout.{spot}
-use Rattle.control_word.specs.State.{Has, State, held}
-use Rattle.control_word.specs.Steps.{me}
-use Rattle.control_word.specs.Views.{Fits}
-use Rattle.control_word.specs.Words.{slot}
-use Rattle.control_word.specs.declared.site.Site.{Site}
-use Rattle.control_word.specs.declared.site.Site.TheVariants.{Free, Member}
-use Rattle.step_table.specs.declared.memory.ghost_history.AtomicStep.{AtomicStep}
+use Rattle.std.proofs.Common.{◌≡◌, ℕ, ◌<◌, ◌≢◌, Some, None, Option, sym, refl, ap, ◌∙◌, subst}
+use Rattle.std.proofs.Common.{arith}
+use Rattle.step_table.proofs.Prelude
+use Prelude.{AtomicStep, Block, cells_led, CellWord, Checking, Empty, Event, event_of, Failing}
+use Prelude.{Fits, Full, ghost_after_step, GhostState, handle, handle_in_block, Has, has_same}
+use Prelude.{held, held_busy, HoldsBag, IsBusy, IsOpenTo, Kind, kind_in_state, Lacking, leads, me}
+use Prelude.{Member, model_state, Nothing, object_of, object_of_block, opening, owing_for}
+use Prelude.{owing_funds, Owner, Paying, Pending, pending, Place, RefillFits, Refilling, Site}
+use Prelude.{Slot, slot, Slots, sound, spot, State, TableInvariant, Turning, value, view_in}
+use Rattle.control_word.proofs.history.Legal.{written}
+use Rattle.control_word.specs.declared.site.Site.TheVariants.{Free}
 use Rattle.step_table.specs.declared.cell_steps.refill.Stage.{Stage}
-use Rattle.step_table.specs.declared.cell_steps.refill.Stage.TheVariants.{Turning, Checking, Lacking, Refilling, Failing}
-use Rattle.step_table.specs.declared.slots.slot.Slot.{Slot}
-use Rattle.step_table.specs.declared.slots.slot.Slot.TheVariants.{Empty, Full}
-use Rattle.step_table.specs.CellAtomicSteps.{kind_in_state, owing_funds}
-use Rattle.step_table.specs.Cells.{IsOpenTo}
-use Rattle.step_table.specs.Contents.{owing_for}
-use Rattle.step_table.specs.Registers.{HoldsBag, Slots}
-use Rattle.step_table.specs.Openings.{opening}
-use Rattle.step_table.specs.Refills.{RefillFits, StageFits}
-use Rattle.step_table.specs.GhostStates.{TableInvariant, Nothing, GhostState, event_added, ghost_after_step, event_of, handle_in_block, object_of_block}
-use Rattle.step_table.specs.GhostStates.{pending}
-use Rattle.step_table.specs.GhostStates.{model_state}
-use Rattle.step_table.specs.GhostStates.{view_in}
+use Rattle.step_table.specs.Refills.{StageFits}
+use Rattle.step_table.specs.GhostStates.{event_added}
 use Rattle.step_table.proofs.contained.Told.{kind_stays}
 use Rattle.step_table.proofs.holding.Keeping.{kept_object, same_atomic_step, same_pending}
 use Rattle.step_table.proofs.holding.Owning.{holds_look}

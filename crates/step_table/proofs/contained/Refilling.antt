@@ -1,34 +1,16 @@
 -- A desk's own steps on cells: what is out after them, and how a refill goes on.
-use Rattle.std.proofs.Common.{◌≡◌, ℕ, ◌-◌, ◌<◌, List, Option, Some, None, refl, sym, ap, subst, ◌∙◌, inl, inr, arith}
-use Rattle.std.proofs.Common.{get_or-set_same, ◌∷◌}
-use Rattle.std.proofs.lemmas.Bool.{cond_both}
-use Rattle.std.proofs.lemmas.Option.{same_Some}
-use Rattle.control_word.specs.declared.packed.cell.CellWord.{CellWord}
-use Rattle.control_word.specs.declared.model.handle.NumberedHandle.{NumberedHandle}
-use Rattle.control_word.specs.declared.model.handle.Kind.{Kind}
-use Rattle.control_word.specs.declared.place.Block.{Block}
-use Rattle.control_word.specs.declared.place.Place.{Place}
-use Rattle.control_word.specs.declared.model.view.Pending.{Pending}
-use Rattle.control_word.specs.declared.model.view.Pending.TheVariants.{Paying}
-use Rattle.control_word.specs.declared.model.view.View.{View}
-use Rattle.control_word.specs.Events.{IsOpen, gets}
-use Rattle.control_word.specs.Handles.{handle, has_object}
-use Rattle.control_word.specs.Layout.{spot}
-use Rattle.control_word.specs.Packing.{IsCellWord}
-use Rattle.control_word.specs.State.{Has, Held, State, held, kind_of_member}
-use Rattle.control_word.specs.Views.{used_up}
-use Rattle.control_word.specs.Words.{slot}
-use Rattle.control_word.specs.declared.site.Site.{Site}
-use Rattle.control_word.specs.declared.site.Site.TheVariants.{Free, Member}
-use Rattle.step_table.specs.declared.cell_steps.cell_step.CellStep.{CellStep}
-use Rattle.step_table.specs.declared.cell_steps.cell_step.CellStep.TheVariants.{Look, Holds, Bring, GiveBack, Take, Turn, Refill, Swap, CompareSwap, TakeOut}
-use Rattle.step_table.specs.declared.cell_steps.cell_step.Compared.{Compared}
-use Rattle.step_table.specs.declared.memory.ghost_history.AtomicStep.TheVariants.{OnCell}
-use Rattle.step_table.specs.declared.cell_steps.refill.Stage.TheVariants.{Turning, Checking, Lacking, Refilling, Failing}
-use Rattle.step_table.specs.CellAtomicSteps.{cell_in, cell_pending, handle_told, kind_in_state, object_at, owing_funds}
-use Rattle.step_table.specs.Cells.{IsOpenTo}
-use Rattle.step_table.specs.Refills.{RefillFits, more_taken}
-use Rattle.step_table.specs.GhostStates.{TableInvariant, Nothing, GhostState, ghost_after_step, handle_in_block, pending, model_state}
+use Rattle.std.proofs.Common.{◌≡◌, ℕ, ◌-◌, ◌<◌, List, ◌∷◌, Some, None, Option, sym, refl, ap, ◌∙◌}
+use Rattle.std.proofs.Common.{subst, inl, inr, arith, get_or-set_same}
+use Rattle.step_table.proofs.Prelude
+use Prelude.{Block, Bring, cell_in, cell_pending, CellStep, CellWord, Checking, Compared}
+use Prelude.{CompareSwap, cond_both, Failing, gets, ghost_after_step, GhostState, GiveBack, handle}
+use Prelude.{handle_in_block, handle_told, Has, has_object, Held, held, Holds, IsCellWord, IsOpen}
+use Prelude.{IsOpenTo, Kind, kind_in_state, kind_of_member, Lacking, Look, Member, model_state}
+use Prelude.{Nothing, NumberedHandle, object_at, OnCell, owing_funds, Paying, Pending, pending}
+use Prelude.{Place, Refill, RefillFits, Refilling, same_Some, Site, slot, spot, State, Swap}
+use Prelude.{TableInvariant, Take, TakeOut, Turn, Turning, used_up, View}
+use Rattle.control_word.specs.declared.site.Site.TheVariants.{Free}
+use Rattle.step_table.specs.Refills.{more_taken}
 use Rattle.step_table.proofs.contained.Going.{swap_latest}
 use Rattle.step_table.proofs.contained.Told.{kind_stays}
 

@@ -1,19 +1,12 @@
 -- The events of steps on cells, by what cells hold and slots have.
-use Rattle.std.proofs.Common.{◌≡◌, ℕ, Bool, true, false, Option, Some, None, sym, ap, ◌∙◌}
-use Rattle.control_word.specs.declared.packed.cell.CellWord.{CellWord}
-use Rattle.control_word.specs.declared.model.event.Event.{Event}
+use Rattle.std.proofs.Common.{◌≡◌, ℕ, Bool, true, false, Some, None, Option, sym, ap, ◌∙◌}
+use Rattle.step_table.proofs.Prelude
+use Prelude.{as_word, cell_in, CellWord, compared_in, CompareSwap, Comparing, equivalent, Event}
+use Prelude.{event_of, GhostState, handle_told, held_in, HoldsBag, is_of, kind_in_state, Look}
+use Prelude.{model_state, named_handle, Nothing, NumberedHandle, OnCell, same_value, Site, Slot}
+use Prelude.{slot_value, Slots, Swap, TableInvariant, Take}
 use Rattle.control_word.specs.declared.model.event.Event.TheVariants as event
-use Rattle.control_word.specs.declared.model.handle.NumberedHandle.{NumberedHandle}
-use Rattle.control_word.specs.Handles.{equivalent}
-use Rattle.control_word.specs.declared.site.Site.{Site}
-use Rattle.step_table.specs.declared.cell_steps.cell_step.CellStep.TheVariants.{CompareSwap, Look, Swap, Take}
-use Rattle.step_table.specs.declared.cell_steps.comparing.Comparing.{Comparing}
-use Rattle.step_table.specs.declared.memory.ghost_history.AtomicStep.TheVariants.{OnCell}
-use Rattle.step_table.specs.declared.slots.slot.Slot.{Slot}
-use Rattle.step_table.specs.CellAtomicSteps.{cell_in, handle_told, kind_in_state}
-use Rattle.step_table.specs.Contents.{as_word, compare_of, compared_in, held_in, is_of, load_of, same_value, swap_of, named_handle}
-use Rattle.step_table.specs.Registers.{HoldsBag, Slots, slot_value}
-use Rattle.step_table.specs.GhostStates.{TableInvariant, Nothing, GhostState, event_of, model_state}
+use Rattle.step_table.specs.Contents.{compare_of, load_of, swap_of}
 use Rattle.step_table.proofs.contained.Told.{alike_told, word_told}
 use Rattle.step_table.proofs.tables.Shown.{Found}
 

@@ -1,42 +1,27 @@
 -- What the word of a cell tells of a slot's value.
-use Rattle.std.proofs.Common.{◌≡◌, ◌≢◌, ℕ, ◌/◌, ◌<◌, ◌≤◌, ◌&&◌, Bool, true, false, List, [], ◌∷◌, Option, Some, None}
-use Rattle.std.proofs.Common.{refl, sym, ap, subst, ◌∙◌}
-use Rattle.std.proofs.Common.{inl, inr, ⊎_elim, arith, eq-eqb, ne_eqb}
-use Rattle.std.proofs.lemmas.Bool.{cases_eq}
-use Rattle.std.proofs.lemmas.Option.{same_Some}
-use Rattle.std.specs.Prelude.{IfSome}
-use Rattle.control_word.proofs.history.Legal.{sound}
-use Rattle.control_word.proofs.history.Soundness.{IsBusy}
-use Rattle.control_word.specs.declared.packed.cell.CellWord.{CellWord}
-use Rattle.control_word.specs.declared.model.event.Cell.TheVariants.{Free, Member}
-use Rattle.control_word.specs.declared.model.event.Entry.{Entry}
-use Rattle.control_word.specs.declared.model.event.Event.{Event}
-use Rattle.control_word.specs.declared.model.event.Event.TheVariants.{Shelve, Unshelve}
-use Rattle.control_word.specs.declared.model.event.Event.TheVariants.{ClearMember, Compare, Count, Expired, Finish, Join, Leave, Load, Lock, Make, Read}
-use Rattle.control_word.specs.declared.model.event.Event.TheVariants.{Same, Share, Split, Swap, Visit, WeakLeave, WeakShare}
-use Rattle.control_word.specs.declared.model.handle.NumberedHandle.{NumberedHandle}
-use Rattle.control_word.specs.declared.model.handle.Kind.{Kind}
-use Rattle.control_word.specs.declared.model.handle.Kind.TheVariants.{Owner, Weak}
-use Rattle.control_word.specs.declared.place.Block.{Block}
-use Rattle.control_word.specs.declared.place.Place.{Place}
-use Rattle.control_word.specs.Events.{InHand, after}
-use Rattle.control_word.specs.Handles.{IsFormed, IsPointer, equivalent, handle, same_kind, same_number, same_place}
-use Rattle.control_word.specs.Histories.{leads}
-use Rattle.control_word.specs.Packing.{IsBlock, IsCellWord, IsPlace, block_number, cell_bits, place_block, place_field}
-use Rattle.control_word.specs.State.{Has, Opening, State, held, kind_of_free}
-use Rattle.control_word.specs.Words.{block_of, blocks_of}
-use Rattle.control_word.specs.declared.site.Site.{Site}
+use Rattle.std.proofs.Common.{◌≡◌, ℕ, ◌/◌, ◌<◌, ◌≤◌, Bool, true, false, ◌&&◌, ◌≢◌, List, [], ◌∷◌}
+use Rattle.std.proofs.Common.{IfSome, Some, None, Option, sym, refl, ap, ◌∙◌, subst, inl, inr}
+use Rattle.std.proofs.Common.{⊎_elim, arith, eq-eqb, ne_eqb}
+use Rattle.step_table.proofs.Prelude
+use Prelude.{after, as_word, Block, block_number, block_of, block_of_value, blocks_of, cases_eq}
+use Prelude.{cell_bits, CellWord, ClearMember, Compare, Empty, Entry, equivalent, Event, Extent}
+use Prelude.{Free, Full, GhostState, Handle, handle, handle_as, handle_in_block, handle_told, Has}
+use Prelude.{HasInHand, held, held_in, HoldsBag, InHand, is_of, IsBusy, IsCellWord, IsPlace}
+use Prelude.{IsPointer, IsSlot, Join, Kind, kind_in_state, leads, Load, Make, model_state}
+use Prelude.{named_handle, Nothing, NumberedHandle, object_at, object_of_block, Opening, opening}
+use Prelude.{Owner, Place, place_block, place_field, place_of, pointer_of, same_Some, same_value}
+use Prelude.{seen, Site, Slot, slot_by, slot_in, slot_of, slot_value, Slots, sound, Split, State}
+use Prelude.{TableInvariant, Visit, Weak, word_of_cell}
+use Rattle.control_word.specs.declared.model.event.Cell.TheVariants.{Member}
+use Rattle.control_word.specs.declared.model.event.Event.TheVariants.{Shelve, Unshelve, Count}
+use Rattle.control_word.specs.declared.model.event.Event.TheVariants.{Expired, Finish, Leave, Lock}
+use Rattle.control_word.specs.declared.model.event.Event.TheVariants.{Read, Same, Share, Swap}
+use Rattle.control_word.specs.declared.model.event.Event.TheVariants.{WeakLeave, WeakShare}
+use Rattle.control_word.specs.Handles.{IsFormed, same_kind, same_number, same_place}
+use Rattle.control_word.specs.Packing.{IsBlock}
+use Rattle.control_word.specs.State.{kind_of_free}
 use Rattle.control_word.specs.declared.site.Site.TheVariants as at
-use Rattle.step_table.specs.declared.memory.extent.Extent.{Extent}
-use Rattle.control_word.specs.declared.handle.Handle.{Handle}
-use Rattle.step_table.specs.declared.slots.slot.Slot.{Slot}
-use Rattle.step_table.specs.declared.slots.slot.Slot.TheVariants.{Empty, Full}
-use Rattle.step_table.specs.CellAtomicSteps.{handle_as, handle_told, kind_in_state, object_at}
-use Rattle.step_table.specs.Cells.{HasInHand, word_of_cell}
-use Rattle.step_table.specs.Contents.{as_word, held_in, is_of, block_of_value, same_block, same_value, seen, slot_by, slot_in, slot_of, named_handle}
-use Rattle.step_table.specs.Registers.{HoldsBag, IsSlot, Slots, place_of, pointer_of, slot_value}
-use Rattle.step_table.specs.Openings.{opening}
-use Rattle.step_table.specs.GhostStates.{TableInvariant, Nothing, GhostState, handle_in_block, object_of_block, model_state}
+use Rattle.step_table.specs.Contents.{same_block}
 use Rattle.step_table.proofs.holding.Owning.{slot_held}
 use Rattle.step_table.proofs.tables.Places.{handle_busy, there}
 use Rattle.step_table.proofs.tables.Shown.{Found}

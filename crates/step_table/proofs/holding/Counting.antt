@@ -1,14 +1,10 @@
 -- How the owner word of an object tells how many owners it has.
-use Rattle.std.proofs.Common.{◌≡◌, ◌≢◌, ℕ, ◌<◌, Some, ap, ◌∙◌, ⊎_elim}
-use Rattle.std.proofs.lemmas.Bool.{cases_eq}
-use Rattle.control_word.specs.declared.model.view.Pending.{Pending}
-use Rattle.control_word.specs.declared.model.view.Pending.TheVariants.{Idle}
-use Rattle.control_word.specs.Layout.{spot}
-use Rattle.control_word.specs.Views.{owed, owes}
-use Rattle.step_table.specs.AtomicSteps.{IsSettled, TellsUseCount, by_word, owner_word, told_number}
-use Rattle.step_table.specs.Registers.{HoldsBag, Slots, slot_pointer}
-use Rattle.step_table.specs.GhostStates.{TableInvariant, Nothing, GhostState, pending, model_state}
-use Rattle.control_word.specs.declared.handle.Handle.{Handle}
+use Rattle.std.proofs.Common.{◌≡◌, ℕ, ◌<◌, ◌≢◌, Some, ap, ◌∙◌, ⊎_elim}
+use Rattle.step_table.proofs.Prelude.{cases_eq, GhostState, Handle, HoldsBag, Idle, model_state}
+use Rattle.step_table.proofs.Prelude.{Nothing, owed, Pending, pending, slot_pointer, Slots, spot}
+use Rattle.step_table.proofs.Prelude.{TableInvariant, told_number}
+use Rattle.control_word.specs.Views.{owes}
+use Rattle.step_table.specs.AtomicSteps.{IsSettled, TellsUseCount, by_word, owner_word}
 use Rattle.step_table.proofs.holding.Owning.{slot_held}
 use Rattle.step_table.proofs.tables.Doors.{none_in}
 use Rattle.step_table.proofs.tables.Owners.{exact_count, told_most, told_none, told_word}

@@ -1,17 +1,12 @@
 -- Owners that point into the object that they own.
-use Rattle.std.proofs.Common.{◌≡◌, ℕ, ◌<◌, ◌==◌, Bool, true, false, cond, length, set, Option, Some, None, refl, ap, subst, arith}
-use Rattle.std.proofs.lemmas.Bool.{eqb-true}
-use Rattle.std.proofs.lemmas.Option.{same_Some}
-use Rattle.control_word.specs.declared.model.handle.Kind.{Kind}
-use Rattle.control_word.specs.declared.model.handle.Kind.TheVariants.{Owner, Weak}
-use Rattle.control_word.specs.declared.place.Place.{Place}
-use Rattle.control_word.specs.Handles.{IsPointer}
-use Rattle.control_word.specs.State.{Has, held}
-use Rattle.control_word.specs.declared.handle.Handle.{Handle}
-use Rattle.step_table.specs.declared.slots.slot.Slot.TheVariants.{Full}
-use Rattle.step_table.specs.AtomicSteps.{give, this_as}
-use Rattle.step_table.specs.Registers.{HoldsBag, Slots, inside, inside_as, into, slot_pointer}
-use Rattle.step_table.specs.GhostStates.{TableInvariant, GhostState, ghost_after_step, handle_in_block, owner_in, model_state}
+use Rattle.std.proofs.Common.{◌≡◌, ℕ, ◌<◌, Bool, true, false, cond, length, set, ◌==◌, Some, None}
+use Rattle.std.proofs.Common.{Option, refl, ap, subst, arith, eqb-true}
+use Rattle.step_table.proofs.Prelude.{Full, ghost_after_step, GhostState, Handle, handle_in_block}
+use Rattle.step_table.proofs.Prelude.{Has, held, HoldsBag, IsPointer, Kind, model_state, Owner}
+use Rattle.step_table.proofs.Prelude.{owner_in, Place, same_Some, slot_pointer, Slots}
+use Rattle.step_table.proofs.Prelude.{TableInvariant, this_as, Weak}
+use Rattle.step_table.specs.AtomicSteps.{give}
+use Rattle.step_table.specs.Registers.{inside, inside_as, into}
 use Rattle.step_table.proofs.holding.Owning.{holds_more, slot_held}
 use Rattle.step_table.proofs.tables.Places.{handle_busy, there}
 

@@ -1,32 +1,22 @@
 -- What other desks do changes nothing of what a desk holds.
-use Rattle.std.proofs.Common.{◌≡◌, ◌≢◌, ℕ, suc, ◌<◌, ◌≤◌, ◌==◌, Bool, true, cond, List, [], ◌∷◌, length, Some, refl, sym, ap}
-use Rattle.std.proofs.Common.{subst, ◌∙◌, arith, eq-eqb, get_or-set_other}
-use Rattle.std.proofs.lemmas.Bool.{cond_both, eqb-true, and_parts}
-use Rattle.control_word.proofs.history.Kept.{Same, block_after, has_same, same_after, still}
-use Rattle.control_word.proofs.history.Legal.{held_busy, sound}
+use Rattle.std.proofs.Common.{◌≡◌, ℕ, suc, ◌<◌, ◌≤◌, Bool, true, cond, ◌≢◌, List, [], ◌∷◌, length}
+use Rattle.std.proofs.Common.{◌==◌, Some, sym, refl, ap, ◌∙◌, subst, arith, get_or-set_other}
+use Rattle.std.proofs.Common.{eq-eqb, eqb-true}
+use Rattle.step_table.proofs.Prelude
+use Prelude.{AtomicStep, Block, Claim, Clear, cond_both, Count, empty, ending, Expired, Finish}
+use Prelude.{ghost_after_step, GhostState, Handle, handle_in_block, Has, has_same, Held, held}
+use Prelude.{held_busy, HoldsBag, kind_of_member, Leave, Lock, Miss, model_state, moved_to}
+use Prelude.{Nothing, num, num_cons, NumberedHandle, Object, object_of_block, OnCell, OnShelf}
+use Prelude.{opening, owner_in, pending, Prepare, put_cases, put_other, Read, Same, same_after}
+use Prelude.{same_held, Share, Shelve, slot_pointer, Slots, sound, State, still, TableInvariant}
+use Prelude.{times_held, Unshelve, used_up, View, weak_in, WeakLeave, WeakShare, Write}
+use Rattle.std.proofs.lemmas.Bool.{and_parts}
+use Rattle.control_word.proofs.history.Kept.{block_after}
 use Rattle.control_word.proofs.lists.Parts.{part}
-use Rattle.control_word.proofs.lists.Tallies.{num, num_cons, put_cases, put_other}
 use Rattle.control_word.specs.declared.model.event.Event.TheVariants as event
-use Rattle.control_word.specs.declared.model.handle.NumberedHandle.{NumberedHandle}
-use Rattle.control_word.specs.declared.place.Block.{Block}
-use Rattle.control_word.specs.declared.model.view.View.{View}
-use Rattle.control_word.specs.Events.{moved_to, new_object}
-use Rattle.control_word.specs.Handles.{empty}
-use Rattle.control_word.specs.State.{Has, Held, Object, State, bag, ending, held, kind_of_member, same_held}
-use Rattle.control_word.specs.State.{weak_number}
-use Rattle.control_word.specs.Views.{used_up}
-use Rattle.step_table.specs.declared.memory.shelf.ShelfStep.TheVariants.{Shelve, Unshelve, Miss}
+use Rattle.control_word.specs.Events.{new_object}
+use Rattle.control_word.specs.State.{bag, weak_number}
 use Rattle.step_table.proofs.tables.ShelfAtomicSteps.{shelf_framed}
-use Rattle.control_word.specs.declared.handle.Handle.{Handle}
-use Rattle.step_table.specs.declared.memory.ghost_history.AtomicStep.{AtomicStep}
-use Rattle.step_table.specs.declared.memory.ghost_history.AtomicStep.TheVariants.{Prepare, Write, Claim, Share, WeakShare, Leave, WeakLeave, Lock, Count}
-use Rattle.step_table.specs.declared.memory.ghost_history.AtomicStep.TheVariants.{Expired, Read}
-use Rattle.step_table.specs.declared.memory.ghost_history.AtomicStep.TheVariants.{Clear}
-use Rattle.step_table.specs.declared.memory.ghost_history.AtomicStep.TheVariants.{Finish, OnCell, OnShelf}
-use Rattle.step_table.specs.Registers.{HoldsBag, Slots, slot_pointer, times_held}
-use Rattle.step_table.specs.Openings.{opening}
-use Rattle.step_table.specs.GhostStates.{TableInvariant, Nothing, GhostState, ghost_after_step, handle_in_block, object_of_block, owner_in, pending}
-use Rattle.step_table.specs.GhostStates.{model_state, weak_in}
 use Rattle.step_table.proofs.holding.Owning.{same_owns, slot_held}
 use Rattle.step_table.proofs.tables.CellAtomicSteps.{framed, same_cell}
 use Rattle.step_table.proofs.tables.Places.{handle_busy, there}

@@ -1,12 +1,8 @@
 -- What a lock does to a desk's bag and to its slots.
-use Rattle.std.proofs.Common.{◌≡◌, ℕ, ◌<◌, Bool, true, false, cond, not, length, set, None, refl, subst}
-use Rattle.control_word.specs.Handles.{IsPointer}
-use Rattle.control_word.specs.declared.handle.Handle.{Handle}
-use Rattle.step_table.specs.declared.slots.slot.Slot.TheVariants.{Full}
-use Rattle.step_table.specs.declared.memory.ghost_history.AtomicStep.TheVariants.{Lock}
-use Rattle.step_table.specs.AtomicSteps.{as_owner}
-use Rattle.step_table.specs.Registers.{HoldsBag, Slots, slot_pointer}
-use Rattle.step_table.specs.GhostStates.{GhostState, ghost_after_step}
+use Rattle.std.proofs.Common.{◌≡◌, ℕ, ◌<◌, Bool, true, false, cond, not, length, set, None, refl}
+use Rattle.std.proofs.Common.{subst}
+use Rattle.step_table.proofs.Prelude.{as_owner, Full, ghost_after_step, GhostState, Handle}
+use Rattle.step_table.proofs.Prelude.{HoldsBag, IsPointer, Lock, slot_pointer, Slots}
 use Rattle.step_table.proofs.holding.Owning.{holds_look, holds_more}
 
 -- a look that finds 0 is the event of the empty lock

@@ -1,33 +1,23 @@
 -- What a share and a leave do to a desk's bag and to its slots.
-use Rattle.std.proofs.Common.{◌≡◌, ◌≢◌, ℕ, suc, ◌<◌, ◌≤◌, ◌==◌, Bool, true, false, cond, List, [], ◌∷◌, length, set, Option}
-use Rattle.std.proofs.Common.{Some, None, refl, sym, ap, subst}
-use Rattle.std.proofs.Common.{◌∙◌, ⊎_elim, arith, get_or-set_same, get_or-set_other, length-set}
-use Rattle.std.proofs.lemmas.Bool.{cases_eq}
-use Rattle.std.proofs.lemmas.Option.{same_Some}
-use Rattle.control_word.proofs.lists.Tallies.{handle_self, held_self, held_true, num, num_cons, num_has, num_without}
-use Rattle.control_word.proofs.words.Counting.{bag_one}
-use Rattle.control_word.specs.declared.model.handle.NumberedHandle.{NumberedHandle}
-use Rattle.control_word.specs.declared.place.Block.{Block}
-use Rattle.control_word.specs.declared.place.Place.{Place}
-use Rattle.control_word.proofs.history.Legal.{sound}
-use Rattle.control_word.proofs.lists.Tallies.{put_other, put_same}
-use Rattle.control_word.specs.Events.{origin}
-use Rattle.control_word.specs.declared.model.handle.Kind.{Kind}
-use Rattle.control_word.specs.declared.model.handle.Kind.TheVariants.{Owner, Weak}
-use Rattle.control_word.specs.Handles.{IsPointer, handle, owner, same_handle}
-use Rattle.control_word.specs.State.{Has, Held, InShape, Opening, bag_size, held, same_held, stored, without}
+use Rattle.std.proofs.Common.{◌≡◌, ℕ, suc, ◌<◌, ◌≤◌, Bool, true, false, cond, ◌≢◌, List, [], ◌∷◌}
+use Rattle.std.proofs.Common.{length, set, ◌==◌, Some, None, Option, sym, refl, ap, ◌∙◌, subst}
+use Rattle.std.proofs.Common.{⊎_elim, arith, length-set, get_or-set_other, get_or-set_same}
+use Rattle.step_table.proofs.Prelude
+use Prelude.{bag_one, bag_size, Block, cases_eq, Claim, Empty, Full, ghost_after_step, GhostState}
+use Prelude.{Handle, handle, handle_in_block, Has, Held, held, held_self, held_true, HoldsBag}
+use Prelude.{InShape, IsPointer, IsSlot, Kind, leave_as, model_state, num, num_cons, num_without}
+use Prelude.{NumberedHandle, object_of_block, Opening, opening, origin, Owner, Place, plain}
+use Prelude.{pointer_of, put_other, same_handle, same_held, same_Some, Slot, slot_has_object}
+use Prelude.{slot_pointer, slot_value, Slots, sound, stored, TableInvariant, times_held, Weak}
+use Prelude.{weak_in, without}
+use Rattle.control_word.proofs.lists.Tallies.{handle_self, num_has, put_same}
+use Rattle.control_word.specs.Handles.{owner}
 use Rattle.step_table.specs.declared.memory.form.Form.{Form}
-use Rattle.control_word.specs.declared.handle.Handle.{Handle}
-use Rattle.step_table.specs.declared.slots.slot.Slot.{Slot}
-use Rattle.step_table.specs.declared.slots.slot.Slot.TheVariants.{Empty, Full}
-use Rattle.step_table.specs.declared.memory.ghost_history.AtomicStep.TheVariants.{Claim}
-use Rattle.step_table.specs.AtomicSteps.{leave_as, share, share_as}
-use Rattle.step_table.specs.Registers.{HoldsBag, IsSlot, Slots, slot_has_object, is_it, owns, plain, pointer_of, slot_pointer, times_held, slot_value, weak_as}
-use Rattle.step_table.specs.Registers.{weak_slot}
-use Rattle.step_table.specs.Openings.{opening}
-use Rattle.step_table.specs.GhostStates.{GhostState, TableInvariant, ghost_after_step, handle_in_block, object_of_block, model_state, weak_in}
+use Rattle.step_table.specs.AtomicSteps.{share, share_as}
+use Rattle.step_table.specs.Registers.{is_it, owns, weak_as, weak_slot}
 use Rattle.step_table.proofs.tables.Places.{handle_busy, there}
-use Rattle.step_table.proofs.holding.Slots.{counted_has, full_is, full_less, has_slot, num_none, num_set, num_some, one_held, one_slot, slot_inside}
+use Rattle.step_table.proofs.holding.Slots.{counted_has, full_is, full_less, has_slot, num_none}
+use Rattle.step_table.proofs.holding.Slots.{num_set, num_some, one_held, one_slot, slot_inside}
 use Rattle.step_table.proofs.tables.Start.{forty}
 
 -- a pointer in a slot is a handle in the bag

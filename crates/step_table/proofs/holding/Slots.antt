@@ -1,19 +1,13 @@
 -- Lists of slots, and what the handles in them are.
-use Rattle.std.proofs.Common.{◌≡◌, ℕ, zero, suc, ◌+◌, ◌<◌, ◌≤◌, Bool, true, false, cond, List, [], ◌∷◌, length, set, Option, Some}
-use Rattle.std.proofs.Common.{None, refl, sym, ap, ◌∙◌}
-use Rattle.std.proofs.Common.{inl, inr, arith, eq-eqb}
-use Rattle.std.proofs.lemmas.Bool.{cond_both, cond-true, cond-false, and_from}
-use Rattle.std.specs.List.{filter}
-use Rattle.std.proofs.lemmas.Option.{same_Some}
-use Rattle.control_word.proofs.lists.Tallies.{held_true, num, num_cons}
-use Rattle.control_word.specs.declared.model.handle.NumberedHandle.{NumberedHandle}
-use Rattle.control_word.specs.declared.place.Place.{Place}
-use Rattle.control_word.specs.Handles.{same_handle}
-use Rattle.control_word.specs.State.{Has, Held, held, same_held}
-use Rattle.control_word.specs.declared.handle.Handle.{Handle}
-use Rattle.step_table.specs.declared.slots.slot.Slot.{Slot}
-use Rattle.step_table.specs.declared.slots.slot.Slot.TheVariants.{Empty, Full}
-use Rattle.step_table.specs.Registers.{Slots, full, slot_has_object, pointer_of, slot_pointer, slot_value}
+use Rattle.std.proofs.Common.{◌≡◌, ℕ, zero, suc, ◌+◌, ◌<◌, ◌≤◌, Bool, true, false, cond, List, []}
+use Rattle.std.proofs.Common.{◌∷◌, length, set, Some, None, Option, sym, refl, ap, ◌∙◌, inl, inr}
+use Rattle.std.proofs.Common.{arith, eq-eqb}
+use Rattle.step_table.proofs.Prelude
+use Prelude.{cond-false, cond-true, cond_both, Empty, filter, Full, Handle, Has, Held, held}
+use Prelude.{held_true, num, num_cons, NumberedHandle, Place, pointer_of, same_handle, same_held}
+use Prelude.{same_Some, Slot, slot_has_object, slot_pointer, slot_value, Slots}
+use Rattle.std.proofs.lemmas.Bool.{and_from}
+use Rattle.step_table.specs.Registers.{full}
 
 -- one slot gets another value
 pub num_set : (p : Slot → Bool) (l : Slots) (i : ℕ) (x : Slot) → i < length l

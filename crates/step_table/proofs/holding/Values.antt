@@ -1,16 +1,11 @@
 -- What pointers tell by their values.
-use Rattle.std.proofs.Common.{◌≡◌, ℕ, Option, Some, None, refl, sym, ap, subst, ◌∙◌}
-use Rattle.std.proofs.lemmas.Option.{same_Some}
-use Rattle.std.specs.Prelude.{nat_lt}
-use Rattle.control_word.specs.declared.model.handle.Kind.{Kind}
-use Rattle.control_word.specs.declared.model.handle.Kind.TheVariants.{Owner, Weak}
-use Rattle.control_word.specs.Handles.{empty, rank}
-use Rattle.control_word.specs.State.{Has, held}
-use Rattle.control_word.specs.Words.{blocks_of}
-use Rattle.control_word.specs.declared.handle.Handle.{Handle}
-use Rattle.step_table.specs.AtomicSteps.{handle_of, on, pointer_before}
-use Rattle.step_table.specs.Registers.{HoldsBag, Slots, owner_as, owner_slot, slot_pointer}
-use Rattle.step_table.specs.GhostStates.{TableInvariant, GhostState, handle_in_block, owner_in, model_state}
+use Rattle.std.proofs.Common.{◌≡◌, ℕ, nat_lt, Some, None, Option, sym, refl, ap, ◌∙◌, subst}
+use Rattle.step_table.proofs.Prelude.{blocks_of, empty, GhostState, Handle, handle_in_block, Has}
+use Rattle.step_table.proofs.Prelude.{held, HoldsBag, Kind, model_state, on, Owner, owner_in}
+use Rattle.step_table.proofs.Prelude.{same_Some, slot_pointer, Slots, TableInvariant, Weak}
+use Rattle.control_word.specs.Handles.{rank}
+use Rattle.step_table.specs.AtomicSteps.{handle_of, pointer_before}
+use Rattle.step_table.specs.Registers.{owner_as, owner_slot}
 use Rattle.step_table.proofs.holding.Owning.{slot_held}
 use Rattle.step_table.proofs.tables.Places.{handle_busy, there}
 

@@ -1,21 +1,15 @@
 -- Steps on cells and funds shut no door, and leave what objects are but for their members.
-use Rattle.std.proofs.Common.{◌≡◌, ◌≢◌, ℕ, ◌≤◌, true, false, List, length, Option, Some, None, refl, sym, ap, ◌∙◌, subst}
-use Rattle.control_word.proofs.history.Kept.{Same, same_after, still}
-use Rattle.control_word.proofs.lists.Tallies.{put_cases}
+use Rattle.std.proofs.Common.{◌≡◌, ℕ, ◌≤◌, true, false, ◌≢◌, List, length, Some, None, Option, sym}
+use Rattle.std.proofs.Common.{refl, ap, ◌∙◌, subst}
+use Rattle.step_table.proofs.Prelude
+use Prelude.{AllWhole, Block, Bring, cell_in, cell_pending, CellStep, clears, CompareSwap, Free}
+use Prelude.{gets, ghost_after_step, GhostState, GiveBack, handle_as, handle_told, Holds, Kind}
+use Prelude.{kind_in_state, kind_of_member, Look, model_state, Nothing, NumberedHandle, Object}
+use Prelude.{object_of_block, OnCell, owing_funds, Place, put, put_cases, Refill, Same, same_after}
+use Prelude.{ShutsNoDoor, State, still, Swap, swaps, Take, TakeOut, Turn}
 use Rattle.control_word.specs.declared.model.event.Cell.{Cell as Named}
-use Rattle.control_word.specs.declared.model.event.Cell.TheVariants.{Free, Member}
+use Rattle.control_word.specs.declared.model.event.Cell.TheVariants.{Member}
 use Rattle.control_word.specs.declared.model.event.Event.TheVariants as event
-use Rattle.control_word.specs.declared.model.handle.NumberedHandle.{NumberedHandle}
-use Rattle.control_word.specs.declared.model.handle.Kind.{Kind}
-use Rattle.control_word.specs.declared.place.Block.{Block}
-use Rattle.control_word.specs.declared.place.Place.{Place}
-use Rattle.control_word.specs.Events.{clears, gets, swaps}
-use Rattle.control_word.specs.State.{Object, State, kind_of_member, put}
-use Rattle.step_table.specs.declared.cell_steps.cell_step.CellStep.{CellStep}
-use Rattle.step_table.specs.declared.cell_steps.cell_step.CellStep.TheVariants.{Look, Holds, Bring, GiveBack, Take, Turn, Refill, Swap, CompareSwap, TakeOut}
-use Rattle.step_table.specs.declared.memory.ghost_history.AtomicStep.TheVariants.{OnCell}
-use Rattle.step_table.specs.CellAtomicSteps.{cell_in, cell_pending, handle_as, handle_told, kind_in_state, owing_funds}
-use Rattle.step_table.specs.GhostStates.{AllWhole, Nothing, ShutsNoDoor, GhostState, ghost_after_step, object_of_block, model_state}
 
 shuts_owing : (s : State) (k : Kind) (o : Option Block) (p : Option Place) (f l : ℕ) → ShutsNoDoor (owing_funds s k o p f l)
 shuts_owing s k None p f l = tt

@@ -1,22 +1,15 @@
 -- What the word of a cell tells of the cell.
-use Rattle.std.proofs.Common.{◌≡◌, ℕ, ◌<◌, get_or, Option, Some, None, refl, sym, ap, ◌∙◌, arith}
-use Rattle.std.specs.Prelude.{◌↔◌}
+use Rattle.std.proofs.Common.{◌≡◌, ℕ, ◌<◌, ◌↔◌, get_or, Some, None, Option, sym, refl, ap, ◌∙◌}
+use Rattle.std.proofs.Common.{arith}
+use Rattle.step_table.proofs.Prelude.{blocks_of, Cell, cell_bits, cell_of, cells_led, empty, Free}
+use Rattle.step_table.proofs.Prelude.{GhostState, handle, IsCellWord, IsKept, Kind, model_state}
+use Rattle.step_table.proofs.Prelude.{NumberedHandle, opening, pending, Place, shown, sound}
+use Rattle.step_table.proofs.Prelude.{TableInvariant, view_in}
 use Rattle.control_word.proofs.history.Formation.{formed}
-use Rattle.control_word.proofs.history.Kept.{cells_led}
-use Rattle.control_word.proofs.history.Legal.{sound}
-use Rattle.control_word.proofs.words.Banks.{IsKept}
 use Rattle.control_word.proofs.words.Decoding.{cell_decodes}
-use Rattle.control_word.specs.declared.model.event.Cell.{Cell}
-use Rattle.control_word.specs.declared.model.event.Cell.TheVariants.{Free, Member}
-use Rattle.control_word.specs.declared.model.handle.NumberedHandle.{NumberedHandle}
-use Rattle.control_word.specs.declared.model.handle.Kind.{Kind}
-use Rattle.control_word.specs.declared.place.Place.{Place}
-use Rattle.control_word.specs.Events.{cell_of, kind_of}
-use Rattle.control_word.specs.Handles.{empty, handle}
-use Rattle.control_word.specs.Packing.{IsCellWord, cell_bits}
-use Rattle.control_word.specs.Words.{blocks_of, cell_at, shown}
-use Rattle.step_table.specs.Openings.{opening}
-use Rattle.step_table.specs.GhostStates.{TableInvariant, GhostState, pending, model_state, view_in}
+use Rattle.control_word.specs.declared.model.event.Cell.TheVariants.{Member}
+use Rattle.control_word.specs.Events.{kind_of}
+use Rattle.control_word.specs.Words.{cell_at}
 use Rattle.step_table.proofs.tables.Standing.{ready}
 
 abbrev pub at_cell : GhostState → Cell → ℕ

@@ -1,28 +1,17 @@
 -- No half-done call shuts a door, and objects have four fields.
-use Rattle.std.proofs.Common.{◌≡◌, ◌≢◌, ℕ, suc, ◌<◌, ◌≤◌, cond, List, [], ◌∷◌, length, refl, sym, ap}
-use Rattle.std.proofs.Common.{subst, ⊎_elim, arith}
-use Rattle.std.proofs.Common.{get_or-set_same, get_or-set_other, ne_eqb}
-use Rattle.std.proofs.lemmas.Bool.{cases_eq, cond_both, cond-false}
-use Rattle.control_word.proofs.lists.Tallies.{put_cases}
-use Rattle.control_word.specs.declared.model.view.Pending.{Pending}
-use Rattle.control_word.specs.declared.model.view.Pending.TheVariants.{Idle, Making, Merging, Parting, Paying, Visiting}
-use Rattle.control_word.specs.declared.model.view.View.{View}
-use Rattle.control_word.specs.Events.{moved_to}
-use Rattle.control_word.specs.Histories.{IsLegal}
-use Rattle.control_word.specs.Layout.{spot}
-use Rattle.control_word.specs.State.{Object, ending}
-use Rattle.control_word.specs.Views.{added, adds, total, used_up}
-use Rattle.step_table.specs.declared.memory.ghost_history.AtomicStep.{AtomicStep}
-use Rattle.step_table.specs.declared.memory.ghost_history.AtomicStep.TheVariants.{Prepare, Write, Claim, Share, WeakShare, Leave, WeakLeave, Lock, Count}
-use Rattle.step_table.specs.declared.memory.ghost_history.AtomicStep.TheVariants.{Expired, Read}
-use Rattle.step_table.specs.declared.memory.ghost_history.AtomicStep.TheVariants.{Clear}
-use Rattle.step_table.specs.declared.memory.ghost_history.AtomicStep.TheVariants.{Finish, OnCell, OnShelf}
+use Rattle.std.proofs.Common.{◌≡◌, ℕ, suc, ◌<◌, ◌≤◌, cond, ◌≢◌, List, [], ◌∷◌, length, sym, refl}
+use Rattle.std.proofs.Common.{ap, subst, ⊎_elim, arith, get_or-set_other, get_or-set_same, ne_eqb}
+use Rattle.step_table.proofs.Prelude
+use Prelude.{AllWhole, AtomicStep, cases_eq, Claim, Clear, cond-false, cond_both, Count, ending}
+use Prelude.{Expired, Finish, ghost_after_step, GhostState, history_after, Idle, IsLegal, Leave}
+use Prelude.{Lock, Making, model_state, moved_to, Nothing, Object, object_of_block, OnCell}
+use Prelude.{OnShelf, opening, Paying, Pending, pending, pending_after, Prepare, put_cases, Read}
+use Prelude.{Share, ShutsNoDoor, spot, TableInvariant, used_up, View, view_in, WeakLeave}
+use Prelude.{WeakShare, Write}
+use Rattle.control_word.specs.declared.model.view.Pending.TheVariants.{Merging, Parting, Visiting}
+use Rattle.control_word.specs.Views.{added, adds, total}
 use Rattle.step_table.proofs.tables.CellAtomicSteps.{shuts_cell, whole_framed}
 use Rattle.step_table.proofs.tables.ShelfAtomicSteps.{shelf_framed}
-use Rattle.step_table.specs.Openings.{opening}
-use Rattle.step_table.specs.GhostStates.{AllWhole, ShutsNoDoor, TableInvariant, Nothing, GhostState, ghost_after_step, history_after, object_of_block, pending}
-use Rattle.step_table.specs.GhostStates.{pending_after}
-use Rattle.step_table.specs.GhostStates.{model_state, view_in}
 
 shuts_none : (v : GhostState) (d : ℕ) (x : AtomicStep) → ShutsNoDoor (pending_after v d x)
 shuts_none v d (Prepare b) = tt

@@ -1,27 +1,18 @@
 -- Steps on the block of an object that ends.
-use Rattle.std.proofs.Common.{◌≡◌, ℕ, ◌+◌, ◌-◌, ◌<◌, ◌==◌, Bool, List, ◌∷◌, set, get_or, refl, sym, ap, subst, ◌∙◌, arith}
-use Rattle.std.specs.Prelude.{◌↔◌}
+use Rattle.std.proofs.Common.{◌≡◌, ℕ, ◌+◌, ◌-◌, ◌<◌, Bool, ◌↔◌, List, ◌∷◌, get_or, set, ◌==◌, sym}
+use Rattle.std.proofs.Common.{refl, ap, ◌∙◌, subst, arith}
+use Rattle.step_table.proofs.Prelude.{allowed, Block, blocks_of, Clear, clears', empty, ending}
+use Rattle.step_table.proofs.Prelude.{entry, Finish, ghost_after_step, GhostState, HasRoom, Idle}
+use Rattle.step_table.proofs.Prelude.{kind_of_member, me, model_state, Nothing, NumberedHandle}
+use Rattle.step_table.proofs.Prelude.{object_of_block, opening, pending, purse, sees_as, spot}
+use Rattle.step_table.proofs.Prelude.{Stands, TableInvariant, view_in, weak}
 use Rattle.std.proofs.lemmas.List.{set-get_or}
-use Rattle.control_word.proofs.history.Allowances.{allowed}
-use Rattle.control_word.proofs.steps.Clear.{clears'}
 use Rattle.control_word.proofs.steps.WeakLeave.{finishes'}
 use Rattle.control_word.proofs.words.CellWords.{cell_read}
 use Rattle.control_word.specs.declared.model.event.Cell.TheVariants.{Member}
 use Rattle.control_word.specs.declared.model.event.Event.TheVariants as event
-use Rattle.control_word.specs.declared.model.handle.NumberedHandle.{NumberedHandle}
-use Rattle.control_word.specs.declared.place.Block.{Block}
-use Rattle.control_word.specs.declared.model.view.Pending.TheVariants.{Idle}
 use Rattle.control_word.specs.Events.{after as cleared}
-use Rattle.control_word.specs.Handles.{empty}
-use Rattle.control_word.specs.Histories.{entry}
-use Rattle.control_word.specs.Layout.{spot}
-use Rattle.control_word.specs.State.{HasRoom, ending, kind_of_member, weak}
-use Rattle.control_word.specs.Steps.{me, purse}
-use Rattle.control_word.specs.Views.{Stands, sees_as}
-use Rattle.control_word.specs.Words.{blocks_of, packed}
-use Rattle.step_table.specs.declared.memory.ghost_history.AtomicStep.TheVariants.{Clear, Finish}
-use Rattle.step_table.specs.Openings.{opening}
-use Rattle.step_table.specs.GhostStates.{Nothing, GhostState, TableInvariant, ghost_after_step, object_of_block, pending, model_state, view_in}
+use Rattle.control_word.specs.Words.{packed}
 use Rattle.step_table.proofs.tables.Cells.{decoded, zero_shows}
 use Rattle.step_table.proofs.tables.Standing.{point, ready, kept_after}
 use Rattle.step_table.proofs.tables.Places.{event_by, named, ending_busy, there}

@@ -1,34 +1,19 @@
 -- Funds that are brought, given back, and turned into handles.
-use Rattle.std.proofs.Common.{◌≡◌, ℕ, ◌+◌, ◌-◌, ◌*◌, ◌<◌, ◌≤◌, set, get_or, Option, Some, refl, sym, ap, subst, ◌∙◌, arith}
-use Rattle.std.proofs.Common.{eq-eqb}
-use Rattle.std.proofs.lemmas.Bool.{cond-true}
-use Rattle.control_word.proofs.history.Legal.{held_busy, sound}
-use Rattle.control_word.proofs.history.Soundness.{IsBusy}
+use Rattle.std.proofs.Common.{◌≡◌, ℕ, ◌+◌, ◌-◌, ◌*◌, ◌<◌, ◌≤◌, get_or, set, Some, Option, sym}
+use Rattle.std.proofs.Common.{refl, ap, ◌∙◌, subst, arith, eq-eqb}
+use Rattle.step_table.proofs.Prelude
+use Prelude.{Block, Bring, cond-true, Fits, funds_of, ghost_after_step, GhostState, GiveBack}
+use Prelude.{handle_in_block, Has, has_headroom, held, held_busy, Idle, InShape, IsBusy, Kind, me}
+use Prelude.{model_state, Nothing, number_of, object_of_block, OnCell, opening, owing_funds}
+use Prelude.{Paying, Pending, pending, Place, Ready, sees_as, slot, sound, spot, Stands}
+use Prelude.{TableInvariant, Turn, value, View, view_in}
 use Rattle.control_word.proofs.words.Flags.{total_at}
 use Rattle.control_word.proofs.steps.Bring.{brings}
 use Rattle.control_word.proofs.steps.GiveBack.{gives_back}
-use Rattle.control_word.proofs.steps.Standing.{has_headroom}
 use Rattle.control_word.proofs.steps.Turn.{turns}
 use Rattle.control_word.proofs.words.Funds.{slot_low}
 use Rattle.control_word.proofs.words.Rooms.{halves}
-use Rattle.control_word.specs.declared.model.handle.Kind.{Kind}
-use Rattle.control_word.specs.declared.place.Block.{Block}
-use Rattle.control_word.specs.declared.place.Place.{Place}
-use Rattle.control_word.specs.declared.model.view.Pending.{Pending}
-use Rattle.control_word.specs.declared.model.view.Pending.TheVariants.{Idle, Paying}
-use Rattle.control_word.specs.declared.model.view.View.{View}
-use Rattle.control_word.specs.Histories.{value}
-use Rattle.control_word.specs.Layout.{spot}
-use Rattle.control_word.specs.Packing.{funds_of, number_of}
-use Rattle.control_word.specs.State.{Has, InShape, held}
-use Rattle.control_word.specs.Steps.{Ready, me}
-use Rattle.control_word.specs.Views.{Fits, Stands, pays, sees_as}
-use Rattle.control_word.specs.Words.{slot}
-use Rattle.step_table.specs.declared.cell_steps.cell_step.CellStep.TheVariants.{Bring, GiveBack, Turn}
-use Rattle.step_table.specs.declared.memory.ghost_history.AtomicStep.TheVariants.{OnCell}
-use Rattle.step_table.specs.CellAtomicSteps.{owing_funds}
-use Rattle.step_table.specs.Openings.{opening}
-use Rattle.step_table.specs.GhostStates.{TableInvariant, Nothing, GhostState, ghost_after_step, handle_in_block, object_of_block, pending, model_state, view_in}
+use Rattle.control_word.specs.Views.{pays}
 use Rattle.step_table.proofs.tables.Owners.{mine_as}
 use Rattle.step_table.proofs.tables.Places.{handle_busy, there}
 use Rattle.step_table.proofs.tables.Standing.{kept_after, point, ready}

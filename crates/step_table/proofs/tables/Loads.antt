@@ -1,37 +1,19 @@
 -- Loads of cells without an object, and refills.
-use Rattle.std.proofs.Common.{◌≡◌, ◌≢◌, ℕ, ◌+◌, ◌-◌, ◌*◌, ◌<◌, Bool, true, false, List, ◌∷◌, set, get_or, Option, Some}
-use Rattle.std.proofs.Common.{None, refl, sym, ap, subst, ◌∙◌, inl, arith}
-use Rattle.std.specs.Prelude.{cond, is_some, ◌||◌}
-use Rattle.std.proofs.lemmas.Bool.{false≢true}
-use Rattle.control_word.specs.declared.model.handle.NumberedHandle.{NumberedHandle}
+use Rattle.std.proofs.Common.{◌≡◌, ℕ, ◌+◌, ◌-◌, ◌*◌, ◌<◌, Bool, true, false, cond, ◌||◌, ◌≢◌, List}
+use Rattle.std.proofs.Common.{◌∷◌, get_or, set, is_some, Some, None, Option, sym, refl, ap, ◌∙◌}
+use Rattle.std.proofs.Common.{subst, inl, arith}
+use Rattle.step_table.proofs.Prelude
+use Prelude.{AtomicStep, Block, blocks_of, cell_bits, cell_in, cell_of, CellWord, Compared}
+use Prelude.{counts_at, Entry, entry, equivalent, Extent, false≢true, ghost_after_step, GhostState}
+use Prelude.{handle, handle_told, HasInHand, history_after, Idle, InHand, IsCellWord, IsOpen}
+use Prelude.{IsOpenTo, kind_in_state, Look, model_state, Nothing, NumberedHandle, object_at}
+use Prelude.{object_of_block, OnCell, opening, owing_funds, Paying, pending, Place, Refill}
+use Prelude.{sees_as, ShowsCell, Site, slot, spot, Stands, TableInvariant, View, view_in}
+use Prelude.{views_after, word_of_cell, words_after}
 use Rattle.control_word.proofs.steps.Look.{differs_empty, loads_empty}
 use Rattle.control_word.proofs.steps.Refill.{refills}
-use Rattle.control_word.specs.declared.packed.cell.CellWord.{CellWord}
 use Rattle.control_word.specs.declared.model.event.Event.TheVariants as event
-use Rattle.control_word.specs.declared.place.Block.{Block}
-use Rattle.control_word.specs.declared.place.Place.{Place}
-use Rattle.control_word.specs.declared.model.view.Pending.TheVariants.{Idle, Paying}
-use Rattle.control_word.specs.Events.{InHand, IsOpen, cell_of}
-use Rattle.control_word.specs.Handles.{equivalent, handle}
-use Rattle.control_word.specs.Histories.{entry}
-use Rattle.control_word.specs.Layout.{spot}
-use Rattle.control_word.specs.Packing.{IsCellWord, cell_bits}
-use Rattle.control_word.specs.Views.{Stands, sees_as}
-use Rattle.control_word.specs.Words.{blocks_of, counts_at, packed, slot}
-use Rattle.control_word.specs.declared.site.Site.{Site}
-use Rattle.step_table.specs.declared.cell_steps.cell_step.CellStep.TheVariants.{Look, Refill}
-use Rattle.step_table.specs.declared.cell_steps.cell_step.Compared.{Compared}
-use Rattle.control_word.specs.declared.model.event.Entry.{Entry}
-use Rattle.control_word.specs.declared.model.view.View.{View}
-use Rattle.step_table.specs.declared.memory.extent.Extent.{Extent}
-use Rattle.step_table.specs.declared.memory.ghost_history.AtomicStep.{AtomicStep}
-use Rattle.step_table.specs.declared.memory.ghost_history.AtomicStep.TheVariants.{OnCell}
-use Rattle.step_table.specs.CellAtomicSteps.{cell_in, handle_told, kind_in_state, object_at, owing_funds}
-use Rattle.step_table.specs.Cells.{HasInHand, IsOpenTo, ShowsCell, word_of_cell}
-use Rattle.step_table.specs.Openings.{opening}
-use Rattle.step_table.specs.GhostStates.{TableInvariant, Nothing, GhostState, ghost_after_step, history_after, object_of_block, pending, model_state, view_in}
-use Rattle.step_table.specs.GhostStates.{views_after}
-use Rattle.step_table.specs.GhostStates.{words_after}
+use Rattle.control_word.specs.Words.{packed}
 use Rattle.step_table.proofs.tables.Places.{event_by, named as own}
 use Rattle.step_table.proofs.tables.Shown.{cell_there, found_in, kept_cell}
 use Rattle.step_table.proofs.tables.Standing.{kept_after, point, ready, ghost_as}

@@ -1,19 +1,11 @@
 -- Locks of weak handles.
-use Rattle.std.proofs.Common.{◌≡◌, ℕ, suc, ◌<◌, true, false, ◌∷◌, set, get_or, Option, sym, subst}
+use Rattle.std.proofs.Common.{◌≡◌, ℕ, suc, ◌<◌, true, false, ◌∷◌, get_or, set, Option, sym, subst}
+use Rattle.step_table.proofs.Prelude.{bag_size, Block, entry, ghost_after_step, GhostState, Has}
+use Rattle.step_table.proofs.Prelude.{held, Idle, Lock, me, model_state, object_of_block, opening}
+use Rattle.step_table.proofs.Prelude.{pending, Place, sees_as, spot, Stands, TableInvariant}
+use Rattle.step_table.proofs.Prelude.{view_in, Weak, weak_in}
 use Rattle.control_word.proofs.steps.Lock.{locks}
 use Rattle.control_word.specs.declared.model.event.Event.TheVariants as event
-use Rattle.control_word.specs.declared.model.handle.Kind.TheVariants.{Weak}
-use Rattle.control_word.specs.declared.place.Block.{Block}
-use Rattle.control_word.specs.declared.place.Place.{Place}
-use Rattle.control_word.specs.declared.model.view.Pending.TheVariants.{Idle}
-use Rattle.control_word.specs.Histories.{entry}
-use Rattle.control_word.specs.Layout.{spot}
-use Rattle.control_word.specs.State.{Has, bag_size, held}
-use Rattle.control_word.specs.Steps.{me}
-use Rattle.control_word.specs.Views.{Stands, sees_as}
-use Rattle.step_table.specs.declared.memory.ghost_history.AtomicStep.TheVariants.{Lock}
-use Rattle.step_table.specs.Openings.{opening}
-use Rattle.step_table.specs.GhostStates.{GhostState, TableInvariant, ghost_after_step, object_of_block, pending, model_state, view_in, weak_in}
 use Rattle.step_table.proofs.tables.Owners.{mine_as}
 use Rattle.step_table.proofs.tables.Places.{event_by, handle_busy, named, there}
 use Rattle.step_table.proofs.tables.Standing.{point, ready, kept_after}

@@ -1,18 +1,14 @@
 -- The steps of a make.
-use Rattle.std.proofs.Common.{◌≡◌, ℕ, ◌+◌, ◌<◌, Bool, List, ◌∷◌, length, set, get_or, sym, ap, subst, ◌∙◌, arith}
+use Rattle.std.proofs.Common.{◌≡◌, ℕ, ◌+◌, ◌<◌, Bool, List, ◌∷◌, length, get_or, set, sym, ap, ◌∙◌}
+use Rattle.std.proofs.Common.{subst, arith}
+use Rattle.step_table.proofs.Prelude.{bag_size, Block, Claim, flags_of, ghost_after_step}
+use Rattle.step_table.proofs.Prelude.{GhostState, Has, Idle, Making, model_state, Nothing, opening}
+use Rattle.step_table.proofs.Prelude.{Pending, pending, Prepare, sees_as, spot, Stands, stored}
+use Rattle.step_table.proofs.Prelude.{TableInvariant, view_in, Write}
 use Rattle.control_word.proofs.steps.Claim.{claims}
 use Rattle.control_word.proofs.steps.Write.{writes_weak_word, writes_word}
 use Rattle.control_word.specs.declared.model.event.Event.TheVariants as event
-use Rattle.control_word.specs.declared.place.Block.{Block}
-use Rattle.control_word.specs.declared.model.view.Pending.{Pending}
-use Rattle.control_word.specs.declared.model.view.Pending.TheVariants.{Idle, Making}
-use Rattle.control_word.specs.Layout.{spot}
-use Rattle.control_word.specs.State.{Has, bag_size, stored}
-use Rattle.control_word.specs.Views.{Stands, sees_as}
-use Rattle.control_word.specs.Words.{flags_of}
-use Rattle.step_table.specs.declared.memory.ghost_history.AtomicStep.TheVariants.{Prepare, Write, Claim}
-use Rattle.step_table.specs.Openings.{opening}
-use Rattle.step_table.specs.GhostStates.{Nothing, GhostState, TableInvariant, IsMaking, ghost_after_step, known_words, pending, model_state, view_in}
+use Rattle.step_table.specs.GhostStates.{IsMaking, known_words}
 use Rattle.step_table.proofs.tables.Standing.{point, ready, kept_after}
 use Rattle.step_table.proofs.tables.Places.{event_by, named}
 

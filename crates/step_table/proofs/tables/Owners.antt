@@ -1,31 +1,18 @@
 -- Steps on the word of the owners.
-use Rattle.std.proofs.Common.{◌≡◌, ℕ, suc, ◌+◌, ◌-◌, ◌*◌, ◌<◌, ◌≤◌, ◌==◌, Bool, true, false, cond, ◌∷◌, set, get_or}
-use Rattle.std.proofs.Common.{Option, refl, sym, subst, ◌∙◌, arith, eq-eqb, ne_eqb}
-use Rattle.std.proofs.lemmas.Bool.{cond_both, cond-false, cond-true, eqb-true, eqb-false, false≢true}
-use Rattle.std.specs.Prelude.{◌↔◌, IsTrue}
+use Rattle.std.proofs.Common.{◌≡◌, ℕ, suc, ◌+◌, ◌-◌, ◌*◌, ◌<◌, ◌≤◌, Bool, true, false, cond, ◌↔◌}
+use Rattle.std.proofs.Common.{◌∷◌, get_or, set, IsTrue, ◌==◌, Option, sym, refl, ◌∙◌, subst, arith}
+use Rattle.std.proofs.Common.{eq-eqb, ne_eqb, eqb-true}
+use Rattle.step_table.proofs.Prelude
+use Prelude.{bag_size, Block, cond-false, cond-true, cond_both, Count, count, entry, false≢true}
+use Prelude.{funds_of, ghost_after_step, GhostState, handle_in_block, Has, has_headroom, held}
+use Prelude.{Idle, IsPointer, Kind, Leave, me, model_state, number_of, object_of_block, opening}
+use Prelude.{owed, Owner, owner_in, pending, Place, sees_as, Share, slot, spot, Stands}
+use Prelude.{TableInvariant, told_number, view_in}
+use Rattle.std.proofs.lemmas.Bool.{eqb-false}
 use Rattle.control_word.proofs.steps.Leave.{leaves'}
 use Rattle.control_word.proofs.steps.Look.{tells_count}
 use Rattle.control_word.proofs.steps.Share.{shares}
-use Rattle.control_word.proofs.steps.Standing.{has_headroom}
 use Rattle.control_word.specs.declared.model.event.Event.TheVariants as event
-use Rattle.control_word.specs.declared.model.handle.Kind.{Kind}
-use Rattle.control_word.specs.declared.model.handle.Kind.TheVariants.{Owner}
-use Rattle.control_word.specs.Words.{slot}
-use Rattle.control_word.specs.declared.place.Block.{Block}
-use Rattle.control_word.specs.declared.place.Place.{Place}
-use Rattle.control_word.specs.declared.model.view.Pending.TheVariants.{Idle}
-use Rattle.control_word.specs.Handles.{IsPointer}
-use Rattle.control_word.specs.Histories.{entry}
-use Rattle.control_word.specs.Layout.{spot}
-use Rattle.control_word.specs.Packing.{funds_of, number_of}
-use Rattle.control_word.specs.State.{Has, bag_size, count, held}
-use Rattle.control_word.specs.Steps.{me}
-use Rattle.control_word.specs.Views.{Stands, owed, sees_as}
-use Rattle.step_table.specs.declared.memory.ghost_history.AtomicStep.TheVariants.{Share, Leave, Count}
-use Rattle.step_table.specs.AtomicSteps.{told_number}
-use Rattle.step_table.specs.Openings.{opening}
-use Rattle.step_table.specs.GhostStates.{GhostState, TableInvariant, ghost_after_step, handle_in_block, object_of_block, owner_in, pending, model_state}
-use Rattle.step_table.specs.GhostStates.{view_in}
 use Rattle.step_table.proofs.tables.Standing.{point, ready, kept_after}
 use Rattle.step_table.proofs.tables.Places.{event_by, handle_busy, named, owner_busy, there}
 

@@ -1,22 +1,12 @@
 -- Where the words of a block lie whose handle, vacant block or ending object a desk has.
-use Rattle.std.proofs.Common.{◌≡◌, ◌≢◌, ℕ, ◌<◌, List, ◌∷◌, length, set, ap, subst, arith, Option}
-use Rattle.control_word.proofs.history.Legal.{held_busy, sound}
-use Rattle.control_word.proofs.history.Soundness.{IsBusy}
+use Rattle.std.proofs.Common.{◌≡◌, ℕ, ◌<◌, ◌≢◌, List, ◌∷◌, length, set, Option, ap, subst, arith}
+use Rattle.step_table.proofs.Prelude.{Block, ending, entry, Event, Fits, GhostState}
+use Rattle.step_table.proofs.Prelude.{handle_in_block, Has, held, held_busy, InShape, IsBusy, Kind}
+use Rattle.step_table.proofs.Prelude.{Making, me, model_state, Nothing, object_of_block, opening}
+use Rattle.step_table.proofs.Prelude.{Owner, owner_in, Pending, pending, Place, sees_as, sound}
+use Rattle.step_table.proofs.Prelude.{spot, Stands, stored, TableInvariant, value, view_in}
 use Rattle.control_word.proofs.words.Frames.{spot_fits}
-use Rattle.control_word.specs.declared.model.event.Event.{Event}
-use Rattle.control_word.specs.declared.model.handle.Kind.{Kind}
-use Rattle.control_word.specs.declared.model.handle.Kind.TheVariants.{Owner}
-use Rattle.control_word.specs.declared.place.Block.{Block}
-use Rattle.control_word.specs.declared.place.Place.{Place}
-use Rattle.control_word.specs.declared.model.view.Pending.{Pending}
-use Rattle.control_word.specs.declared.model.view.Pending.TheVariants.{Making}
-use Rattle.control_word.specs.Histories.{entry, value}
-use Rattle.control_word.specs.Layout.{spot}
-use Rattle.control_word.specs.State.{Has, InShape, common, ending, held, stored}
-use Rattle.control_word.specs.Steps.{me}
-use Rattle.control_word.specs.Views.{Fits, Stands, sees_as}
-use Rattle.step_table.specs.Openings.{opening}
-use Rattle.step_table.specs.GhostStates.{Nothing, GhostState, TableInvariant, handle_in_block, object_of_block, owner_in, pending, model_state, view_in}
+use Rattle.control_word.specs.State.{common}
 use Rattle.step_table.proofs.tables.Standing.{point, ready}
 
 -- a word of a block of the shape

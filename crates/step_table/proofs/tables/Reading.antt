@@ -1,23 +1,15 @@
 -- What the flags and fields of a block say of the object in it.
-use Rattle.std.proofs.Common.{◌≡◌, ◌≢◌, ℕ, zero, suc, ◌+◌, ◌-◌, ◌<◌, true, false, List, [], ◌∷◌, length, get_or, Some, refl}
-use Rattle.std.proofs.Common.{sym, ap, subst, ◌∙◌, arith}
-use Rattle.std.proofs.lemmas.Bool.{cond-true, cond-false}
-use Rattle.control_word.proofs.history.Legal.{sound}
-use Rattle.control_word.proofs.history.Soundness.{IsBusy}
-use Rattle.control_word.proofs.steps.Look.{look_event}
+use Rattle.std.proofs.Common.{◌≡◌, ℕ, zero, suc, ◌+◌, ◌-◌, ◌<◌, true, false, ◌≢◌, List, [], ◌∷◌}
+use Rattle.std.proofs.Common.{length, get_or, Some, sym, refl, ap, ◌∙◌, subst, arith}
+use Rattle.step_table.proofs.Prelude
+use Prelude.{Block, blocks_of, cond-false, cond-true, flags_of, ghost_after_step, GhostState, Has}
+use Prelude.{held, Idle, IsBusy, look_event, model_state, Object, object_of_block, opening}
+use Prelude.{owner_in, pending, Place, Read, sound, spot, TableInvariant, view_in}
 use Rattle.control_word.proofs.words.Body.{body_more, body_read, words_field, words_flags}
 use Rattle.control_word.specs.declared.model.event.Event.TheVariants as event
-use Rattle.control_word.specs.declared.place.Block.{Block}
-use Rattle.control_word.specs.declared.place.Place.{Place}
-use Rattle.control_word.specs.declared.model.view.Pending.TheVariants.{Idle}
-use Rattle.control_word.specs.Layout.{spot}
-use Rattle.control_word.specs.State.{Has, Object, held}
-use Rattle.control_word.specs.Words.{blocks_of, flags_of, object_words}
+use Rattle.control_word.specs.Words.{object_words}
 use Rattle.step_table.specs.declared.memory.ended.Ended.TheVariants.{Fields, Null}
-use Rattle.step_table.specs.declared.memory.ghost_history.AtomicStep.TheVariants.{Read}
-use Rattle.step_table.specs.Openings.{opening}
 use Rattle.step_table.specs.AtomicSteps.{remains}
-use Rattle.step_table.specs.GhostStates.{TableInvariant, GhostState, ghost_after_step, object_of_block, owner_in, pending, model_state, view_in}
 use Rattle.step_table.proofs.tables.Doors.{no_door}
 use Rattle.step_table.proofs.tables.Owners.{mine}
 use Rattle.step_table.proofs.tables.Places.{event_by, owner_busy, there}

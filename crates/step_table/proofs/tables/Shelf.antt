@@ -1,20 +1,16 @@
 -- The steps on a word of the shelf.
-use Rattle.std.proofs.Common.{◌≡◌, ℕ, ◌%◌, ◌<◌, Bool, true, false, cond, List, set, get_or}
-use Rattle.std.proofs.Common.{refl, sym, ap, subst, ◌∙◌}
+use Rattle.std.proofs.Common.{◌≡◌, ℕ, ◌%◌, ◌<◌, Bool, true, false, cond, List, get_or, set}
+use Rattle.std.proofs.Common.{bit_and, sym, refl, ap, ◌∙◌, subst}
+use Rattle.step_table.proofs.Prelude.{Block, ghost_after_step, GhostState, Has, Idle, Miss}
+use Rattle.step_table.proofs.Prelude.{model_state, OnShelf, Opening, opening, pending, Shelve}
+use Rattle.step_table.proofs.Prelude.{stored, TableInvariant, Unshelve}
 use Rattle.std.specs.Int.{bit_at, bit_not, w64}
-use Rattle.std.specs.Prelude.{bit_and}
 use Rattle.control_word.proofs.steps.Shelf.{shelves', unshelves'}
 use Rattle.control_word.specs.declared.model.event.Event.TheVariants as event
-use Rattle.control_word.specs.declared.place.Block.{Block}
-use Rattle.control_word.specs.declared.model.view.Pending.TheVariants.{Idle}
 use Rattle.control_word.specs.Layout.{bit_of}
-use Rattle.control_word.specs.State.{Has, Opening, on_shelf, stored}
+use Rattle.control_word.specs.State.{on_shelf}
 use Rattle.control_word.specs.Words.{shelf_spot}
-use Rattle.step_table.specs.declared.memory.ghost_history.AtomicStep.TheVariants.{OnShelf}
-use Rattle.step_table.specs.declared.memory.shelf.ShelfStep.TheVariants.{Shelve, Unshelve, Miss}
-use Rattle.step_table.specs.Openings.{opening}
 use Rattle.step_table.specs.ShelfAtomicSteps.{shelf_words}
-use Rattle.step_table.specs.GhostStates.{GhostState, TableInvariant, ghost_after_step, pending, model_state}
 use Rattle.step_table.proofs.tables.Standing.{kept_after, point, ready}
 use Rattle.step_table.proofs.tables.Places.{event_by, named}
 

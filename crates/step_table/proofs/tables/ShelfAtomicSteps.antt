@@ -1,11 +1,8 @@
 -- A step on the shelf changes stores and the shelf alone.
 use Rattle.std.proofs.Common.{◌≡◌, ℕ, Bool, List, refl}
-use Rattle.control_word.specs.declared.place.Block.{Block}
+use Rattle.step_table.proofs.Prelude.{Block, ghost_after_step, GhostState, Miss, model_state}
+use Rattle.step_table.proofs.Prelude.{OnShelf, ShelfStep, Shelve, Unshelve}
 use Rattle.control_word.specs.State.{Stored}
-use Rattle.step_table.specs.declared.memory.ghost_history.AtomicStep.TheVariants.{OnShelf}
-use Rattle.step_table.specs.declared.memory.shelf.ShelfStep.{ShelfStep}
-use Rattle.step_table.specs.declared.memory.shelf.ShelfStep.TheVariants.{Shelve, Unshelve, Miss}
-use Rattle.step_table.specs.GhostStates.{GhostState, ghost_after_step, model_state}
 
 pub shelf_framed : (v : GhostState) (d : ℕ) (b : Block) (x : ShelfStep)
     → (r : List Stored) × (f : ℕ → Bool) × (model_state (ghost_after_step v d (OnShelf b x)) ≡ record (model_state v) { stores = r; shelved = f })

@@ -1,39 +1,26 @@
 -- What a word that was found tells of its cell.
-use Rattle.std.proofs.Common.{◌≡◌, ℕ, ◌+◌, ◌*◌, ◌<◌, ◌∷◌, set, get_or, length, Option, Some, None, refl, sym, ap, subst, ◌∙◌}
-use Rattle.std.proofs.Common.{arith}
-use Rattle.std.proofs.lemmas.Option.{same_Some}
+use Rattle.std.proofs.Common.{◌≡◌, ℕ, ◌+◌, ◌*◌, ◌<◌, ◌∷◌, length, get_or, set, Some, None, Option}
+use Rattle.std.proofs.Common.{sym, refl, ap, ◌∙◌, subst, arith}
+use Rattle.step_table.proofs.Prelude
+use Prelude.{Block, block_fits, block_number, blocks_of, cell_bits, cell_in, cell_of, cell_shown}
+use Prelude.{CellWord, entry, Event, field_fits, GhostState, handle, handle_as, IsBusy, IsCellWord}
+use Prelude.{IsKept, IsOpenTo, Kind, kind_in_state, me, Member, model_state, Nothing}
+use Prelude.{object_of_block, opening, owing_funds, owned_fits, Paying, Pending, pending, Place}
+use Prelude.{place_block, place_field, purse, same_Some, sees_as, shown, ShowsCell, Site}
+use Prelude.{site_place, slot, sound, spot, Stands, TableInvariant, view_in, word_of_cell}
 use Rattle.control_word.proofs.history.Clearing.{was_made}
-use Rattle.control_word.proofs.history.Legal.{sound}
-use Rattle.control_word.proofs.history.Soundness.{IsBusy}
-use Rattle.control_word.proofs.packing.Cells.{block_fits, field_fits, owned_fits, same_block, same_place}
+use Rattle.control_word.proofs.packing.Cells.{same_block, same_place}
 use Rattle.control_word.proofs.packing.Fields.{same_parts}
-use Rattle.control_word.proofs.words.Banks.{IsKept, open_kept}
+use Rattle.control_word.proofs.words.Banks.{open_kept}
 use Rattle.control_word.proofs.words.CellWords.{cell_inside}
-use Rattle.control_word.proofs.words.Decoding.{cell_shown}
 use Rattle.control_word.proofs.words.Funds.{cell_busy, member_busy}
-use Rattle.control_word.specs.declared.packed.cell.CellWord.{CellWord}
 use Rattle.control_word.specs.declared.model.event.Cell.{Cell as Named}
 use Rattle.control_word.specs.declared.model.event.Cell.TheVariants as named
-use Rattle.control_word.specs.declared.model.event.Event.{Event}
-use Rattle.control_word.specs.declared.model.handle.Kind.{Kind}
-use Rattle.control_word.specs.declared.place.Block.{Block}
-use Rattle.control_word.specs.declared.place.Place.{Place}
-use Rattle.control_word.specs.declared.model.view.Pending.{Pending}
-use Rattle.control_word.specs.declared.model.view.Pending.TheVariants.{Paying}
-use Rattle.control_word.specs.Events.{cell_of}
-use Rattle.control_word.specs.Handles.{handle}
-use Rattle.control_word.specs.Histories.{entry}
-use Rattle.control_word.specs.Packing.{IsCellWord, IsPackedCell, block_number, cell_bits, place_block, place_field}
-use Rattle.control_word.specs.Layout.{IsSite, site_place, spot}
-use Rattle.control_word.specs.Steps.{Adds, me, purse}
-use Rattle.control_word.specs.Views.{Stands, sees_as}
-use Rattle.control_word.specs.Words.{blocks_of, packed, shown, slot}
-use Rattle.control_word.specs.declared.site.Site.{Site}
-use Rattle.control_word.specs.declared.site.Site.TheVariants.{Free, Member}
-use Rattle.step_table.specs.CellAtomicSteps.{cell_in, handle_as, kind_in_state, owing_funds}
-use Rattle.step_table.specs.Cells.{IsOpenTo, ShowsCell, word_of_cell}
-use Rattle.step_table.specs.Openings.{opening}
-use Rattle.step_table.specs.GhostStates.{TableInvariant, Nothing, GhostState, object_of_block, pending, model_state, view_in}
+use Rattle.control_word.specs.Packing.{IsPackedCell}
+use Rattle.control_word.specs.Layout.{IsSite}
+use Rattle.control_word.specs.Steps.{Adds}
+use Rattle.control_word.specs.Words.{packed}
+use Rattle.control_word.specs.declared.site.Site.TheVariants.{Free}
 use Rattle.step_table.proofs.tables.Cells.{at_cell, decoded}
 use Rattle.step_table.proofs.tables.Places.{event_by, there}
 use Rattle.step_table.proofs.tables.Standing.{point, ready}

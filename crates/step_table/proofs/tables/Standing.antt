@@ -1,27 +1,17 @@
 -- Each atomic step keeps the table.
-use Rattle.std.proofs.Common.{◌≡◌, ◌≢◌, ℕ, zero, suc, ◌<◌, false, List, [], ◌∷◌, length, set, get_or, refl, sym, ap, subst, ◌∙◌}
-use Rattle.std.proofs.Common.{⊎_elim, arith}
-use Rattle.std.proofs.Common.{length-set, get_or-set_same, get_or-set_other}
-use Rattle.std.proofs.lemmas.Bool.{cases_eq}
+use Rattle.std.proofs.Common.{◌≡◌, ℕ, zero, suc, ◌<◌, false, ◌≢◌, List, [], ◌∷◌, length, get_or}
+use Rattle.std.proofs.Common.{set, sym, refl, ap, ◌∙◌, subst, ⊎_elim, arith, length-set}
+use Rattle.std.proofs.Common.{get_or-set_other, get_or-set_same}
+use Rattle.step_table.proofs.Prelude
+use Prelude.{AtomicStep, cases_eq, Claim, Clear, Count, Entry, Expired, Extent, Finish}
+use Prelude.{ghost_after_step, GhostState, history_after, Leave, Lock, model_state, Nothing}
+use Prelude.{OnCell, OnShelf, opening, Pending, pending, pending_after, Prepare, Read, Ready}
+use Prelude.{sees_as, Share, Stands, State, TableInvariant, used_up, View, view_in, views_after}
+use Prelude.{WeakLeave, WeakShare, words_after, Write}
 use mathlib.Core.Option.{some}
 use lib.ListN.{get_elem?}
-use Rattle.control_word.specs.declared.model.event.Entry.{Entry}
-use Rattle.control_word.specs.declared.model.view.Pending.{Pending}
-use Rattle.control_word.specs.declared.model.view.View.{View}
-use Rattle.control_word.specs.Steps.{Point, Ready}
-use Rattle.control_word.specs.Views.{Stands, sees_as, used_up}
-use Rattle.step_table.specs.declared.memory.extent.Extent.{Extent}
-use Rattle.step_table.specs.declared.memory.ghost_history.AtomicStep.{AtomicStep}
-use Rattle.step_table.specs.declared.memory.ghost_history.AtomicStep.TheVariants.{Prepare, Write, Claim, Share, WeakShare, Leave, WeakLeave, Lock, Count}
-use Rattle.step_table.specs.declared.memory.ghost_history.AtomicStep.TheVariants.{Expired, Read}
-use Rattle.step_table.specs.declared.memory.ghost_history.AtomicStep.TheVariants.{Clear}
-use Rattle.step_table.specs.declared.memory.ghost_history.AtomicStep.TheVariants.{Finish, OnCell, OnShelf}
-use Rattle.step_table.specs.Openings.{opening}
-use Rattle.step_table.specs.GhostStates.{Nothing, GhostState, Seats, TableInvariant, ghost_after_step, history_after, pending, pending_after, model_state}
-use Rattle.step_table.specs.GhostStates.{view_in}
-use Rattle.step_table.specs.GhostStates.{views_after}
-use Rattle.step_table.specs.GhostStates.{words_after}
-use Rattle.control_word.specs.State.{State}
+use Rattle.control_word.specs.Steps.{Point}
+use Rattle.step_table.specs.GhostStates.{Seats}
 use Rattle.step_table.proofs.tables.CellAtomicSteps.{framed}
 use Rattle.step_table.proofs.tables.ShelfAtomicSteps.{shelf_framed}
 use Rattle.step_table.proofs.tables.Doors.{doors_after, whole_after}

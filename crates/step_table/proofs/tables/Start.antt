@@ -1,20 +1,16 @@
 -- A new table.
-use Rattle.std.proofs.Common.{◌≡◌, ℕ, zero, suc, ◌+◌, ◌-◌, ◌*◌, ◌/◌, ◌%◌, ◌<◌, ◌≤◌, ◌==◌, false, cond, List, []}
-use Rattle.std.proofs.Common.{length, get_or, replicate, refl, sym}
-use Rattle.std.proofs.Common.{ap, subst, ◌∙◌, arith, ne_eqb, inl, inr}
-use Rattle.std.specs.Prelude.{nat_lt}
-use Rattle.std.proofs.lemmas.Bool.{cases_eq, cond_both, cond-true, cond-false, le-ltb, lt-ltb, ltb-false}
+use Rattle.std.proofs.Common.{◌≡◌, ℕ, zero, suc, ◌+◌, ◌-◌, ◌*◌, ◌/◌, ◌%◌, ◌<◌, ◌≤◌, false, cond}
+use Rattle.std.proofs.Common.{List, [], length, get_or, replicate, nat_lt, ◌==◌, sym, refl, ap}
+use Rattle.std.proofs.Common.{◌∙◌, subst, inl, inr, arith, ltb-false, le-ltb, lt-ltb, ne_eqb}
+use Rattle.step_table.proofs.Prelude.{cases_eq, cond-false, cond-true, cond_both, Extent, fresh}
+use Rattle.step_table.proofs.Prelude.{Idle, Nothing, opening, ShutsNoDoor, Stands, table_size}
+use Rattle.step_table.proofs.Prelude.{TableInvariant, used_up, View}
 use Rattle.std.proofs.lemmas.Nat.{le-div}
-use Rattle.std.proofs.Math.Nat.{div-add-mod, div-lt_iff_lt-mul, div-zero, mul_comm, mul-suc, one-mul, suc-mul, zero-div}
+use Rattle.std.proofs.Math.Nat.{div-add-mod, div-lt_iff_lt-mul, div-zero, mul_comm, mul-suc}
+use Rattle.std.proofs.Math.Nat.{one-mul, suc-mul, zero-div}
 use Rattle.control_word.proofs.words.Opening.{opens}
-use Rattle.control_word.specs.declared.model.view.Pending.TheVariants.{Idle}
-use Rattle.control_word.specs.declared.model.view.View.{View}
-use Rattle.control_word.specs.Layout.{table_size}
 use Rattle.control_word.specs.State.{IsOpening, sum_below}
-use Rattle.control_word.specs.Views.{Stands, fresh, used_up}
-use Rattle.step_table.specs.declared.memory.extent.Extent.{Extent}
-use Rattle.step_table.specs.Openings.{IsExtent, each_stock, holder_of, opening, share_of}
-use Rattle.step_table.specs.GhostStates.{TableInvariant, Nothing, ShutsNoDoor}
+use Rattle.step_table.specs.Openings.{IsExtent, each_stock, holder_of, share_of}
 
 -- of so many actors each has its share, and the first has the rest too
 sums : (q r a n : ℕ) → 1 ≤ n → n ≤ a → sum_below n (λ d. cond (nat_lt d a) (q + cond (d == 0) r 0) 0) ≡ n * q + r

@@ -1,44 +1,26 @@
 -- Values that go into a cell, and come out of it.
-use Rattle.std.proofs.Common.{◌≡◌, ◌≢◌, ℕ, suc, true, false, ◌+◌, ◌-◌, ◌<◌, ◌≤◌, ◌==◌, [], ◌∷◌, get_or, length}
-use Rattle.std.proofs.Common.{Option, Some, None, refl, sym, ap, subst, ◌∙◌, ⊎_elim, inl, arith}
-use Rattle.std.specs.List.{filter}
-use Rattle.std.proofs.lemmas.Bool.{cond_both}
-use Rattle.control_word.proofs.history.Allowances.{allowed}
-use Rattle.control_word.proofs.lists.Tallies.{held_self, held_true, num_without}
-use Rattle.control_word.proofs.packing.Cells.{block_fits, cell_bits_fit, field_fits, owned_fits}
-use Rattle.control_word.proofs.steps.Clear.{clears'}
+use Rattle.std.proofs.Common.{◌≡◌, ℕ, suc, ◌+◌, ◌-◌, ◌<◌, ◌≤◌, true, false, ◌≢◌, [], ◌∷◌, length}
+use Rattle.std.proofs.Common.{get_or, ◌==◌, Some, None, Option, sym, refl, ap, ◌∙◌, subst, inl}
+use Rattle.std.proofs.Common.{⊎_elim, arith}
+use Rattle.step_table.proofs.Prelude
+use Prelude.{allowed, bag_one, bag_size, Block, block_fits, blocks_of, cell_bits, cell_in, cell_of}
+use Prelude.{cell_shown, CellWord, clears, clears', Compared, CompareSwap, cond_both, counts_at}
+use Prelude.{empty, ending, equivalent, field_fits, filter, gets, ghost_after_step, GhostState}
+use Prelude.{handle, handle_told, Has, has_object, HasInHand, HasRoom, Held, held, held_self}
+use Prelude.{held_true, Idle, InHand, IsCellWord, IsKept, IsOpen, IsOpenTo, Kind, kind_in_state}
+use Prelude.{kind_of_member, loses, Member, model_state, Nothing, num_without, NumberedHandle}
+use Prelude.{object_at, object_of_block, OnCell, opening, owing_funds, owned_fits, Paying, Pending}
+use Prelude.{pending, Place, purse, put, same_held, ShowsCell, Site, site_place, slot, spot, State}
+use Prelude.{Swap, swaps, TableInvariant, Take, TakeOut, word_of_cell}
+use Rattle.control_word.proofs.packing.Cells.{cell_bits_fit}
 use Rattle.control_word.proofs.steps.CompareSwap.{compare_swaps}
 use Rattle.control_word.proofs.steps.Swap.{swaps'}
 use Rattle.control_word.proofs.steps.Take.{takes}
-use Rattle.control_word.proofs.words.Banks.{IsKept}
-use Rattle.control_word.proofs.words.Counting.{bag_one}
-use Rattle.control_word.proofs.words.Decoding.{cell_shown}
-use Rattle.control_word.specs.declared.packed.cell.CellWord.{CellWord}
 use Rattle.control_word.specs.declared.model.event.Cell.{Cell as Named}
 use Rattle.control_word.specs.declared.model.event.Cell.TheVariants as named
 use Rattle.control_word.specs.declared.model.event.Event.TheVariants as event
-use Rattle.control_word.specs.declared.model.handle.NumberedHandle.{NumberedHandle}
-use Rattle.control_word.specs.declared.model.handle.Kind.{Kind}
-use Rattle.control_word.specs.declared.place.Block.{Block}
-use Rattle.control_word.specs.declared.place.Place.{Place}
-use Rattle.control_word.specs.declared.model.view.Pending.{Pending}
-use Rattle.control_word.specs.declared.model.view.Pending.TheVariants.{Idle, Paying}
-use Rattle.control_word.specs.Events.{InHand, IsOpen, cell_of, changes, clears, gets, loses, swaps}
-use Rattle.control_word.specs.Handles.{empty, equivalent, handle, has_object}
-use Rattle.control_word.specs.Layout.{site_place, spot}
-use Rattle.control_word.specs.Packing.{IsCellWord, cell_bits}
-use Rattle.control_word.specs.State.{Has, HasRoom, Held, State, bag_size, ending, held, kind_of_member, put, same_held}
-use Rattle.control_word.specs.Steps.{purse}
-use Rattle.control_word.specs.Words.{blocks_of, counts_at, packed, slot}
-use Rattle.control_word.specs.declared.site.Site.{Site}
-use Rattle.control_word.specs.declared.site.Site.TheVariants.{Member}
-use Rattle.step_table.specs.declared.cell_steps.cell_step.CellStep.TheVariants.{CompareSwap, Swap, Take, TakeOut}
-use Rattle.step_table.specs.declared.cell_steps.cell_step.Compared.{Compared}
-use Rattle.step_table.specs.declared.memory.ghost_history.AtomicStep.TheVariants.{OnCell}
-use Rattle.step_table.specs.CellAtomicSteps.{cell_in, handle_told, kind_in_state, object_at, owing_funds}
-use Rattle.step_table.specs.Cells.{HasInHand, IsOpenTo, ShowsCell, word_of_cell}
-use Rattle.step_table.specs.Openings.{opening}
-use Rattle.step_table.specs.GhostStates.{TableInvariant, Nothing, GhostState, ghost_after_step, object_of_block, pending, model_state}
+use Rattle.control_word.specs.Events.{changes}
+use Rattle.control_word.specs.Words.{packed}
 use Rattle.step_table.proofs.tables.Places.{ending_busy, handle_busy, named as own, there}
 use Rattle.step_table.proofs.tables.Shown.{Found, adds_by, cell_there, found_in, kept_cell}
 use Rattle.step_table.proofs.tables.Standing.{kept_after, point, ready}

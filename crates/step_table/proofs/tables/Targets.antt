@@ -1,15 +1,10 @@
 -- What a cell's word tells of the object that its handle is on.
-use Rattle.std.proofs.Common.{◌≡◌, ◌<◌, Option, Some, None, refl, sym, ap, ◌∙◌, arith}
-use Rattle.control_word.specs.declared.packed.cell.CellWord.{CellWord}
-use Rattle.control_word.specs.declared.model.handle.NumberedHandle.{NumberedHandle}
-use Rattle.control_word.specs.declared.place.Block.{Block}
-use Rattle.control_word.specs.Words.{block_of, blocks_of}
-use Rattle.control_word.proofs.words.Banks.{IsKept}
-use Rattle.control_word.specs.declared.site.Site.{Site}
-use Rattle.control_word.specs.declared.site.Site.TheVariants.{Free, Member}
-use Rattle.step_table.specs.CellAtomicSteps.{cell_in, object_at}
+use Rattle.std.proofs.Common.{◌≡◌, ◌<◌, Some, None, Option, sym, refl, ap, ◌∙◌, arith}
+use Rattle.step_table.proofs.Prelude.{Block, block_of, blocks_of, cell_in, CellWord, GhostState}
+use Rattle.step_table.proofs.Prelude.{IsKept, Member, model_state, NumberedHandle, object_at}
+use Rattle.step_table.proofs.Prelude.{object_of_block, Site, TableInvariant}
+use Rattle.control_word.specs.declared.site.Site.TheVariants.{Free}
 use Rattle.step_table.specs.Cells.{IsCellInUse, target_of}
-use Rattle.step_table.specs.GhostStates.{TableInvariant, GhostState, object_of_block, model_state}
 use Rattle.step_table.proofs.tables.Shown.{Found}
 
 pub kept_there : (v : GhostState) (c : Site) → IsCellInUse v c → IsKept (model_state v) (cell_in (model_state v) c)

@@ -1,22 +1,19 @@
 -- Each object that was made has a value, which is nothing.
-use Rattle.std.proofs.Common.{◌≡◌, ◌≢◌, ℕ, suc, ◌<◌, ◌≤◌, true, false, List, [], ◌∷◌, Option, Some, refl, ap, ◌∙◌, ⊎_elim}
-use Rattle.std.proofs.Common.{arith}
-use Rattle.std.proofs.lemmas.Bool.{cases_eq, cases_lt}
-use Rattle.control_word.proofs.lists.Tallies.{put_cases}
-use Rattle.control_word.proofs.history.Legal.{sound}
-use Rattle.control_word.specs.declared.model.event.Entry.{Entry}
-use Rattle.control_word.specs.declared.model.event.Event.{Event}
-use Rattle.control_word.specs.declared.model.event.Event.TheVariants.{Shelve, Unshelve}
-use Rattle.control_word.specs.declared.model.event.Event.TheVariants.{Make, Share, Leave, Count, Expired, Read, WeakShare, WeakLeave, Lock, Load, Swap}
-use Rattle.control_word.specs.declared.model.event.Event.TheVariants.{Compare, Same, ClearMember, Finish, Visit, Split, Join}
-use Rattle.control_word.specs.declared.model.event.Cell.{Cell}
-use Rattle.control_word.specs.declared.model.event.Cell.TheVariants.{Free, Member}
-use Rattle.control_word.specs.declared.model.handle.NumberedHandle.{NumberedHandle}
-use Rattle.control_word.specs.Events.{after, fills, loses}
-use Rattle.control_word.specs.Handles.{object_of}
-use Rattle.control_word.specs.Histories.{IsLegal, leads, value, valued}
-use Rattle.control_word.specs.State.{Opening, State, ending, unmade, Phase}
-use Rattle.step_table.specs.GhostStates.{Nothing}
+use Rattle.std.proofs.Common.{◌≡◌, ℕ, suc, ◌<◌, ◌≤◌, true, false, ◌≢◌, List, [], ◌∷◌, Some, Option}
+use Rattle.std.proofs.Common.{refl, ap, ◌∙◌, ⊎_elim, arith}
+use Rattle.step_table.proofs.Prelude.{after, cases_eq, Cell, ClearMember, Compare, ending, Entry}
+use Rattle.step_table.proofs.Prelude.{Event, Free, IsLegal, Join, leads, Load, loses, Make}
+use Rattle.step_table.proofs.Prelude.{Nothing, NumberedHandle, object_of, Opening, put_cases}
+use Rattle.step_table.proofs.Prelude.{sound, Split, State, value, Visit}
+use Rattle.std.proofs.lemmas.Bool.{cases_lt}
+use Rattle.control_word.specs.declared.model.event.Event.TheVariants.{Shelve, Unshelve, Share}
+use Rattle.control_word.specs.declared.model.event.Event.TheVariants.{Leave, Count, Expired, Read}
+use Rattle.control_word.specs.declared.model.event.Event.TheVariants.{WeakShare, WeakLeave, Lock}
+use Rattle.control_word.specs.declared.model.event.Event.TheVariants.{Swap, Same, Finish}
+use Rattle.control_word.specs.declared.model.event.Cell.TheVariants.{Member}
+use Rattle.control_word.specs.Events.{fills}
+use Rattle.control_word.specs.Histories.{valued}
+use Rattle.control_word.specs.State.{unmade, Phase}
 
 abbrev HasValue : (ℕ → Option Nothing) → ℕ → Type 0
 HasValue values o = values o ≡ Some tt

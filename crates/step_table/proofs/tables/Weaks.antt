@@ -1,26 +1,17 @@
 -- Steps of weak handles on the words.
-use Rattle.std.proofs.Common.{◌⊎◌, ⊎_elim, inr, ap, ◌≡◌, ℕ, suc, ◌-◌, ◌<◌, ◌==◌, ◌&&◌, Bool, ◌∷◌, set, get_or, Option}
-use Rattle.std.proofs.Common.{refl, sym, subst, ◌∙◌, inl, arith, ne_eqb}
+use Rattle.std.proofs.Common.{◌≡◌, ℕ, suc, ◌-◌, ◌<◌, Bool, ◌&&◌, ◌⊎◌, ◌∷◌, get_or, set, ◌==◌}
+use Rattle.std.proofs.Common.{Option, sym, refl, ap, ◌∙◌, subst, inl, inr, ⊎_elim, arith, ne_eqb}
+use Rattle.step_table.proofs.Prelude
+use Prelude.{bag_size, Block, count, entry, Expired, ghost_after_step, GhostState, handle_in_block}
+use Prelude.{Has, held, Idle, Kind, look_event, me, model_state, Nothing, object_of_block, opening}
+use Prelude.{Owner, pending, Place, sees_as, spot, Stands, TableInvariant, view_in, Weak, weak}
+use Prelude.{weak_in, WeakLeave, WeakShare}
 use Rattle.control_word.proofs.history.Moving.{owner_counted}
-use Rattle.control_word.proofs.steps.Look.{look_event, tells_expired}
+use Rattle.control_word.proofs.steps.Look.{tells_expired}
 use Rattle.control_word.proofs.steps.WeakLeave.{weak_leaves'}
 use Rattle.control_word.proofs.steps.WeakShare.{weak_shares}
 use Rattle.control_word.specs.declared.model.event.Event.TheVariants as event
-use Rattle.control_word.specs.declared.model.handle.Kind.{Kind}
-use Rattle.control_word.specs.declared.model.handle.Kind.TheVariants.{Owner, Weak}
-use Rattle.control_word.specs.declared.place.Block.{Block}
-use Rattle.control_word.specs.declared.place.Place.{Place}
-use Rattle.control_word.specs.declared.model.view.Pending.TheVariants.{Idle}
 use Rattle.control_word.specs.Events.{Asks, is_gone, place_at}
-use Rattle.control_word.specs.Histories.{entry}
-use Rattle.control_word.specs.Layout.{spot}
-use Rattle.control_word.specs.State.{Has, bag_size, count, held, weak}
-use Rattle.control_word.specs.Steps.{me}
-use Rattle.control_word.specs.Views.{Stands, sees_as}
-use Rattle.step_table.specs.declared.memory.ghost_history.AtomicStep.TheVariants.{WeakShare, WeakLeave, Expired}
-use Rattle.step_table.specs.Openings.{opening}
-use Rattle.step_table.specs.GhostStates.{Nothing, GhostState, TableInvariant, ghost_after_step, handle_in_block, object_of_block, pending, model_state, view_in}
-use Rattle.step_table.specs.GhostStates.{weak_in}
 use Rattle.step_table.proofs.tables.Owners.{mine_as, some_owner}
 use Rattle.step_table.proofs.tables.Places.{event_by, handle_busy, named, there}
 use Rattle.step_table.proofs.tables.Standing.{point, ready, kept_after}

@@ -1,35 +1,19 @@
 -- `next` picks what is known after an atomic step. Assumes `Logic`.
 use Rattle.std.proofs.Common.{List, [], ◌∷◌, ◌++◌, refl}
-use seplogic.Ra.Ura.{Ura}
-use mir.Syntax.{Fn}
-use mir.Val.{Val, vptr}
-use base.Logic.{SProp, ent}
-use prog.Memory.{Memory}
-use prog.Routine.{Routine}
-use prog.Wp.{Calls, Loops, WpFn, Tables}
-use contract.Monad.{Fun}
-use contract.Running.{tables, tables_of}
+use Rattle.step_table.proofs.Prelude
+use Prelude.{agg, alive, alloc_all, Calls, Clauses, closing, done, drop, Ended, ends_at, ent}
+use Prelude.{enter, entered, feq_l, fjoin, Fn, free_all, fsplit, Fun, Goes-dropped, history_after}
+use Prelude.{keep, Logic, look_at, Loops, Meets, Memory, move, no_more, nothing, owns, pass_all}
+use Prelude.{prop, qed, raw, RefOf, regoal, returns, Routine, says, sets, split, SProp}
+use Prelude.{stay_dropped, Stays, suffices, Tables, tables, triple_of, types_at, Ura, Val}
+use Prelude.{views_after, vptr, walk_Meets, walk_of, WpFn, yes, !, ‵, ◌$◌, ◌∵◌, ◌⊛◌}
+use contract.Running.{tables_of}
 use sound.WpLaws.{WpFn-mono}
-use types.Logic.{Logic}
-use types.Kit.{‵, raw, ◌⊛◌, prop, ◌$◌, ◌∵◌, !, qed, move, keep, drop, split, fsplit, fjoin, feq_l, regoal, suffices, done}
-use types.Part.{agg}
-use types.Run.{enter, returns, no_more}
-use types.ByLocal.{alloc_all, pass_all, free_all, look_at, sets}
-use denote.Exit.{yes}
-use denote.RattleType.{owns}
-use denote.Builtin.{RefOf}
-use denote.Signature.{plain, types_at}
-use denote.Steps.{nothing}
-use denote.Triple.Clauses.{Clauses, Ended, closing}
-use denote.Triple.Entry.{alive}
-use denote.Triple.Spec.{Meets, triple_of}
-use denote.Triple.Table.{entered}
-use denote.Triple.Walked.{says, Stays, stay_dropped, walk_of, ends_at, walk_Meets, Goes-dropped}
+use denote.Signature.{plain}
 use Rattle.step_table.proofs.FrameViews.{none, none_made}
 use Rattle.step_table.specs.contracts.memory.ghost_history.GhostHistory as GhostHistory
 use Rattle.step_table.specs.contracts.memory.ghost_history.Done as Done
 use Rattle.step_table.specs.contracts.memory.table.Table as Table
-use Rattle.step_table.specs.GhostStates.{history_after, views_after}
 use Rattle.step_table.specs.contracts.memory.ghost_history.GhostHistory.next as F
 use Rattle.step_table.specs.contracts.memory.ghost_history.GhostHistory.next.Key.{name as #self}
 use Rattle.step_table.proofs.memory.ghost_history.GhostHistory.next.Statement as stated

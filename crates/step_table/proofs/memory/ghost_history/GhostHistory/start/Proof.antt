@@ -1,34 +1,18 @@
 -- `start` picks an empty history. Assumes `Logic`.
 use Rattle.std.proofs.Common.{List, [], ◌∷◌, ◌++◌, refl}
-use seplogic.Ra.Ura.{Ura}
-use mir.Syntax.{Fn}
-use mir.Val.{Val, vptr}
-use base.Logic.{SProp, ent}
-use prog.Memory.{Memory}
-use prog.Routine.{Routine}
-use prog.Wp.{Calls, Loops, WpFn, Tables}
-use contract.Monad.{Fun}
-use contract.Running.{tables, tables_of}
+use Rattle.step_table.proofs.Prelude
+use Prelude.{agg, alive, alloc_all, Calls, Clauses, closing, done, drop, Ended, ends_at, ent}
+use Prelude.{enter, entered, feq_l, fjoin, Fn, free_all, fresh, fsplit, Fun, Goes-dropped, keep}
+use Prelude.{Logic, look_at, Loops, Meets, Memory, move, no_more, nothing, owns, pass_all, prop}
+use Prelude.{qed, raw, RefOf, regoal, returns, Routine, says, sets, split, SProp, stay_dropped}
+use Prelude.{Stays, suffices, Tables, tables, triple_of, types_at, Ura, Val, vptr, walk_Meets}
+use Prelude.{walk_of, WpFn, yes, !, ‵, ◌$◌, ◌∵◌, ◌⊛◌}
+use contract.Running.{tables_of}
 use sound.WpLaws.{WpFn-mono}
-use types.Logic.{Logic}
-use types.Kit.{‵, raw, ◌⊛◌, prop, ◌$◌, ◌∵◌, !, qed, move, keep, drop, split, fsplit, fjoin, feq_l, regoal, suffices, done}
-use types.Part.{agg}
-use types.Run.{enter, returns, no_more}
-use types.ByLocal.{alloc_all, pass_all, free_all, look_at, sets}
-use denote.Exit.{yes}
-use denote.RattleType.{owns}
-use denote.Builtin.{RefOf}
-use denote.Signature.{plain, types_at}
-use denote.Steps.{nothing}
-use denote.Triple.Clauses.{Clauses, Ended, closing}
-use denote.Triple.Entry.{alive}
-use denote.Triple.Spec.{Meets, triple_of}
-use denote.Triple.Table.{entered}
-use denote.Triple.Walked.{says, Stays, stay_dropped, walk_of, ends_at, walk_Meets, Goes-dropped}
+use denote.Signature.{plain}
 use Rattle.step_table.proofs.FrameViews.{none, none_made}
 use Rattle.step_table.specs.contracts.memory.ghost_history.GhostHistory as GhostHistory
 use Rattle.step_table.specs.contracts.memory.extent.Extent as Extent
-use Rattle.control_word.specs.Views.{fresh}
 use Rattle.step_table.specs.contracts.memory.ghost_history.GhostHistory.start as F
 use Rattle.step_table.specs.contracts.memory.ghost_history.GhostHistory.start.Key.{name as #self}
 use Rattle.step_table.proofs.memory.ghost_history.GhostHistory.start.Statement as stated

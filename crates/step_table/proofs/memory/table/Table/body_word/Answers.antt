@@ -1,5 +1,5 @@
-use Rattle.std.proofs.Common.{◌≡◌, ℕ, ap, length, arith}
-use Rattle.step_table.specs.GhostStates.{GhostState, TableInvariant}
+use Rattle.std.proofs.Common.{◌≡◌, ℕ, length, ap, arith}
+use Rattle.step_table.proofs.Prelude.{GhostState, TableInvariant}
 use Rattle.step_table.proofs.tables.Places.{inside, ending_busy, there}
 use Rattle.step_table.proofs.tables.Standing.{found, kept_now}
 use Rattle.step_table.proofs.memory.table.Table.body_word.Goals as goal

@@ -1,9 +1,5 @@
-use Rattle.std.proofs.Common.{◌≡◌, ◌+◌, ◌*◌, ℕ, ap, get_or, length, arith}
-use Rattle.control_word.specs.Layout.{spot}
-use Rattle.control_word.specs.Words.{slot}
-use Rattle.step_table.specs.declared.cell_steps.cell_step.CellStep.TheVariants.{Bring}
-use Rattle.step_table.specs.declared.memory.ghost_history.AtomicStep.TheVariants.{OnCell}
-use Rattle.step_table.specs.GhostStates.{GhostState, TableInvariant}
+use Rattle.std.proofs.Common.{◌≡◌, ℕ, ◌+◌, ◌*◌, length, get_or, ap, arith}
+use Rattle.step_table.proofs.Prelude.{Bring, GhostState, OnCell, slot, spot, TableInvariant}
 use Rattle.step_table.proofs.tables.Funds.{kept_bring, slot_few}
 use Rattle.step_table.proofs.tables.Owners.{room_above}
 use Rattle.step_table.proofs.tables.Places.{handle_busy, inside, there}

@@ -1,9 +1,8 @@
-use Rattle.std.proofs.Common.{◌≡◌, ◌==◌, ◌∙◌, ℕ, cond, subst, sym, ap, length, arith}
-use Rattle.control_word.specs.Packing.{funds_of, number_of}
-use Rattle.step_table.specs.declared.memory.ghost_history.AtomicStep.TheVariants.{Count}
-use Rattle.step_table.specs.AtomicSteps.{told_number}
-use Rattle.step_table.specs.GhostStates.{GhostState, TableInvariant}
-use Rattle.step_table.proofs.tables.Owners.{exact_count, kept_count, told, told_most, told_none, told_word}
+use Rattle.std.proofs.Common.{◌≡◌, ℕ, cond, length, ◌==◌, sym, ap, ◌∙◌, subst, arith}
+use Rattle.step_table.proofs.Prelude.{Count, funds_of, GhostState, number_of, TableInvariant}
+use Rattle.step_table.proofs.Prelude.{told_number}
+use Rattle.step_table.proofs.tables.Owners.{exact_count, kept_count, told, told_most, told_none}
+use Rattle.step_table.proofs.tables.Owners.{told_word}
 use Rattle.step_table.proofs.tables.Places.{inside, handle_busy, there}
 use Rattle.step_table.proofs.tables.Standing.{found, kept_as, kept_now}
 use Rattle.step_table.proofs.memory.table.Table.count.Goals as goal

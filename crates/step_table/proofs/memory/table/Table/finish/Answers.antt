@@ -1,6 +1,5 @@
-use Rattle.std.proofs.Common.{◌≡◌, ◌==◌, ◌∙◌, ℕ, ap, length, arith}
-use Rattle.step_table.specs.declared.memory.ghost_history.AtomicStep.TheVariants.{Finish}
-use Rattle.step_table.specs.GhostStates.{GhostState, TableInvariant}
+use Rattle.std.proofs.Common.{◌≡◌, ℕ, length, ◌==◌, ap, ◌∙◌, arith}
+use Rattle.step_table.proofs.Prelude.{Finish, GhostState, TableInvariant}
 use Rattle.step_table.proofs.tables.Endings.{kept_finish, finished_vacant, some_weak}
 use Rattle.step_table.proofs.tables.Owners.{whole_one}
 use Rattle.step_table.proofs.tables.Places.{inside, ending_busy, there}

@@ -1,5 +1,5 @@
-use Rattle.std.proofs.Common.{arith, sym, subst}
-use Rattle.control_word.specs.Handles.{IsPointer}
+use Rattle.std.proofs.Common.{sym, subst, arith}
+use Rattle.step_table.proofs.Prelude.{IsPointer}
 use Rattle.step_table.proofs.tables.Places.{handle_busy, there}
 use Rattle.step_table.proofs.memory.table.Table.give.Goals as goal
 

@@ -1,9 +1,5 @@
-use Rattle.std.proofs.Common.{◌≡◌, ◌-◌, ◌*◌, ℕ, ap, get_or, length, arith}
-use Rattle.control_word.specs.Layout.{spot}
-use Rattle.control_word.specs.Words.{slot}
-use Rattle.step_table.specs.declared.cell_steps.cell_step.CellStep.TheVariants.{GiveBack}
-use Rattle.step_table.specs.declared.memory.ghost_history.AtomicStep.TheVariants.{OnCell}
-use Rattle.step_table.specs.GhostStates.{GhostState, TableInvariant}
+use Rattle.std.proofs.Common.{◌≡◌, ℕ, ◌-◌, ◌*◌, length, get_or, ap, arith}
+use Rattle.step_table.proofs.Prelude.{GhostState, GiveBack, OnCell, slot, spot, TableInvariant}
 use Rattle.step_table.proofs.tables.Funds.{funds_there, kept_give, paying_there, slot_few}
 use Rattle.step_table.proofs.tables.Places.{inside}
 use Rattle.step_table.proofs.tables.Standing.{found, kept_as, kept_now}

@@ -1,7 +1,5 @@
-use Rattle.std.proofs.Common.{◌≡◌, ◌∙◌, ap}
-use Rattle.step_table.specs.declared.cell_steps.cell_step.CellStep.TheVariants.{Holds}
-use Rattle.step_table.specs.declared.memory.ghost_history.AtomicStep.TheVariants.{OnCell}
-use Rattle.step_table.specs.GhostStates.{GhostState, TableInvariant}
+use Rattle.std.proofs.Common.{◌≡◌, ap, ◌∙◌}
+use Rattle.step_table.proofs.Prelude.{GhostState, Holds, OnCell, TableInvariant}
 use Rattle.step_table.proofs.contained.Holding.{held_as, kept_holds}
 use Rattle.step_table.proofs.tables.Standing.{kept_as, kept_now}
 use Rattle.step_table.proofs.memory.table.Table.holds.Goals as goal

@@ -1,5 +1,5 @@
 use Rattle.std.proofs.Common.{◌∙◌}
-use Rattle.step_table.specs.GhostStates.{object_of_block, model_state}
+use Rattle.step_table.proofs.Prelude.{model_state, object_of_block}
 use Rattle.step_table.proofs.tables.Places.{handle_busy, there}
 use Rattle.step_table.proofs.tables.Reading.{flags_read}
 use Rattle.step_table.proofs.memory.table.Table.is_enabled.Goals as goal

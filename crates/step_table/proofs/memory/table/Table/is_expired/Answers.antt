@@ -1,7 +1,6 @@
-use Rattle.std.proofs.Common.{◌≡◌, ◌==◌, ◌∙◌, ℕ, ap, length, arith}
-use Rattle.step_table.specs.declared.memory.ghost_history.AtomicStep.TheVariants.{Expired}
+use Rattle.std.proofs.Common.{◌≡◌, ℕ, length, ◌==◌, ap, ◌∙◌, arith}
+use Rattle.step_table.proofs.Prelude.{Expired, GhostState, TableInvariant}
 use Rattle.step_table.proofs.tables.Weaks.{kept_expired, none_left}
-use Rattle.step_table.specs.GhostStates.{GhostState, TableInvariant}
 use Rattle.step_table.proofs.tables.Places.{handle_busy, inside, there}
 use Rattle.step_table.proofs.tables.Standing.{found, kept_as, kept_now}
 use Rattle.step_table.proofs.memory.table.Table.is_expired.Goals as goal

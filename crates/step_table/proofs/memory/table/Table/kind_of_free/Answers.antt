@@ -1,8 +1,6 @@
-use Rattle.std.proofs.Common.{◌≡◌, ap, sym, arith, ◌∙◌, le-ltb, lt-ltb}
-use Rattle.std.proofs.lemmas.Bool.{cond-true, cond-false}
-use Rattle.control_word.specs.declared.model.handle.Kind.TheVariants.{Owner, Weak}
-use Rattle.step_table.specs.declared.memory.extent.Extent.{Extent}
-use Rattle.step_table.specs.GhostStates.{GhostState, model_state}
+use Rattle.std.proofs.Common.{◌≡◌, sym, ap, ◌∙◌, arith, le-ltb, lt-ltb}
+use Rattle.step_table.proofs.Prelude.{cond-false, cond-true, Extent, GhostState, model_state}
+use Rattle.step_table.proofs.Prelude.{Owner, Weak}
 use Rattle.step_table.proofs.contained.Told.{shared_is}
 use Rattle.step_table.proofs.memory.table.Table.kind_of_free.Goals as goal
 

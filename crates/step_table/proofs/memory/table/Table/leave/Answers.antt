@@ -1,6 +1,5 @@
-use Rattle.std.proofs.Common.{◌≡◌, ◌==◌, ◌∙◌, ℕ, ap, length, arith}
-use Rattle.step_table.specs.declared.memory.ghost_history.AtomicStep.TheVariants.{Leave}
-use Rattle.step_table.specs.GhostStates.{GhostState, TableInvariant}
+use Rattle.std.proofs.Common.{◌≡◌, ℕ, length, ◌==◌, ap, ◌∙◌, arith}
+use Rattle.step_table.proofs.Prelude.{GhostState, Leave, TableInvariant}
 use Rattle.step_table.proofs.tables.Owners.{kept_leave, left_last, some_owner, whole_one}
 use Rattle.step_table.proofs.tables.Places.{inside, owner_busy, there}
 use Rattle.step_table.proofs.tables.Standing.{found, kept_as, kept_now}

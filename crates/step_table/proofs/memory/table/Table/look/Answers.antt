@@ -1,6 +1,5 @@
-use Rattle.std.proofs.Common.{◌≡◌, ◌+◌, ◌∙◌, ℕ, ap, length, arith}
-use Rattle.control_word.specs.Layout.{spot}
-use Rattle.step_table.specs.GhostStates.{GhostState, TableInvariant}
+use Rattle.std.proofs.Common.{◌≡◌, ℕ, ◌+◌, length, ap, ◌∙◌, arith}
+use Rattle.step_table.proofs.Prelude.{GhostState, spot, TableInvariant}
 use Rattle.step_table.proofs.tables.Making.{known_word}
 use Rattle.step_table.proofs.tables.Places.{inside, making_place}
 use Rattle.step_table.proofs.tables.Standing.{found, kept_now}

@@ -1,9 +1,6 @@
-use Rattle.std.proofs.Common.{◌≡◌, ◌∙◌, ap, sym}
-use Rattle.step_table.specs.GhostStates.{GhostState, TableInvariant}
+use Rattle.std.proofs.Common.{◌≡◌, None, sym, ap, ◌∙◌}
+use Rattle.step_table.proofs.Prelude.{GhostState, Look, OnCell, TableInvariant}
 use Rattle.step_table.proofs.tables.Standing.{kept_as, kept_now}
-use Rattle.std.specs.Prelude.{None}
-use Rattle.step_table.specs.declared.cell_steps.cell_step.CellStep.TheVariants.{Look}
-use Rattle.step_table.specs.declared.memory.ghost_history.AtomicStep.TheVariants.{OnCell}
 use Rattle.step_table.proofs.tables.Loads.{kept_look}
 use Rattle.step_table.proofs.memory.table.Table.look_cell.Goals as goal
 

@@ -1,10 +1,7 @@
-use Rattle.std.proofs.Common.{◌≡◌, ◌==◌, ◌∙◌, ℕ, ap, length, arith}
-use Rattle.control_word.specs.declared.model.handle.Kind.TheVariants.{Weak}
-use Rattle.step_table.specs.declared.memory.ghost_history.AtomicStep.TheVariants.{Lock}
-use Rattle.std.specs.Prelude.{false}
+use Rattle.std.proofs.Common.{◌≡◌, ℕ, false, length, ◌==◌, ap, ◌∙◌, arith}
+use Rattle.step_table.proofs.Prelude.{GhostState, Lock, TableInvariant, Weak}
 use Rattle.step_table.proofs.tables.Locks.{kept_lock_empty}
 use Rattle.step_table.proofs.tables.Weaks.{none_left}
-use Rattle.step_table.specs.GhostStates.{GhostState, TableInvariant}
 use Rattle.step_table.proofs.tables.Places.{handle_busy, inside, there}
 use Rattle.step_table.proofs.tables.Standing.{found, kept_as, kept_now}
 use Rattle.step_table.proofs.memory.table.Table.look_lock.Goals as goal

@@ -1,7 +1,5 @@
-use Rattle.std.proofs.Common.{◌≡◌, ◌+◌, ◌∙◌, ℕ, ap, length, sym, arith}
-use Rattle.control_word.specs.Layout.{spot}
-use Rattle.step_table.specs.declared.memory.ghost_history.AtomicStep.TheVariants.{Clear}
-use Rattle.step_table.specs.GhostStates.{GhostState, TableInvariant}
+use Rattle.std.proofs.Common.{◌≡◌, ℕ, ◌+◌, length, sym, ap, ◌∙◌, arith}
+use Rattle.step_table.proofs.Prelude.{Clear, GhostState, spot, TableInvariant}
 use Rattle.step_table.proofs.tables.Endings.{kept_clear, member_shows}
 use Rattle.step_table.proofs.tables.Places.{ending_busy, inside, there}
 use Rattle.step_table.proofs.tables.Standing.{found, kept_as, kept_now}

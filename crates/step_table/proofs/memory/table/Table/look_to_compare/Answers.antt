@@ -1,12 +1,9 @@
-use Rattle.std.proofs.Common.{◌≡◌, ◌∙◌, ap, sym}
-use Rattle.control_word.specs.Handles.{equivalent}
-use Rattle.step_table.specs.CellAtomicSteps.{handle_told}
-use Rattle.step_table.specs.GhostStates.{GhostState, TableInvariant, model_state}
+use Rattle.std.proofs.Common.{◌≡◌, is_some, Some, sym, ap, ◌∙◌}
+use Rattle.step_table.proofs.Prelude.{equivalent, GhostState, handle_told, Look, model_state}
+use Rattle.step_table.proofs.Prelude.{OnCell, TableInvariant}
 use Rattle.step_table.proofs.tables.Standing.{kept_as, kept_now}
-use Rattle.std.specs.Prelude.{Some, is_some}
-use Rattle.step_table.specs.declared.cell_steps.cell_step.CellStep.TheVariants.{Look}
-use Rattle.step_table.specs.declared.memory.ghost_history.AtomicStep.TheVariants.{OnCell}
-use Rattle.step_table.proofs.tables.Loads.{is_bare, kept_look_differing, left_none, left_same, ghost_here}
+use Rattle.step_table.proofs.tables.Loads.{is_bare, kept_look_differing, left_none, left_same}
+use Rattle.step_table.proofs.tables.Loads.{ghost_here}
 use Rattle.step_table.proofs.memory.table.Table.look_to_compare.Goals as goal
 
 pub is_same_empty-requires : goal.is_same_empty-requires

@@ -1,8 +1,5 @@
 use Rattle.std.proofs.Common.{◌≡◌, List, [], replicate, sym, subst, rules}
-use Rattle.control_word.specs.declared.model.event.Entry.{Entry}
-use Rattle.control_word.specs.declared.model.view.View.{View}
-use Rattle.control_word.specs.Layout.{table_size}
-use Rattle.step_table.specs.GhostStates.{Nothing, TableInvariant}
+use Rattle.step_table.proofs.Prelude.{Entry, Nothing, table_size, TableInvariant, View}
 use Rattle.step_table.proofs.tables.Start.{kept_start}
 use Rattle.step_table.proofs.memory.table.Table.new.Goals as goal
 

@@ -1,6 +1,5 @@
-use Rattle.std.proofs.Common.{◌≡◌, ℕ, ap, length, arith}
-use Rattle.step_table.specs.declared.memory.ghost_history.AtomicStep.TheVariants.{Prepare}
-use Rattle.step_table.specs.GhostStates.{GhostState}
+use Rattle.std.proofs.Common.{◌≡◌, ℕ, length, ap, arith}
+use Rattle.step_table.proofs.Prelude.{GhostState, Prepare}
 use Rattle.step_table.proofs.tables.Making.{kept_prepare}
 use Rattle.step_table.proofs.tables.Places.{inside, vacant_place}
 use Rattle.step_table.proofs.tables.Standing.{kept_as, kept_now}

@@ -1,7 +1,5 @@
-use Rattle.std.proofs.Common.{◌≡◌, ◌+◌, ◌∙◌, ℕ, Some, ap, get_or, length, arith}
-use Rattle.control_word.specs.Layout.{spot}
-use Rattle.step_table.specs.declared.memory.ghost_history.AtomicStep.TheVariants.{Read}
-use Rattle.step_table.specs.GhostStates.{GhostState, TableInvariant}
+use Rattle.std.proofs.Common.{◌≡◌, ℕ, ◌+◌, length, get_or, Some, ap, ◌∙◌, arith}
+use Rattle.step_table.proofs.Prelude.{GhostState, Read, spot, TableInvariant}
 use Rattle.step_table.proofs.tables.Places.{inside, owner_busy, there}
 use Rattle.step_table.proofs.tables.Reading.{field_read, kept_read}
 use Rattle.step_table.proofs.tables.Standing.{found, kept_as, kept_now}

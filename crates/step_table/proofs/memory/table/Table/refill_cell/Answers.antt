@@ -1,11 +1,7 @@
-use Rattle.std.proofs.Common.{◌≡◌, ◌∙◌, ℕ, ap, get_or, length, sym, arith}
-use Rattle.control_word.specs.Layout.{site_place}
-use Rattle.step_table.specs.declared.memory.extent.Extent.{Extent}
-use Rattle.step_table.specs.GhostStates.{GhostState, TableInvariant}
+use Rattle.std.proofs.Common.{◌≡◌, ℕ, length, get_or, sym, ap, ◌∙◌, arith, eqb-true}
+use Rattle.step_table.proofs.Prelude.{Extent, GhostState, OnCell, Refill, site_place}
+use Rattle.step_table.proofs.Prelude.{TableInvariant}
 use Rattle.step_table.proofs.tables.Standing.{kept_as, kept_now}
-use Rattle.std.proofs.lemmas.Bool.{eqb-true}
-use Rattle.step_table.specs.declared.cell_steps.cell_step.CellStep.TheVariants.{Refill}
-use Rattle.step_table.specs.declared.memory.ghost_history.AtomicStep.TheVariants.{OnCell}
 use Rattle.step_table.proofs.tables.Loads.{kept_refill, refilled}
 use Rattle.step_table.proofs.tables.Shown.{kept_cell, somewhere, word_inside}
 use Rattle.step_table.proofs.memory.table.Table.refill_cell.Goals as goal

@@ -1,5 +1,5 @@
-use Rattle.std.proofs.Common.{◌∙◌, ◌∷◌, [], refl, sym}
-use Rattle.step_table.specs.GhostStates.{object_of_block, model_state}
+use Rattle.std.proofs.Common.{[], ◌∷◌, sym, refl, ◌∙◌}
+use Rattle.step_table.proofs.Prelude.{model_state, object_of_block}
 use Rattle.step_table.proofs.tables.Places.{ending_busy}
 use Rattle.step_table.proofs.tables.Reading.{flags_read, four_of, remains_fields, remains_null}
 use Rattle.step_table.proofs.memory.table.Table.remains.Goals as goal

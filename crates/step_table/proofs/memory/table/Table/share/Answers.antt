@@ -1,7 +1,5 @@
-use Rattle.std.proofs.Common.{◌≡◌, ◌+◌, ℕ, suc, ap, get_or, length, arith}
-use Rattle.control_word.specs.Layout.{spot}
-use Rattle.step_table.specs.declared.memory.ghost_history.AtomicStep.TheVariants.{Share}
-use Rattle.step_table.specs.GhostStates.{GhostState, TableInvariant}
+use Rattle.std.proofs.Common.{◌≡◌, ℕ, suc, ◌+◌, length, get_or, ap, arith}
+use Rattle.step_table.proofs.Prelude.{GhostState, Share, spot, TableInvariant}
 use Rattle.step_table.proofs.tables.Owners.{headroom, kept_share}
 use Rattle.step_table.proofs.tables.Places.{inside, owner_busy, there}
 use Rattle.step_table.proofs.tables.Standing.{found, kept_as, kept_now}

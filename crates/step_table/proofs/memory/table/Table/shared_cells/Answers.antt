@@ -1,6 +1,5 @@
-use Rattle.std.proofs.Common.{◌≡◌, ap, sym, ◌∙◌}
-use Rattle.step_table.specs.declared.memory.extent.Extent.{Extent}
-use Rattle.step_table.specs.GhostStates.{GhostState}
+use Rattle.std.proofs.Common.{◌≡◌, sym, ap, ◌∙◌}
+use Rattle.step_table.proofs.Prelude.{Extent, GhostState}
 use Rattle.step_table.proofs.contained.Told.{shared_is}
 use Rattle.step_table.proofs.memory.table.Table.shared_cells.Goals as goal
 

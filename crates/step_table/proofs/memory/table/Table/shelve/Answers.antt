@@ -1,7 +1,5 @@
 use Rattle.std.proofs.Common.{◌≡◌, ap}
-use Rattle.step_table.specs.declared.memory.ghost_history.AtomicStep.TheVariants.{OnShelf}
-use Rattle.step_table.specs.declared.memory.shelf.ShelfStep.TheVariants.{Shelve}
-use Rattle.step_table.specs.GhostStates.{GhostState, TableInvariant}
+use Rattle.step_table.proofs.Prelude.{GhostState, OnShelf, Shelve, TableInvariant}
 use Rattle.step_table.proofs.tables.Shelf.{kept_shelve}
 use Rattle.step_table.proofs.tables.Standing.{kept_as, kept_now}
 use Rattle.step_table.proofs.memory.table.Table.shelve.Goals as goal

@@ -1,9 +1,8 @@
-use Rattle.std.proofs.Common.{◌≡◌, ◌∙◌, ℕ, ap, length, sym, arith}
-use Rattle.control_word.specs.Layout.{site_place}
-use Rattle.step_table.specs.declared.memory.extent.Extent.{Extent}
-use Rattle.step_table.specs.GhostStates.{GhostState, TableInvariant}
+use Rattle.std.proofs.Common.{◌≡◌, ℕ, length, sym, ap, ◌∙◌, arith}
+use Rattle.step_table.proofs.Prelude.{Extent, GhostState, site_place, TableInvariant}
 use Rattle.step_table.proofs.tables.Standing.{found, kept_now}
-use Rattle.step_table.proofs.tables.Shown.{cell_packed, found_in, kept_cell, somewhere, word_inside}
+use Rattle.step_table.proofs.tables.Shown.{cell_packed, found_in, kept_cell, somewhere}
+use Rattle.step_table.proofs.tables.Shown.{word_inside}
 use Rattle.step_table.proofs.memory.table.Table.shown.Goals as goal
 
 pub site_word-requires : goal.site_word-requires

@@ -1,8 +1,6 @@
-use Rattle.std.proofs.Common.{◌≡◌, ◌+◌, ◌∙◌, ℕ, ap, length, sym, arith}
-use Rattle.step_table.specs.GhostStates.{GhostState, TableInvariant}
+use Rattle.std.proofs.Common.{◌≡◌, ℕ, ◌+◌, length, sym, ap, ◌∙◌, arith}
+use Rattle.step_table.proofs.Prelude.{GhostState, Member, spot, TableInvariant}
 use Rattle.step_table.proofs.tables.Standing.{found, kept_now}
-use Rattle.control_word.specs.Layout.{spot}
-use Rattle.control_word.specs.declared.site.Site.TheVariants.{Member}
 use Rattle.step_table.proofs.tables.Shown.{cell_packed, found_in, somewhere, word_inside}
 use Rattle.step_table.proofs.tables.Swaps.{ending_cell}
 use Rattle.step_table.proofs.memory.table.Table.shown_member.Goals as goal

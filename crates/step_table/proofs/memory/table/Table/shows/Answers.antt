@@ -1,7 +1,5 @@
-use Rattle.std.proofs.Common.{◌≡◌, ◌∙◌, ◌==◌, ℕ, ap, get_or, length, arith}
-use Rattle.control_word.specs.Layout.{site_place}
-use Rattle.step_table.specs.declared.memory.extent.Extent.{Extent}
-use Rattle.step_table.specs.GhostStates.{GhostState, TableInvariant}
+use Rattle.std.proofs.Common.{◌≡◌, ℕ, length, get_or, ◌==◌, ap, ◌∙◌, arith}
+use Rattle.step_table.proofs.Prelude.{Extent, GhostState, site_place, TableInvariant}
 use Rattle.step_table.proofs.tables.Standing.{found, kept_now}
 use Rattle.step_table.proofs.tables.Shown.{kept_cell, somewhere, word_inside}
 use Rattle.step_table.proofs.memory.table.Table.shows.Goals as goal

@@ -1,10 +1,6 @@
-use Rattle.std.proofs.Common.{◌≡◌, ◌∙◌, ℕ, ap, length, arith}
-use Rattle.control_word.specs.Layout.{site_place}
-use Rattle.step_table.specs.declared.memory.extent.Extent.{Extent}
-use Rattle.step_table.specs.GhostStates.{GhostState, TableInvariant}
+use Rattle.std.proofs.Common.{◌≡◌, ℕ, length, ap, ◌∙◌, arith}
+use Rattle.step_table.proofs.Prelude.{Extent, GhostState, OnCell, site_place, Swap, TableInvariant}
 use Rattle.step_table.proofs.tables.Standing.{kept_as, kept_now}
-use Rattle.step_table.specs.declared.cell_steps.cell_step.CellStep.TheVariants.{Swap}
-use Rattle.step_table.specs.declared.memory.ghost_history.AtomicStep.TheVariants.{OnCell}
 use Rattle.step_table.proofs.tables.Shown.{kept_cell, somewhere, word_inside}
 use Rattle.step_table.proofs.tables.Swaps.{kept_swap}
 use Rattle.step_table.proofs.memory.table.Table.swap_cell.Goals as goal

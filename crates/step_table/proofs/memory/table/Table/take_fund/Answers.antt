@@ -1,12 +1,6 @@
-use Rattle.std.proofs.Common.{◌≡◌, ◌+◌, ◌∙◌, ℕ, ap, get_or, length, sym, arith}
-use Rattle.control_word.specs.Layout.{site_place}
-use Rattle.step_table.specs.declared.memory.extent.Extent.{Extent}
-use Rattle.step_table.specs.GhostStates.{GhostState, TableInvariant}
+use Rattle.std.proofs.Common.{◌≡◌, ℕ, ◌+◌, length, get_or, None, sym, ap, ◌∙◌, arith, eqb-true}
+use Rattle.step_table.proofs.Prelude.{Extent, GhostState, OnCell, site_place, TableInvariant, Take}
 use Rattle.step_table.proofs.tables.Standing.{kept_as, kept_now}
-use Rattle.std.specs.Prelude.{None}
-use Rattle.std.proofs.lemmas.Bool.{eqb-true}
-use Rattle.step_table.specs.declared.cell_steps.cell_step.CellStep.TheVariants.{Take}
-use Rattle.step_table.specs.declared.memory.ghost_history.AtomicStep.TheVariants.{OnCell}
 use Rattle.step_table.proofs.tables.Shown.{kept_cell, somewhere, word_inside}
 use Rattle.step_table.proofs.tables.Swaps.{cell_bits_few, kept_take}
 use Rattle.step_table.proofs.memory.table.Table.take_fund.Goals as goal

@@ -1,10 +1,6 @@
-use Rattle.std.proofs.Common.{◌≡◌, ◌+◌, ◌∙◌, ℕ, ap, length, arith}
-use Rattle.step_table.specs.GhostStates.{GhostState, TableInvariant}
+use Rattle.std.proofs.Common.{◌≡◌, ℕ, ◌+◌, length, ap, ◌∙◌, arith}
+use Rattle.step_table.proofs.Prelude.{GhostState, Member, OnCell, spot, TableInvariant, TakeOut}
 use Rattle.step_table.proofs.tables.Standing.{kept_as, kept_now}
-use Rattle.control_word.specs.Layout.{spot}
-use Rattle.control_word.specs.declared.site.Site.TheVariants.{Member}
-use Rattle.step_table.specs.declared.cell_steps.cell_step.CellStep.TheVariants.{TakeOut}
-use Rattle.step_table.specs.declared.memory.ghost_history.AtomicStep.TheVariants.{OnCell}
 use Rattle.step_table.proofs.tables.Shown.{somewhere, word_inside}
 use Rattle.step_table.proofs.tables.Swaps.{ending_cell, kept_take_out}
 use Rattle.step_table.proofs.memory.table.Table.take_out.Goals as goal

@@ -1,12 +1,8 @@
-use Rattle.std.proofs.Common.{◌≡◌, ◌==◌, ◌∙◌, ℕ, suc, ◌+◌, get_or, ap, length, arith}
-use Rattle.control_word.specs.declared.model.handle.Kind.TheVariants.{Owner, Weak}
-use Rattle.step_table.specs.declared.memory.ghost_history.AtomicStep.TheVariants.{Lock}
-use Rattle.std.specs.Prelude.{true}
+use Rattle.std.proofs.Common.{◌≡◌, ℕ, suc, ◌+◌, true, length, get_or, ◌==◌, ap, ◌∙◌, arith}
+use Rattle.step_table.proofs.Prelude.{GhostState, Lock, Owner, spot, TableInvariant, Weak}
 use Rattle.step_table.proofs.tables.Locks.{kept_lock}
 use Rattle.step_table.proofs.tables.Owners.{room_above}
 use Rattle.step_table.proofs.tables.Weaks.{none_left}
-use Rattle.control_word.specs.Layout.{spot}
-use Rattle.step_table.specs.GhostStates.{GhostState, TableInvariant}
 use Rattle.step_table.proofs.tables.Places.{handle_busy, inside, there}
 use Rattle.step_table.proofs.tables.Standing.{found, kept_as, kept_now}
 use Rattle.step_table.proofs.memory.table.Table.try_lock.Goals as goal

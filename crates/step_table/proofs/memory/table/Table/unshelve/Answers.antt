@@ -1,10 +1,6 @@
-use Rattle.std.proofs.Common.{◌≡◌, ◌%◌, ◌==◌, not, cond, ap, ◌∙◌, arith, subst}
-use Rattle.std.specs.Prelude.{bit_and}
-use Rattle.step_table.specs.declared.memory.ghost_history.AtomicStep.TheVariants.{OnShelf}
-use Rattle.step_table.specs.declared.memory.shelf.ShelfStep.TheVariants.{Unshelve, Miss}
-use Rattle.step_table.specs.Openings.{opening}
-use Rattle.step_table.specs.declared.memory.shelf.ShelfStep.{ShelfStep}
-use Rattle.step_table.specs.GhostStates.{GhostState, TableInvariant, history_after, model_state, views_after}
+use Rattle.std.proofs.Common.{◌≡◌, ◌%◌, cond, not, ◌==◌, bit_and, ap, ◌∙◌, subst, arith}
+use Rattle.step_table.proofs.Prelude.{GhostState, history_after, Miss, model_state, OnShelf}
+use Rattle.step_table.proofs.Prelude.{opening, ShelfStep, TableInvariant, Unshelve, views_after}
 use Rattle.control_word.proofs.packing.Bits.{bit_tells}
 use Rattle.step_table.proofs.tables.Shelf.{cleared_words, found_on, kept_unshelve, shown_bit}
 use Rattle.step_table.proofs.tables.Standing.{found, kept_as, kept_now}

@@ -1,7 +1,5 @@
-use Rattle.control_word.specs.declared.model.handle.Kind.TheVariants.{Weak}
-use Rattle.std.proofs.Common.{◌≡◌, ◌==◌, ◌∙◌, ℕ, ap, length, arith}
-use Rattle.step_table.specs.declared.memory.ghost_history.AtomicStep.TheVariants.{WeakLeave}
-use Rattle.step_table.specs.GhostStates.{GhostState, TableInvariant}
+use Rattle.std.proofs.Common.{◌≡◌, ℕ, length, ◌==◌, ap, ◌∙◌, arith}
+use Rattle.step_table.proofs.Prelude.{GhostState, TableInvariant, Weak, WeakLeave}
 use Rattle.step_table.proofs.tables.Owners.{whole_one}
 use Rattle.step_table.proofs.tables.Weaks.{kept_weak_leave, left_vacant, some_handle}
 use Rattle.step_table.proofs.tables.Places.{inside, handle_busy, there}

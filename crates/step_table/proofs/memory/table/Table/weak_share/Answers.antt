@@ -1,8 +1,5 @@
-use Rattle.control_word.specs.declared.model.handle.Kind.TheVariants.{Weak}
-use Rattle.std.proofs.Common.{◌≡◌, ◌+◌, ℕ, suc, ap, get_or, length, arith}
-use Rattle.control_word.specs.Layout.{spot}
-use Rattle.step_table.specs.declared.memory.ghost_history.AtomicStep.TheVariants.{WeakShare}
-use Rattle.step_table.specs.GhostStates.{GhostState, TableInvariant}
+use Rattle.std.proofs.Common.{◌≡◌, ℕ, suc, ◌+◌, length, get_or, ap, arith}
+use Rattle.step_table.proofs.Prelude.{GhostState, spot, TableInvariant, Weak, WeakShare}
 use Rattle.step_table.proofs.tables.Owners.{room_above}
 use Rattle.step_table.proofs.tables.Weaks.{kept_weak_share}
 use Rattle.step_table.proofs.tables.Places.{inside, handle_busy, there}

@@ -1,7 +1,5 @@
-use Rattle.std.proofs.Common.{◌≡◌, ◌+◌, ◌∙◌, ℕ, ap, length, arith}
-use Rattle.control_word.specs.Layout.{spot}
-use Rattle.step_table.specs.declared.memory.ghost_history.AtomicStep.TheVariants.{Write}
-use Rattle.step_table.specs.GhostStates.{GhostState, TableInvariant}
+use Rattle.std.proofs.Common.{◌≡◌, ℕ, ◌+◌, length, ap, ◌∙◌, arith}
+use Rattle.step_table.proofs.Prelude.{GhostState, spot, TableInvariant, Write}
 use Rattle.step_table.proofs.tables.Making.{kept_write}
 use Rattle.step_table.proofs.tables.Places.{inside, making_place}
 use Rattle.step_table.proofs.tables.Standing.{kept_as, kept_now}

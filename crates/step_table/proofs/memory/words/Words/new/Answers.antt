@@ -1,5 +1,5 @@
-use Rattle.std.proofs.Common.{◌≡◌, ℕ, ◌-◌, ◌++◌, List, replicate, ap, rules, ◌∙◌}
-use Rattle.step_table.specs.Filled.{padded}
+use Rattle.std.proofs.Common.{◌≡◌, ℕ, ◌-◌, List, ◌++◌, replicate, ap, ◌∙◌, rules}
+use Rattle.step_table.proofs.Prelude.{padded}
 use Rattle.step_table.proofs.Filled.{none_filled}
 use Rattle.step_table.proofs.memory.words.Words.new.Goals as goal
 

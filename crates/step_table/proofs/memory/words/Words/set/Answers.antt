@@ -1,4 +1,4 @@
-use Rattle.std.proofs.Common.{ℕ, ◌++◌, List, ap, ◌∙◌}
+use Rattle.std.proofs.Common.{ℕ, List, ◌++◌, ap, ◌∙◌}
 use Rattle.step_table.proofs.Filled.{behind_set, filled_set}
 use Rattle.step_table.proofs.memory.words.Words.set.Goals as goal
 

@@ -1,8 +1,6 @@
-use Rattle.std.proofs.Common.{refl, set, sym, subst}
-use Rattle.step_table.specs.declared.slots.slot.Slot.TheVariants.{Full}
+use Rattle.std.proofs.Common.{set, sym, refl, subst}
+use Rattle.step_table.proofs.Prelude.{Full, GhostState, HoldsBag}
 use Rattle.step_table.specs.AtomicSteps.{at_place}
-use Rattle.step_table.specs.Registers.{HoldsBag}
-use Rattle.step_table.specs.GhostStates.{GhostState}
 use Rattle.step_table.proofs.holding.Owning.{has_room, holds_more}
 use Rattle.step_table.proofs.holding.Values.{owner_held}
 use Rattle.step_table.proofs.slots.registers.Registers.alias.Goals as goal

@@ -1,8 +1,5 @@
-use Rattle.std.proofs.Common.{refl, sym, subst}
-use Rattle.step_table.specs.declared.cell_steps.cell_step.CellStep.TheVariants.{Bring}
-use Rattle.step_table.specs.declared.memory.ghost_history.AtomicStep.TheVariants.{OnCell}
-use Rattle.step_table.specs.Registers.{HoldsBag}
-use Rattle.step_table.specs.GhostStates.{GhostState, ghost_after_step}
+use Rattle.std.proofs.Common.{sym, refl, subst}
+use Rattle.step_table.proofs.Prelude.{Bring, ghost_after_step, GhostState, HoldsBag, OnCell}
 use Rattle.step_table.proofs.holding.Owning.{holds_look, slot_held}
 use Rattle.step_table.proofs.slots.registers.Registers.bring.Goals as goal
 

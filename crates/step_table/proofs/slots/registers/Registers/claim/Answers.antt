@@ -1,12 +1,6 @@
-use Rattle.control_word.specs.declared.model.handle.Kind.TheVariants.{Owner}
-use Rattle.std.proofs.Common.{ℕ, set, sym, subst}
-use Rattle.std.specs.Prelude.{Option}
-use Rattle.control_word.specs.declared.place.Place.{Place}
-use Rattle.control_word.specs.Events.{origin}
-use Rattle.control_word.specs.State.{Has, stored}
-use Rattle.step_table.specs.declared.slots.slot.Slot.TheVariants.{Full}
-use Rattle.step_table.specs.Registers.{HoldsBag}
-use Rattle.step_table.specs.GhostStates.{GhostState, model_state}
+use Rattle.std.proofs.Common.{ℕ, set, Option, sym, subst}
+use Rattle.step_table.proofs.Prelude.{Full, GhostState, Has, HoldsBag, model_state, origin, Owner}
+use Rattle.step_table.proofs.Prelude.{Place, stored}
 use Rattle.step_table.proofs.holding.Owning.{has_room, holds_claim}
 use Rattle.step_table.proofs.tables.Places.{making_place, making_stored, named}
 use Rattle.step_table.proofs.slots.registers.Registers.claim.Goals as goal

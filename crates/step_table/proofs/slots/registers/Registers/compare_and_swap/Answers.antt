@@ -1,12 +1,7 @@
-use Rattle.std.proofs.Common.{◌∙◌, Bool, cond, sym, ap, subst, refl}
-use Rattle.std.proofs.lemmas.Bool.{eqb-true, cond-true, cond-false, false≢true}
-use Rattle.step_table.specs.declared.cell_steps.cell_step.CellStep.TheVariants.{CompareSwap}
-use Rattle.step_table.specs.declared.cell_steps.cell_step.Compared.{Compared}
-use Rattle.step_table.specs.declared.memory.ghost_history.AtomicStep.TheVariants.{OnCell}
-use Rattle.step_table.specs.declared.slots.slot.Slot.{Slot}
-use Rattle.step_table.specs.Contents.{held_in, slot_of, slots_swapped}
-use Rattle.step_table.specs.Registers.{HoldsBag}
-use Rattle.step_table.specs.GhostStates.{GhostState, ghost_after_step, model_state}
+use Rattle.std.proofs.Common.{Bool, cond, sym, refl, ap, ◌∙◌, subst, eqb-true}
+use Rattle.step_table.proofs.Prelude.{Compared, CompareSwap, cond-false, cond-true, false≢true}
+use Rattle.step_table.proofs.Prelude.{ghost_after_step, GhostState, held_in, HoldsBag, model_state}
+use Rattle.step_table.proofs.Prelude.{OnCell, Slot, slot_of, slots_swapped}
 use Rattle.step_table.proofs.contained.Coming.{comes, open_found}
 use Rattle.step_table.proofs.contained.Comparing.{alike_in}
 use Rattle.step_table.proofs.contained.Going.{holds_compared}

@@ -1,9 +1,6 @@
-use Rattle.std.proofs.Common.{refl, sym, subst}
+use Rattle.std.proofs.Common.{set, sym, refl, subst}
+use Rattle.step_table.proofs.Prelude.{Full, GhostState, HoldsBag}
 use Rattle.step_table.specs.AtomicSteps.{as_weak}
-use Rattle.step_table.specs.declared.slots.slot.Slot.TheVariants.{Full}
-use Rattle.step_table.specs.Registers.{HoldsBag}
-use Rattle.step_table.specs.GhostStates.{GhostState}
-use Rattle.std.proofs.Common.{set}
 use Rattle.step_table.proofs.holding.Owning.{has_room, holds_more, slot_formed, slot_held}
 use Rattle.step_table.proofs.slots.registers.Registers.downgrade.Goals as goal
 

@@ -1,9 +1,5 @@
-use Rattle.std.proofs.Common.{set, ap, sym, subst, ◌∙◌}
-use Rattle.control_word.specs.declared.handle.Handle.{Handle}
-use Rattle.step_table.specs.declared.slots.slot.Slot.TheVariants.{Full}
-use Rattle.step_table.specs.AtomicSteps.{this_as}
-use Rattle.step_table.specs.Registers.{HoldsBag, Slots}
-use Rattle.step_table.specs.GhostStates.{GhostState}
+use Rattle.std.proofs.Common.{set, sym, ap, ◌∙◌, subst}
+use Rattle.step_table.proofs.Prelude.{Full, GhostState, Handle, HoldsBag, Slots, this_as}
 use Rattle.step_table.proofs.holding.Inside.{holds_give, inside_held}
 use Rattle.step_table.proofs.holding.Owning.{has_room}
 use Rattle.step_table.proofs.slots.registers.Registers.give.Goals as goal

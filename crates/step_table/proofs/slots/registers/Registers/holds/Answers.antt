@@ -1,9 +1,6 @@
-use Rattle.std.proofs.Common.{◌∙◌, refl, sym, ap, subst}
-use Rattle.control_word.specs.declared.packed.cell.CellWord.{CellWord}
-use Rattle.step_table.specs.declared.cell_steps.cell_step.CellStep.TheVariants.{Holds}
-use Rattle.step_table.specs.declared.memory.ghost_history.AtomicStep.TheVariants.{OnCell}
-use Rattle.step_table.specs.Registers.{HoldsBag, slot_value}
-use Rattle.step_table.specs.GhostStates.{GhostState, ghost_after_step}
+use Rattle.std.proofs.Common.{sym, refl, ap, ◌∙◌, subst}
+use Rattle.step_table.proofs.Prelude.{CellWord, ghost_after_step, GhostState, Holds, HoldsBag}
+use Rattle.step_table.proofs.Prelude.{OnCell, slot_value}
 use Rattle.step_table.proofs.contained.Holding.{told_held}
 use Rattle.step_table.proofs.contained.Offered.{goes_in_hand}
 use Rattle.step_table.proofs.holding.Owning.{holds_look}

@@ -1,8 +1,5 @@
-use Rattle.std.proofs.Common.{◌≡◌, ℕ, Option, ap, sym, ◌∙◌}
-use Rattle.std.specs.Prelude.{nat_lt}
-use Rattle.control_word.specs.declared.handle.Handle.{Handle}
-use Rattle.step_table.specs.Registers.{slot_pointer}
-use Rattle.step_table.specs.AtomicSteps.{on}
+use Rattle.std.proofs.Common.{◌≡◌, ℕ, nat_lt, Option, sym, ap, ◌∙◌}
+use Rattle.step_table.proofs.Prelude.{Handle, on, slot_pointer}
 use Rattle.step_table.proofs.holding.Values.{before_by}
 use Rattle.step_table.proofs.slots.registers.Registers.is_before.Goals as goal
 

@@ -1,6 +1,5 @@
-use Rattle.std.proofs.Common.{refl, sym, subst}
-use Rattle.step_table.specs.Registers.{HoldsBag}
-use Rattle.step_table.specs.GhostStates.{GhostState, ghost_after_step}
+use Rattle.std.proofs.Common.{sym, refl, subst}
+use Rattle.step_table.proofs.Prelude.{ghost_after_step, GhostState, HoldsBag}
 use Rattle.step_table.specs.declared.memory.ghost_history.AtomicStep.TheVariants as atomic_step
 use Rattle.step_table.proofs.holding.Owning.{holds_look, slot_held}
 use Rattle.step_table.proofs.slots.registers.Registers.is_expired.Goals as goal

@@ -1,7 +1,6 @@
 use Rattle.std.proofs.Common.{set, sym, subst}
+use Rattle.step_table.proofs.Prelude.{GhostState, HoldsBag, model_state, plain}
 use Rattle.step_table.specs.AtomicSteps.{is_last}
-use Rattle.step_table.specs.Registers.{HoldsBag, plain}
-use Rattle.step_table.specs.GhostStates.{GhostState, model_state}
 use Rattle.step_table.proofs.holding.Owning.{holds_leave, slot_held}
 use Rattle.step_table.proofs.slots.registers.Registers.leave.Goals as goal
 

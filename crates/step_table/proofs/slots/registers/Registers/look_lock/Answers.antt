@@ -1,7 +1,6 @@
-use Rattle.std.proofs.Common.{◌∙◌, ◌==◌, sym, subst}
+use Rattle.std.proofs.Common.{◌==◌, sym, ◌∙◌, subst}
+use Rattle.step_table.proofs.Prelude.{GhostState, HoldsBag, model_state}
 use Rattle.step_table.specs.AtomicSteps.{is_expired}
-use Rattle.step_table.specs.Registers.{HoldsBag}
-use Rattle.step_table.specs.GhostStates.{GhostState, model_state}
 use Rattle.step_table.proofs.holding.Locking.{holds_looked, looked}
 use Rattle.step_table.proofs.holding.Owning.{weak_held}
 use Rattle.step_table.proofs.slots.registers.Registers.look_lock.Goals as goal

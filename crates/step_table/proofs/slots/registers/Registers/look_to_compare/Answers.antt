@@ -1,14 +1,10 @@
-use Rattle.std.proofs.Common.{◌∙◌, sym, ap, subst}
-use Rattle.std.specs.Prelude.{Some, is_some}
-use Rattle.step_table.specs.declared.cell_steps.cell_step.CellStep.TheVariants.{Look}
-use Rattle.step_table.specs.declared.cell_steps.cell_step.Compared.{Compared}
-use Rattle.step_table.specs.declared.memory.ghost_history.AtomicStep.TheVariants.{OnCell}
-use Rattle.step_table.specs.declared.slots.slot.Slot.{Slot}
-use Rattle.step_table.specs.Contents.{as_word, compared_in, differed, held_in, same_value, slot_of}
-use Rattle.step_table.specs.Registers.{HoldsBag, Slots, slot_value}
-use Rattle.step_table.specs.GhostStates.{GhostState, ghost_after_step, model_state}
+use Rattle.std.proofs.Common.{is_some, Some, sym, ap, ◌∙◌, subst}
+use Rattle.step_table.proofs.Prelude.{as_word, Compared, compared_in, differed, ghost_after_step}
+use Rattle.step_table.proofs.Prelude.{GhostState, held_in, HoldsBag, Look, model_state, OnCell}
+use Rattle.step_table.proofs.Prelude.{same_value, Slot, slot_of, slot_value, Slots}
 use Rattle.step_table.proofs.contained.Coming.{comes, open_shown}
-use Rattle.step_table.proofs.contained.Comparing.{done_if, holds_unlike, left_first, left_next, looked_in}
+use Rattle.step_table.proofs.contained.Comparing.{done_if, holds_unlike, left_first, left_next}
+use Rattle.step_table.proofs.contained.Comparing.{looked_in}
 use Rattle.step_table.proofs.contained.Offered.{goes_in_hand}
 use Rattle.step_table.proofs.contained.Told.{shows_seen}
 use Rattle.step_table.proofs.slots.registers.Registers.look_to_compare.Goals as goal

@@ -1,12 +1,7 @@
-use Rattle.std.proofs.Common.{◌∙◌, Bool, cond, set, sym, ap, subst, refl}
-use Rattle.std.proofs.lemmas.Bool.{cond-false, cond-true, false≢true}
-use Rattle.std.specs.Prelude.{None, is_some}
-use Rattle.step_table.specs.declared.cell_steps.cell_step.CellStep.TheVariants.{Look}
-use Rattle.step_table.specs.declared.memory.ghost_history.AtomicStep.TheVariants.{OnCell}
-use Rattle.step_table.specs.declared.slots.slot.Slot.{Slot}
-use Rattle.step_table.specs.Contents.{held_in, slot_of}
-use Rattle.step_table.specs.Registers.{HoldsBag}
-use Rattle.step_table.specs.GhostStates.{GhostState, ghost_after_step, model_state}
+use Rattle.std.proofs.Common.{Bool, cond, set, is_some, None, sym, refl, ap, ◌∙◌, subst}
+use Rattle.step_table.proofs.Prelude.{cond-false, cond-true, false≢true, ghost_after_step}
+use Rattle.step_table.proofs.Prelude.{GhostState, held_in, HoldsBag, Look, model_state, OnCell}
+use Rattle.step_table.proofs.Prelude.{Slot, slot_of}
 use Rattle.step_table.proofs.contained.Coming.{comes, holds_seen, open_shown}
 use Rattle.step_table.proofs.contained.Told.{shows_seen}
 use Rattle.step_table.proofs.slots.registers.Registers.look_to_load.Goals as goal

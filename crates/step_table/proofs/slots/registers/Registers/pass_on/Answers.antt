@@ -1,7 +1,5 @@
-use Rattle.std.proofs.Common.{set, ap, sym, subst}
-use Rattle.std.proofs.lemmas.List.{get_or_read}
-use Rattle.step_table.specs.declared.slots.slot.Slot.{Slot}
-use Rattle.step_table.specs.Registers.{HoldsBag, plain}
+use Rattle.std.proofs.Common.{set, sym, ap, subst}
+use Rattle.step_table.proofs.Prelude.{get_or_read, HoldsBag, plain, Slot}
 use Rattle.step_table.proofs.holding.Owning.{holds_move}
 use Rattle.step_table.proofs.slots.registers.Registers.pass_on.Goals as goal
 

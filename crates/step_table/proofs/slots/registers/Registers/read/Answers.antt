@@ -1,6 +1,5 @@
-use Rattle.std.proofs.Common.{refl, sym, subst}
-use Rattle.step_table.specs.Registers.{HoldsBag}
-use Rattle.step_table.specs.GhostStates.{GhostState}
+use Rattle.std.proofs.Common.{sym, refl, subst}
+use Rattle.step_table.proofs.Prelude.{GhostState, HoldsBag}
 use Rattle.step_table.proofs.holding.Inside.{inside_owned}
 use Rattle.step_table.proofs.holding.Owning.{holds_look}
 use Rattle.step_table.proofs.slots.registers.Registers.read.Goals as goal

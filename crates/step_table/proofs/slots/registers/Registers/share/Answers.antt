@@ -1,8 +1,5 @@
-use Rattle.std.proofs.Common.{sym, subst}
-use Rattle.step_table.specs.declared.slots.slot.Slot.TheVariants.{Full}
-use Rattle.step_table.specs.Registers.{HoldsBag}
-use Rattle.step_table.specs.GhostStates.{GhostState}
-use Rattle.std.proofs.Common.{set}
+use Rattle.std.proofs.Common.{set, sym, subst}
+use Rattle.step_table.proofs.Prelude.{Full, GhostState, HoldsBag}
 use Rattle.step_table.proofs.holding.Owning.{has_room, holds_share, slot_formed, slot_held}
 use Rattle.step_table.proofs.slots.registers.Registers.share.Goals as goal
 

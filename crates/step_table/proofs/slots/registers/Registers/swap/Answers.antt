@@ -1,12 +1,7 @@
-use Rattle.std.proofs.Common.{◌∙◌, set, sym, ap, subst}
-use Rattle.std.proofs.lemmas.List.{get_or_read}
-use Rattle.control_word.specs.declared.packed.cell.CellWord.{CellWord}
-use Rattle.step_table.specs.declared.cell_steps.cell_step.CellStep.TheVariants.{Swap}
-use Rattle.step_table.specs.declared.memory.ghost_history.AtomicStep.TheVariants.{OnCell}
-use Rattle.step_table.specs.declared.slots.slot.Slot.{Slot}
-use Rattle.step_table.specs.Contents.{as_word, held_in, slot_of, slots_swapped}
-use Rattle.step_table.specs.Registers.{HoldsBag, plain}
-use Rattle.step_table.specs.GhostStates.{GhostState, ghost_after_step, model_state}
+use Rattle.std.proofs.Common.{set, sym, ap, ◌∙◌, subst}
+use Rattle.step_table.proofs.Prelude.{as_word, CellWord, get_or_read, ghost_after_step, GhostState}
+use Rattle.step_table.proofs.Prelude.{held_in, HoldsBag, model_state, OnCell, plain, Slot, slot_of}
+use Rattle.step_table.proofs.Prelude.{slots_swapped, Swap}
 use Rattle.step_table.proofs.contained.Coming.{comes, open_shown}
 use Rattle.step_table.proofs.contained.Going.{holds_swapped}
 use Rattle.step_table.proofs.contained.Offered.{goes_in_hand, goes_paid, goes_roomy, goes_valid}

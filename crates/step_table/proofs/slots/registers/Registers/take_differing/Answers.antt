@@ -1,13 +1,7 @@
-use Rattle.std.proofs.Common.{◌∙◌, Bool, cond, sym, ap, subst, refl}
-use Rattle.std.proofs.lemmas.Bool.{eqb-true, cond-true, cond-false, false≢true}
-use Rattle.std.specs.Prelude.{Some}
-use Rattle.step_table.specs.declared.cell_steps.cell_step.CellStep.TheVariants.{Take}
-use Rattle.step_table.specs.declared.cell_steps.cell_step.Compared.{Compared}
-use Rattle.step_table.specs.declared.memory.ghost_history.AtomicStep.TheVariants.{OnCell}
-use Rattle.step_table.specs.declared.slots.slot.Slot.{Slot}
-use Rattle.step_table.specs.Contents.{differed, held_in, slot_of}
-use Rattle.step_table.specs.Registers.{HoldsBag, Slots}
-use Rattle.step_table.specs.GhostStates.{GhostState, ghost_after_step, model_state}
+use Rattle.std.proofs.Common.{Bool, cond, Some, sym, refl, ap, ◌∙◌, subst, eqb-true}
+use Rattle.step_table.proofs.Prelude.{Compared, cond-false, cond-true, differed, false≢true}
+use Rattle.step_table.proofs.Prelude.{ghost_after_step, GhostState, held_in, HoldsBag, model_state}
+use Rattle.step_table.proofs.Prelude.{OnCell, Slot, slot_of, Slots, Take}
 use Rattle.step_table.proofs.contained.Coming.{comes, open_found}
 use Rattle.step_table.proofs.contained.Comparing.{alike_in, holds_differed}
 use Rattle.step_table.proofs.contained.Offered.{goes_in_hand}

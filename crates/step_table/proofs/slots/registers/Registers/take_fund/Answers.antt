@@ -1,12 +1,7 @@
-use Rattle.std.proofs.Common.{◌∙◌, Bool, cond, set, ap, sym, subst, refl}
-use Rattle.std.proofs.lemmas.Bool.{eqb-true, cond-true, cond-false, false≢true}
-use Rattle.std.specs.Prelude.{None}
-use Rattle.step_table.specs.declared.cell_steps.cell_step.CellStep.TheVariants.{Take}
-use Rattle.step_table.specs.declared.memory.ghost_history.AtomicStep.TheVariants.{OnCell}
-use Rattle.step_table.specs.declared.slots.slot.Slot.{Slot}
-use Rattle.step_table.specs.Contents.{held_in, slot_of}
-use Rattle.step_table.specs.Registers.{HoldsBag}
-use Rattle.step_table.specs.GhostStates.{GhostState, ghost_after_step, model_state}
+use Rattle.std.proofs.Common.{Bool, cond, set, None, sym, refl, ap, ◌∙◌, subst, eqb-true}
+use Rattle.step_table.proofs.Prelude.{cond-false, cond-true, false≢true, ghost_after_step}
+use Rattle.step_table.proofs.Prelude.{GhostState, held_in, HoldsBag, model_state, OnCell, Slot}
+use Rattle.step_table.proofs.Prelude.{slot_of, Take}
 use Rattle.step_table.proofs.contained.Coming.{comes, holds_taken, open_found}
 use Rattle.step_table.proofs.holding.Owning.{has_room}
 use Rattle.step_table.proofs.slots.registers.Registers.take_fund.Goals as goal

@@ -1,12 +1,8 @@
-use Rattle.std.proofs.Common.{◌∙◌, set, sym, ap, subst}
-use Rattle.std.proofs.lemmas.Bool.{cond-true}
-use Rattle.std.specs.Prelude.{is_some, not}
-use Rattle.control_word.specs.declared.site.Site.TheVariants.{Member}
-use Rattle.step_table.specs.declared.slots.slot.Slot.{Slot}
-use Rattle.step_table.specs.Contents.{held_in, slot_of}
-use Rattle.step_table.specs.Registers.{HoldsBag}
-use Rattle.step_table.specs.GhostStates.{GhostState, model_state}
-use Rattle.step_table.proofs.contained.Coming.{comes, holds_taken_out, holds_taken_bare, member_found, none_owned}
+use Rattle.std.proofs.Common.{not, set, is_some, sym, ap, ◌∙◌, subst}
+use Rattle.step_table.proofs.Prelude.{cond-true, GhostState, held_in, HoldsBag, Member}
+use Rattle.step_table.proofs.Prelude.{model_state, Slot, slot_of}
+use Rattle.step_table.proofs.contained.Coming.{comes, holds_taken_out, holds_taken_bare}
+use Rattle.step_table.proofs.contained.Coming.{member_found, none_owned}
 use Rattle.step_table.proofs.contained.Told.{shows_seen}
 use Rattle.step_table.proofs.holding.Owning.{has_room}
 use Rattle.step_table.proofs.slots.registers.Registers.take_out.Goals as goal

@@ -1,9 +1,6 @@
-use Rattle.std.proofs.Common.{◌≡◌, ◌∙◌, ◌==◌, cond, set, true, ap, sym, subst, arith, eq-eqb, Bool}
+use Rattle.std.proofs.Common.{◌≡◌, Bool, true, cond, set, ◌==◌, sym, ap, ◌∙◌, subst, arith, eq-eqb}
+use Rattle.step_table.proofs.Prelude.{as_owner, Full, ghost_after_step, GhostState, HoldsBag}
 use Rattle.step_table.specs.declared.memory.ghost_history.AtomicStep.TheVariants as atomic_step
-use Rattle.step_table.specs.AtomicSteps.{as_owner}
-use Rattle.step_table.specs.declared.slots.slot.Slot.TheVariants.{Full}
-use Rattle.step_table.specs.Registers.{HoldsBag}
-use Rattle.step_table.specs.GhostStates.{GhostState, ghost_after_step}
 use Rattle.step_table.proofs.holding.Locking.{holds_tried}
 use Rattle.step_table.proofs.holding.Owning.{has_room, weak_formed, weak_held}
 use Rattle.step_table.proofs.slots.registers.Registers.try_lock.Goals as goal
