@@ -1,17 +1,11 @@
 -- Paths of owners, the other way round.
-use Rattle.std.proofs.Common.{◌≡◌, ◌≢◌, ◌↔◌, inl, inr, ℕ, ◌+◌, ◌==◌, Bool, true, false, List, []}
-use Rattle.std.proofs.Common.{◌∷◌}
-use Rattle.std.proofs.Common.{◌++◌, length}
-use Rattle.std.proofs.Common.{refl, sym, subst, ⊎_elim, arith, eq-eqb, ne_eqb}
-use Rattle.std.specs.Prelude.{◌≤◌, slice_index_or}
-use Rattle.std.proofs.lemmas.Bool.{cases_eq, cond-true, cond-false}
-use Rattle.std.proofs.lemmas.List.Elements.{All-cons, All-head, All-nil, All-tail}
-use Rattle.directed_graph.specs.declared.graph.Edge.{Edge}
-use Rattle.directed_graph.specs.Paths.{AreWithin, HasVertex, IsPath, IsEdgeWithin, MarksReached}
-use Rattle.directed_graph.specs.Paths.{Rows, leading, targets}
-use Rattle.owner_graph.specs.declared.holding.Holding.{Holding}
-use Rattle.owner_graph.specs.Edges.{back_edges, owner_edges}
-use Rattle.owner_graph.specs.Owners.{IsOwnerPath, OwnersLead, Owns}
+use Rattle.std.proofs.Common.{◌≡◌, ℕ, ◌+◌, ◌≤◌, Bool, true, false, ◌≢◌, ◌↔◌, List, [], ◌∷◌, ◌++◌}
+use Rattle.std.proofs.Common.{length, ◌==◌, slice_index_or, sym, refl, subst, inl, inr, ⊎_elim}
+use Rattle.std.proofs.Common.{arith, eq-eqb, ne_eqb}
+use Rattle.owner_graph.proofs.Prelude
+use Prelude.{All-cons, All-head, All-nil, All-tail, AreWithin, back_edges, cases_eq, cond-false}
+use Prelude.{cond-true, Edge, HasVertex, Holding, IsEdgeWithin, IsOwnerPath, IsPath, leading}
+use Prelude.{MarksReached, owner_edges, OwnersLead, Owns, Rows, targets}
 use Rattle.owner_graph.proofs.Owning.{owned, owns}
 
 leading_here : (e : Edge) (es : List Edge) (a : ℕ) → e.from ≡ a

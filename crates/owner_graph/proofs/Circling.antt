@@ -1,18 +1,11 @@
 -- Without an owner within a circle, all its vertices end.
-use Rattle.std.proofs.Common.{◌≡◌, ◌≢◌, ◌↔◌, inl, inr, ℕ, ◌==◌, ◌&&◌, Bool, true, false, true≢false}
-use Rattle.std.proofs.Common.{List, [], ◌∷◌}
-use Rattle.std.proofs.Common.{refl, sym, ap, subst, ◌∙◌, arith, eq-eqb}
-use Rattle.std.specs.Prelude.{◌≤◌, All}
-use Rattle.std.proofs.lemmas.List.Elements.{All-head, All-tail}
+use Rattle.std.proofs.Common.{◌≡◌, ℕ, ◌≤◌, Bool, true, false, ◌&&◌, ◌≢◌, ◌↔◌, List, [], ◌∷◌, ◌==◌}
+use Rattle.std.proofs.Common.{All, sym, refl, ap, ◌∙◌, subst, inl, inr, true≢false, arith, eq-eqb}
+use Rattle.owner_graph.proofs.Prelude.{All-head, All-tail, at, Ended, EndsWhenCut, EndsWithOwners}
+use Rattle.owner_graph.proofs.Prelude.{Holding, IsAmong, IsOwnerPath, KnotsAre, marked, OwnersLead}
+use Rattle.owner_graph.proofs.Prelude.{Owns, same_place, without}
 use Rattle.owner_graph.specs.declared.circles.Circles.{Circles}
-use Rattle.owner_graph.specs.declared.holding.Holding.{Holding}
 use Rattle.owner_graph.specs.Circles.{IsLinked, IsTold}
-use Rattle.owner_graph.specs.Ends.{EndsWhenCut, EndsWithOwners, same_place, without}
-use Rattle.owner_graph.specs.Ends.EndsWithOwners.{Ended}
-use Rattle.owner_graph.specs.Fed.{marked}
-use Rattle.owner_graph.specs.Knots.{KnotsAre}
-use Rattle.owner_graph.specs.Labels.{at}
-use Rattle.owner_graph.specs.Owners.{IsAmong, IsOwnerPath, OwnersLead, Owns}
 use Rattle.owner_graph.proofs.Cutting.{and_then, knot_label, same_knot}
 use Rattle.owner_graph.proofs.Feeding.{owner_among, still_owned}
 use Rattle.owner_graph.proofs.Labelling.{one_then, owned_among}

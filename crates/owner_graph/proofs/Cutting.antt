@@ -1,13 +1,9 @@
 -- Vertices of one knot, and what it ends without.
-use Rattle.std.proofs.Common.{◌≡◌, ◌↔◌, ℕ, Bool, true, false, true≢false, List, [], ◌∷◌}
-use Rattle.std.proofs.Common.{refl, sym, subst, ◌∙◌, arith}
-use Rattle.std.specs.Prelude.{◌≤◌, IsTrue}
-use Rattle.owner_graph.specs.declared.holding.Holding.{Holding}
-use Rattle.owner_graph.specs.Ends.{EndsWithOwners, EndsWithout, without}
-use Rattle.owner_graph.specs.Fed.{marked}
-use Rattle.owner_graph.specs.Knots.{IsLeast, KeepEachOther, KnotsAre}
-use Rattle.owner_graph.specs.Labels.{at}
-use Rattle.owner_graph.specs.Owners.{IsOwnerPath, OwnersLead}
+use Rattle.std.proofs.Common.{◌≡◌, ℕ, ◌≤◌, Bool, true, false, ◌↔◌, List, [], ◌∷◌, IsTrue, sym}
+use Rattle.std.proofs.Common.{refl, ◌∙◌, subst, true≢false, arith}
+use Rattle.owner_graph.proofs.Prelude.{at, EndsWithout, EndsWithOwners, Holding, IsLeast}
+use Rattle.owner_graph.proofs.Prelude.{IsOwnerPath, KeepEachOther, KnotsAre, marked, OwnersLead}
+use Rattle.owner_graph.proofs.Prelude.{without}
 
 module _ (hs : List Holding) where
   further : (a x b : ℕ) (path : List ℕ) → IsOwnerPath hs a path x → OwnersLead hs x b

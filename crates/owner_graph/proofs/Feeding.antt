@@ -1,17 +1,11 @@
 -- Owners that are left where some are weak, one more at a time, and the vertices that they are on.
-use Rattle.std.proofs.Common.{◌≡◌, ◌≢◌, ◌↔◌, inl, inr, ◌⊎◌, ℕ, zero, suc, ◌+◌, ◌<◌, Bool, true}
-use Rattle.std.proofs.Common.{false, true≢false, cond}
-use Rattle.std.proofs.Common.{List, [], ◌∷◌}
-use Rattle.std.proofs.Common.{length, take, get_or, set, length-set}
-use Rattle.std.proofs.Common.{refl, sym, ap, subst, ◌∙◌, arith}
-use Rattle.std.specs.Prelude.{◌≤◌, All, slice_index_or}
-use Rattle.std.proofs.lemmas.Bool.{cases_eq}
-use Rattle.std.proofs.lemmas.List.Elements.{All-head, All-tail}
-use Rattle.owner_graph.specs.declared.holding.Holding.{Holding}
-use Rattle.owner_graph.specs.Ends.{EndsWithOwners, without}
-use Rattle.owner_graph.specs.Ends.EndsWithOwners.{Ended}
-use Rattle.owner_graph.specs.Fed.{Feeds, HaveEnded, IsFed, IsFedBy, Starves, marked, trues}
-use Rattle.owner_graph.specs.Owners.{IsAmong, Owns}
+use Rattle.std.proofs.Common.{◌≡◌, ℕ, zero, suc, ◌+◌, ◌<◌, ◌≤◌, Bool, true, false, cond, ◌≢◌, ◌⊎◌}
+use Rattle.std.proofs.Common.{◌↔◌, List, [], ◌∷◌, length, get_or, take, set, slice_index_or, All}
+use Rattle.std.proofs.Common.{sym, refl, ap, ◌∙◌, subst, inl, inr, true≢false, arith, length-set}
+use Rattle.owner_graph.proofs.Prelude.{All-head, All-tail, cases_eq, Ended, EndsWithOwners}
+use Rattle.owner_graph.proofs.Prelude.{HaveEnded, Holding, IsAmong, IsFed, marked, Owns, trues}
+use Rattle.owner_graph.proofs.Prelude.{without}
+use Rattle.owner_graph.specs.Fed.{Feeds, IsFedBy, Starves}
 
 -- ---- owners that are left
 

@@ -1,19 +1,12 @@
 -- What is found, where it was found by slices of what was found before.
-use Rattle.std.proofs.Common.{◌≡◌, ◌↔◌, ℕ, ◌<◌, Bool, true, List, length, subst}
-use Rattle.std.specs.Prelude.{◌≤◌}
+use Rattle.std.proofs.Common.{◌≡◌, ℕ, ◌<◌, ◌≤◌, Bool, true, ◌↔◌, List, length, subst}
+use Rattle.owner_graph.proofs.Prelude.{AreWeakenings, at, EndsWhenCut, handle_listed, held_in}
+use Rattle.owner_graph.proofs.Prelude.{Holding, is_tie, knot_ties, KnotsAre, labels_of, marked}
+use Rattle.owner_graph.proofs.Prelude.{pairs_at, row_at}
 use Rattle.owner_graph.specs.declared.findings.Findings.{Findings}
-use Rattle.owner_graph.specs.declared.holding.Holding.{Holding}
-use Rattle.owner_graph.specs.Ends.{EndsWhenCut}
-use Rattle.owner_graph.specs.Fed.{marked}
-use Rattle.owner_graph.specs.Findings.{AreFindings, pairs_at}
+use Rattle.owner_graph.specs.Findings.{AreFindings}
 use Rattle.owner_graph.specs.Indices.{IsIndex}
-use Rattle.owner_graph.specs.Knots.{KnotsAre}
-use Rattle.owner_graph.specs.Labels.{at}
 use Rattle.owner_graph.specs.Owners.{IsKept}
-use Rattle.owner_graph.specs.Rows.{handle_listed}
-use Rattle.owner_graph.specs.Rows.{held_in, row_at}
-use Rattle.owner_graph.specs.Ties.{is_tie}
-use Rattle.owner_graph.specs.Weakenings.{AreWeakenings, knot_ties, labels_of}
 
 module _ (vertices : ℕ) (hs : List Holding) (f : Findings) where
   -- which handles are cuts, by what is kept and by knots

@@ -1,16 +1,12 @@
 -- The vertices of knots, as they are listed.
-use Rattle.std.proofs.Common.{◌≡◌, ◌↔◌, inl, inr, ℕ, zero, suc, ◌+◌, ◌==◌, Bool, true, false, cond}
-use Rattle.std.proofs.Common.{List, [], ◌∷◌, ◌++◌, refl, sym, ap, subst, ◌∙◌, arith, eq-eqb}
-use Rattle.std.specs.Prelude.{◌≤◌, All}
-use Rattle.std.proofs.lemmas.Bool.{cases_eq, cond-true}
-use Rattle.std.proofs.lemmas.List.Elements.{All-cons, All-head, All-nil, All-tail}
-use Rattle.owner_graph.specs.declared.holding.Holding.{Holding}
-use Rattle.owner_graph.specs.Ends.{EndsWithOwners, is_weakened, without}
+use Rattle.std.proofs.Common.{◌≡◌, ℕ, zero, suc, ◌+◌, ◌≤◌, Bool, true, false, cond, ◌↔◌, List, []}
+use Rattle.std.proofs.Common.{◌∷◌, ◌++◌, ◌==◌, All, sym, refl, ap, ◌∙◌, subst, inl, inr, arith}
+use Rattle.std.proofs.Common.{eq-eqb}
+use Rattle.owner_graph.proofs.Prelude.{All-cons, All-head, All-nil, All-tail, at, cases_eq}
+use Rattle.owner_graph.proofs.Prelude.{cond-true, EndsWithOwners, held_on, Holding, homes}
+use Rattle.owner_graph.proofs.Prelude.{is_weakened, IsAmong, without}
 use Rattle.owner_graph.specs.declared.weakening.Weakening.TheVariants.{Nobody}
-use Rattle.owner_graph.specs.Labels.{at}
-use Rattle.owner_graph.specs.Members.{home, homes}
-use Rattle.owner_graph.specs.Owners.{IsAmong}
-use Rattle.owner_graph.specs.Rows.{held_on}
+use Rattle.owner_graph.specs.Members.{home}
 
 -- what is so of all of two lists is so of all of the first, and of the second
 pub all_front : {A : Type 0} (P : A → Type 0) (xs ys : List A) → All P (xs ++ ys) → All P xs

@@ -1,11 +1,8 @@
 -- What is to be weak is in the knot.
-use Rattle.std.proofs.Common.{◌≡◌, ◌≢◌, ℕ, ◌==◌, ◌&&◌, ◌||◌, true, List, ap, ◌∙◌, arith, nat_lt}
-use Rattle.std.specs.Prelude.{◌≤◌}
-use Rattle.std.proofs.lemmas.Bool.{and_parts, eqb-true, ltb-true}
-use Rattle.owner_graph.specs.declared.holding.Holding.{Holding}
+use Rattle.std.proofs.Common.{◌≡◌, ℕ, ◌≤◌, true, ◌&&◌, ◌||◌, ◌≢◌, List, nat_lt, ◌==◌, ap, ◌∙◌}
+use Rattle.std.proofs.Common.{arith, ltb-true, eqb-true}
+use Rattle.owner_graph.proofs.Prelude.{and_parts, at, Holding, is_weakened, same_place}
 use Rattle.owner_graph.specs.declared.weakening.Weakening.TheVariants.{Labelled}
-use Rattle.owner_graph.specs.Ends.{is_weakened, same_place}
-use Rattle.owner_graph.specs.Labels.{at}
 
 pub placed_inside : (knots : List ℕ) (t : Holding) (least : ℕ) → 1 ≤ t.from
     → at knots t.from ≡ least → (h : Holding) → same_place h t ≡ true

@@ -1,7 +1,7 @@
 -- Lists one after another, and what a list's elements give, one more at a time.
-use Rattle.std.proofs.Common.{◌≡◌, ℕ, zero, suc, ◌+◌, ◌<◌, List, [], ◌∷◌, ◌++◌, length, take}
-use Rattle.std.proofs.Common.{get_or, refl, sym, ap, ◌∙◌, arith}
-use Rattle.std.specs.List.{flat_map}
+use Rattle.std.proofs.Common.{◌≡◌, ℕ, zero, suc, ◌+◌, ◌<◌, List, [], ◌∷◌, ◌++◌, length, get_or}
+use Rattle.std.proofs.Common.{take, sym, refl, ap, ◌∙◌, arith}
+use Rattle.owner_graph.proofs.Prelude.{flat_map}
 
 pub nil_right : {A : Type 0} → (l : List A) → l ++ [] ≡ l
 nil_right [] = refl

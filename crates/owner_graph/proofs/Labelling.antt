@@ -1,13 +1,9 @@
 -- Labels that pass a look are the least vertices of knots.
-use Rattle.std.proofs.Common.{◌≡◌, ◌≢◌, inl, inr, ◌⊎◌, ℕ, List, [], ◌∷◌, ◌++◌, refl, sym, subst}
-use Rattle.std.proofs.Common.{◌∙◌, arith}
-use Rattle.std.specs.Prelude.{◌≤◌, All}
-use Rattle.std.proofs.lemmas.List.Elements.{All-head, All-tail}
-use Rattle.owner_graph.specs.declared.holding.Holding.{Holding}
-use Rattle.owner_graph.specs.Owners.{IsAmong, IsOwnerPath, OwnersLead, Owns}
-use Rattle.owner_graph.specs.Knots.{IsLeast}
-use Rattle.owner_graph.specs.Labels.{AreInner, AreRanked, InnerStep, at}
-use Rattle.owner_graph.specs.Labels.InnerStep.{Down, Up, Within}
+use Rattle.std.proofs.Common.{◌≡◌, ℕ, ◌≤◌, ◌≢◌, ◌⊎◌, List, [], ◌∷◌, ◌++◌, All, sym, refl, ◌∙◌}
+use Rattle.std.proofs.Common.{subst, inl, inr, arith}
+use Rattle.owner_graph.proofs.Prelude.{All-head, All-tail, AreInner, AreRanked, at, Down, Holding}
+use Rattle.owner_graph.proofs.Prelude.{InnerStep, IsAmong, IsLeast, IsOwnerPath, OwnersLead, Owns}
+use Rattle.owner_graph.proofs.Prelude.{Up, Within}
 use Rattle.owner_graph.proofs.Backwards.{and_on}
 
 -- what is owned is among the vertices

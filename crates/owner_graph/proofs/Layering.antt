@@ -1,16 +1,10 @@
 -- What is ranked ends.
-use Rattle.std.proofs.Common.{◌≡◌, ◌↔◌, inl, inr, ℕ, zero, suc, ◌+◌, ◌<◌, Bool, true, false}
-use Rattle.std.proofs.Common.{true≢false, cond}
-use Rattle.std.proofs.Common.{List, [], ◌∷◌, length, refl, sym, subst, ◌∙◌, arith}
-use Rattle.std.specs.Prelude.{◌≤◌, All}
-use Rattle.std.proofs.lemmas.List.Elements.{All-head, All-tail}
-use Rattle.owner_graph.specs.declared.holding.Holding.{Holding}
-use Rattle.owner_graph.specs.Ends.{EndsWithOwners, without}
-use Rattle.owner_graph.specs.Ends.EndsWithOwners.{Ended}
-use Rattle.owner_graph.specs.Fed.{IsFed, marked}
-use Rattle.owner_graph.specs.Labels.{at}
-use Rattle.owner_graph.specs.Layers.{AllFed, EndsLater}
-use Rattle.owner_graph.specs.Owners.{IsAmong, Owns}
+use Rattle.std.proofs.Common.{◌≡◌, ℕ, zero, suc, ◌+◌, ◌<◌, ◌≤◌, Bool, true, false, cond, ◌↔◌, List}
+use Rattle.std.proofs.Common.{[], ◌∷◌, length, All, sym, refl, ◌∙◌, subst, inl, inr, true≢false}
+use Rattle.std.proofs.Common.{arith}
+use Rattle.owner_graph.proofs.Prelude.{All-head, All-tail, AllFed, at, Ended, EndsWithOwners}
+use Rattle.owner_graph.proofs.Prelude.{Holding, IsAmong, IsFed, marked, Owns, without}
+use Rattle.owner_graph.specs.Layers.{EndsLater}
 use Rattle.owner_graph.proofs.Feeding.{stay_or_end}
 
 -- an owner that is left

@@ -1,3 +1,4 @@
+pub mod Prelude
 pub mod Among
 pub mod Backwards
 pub mod Circling

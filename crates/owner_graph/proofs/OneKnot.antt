@@ -1,20 +1,12 @@
 -- What shows of one knot that it ends where some owners are weak, or that it doesn't.
-use Rattle.std.proofs.Common.{◌≡◌, ◌≢◌, ◌↔◌, inl, inr, ◌⊎◌, ℕ, zero, suc, ◌<◌, ◌==◌, Bool, true}
-use Rattle.std.proofs.Common.{false, true≢false, cond}
-use Rattle.std.proofs.Common.{List, [], ◌∷◌, length, refl, sym, ap, subst, ◌∙◌, arith, eq-eqb}
-use Rattle.std.specs.Prelude.{◌≤◌, All}
-use Rattle.std.proofs.lemmas.Bool.{cases_eq, cond-true, eqb-true}
-use Rattle.std.proofs.lemmas.List.Elements.{All-head, All-tail}
-use Rattle.owner_graph.specs.declared.holding.Holding.{Holding}
-use Rattle.owner_graph.specs.Ends.{EndsWithOwners, EndsWithout, without}
-use Rattle.owner_graph.specs.Ends.EndsWithOwners.{Ended}
-use Rattle.owner_graph.specs.Fed.{marked}
-use Rattle.owner_graph.specs.Knots.{KnotsAre}
-use Rattle.owner_graph.specs.Labels.{at}
-use Rattle.owner_graph.specs.OneKnot.{HasHolder, IsListed, IsWitness, Rises}
-use Rattle.owner_graph.specs.Owners.{IsAmong, OwnersLead, Owns}
-use Rattle.owner_graph.specs.Rows.{handle_listed}
-use Rattle.owner_graph.specs.Rows.{held_on}
+use Rattle.std.proofs.Common.{◌≡◌, ℕ, zero, suc, ◌<◌, ◌≤◌, Bool, true, false, cond, ◌≢◌, ◌⊎◌, ◌↔◌}
+use Rattle.std.proofs.Common.{List, [], ◌∷◌, length, ◌==◌, All, sym, refl, ap, ◌∙◌, subst, inl}
+use Rattle.std.proofs.Common.{inr, true≢false, arith, eq-eqb, eqb-true}
+use Rattle.owner_graph.proofs.Prelude.{All-head, All-tail, at, cases_eq, cond-true, Ended}
+use Rattle.owner_graph.proofs.Prelude.{EndsWithout, EndsWithOwners, handle_listed, held_on}
+use Rattle.owner_graph.proofs.Prelude.{Holding, IsAmong, KnotsAre, marked, OwnersLead, Owns, Rises}
+use Rattle.owner_graph.proofs.Prelude.{without}
+use Rattle.owner_graph.specs.OneKnot.{HasHolder, IsListed, IsWitness}
 use Rattle.owner_graph.proofs.Cutting.{knot_label, same_knot}
 use Rattle.owner_graph.proofs.Feeding.{owner_among, still_owned}
 use Rattle.owner_graph.proofs.Labelling.{one_then, then_one}

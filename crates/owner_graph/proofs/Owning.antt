@@ -1,14 +1,10 @@
 -- Paths of owners are paths in the graph of their edges.
-use Rattle.std.proofs.Common.{◌≡◌, ◌≢◌, ◌↔◌, inl, inr, ℕ, ◌+◌, ◌==◌, Bool, true, false, cond, List}
-use Rattle.std.proofs.Common.{[]}
-use Rattle.std.proofs.Common.{◌∷◌, ◌++◌, length}
-use Rattle.std.proofs.Common.{refl, sym, subst, ⊎_elim, arith, eq-eqb, ne_eqb}
-use Rattle.std.specs.Prelude.{◌≤◌, slice_index_or}
-use Rattle.std.proofs.lemmas.Bool.{cases_eq, cond-true, cond-false}
-use Rattle.directed_graph.specs.Paths.{HasVertex, IsPath, MarksReached, Rows, leading, targets}
-use Rattle.owner_graph.specs.declared.holding.Holding.{Holding}
-use Rattle.owner_graph.specs.Edges.{edge_of, owner_edges}
-use Rattle.owner_graph.specs.Owners.{IsOwnerPath, OwnersLead, Owns}
+use Rattle.std.proofs.Common.{◌≡◌, ℕ, ◌+◌, ◌≤◌, Bool, true, false, cond, ◌≢◌, ◌↔◌, List, [], ◌∷◌}
+use Rattle.std.proofs.Common.{◌++◌, length, ◌==◌, slice_index_or, sym, refl, subst, inl, inr}
+use Rattle.std.proofs.Common.{⊎_elim, arith, eq-eqb, ne_eqb}
+use Rattle.owner_graph.proofs.Prelude.{cases_eq, cond-false, cond-true, edge_of, HasVertex}
+use Rattle.owner_graph.proofs.Prelude.{Holding, IsOwnerPath, IsPath, leading, MarksReached}
+use Rattle.owner_graph.proofs.Prelude.{owner_edges, OwnersLead, Owns, Rows, targets}
 
 -- an edge is an owner
 pub owns : (hs : List Holding) (a b : ℕ) → HasVertex b (leading (owner_edges hs) a) → Owns hs a b

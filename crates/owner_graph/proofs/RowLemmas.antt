@@ -1,14 +1,8 @@
 -- A row gets a handle more.
-use Rattle.std.proofs.Common.{◌≡◌, ◌≢◌, ℕ, zero, suc, ◌+◌, ◌<◌, ◌==◌, Bool, true, false, cond, List}
-use Rattle.std.proofs.Common.{[], ◌∷◌}
-use Rattle.std.proofs.Common.{◌++◌, length, take, get_or, set}
-use Rattle.std.proofs.Common.{refl, sym, ap, subst, ◌∙◌, ⊎_elim, arith, eq-eqb, ne_eqb, length-set}
-use Rattle.std.proofs.Common.{length-append}
-use Rattle.std.proofs.lemmas.Bool.{cases_eq, cond-true, cond-false}
-use Rattle.std.specs.Global.{Vec}
-use Rattle.std.specs.Prelude.{◌≤◌}
-use Rattle.owner_graph.specs.declared.holding.Holding.{Holding}
-use Rattle.owner_graph.specs.Rows.{row_at}
+use Rattle.std.proofs.Common.{◌≡◌, ℕ, zero, suc, ◌+◌, ◌<◌, ◌≤◌, Bool, true, false, cond, ◌≢◌, List}
+use Rattle.std.proofs.Common.{[], ◌∷◌, ◌++◌, length, get_or, take, set, ◌==◌, sym, refl, ap, ◌∙◌}
+use Rattle.std.proofs.Common.{subst, ⊎_elim, arith, length-append, length-set, eq-eqb, ne_eqb}
+use Rattle.owner_graph.proofs.Prelude.{cases_eq, cond-false, cond-true, Holding, row_at, Vec}
 
 none_more : (g : List (Vec Holding)) (row : Vec Holding) → row.items ≡ []
     → ((v : ℕ) → row_at g v ≡ []) → (v : ℕ)

@@ -1,16 +1,12 @@
 -- Steps by which vertices of one label are reached, and what they show.
-use Rattle.std.proofs.Common.{◌≡◌, ◌≢◌, inl, inr, ◌⊎◌, ℕ, zero, suc, ◌+◌, ◌<◌, Bool, true, false}
-use Rattle.std.proofs.Common.{true≢false, ◌↔◌, List, []}
-use Rattle.std.proofs.Common.{◌∷◌, ◌++◌, length, get_or}
-use Rattle.std.proofs.Common.{refl, sym, ap, subst, ◌∙◌, ⊎_elim, arith, length-append}
-use Rattle.std.specs.Prelude.{◌≤◌, All, slice_index_or}
-use Rattle.std.proofs.lemmas.Bool.{cases_eq, cases_lt}
-use Rattle.std.proofs.lemmas.List.Elements.{All-head, All-tail}
-use Rattle.owner_graph.specs.declared.holding.Holding.{Holding}
-use Rattle.owner_graph.specs.Owners.{IsAmong, OwnersLead, Owns}
-use Rattle.owner_graph.specs.Knots.{IsLeast, KeepEachOther, KnotsAre}
-use Rattle.owner_graph.specs.Labels.{AreInner, AreLow, AreRanked, InnerStep, IsRanked, at, step}
-use Rattle.owner_graph.specs.Labels.InnerStep.{Down, Up, Within}
+use Rattle.std.proofs.Common.{◌≡◌, ℕ, zero, suc, ◌+◌, ◌<◌, ◌≤◌, Bool, true, false, ◌≢◌, ◌⊎◌, ◌↔◌}
+use Rattle.std.proofs.Common.{List, [], ◌∷◌, ◌++◌, length, get_or, slice_index_or, All, sym, refl}
+use Rattle.std.proofs.Common.{ap, ◌∙◌, subst, inl, inr, ⊎_elim, true≢false, arith, length-append}
+use Rattle.owner_graph.proofs.Prelude.{All-head, All-tail, AreInner, AreLow, AreRanked, at}
+use Rattle.owner_graph.proofs.Prelude.{cases_eq, Down, Holding, InnerStep, IsAmong, IsLeast}
+use Rattle.owner_graph.proofs.Prelude.{KeepEachOther, KnotsAre, OwnersLead, Owns, Up, Within}
+use Rattle.std.proofs.lemmas.Bool.{cases_lt}
+use Rattle.owner_graph.specs.Labels.{IsRanked, step}
 use Rattle.owner_graph.proofs.Labelling.{is_least, led_among}
 
 owns_end : (xs : List Holding) (h : Holding) (a b : ℕ) → Owns (xs ++ h ∷ []) a b

@@ -1,20 +1,12 @@
 -- Ties, and those of them that are cuts, one more at a time.
-use Rattle.std.proofs.Common.{◌≡◌, ℕ, ◌+◌, ◌<◌, ◌==◌, ◌&&◌, Bool, true, false, cond, not, nat_lt}
-use Rattle.std.proofs.Common.{List, [], ◌∷◌}
-use Rattle.std.proofs.Common.{◌++◌, length, take, get_or}
-use Rattle.std.proofs.Common.{refl, sym, subst, arith}
-use Rattle.std.specs.Prelude.{◌≤◌, All}
-use Rattle.std.proofs.lemmas.Bool.{and_parts, ltb-true}
-use Rattle.std.proofs.lemmas.List.{append-nil, take_more}
-use Rattle.std.proofs.lemmas.List.Elements.{All-push}
-use Rattle.owner_graph.specs.declared.holding.Holding.{Holding}
-use Rattle.owner_graph.specs.Ends.{EndsWhenCut}
-use Rattle.owner_graph.specs.Fed.{marked}
-use Rattle.owner_graph.specs.Knots.{KnotsAre}
-use Rattle.owner_graph.specs.Labels.{at}
-use Rattle.owner_graph.specs.Owners.{IsAmong}
-use Rattle.owner_graph.specs.Ties.{AreCuts, IsTied, is_tie, tie, ties_by}
-use Rattle.owner_graph.specs.Ties.AreCuts.{NoCut, NoTies, OneCut}
+use Rattle.std.proofs.Common.{◌≡◌, ℕ, ◌+◌, ◌<◌, ◌≤◌, Bool, true, false, cond, not, ◌&&◌, List, []}
+use Rattle.std.proofs.Common.{◌∷◌, ◌++◌, length, get_or, take, nat_lt, ◌==◌, All, sym, refl, subst}
+use Rattle.std.proofs.Common.{append-nil, arith, ltb-true}
+use Rattle.owner_graph.proofs.Prelude.{All-push, and_parts, AreCuts, at, EndsWhenCut, Holding}
+use Rattle.owner_graph.proofs.Prelude.{is_tie, IsAmong, IsTied, KnotsAre, marked, NoTies}
+use Rattle.owner_graph.proofs.Prelude.{take_more, ties_by}
+use Rattle.owner_graph.specs.Ties.{tie}
+use Rattle.owner_graph.specs.Ties.AreCuts.{NoCut, OneCut}
 use Rattle.owner_graph.proofs.Labelling.{led_among}
 
 -- the least vertex of a vertex's knot is a vertex

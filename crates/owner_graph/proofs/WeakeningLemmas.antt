@@ -1,23 +1,16 @@
 -- Labels, pairs of them, and those of which something is so, one more at a time.
-use Rattle.std.proofs.Common.{◌≡◌, ℕ, zero, suc, ◌+◌, ◌<◌, ◌==◌, Bool, true, false, cond, List, []}
-use Rattle.std.proofs.Common.{◌∷◌, ◌++◌, length, take, drop, get_or}
-use Rattle.std.proofs.Common.{◌-◌, map, refl, sym, ap, subst, ◌∙◌, append_assoc, arith}
-use Rattle.std.proofs.Common.{length-append, inl, inr, eq-eqb, true≢false}
-use Rattle.std.specs.List.{filter, flat_map, list_any}
-use Rattle.std.specs.Prelude.{◌≤◌}
-use Rattle.std.specs.Global.{Vec}
-use Rattle.std.proofs.lemmas.Bool.{cases_eq, cond-false, cond-true, eqb-true}
-use Rattle.std.proofs.lemmas.List.{append-nil, take_more}
+use Rattle.std.proofs.Common.{◌≡◌, ℕ, zero, suc, ◌+◌, ◌-◌, ◌<◌, ◌≤◌, Bool, true, false, cond, List}
+use Rattle.std.proofs.Common.{[], ◌∷◌, ◌++◌, map, length, get_or, take, drop, ◌==◌, sym, refl, ap}
+use Rattle.std.proofs.Common.{◌∙◌, subst, inl, inr, true≢false, append_assoc, append-nil, arith}
+use Rattle.std.proofs.Common.{length-append, eq-eqb, eqb-true}
+use Rattle.owner_graph.proofs.Prelude.{AreThose, AreWeakenings, cases_eq, cond-false, cond-true}
+use Rattle.owner_graph.proofs.Prelude.{filter, flat_map, held_in, held_on, Holding, homes, is_tie}
+use Rattle.owner_graph.proofs.Prelude.{knot_ties, label_pair, LabelPair, new_labels, NoMore, pairs}
+use Rattle.owner_graph.proofs.Prelude.{pairs_at, row_at, Suffices, take_more, twice, Vec}
+use Rattle.std.specs.List.{list_any}
 use Rattle.std.proofs.lemmas.List.Elements.{filter_more}
-use Rattle.owner_graph.specs.declared.holding.Holding.{Holding}
-use Rattle.owner_graph.specs.declared.weakenings.LabelPair.{LabelPair}
-use Rattle.owner_graph.specs.Findings.{pairs_at}
-use Rattle.owner_graph.specs.Members.{homes}
-use Rattle.owner_graph.specs.Rows.{held_in, held_on, row_at}
-use Rattle.owner_graph.specs.Ties.{is_tie}
-use Rattle.owner_graph.specs.Weakenings.{AreThose, AreWeakenings, Suffices, knot_ties, label_pair}
-use Rattle.owner_graph.specs.Weakenings.{new_labels, pairs, ties_in, twice}
-use Rattle.owner_graph.specs.Weakenings.AreThose.{NoMore, NotOne, OneIs}
+use Rattle.owner_graph.specs.Weakenings.{ties_in}
+use Rattle.owner_graph.specs.Weakenings.AreThose.{NotOne, OneIs}
 use Rattle.owner_graph.specs.Weakenings.AreWeakenings.{NoneIsTold, OneSuffices, TwoSuffice}
 
 -- ---- those of which something is so

@@ -1,5 +1,5 @@
 use Rattle.std.proofs.Common.{◌≡◌, take}
-use Rattle.owner_graph.specs.Edges.{owner_edges}
+use Rattle.owner_graph.proofs.Prelude.{owner_edges}
 use Rattle.owner_graph.proofs.edges.edges_of.Given as goal
 
 abbrev pub invariant-loop-handle : goal.invariant-loop-handle

@@ -1,5 +1,5 @@
 use Rattle.std.proofs.Common.{◌≡◌, take}
-use Rattle.owner_graph.specs.Edges.{back_edges}
+use Rattle.owner_graph.proofs.Prelude.{back_edges}
 use Rattle.owner_graph.proofs.edges.turned_round.Given as goal
 
 abbrev pub invariant-loop-edge : goal.invariant-loop-edge

@@ -1,7 +1,5 @@
-use Rattle.std.proofs.Common.{◌≡◌, ◌↔◌, ◌∙◌, ℕ, Bool, List, false, subst, sym}
-use Rattle.std.specs.Prelude.{◌≤◌}
-use Rattle.owner_graph.specs.Ends.{EndsWithOwners, is_weakened, without}
-use Rattle.owner_graph.specs.Fed.{IsFed, marked}
+use Rattle.std.proofs.Common.{◌≡◌, ℕ, ◌≤◌, Bool, false, ◌↔◌, List, sym, ◌∙◌, subst}
+use Rattle.owner_graph.proofs.Prelude.{EndsWithOwners, is_weakened, IsFed, marked, without}
 use Rattle.owner_graph.proofs.Feeding.{ended_more, stay_or_end}
 use Rattle.owner_graph.proofs.ending.by_rounds.Goals as goal
 

@@ -1,6 +1,5 @@
 use Rattle.std.proofs.Common.{◌≡◌, ◌+◌, length}
-use Rattle.owner_graph.specs.Ends.{is_weakened, without}
-use Rattle.owner_graph.specs.Fed.{HaveEnded, trues}
+use Rattle.owner_graph.proofs.Prelude.{HaveEnded, is_weakened, trues, without}
 use Rattle.owner_graph.proofs.ending.by_rounds.Given as goal
 
 abbrev pub invariant-loop-stays : goal.invariant-loop-stays

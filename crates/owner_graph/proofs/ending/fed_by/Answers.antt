@@ -1,5 +1,5 @@
-use Rattle.std.proofs.Common.{◌∙◌, arith, sym, true≢false}
-use Rattle.owner_graph.specs.Ends.{is_weakened}
+use Rattle.std.proofs.Common.{sym, ◌∙◌, true≢false, arith}
+use Rattle.owner_graph.proofs.Prelude.{is_weakened}
 use Rattle.owner_graph.proofs.Feeding.{fed_more, fed_no_more}
 use Rattle.owner_graph.proofs.ending.fed_by.Goals as goal
 

@@ -1,5 +1,5 @@
 use Rattle.std.proofs.Common.{take}
-use Rattle.owner_graph.specs.Ends.{is_weakened, without}
+use Rattle.owner_graph.proofs.Prelude.{is_weakened, without}
 use Rattle.owner_graph.proofs.Feeding.{AreFed}
 use Rattle.owner_graph.proofs.ending.fed_by.Given as goal
 

@@ -1,7 +1,5 @@
-use Rattle.std.proofs.Common.{◌≡◌, ◌+◌, ◌<◌, arith, false, length}
-use Rattle.owner_graph.specs.Fed.{marked}
-use Rattle.owner_graph.specs.Labels.{at}
-use Rattle.owner_graph.specs.Ends.{is_weakened}
+use Rattle.std.proofs.Common.{◌≡◌, ◌+◌, ◌<◌, false, length, arith}
+use Rattle.owner_graph.proofs.Prelude.{at, is_weakened, marked}
 use Rattle.owner_graph.proofs.Cutting.{all_cut, no_cut}
 use Rattle.owner_graph.proofs.Stepping.{false_at, label_same, next_low, true_at}
 use Rattle.owner_graph.proofs.ending.is_cut.Goals as goal

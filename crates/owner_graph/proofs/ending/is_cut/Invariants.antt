@@ -1,7 +1,5 @@
-use Rattle.std.proofs.Common.{◌≡◌, ℕ, false}
-use Rattle.std.specs.Prelude.{◌≤◌}
-use Rattle.owner_graph.specs.Fed.{marked}
-use Rattle.owner_graph.specs.Labels.{at}
+use Rattle.std.proofs.Common.{◌≡◌, ℕ, ◌≤◌, false}
+use Rattle.owner_graph.proofs.Prelude.{at, marked}
 use Rattle.owner_graph.proofs.ending.is_cut.Given as goal
 
 abbrev pub invariant-loop-before : goal.invariant-loop-before

@@ -1,4 +1,4 @@
-use Rattle.std.proofs.Common.{◌≡◌, ◌<◌, ◌∙◌, Bool, arith, false, get_or, length, subst, sym, true}
+use Rattle.std.proofs.Common.{◌≡◌, ◌<◌, Bool, true, false, length, get_or, sym, ◌∙◌, subst, arith}
 use Rattle.owner_graph.proofs.Feeding.{starved_one}
 use Rattle.owner_graph.proofs.Stepping.{same_at}
 use Rattle.owner_graph.proofs.ending.starve.Goals as goal

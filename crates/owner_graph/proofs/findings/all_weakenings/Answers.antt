@@ -1,7 +1,5 @@
 use Rattle.std.proofs.Common.{◌≡◌, ℕ, List}
-use Rattle.owner_graph.specs.declared.weakenings.LabelPair.{LabelPair}
-use Rattle.owner_graph.specs.Labels.{at}
-use Rattle.owner_graph.specs.Weakenings.{AreWeakenings, knot_ties, labels_of}
+use Rattle.owner_graph.proofs.Prelude.{AreWeakenings, at, knot_ties, LabelPair, labels_of}
 use Rattle.owner_graph.proofs.WeakeningLemmas.{pairs_pushed}
 use Rattle.owner_graph.proofs.findings.all_weakenings.Goals as goal
 

@@ -1,9 +1,6 @@
-use Rattle.std.proofs.Common.{◌≡◌, ◌↔◌, Bool, ℕ, subst, true}
-use Rattle.owner_graph.specs.declared.holding.Holding.{Holding}
-use Rattle.owner_graph.specs.Ends.{EndsWhenCut}
-use Rattle.owner_graph.specs.Labels.{at}
-use Rattle.owner_graph.specs.Rows.{handle_listed, no_handle}
-use Rattle.owner_graph.specs.Ties.{is_tie}
+use Rattle.std.proofs.Common.{◌≡◌, ℕ, Bool, true, ◌↔◌, subst}
+use Rattle.owner_graph.proofs.Prelude.{at, EndsWhenCut, handle_listed, Holding, is_tie}
+use Rattle.owner_graph.specs.Rows.{no_handle}
 use Rattle.owner_graph.proofs.Stepping.{marks_pushed, same_at}
 use Rattle.owner_graph.proofs.findings.cuts_of.Goals as goal
 

@@ -1,9 +1,5 @@
-use Rattle.std.proofs.Common.{◌≡◌, ◌↔◌, ◌<◌, ℕ, length, true}
-use Rattle.owner_graph.specs.Ends.{EndsWhenCut}
-use Rattle.owner_graph.specs.Fed.{marked}
-use Rattle.owner_graph.specs.Labels.{at}
-use Rattle.owner_graph.specs.Rows.{handle_listed}
-use Rattle.owner_graph.specs.Ties.{is_tie}
+use Rattle.std.proofs.Common.{◌≡◌, ℕ, ◌<◌, true, ◌↔◌, length}
+use Rattle.owner_graph.proofs.Prelude.{at, EndsWhenCut, handle_listed, is_tie, marked}
 use Rattle.owner_graph.proofs.findings.cuts_of.Given as goal
 
 abbrev pub invariant-loop-handle : goal.invariant-loop-handle

@@ -1,9 +1,6 @@
-use Rattle.std.proofs.Common.{◌≡◌, ◌∙◌, List, ap, subst}
-use Rattle.std.specs.Global.{Vec}
-use Rattle.owner_graph.specs.declared.holding.Holding.{Holding}
-use Rattle.owner_graph.specs.Members.{homes}
-use Rattle.owner_graph.specs.Rows.{held_on, row_at}
-use Rattle.owner_graph.specs.Weakenings.{AreWeakenings, labels_of}
+use Rattle.std.proofs.Common.{◌≡◌, List, ap, ◌∙◌, subst}
+use Rattle.owner_graph.proofs.Prelude.{AreWeakenings, held_on, Holding, homes, labels_of, row_at}
+use Rattle.owner_graph.proofs.Prelude.{Vec}
 use Rattle.owner_graph.proofs.WeakeningLemmas.{ties_by_rows}
 use Rattle.owner_graph.proofs.findings.weakenings_at.Goals as goal
 

@@ -1,6 +1,5 @@
 use Rattle.std.proofs.Common.{refl}
-use Rattle.owner_graph.specs.declared.holding.Holding.{Holding}
-use Rattle.owner_graph.specs.Rows.{held_in}
+use Rattle.owner_graph.proofs.Prelude.{held_in, Holding}
 use Rattle.owner_graph.proofs.RowLemmas.{held_more}
 use Rattle.owner_graph.proofs.grouping.by_source.Goals as goal
 

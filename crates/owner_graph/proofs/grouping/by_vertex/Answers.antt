@@ -1,6 +1,5 @@
 use Rattle.std.proofs.Common.{refl}
-use Rattle.owner_graph.specs.declared.holding.Holding.{Holding}
-use Rattle.owner_graph.specs.Rows.{held_on}
+use Rattle.owner_graph.proofs.Prelude.{held_on, Holding}
 use Rattle.owner_graph.proofs.RowLemmas.{held_more}
 use Rattle.owner_graph.proofs.grouping.by_vertex.Goals as goal
 

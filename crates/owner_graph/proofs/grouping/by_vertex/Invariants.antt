@@ -1,5 +1,5 @@
-use Rattle.std.proofs.Common.{◌≡◌, ◌+◌, ℕ, length, take}
-use Rattle.owner_graph.specs.Rows.{held_on, row_at}
+use Rattle.std.proofs.Common.{◌≡◌, ℕ, ◌+◌, length, take}
+use Rattle.owner_graph.proofs.Prelude.{held_on, row_at}
 use Rattle.owner_graph.proofs.grouping.by_vertex.Given as goal
 
 abbrev pub invariant-loop-handle : goal.invariant-loop-handle

@@ -1,5 +1,5 @@
 use Rattle.std.proofs.Common.{◌≡◌, ℕ, [], length}
-use Rattle.owner_graph.specs.Rows.{row_at}
+use Rattle.owner_graph.proofs.Prelude.{row_at}
 use Rattle.owner_graph.proofs.grouping.empty_rows.Given as goal
 
 abbrev pub invariant-loop-vertex : goal.invariant-loop-vertex

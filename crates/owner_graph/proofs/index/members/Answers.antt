@@ -1,8 +1,5 @@
-use Rattle.std.proofs.Common.{◌∙◌, List, ap, subst, sym}
-use Rattle.std.specs.Prelude.{All}
-use Rattle.owner_graph.specs.declared.holding.Holding.{Holding}
-use Rattle.owner_graph.specs.Owners.{IsAmong}
-use Rattle.owner_graph.specs.Rows.{held_on}
+use Rattle.std.proofs.Common.{List, All, sym, ap, ◌∙◌, subst}
+use Rattle.owner_graph.proofs.Prelude.{held_on, Holding, IsAmong}
 use Rattle.owner_graph.proofs.TieLemmas.{label_among}
 use Rattle.owner_graph.proofs.index.members.Goals as goal
 

@@ -1,5 +1,5 @@
-use Rattle.std.proofs.Common.{◌≡◌, [], false}
-use Rattle.owner_graph.specs.Fed.{marked}
+use Rattle.std.proofs.Common.{◌≡◌, false, []}
+use Rattle.owner_graph.proofs.Prelude.{marked}
 use Rattle.owner_graph.proofs.Homes.{none_weak}
 use Rattle.owner_graph.proofs.index.stays.Goals as goal
 

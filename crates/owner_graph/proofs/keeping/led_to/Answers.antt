@@ -1,5 +1,6 @@
-use Rattle.std.proofs.Common.{◌+◌, ℕ, subst}
-use Rattle.directed_graph.specs.Paths.{HasRows, MarksReached}
+use Rattle.std.proofs.Common.{ℕ, ◌+◌, subst}
+use Rattle.owner_graph.proofs.Prelude.{MarksReached}
+use Rattle.directed_graph.specs.Paths.{HasRows}
 use Rattle.owner_graph.proofs.keeping.led_to.Goals as goal
 
 pub returns-clause-led : goal.returns-clause-led

@@ -1,5 +1,4 @@
-use Rattle.std.proofs.Common.{◌≡◌, ◌<◌, ◌&&◌, ℕ, false, length}
-use Rattle.std.specs.Prelude.{slice_index_or}
+use Rattle.std.proofs.Common.{◌≡◌, ℕ, ◌<◌, false, ◌&&◌, length, slice_index_or}
 use Rattle.owner_graph.proofs.keeping.marked_twice.Given as goal
 
 abbrev pub invariant-loop-index : goal.invariant-loop-index

@@ -1,6 +1,5 @@
-use Rattle.std.proofs.Common.{◌≡◌, ◌∙◌, List, refl, subst}
-use Rattle.directed_graph.specs.declared.graph.Edge.{Edge}
-use Rattle.owner_graph.specs.Edges.{MarksLed, owner_edges}
+use Rattle.std.proofs.Common.{◌≡◌, List, refl, ◌∙◌, subst}
+use Rattle.owner_graph.proofs.Prelude.{Edge, MarksLed, owner_edges}
 use Rattle.owner_graph.proofs.Owning.{leads}
 use Rattle.owner_graph.proofs.keeping.reached.Goals as goal
 

@@ -1,8 +1,6 @@
-use Rattle.std.proofs.Common.{rules, ◌≡◌, ◌∙◌, ◌+◌, List, refl, subst, sym}
-use Rattle.directed_graph.specs.declared.graph.Edge.{Edge}
+use Rattle.std.proofs.Common.{◌≡◌, ◌+◌, List, sym, refl, ◌∙◌, subst, rules}
+use Rattle.owner_graph.proofs.Prelude.{AreWithin, back_edges, Edge, MarksLed, owner_edges}
 use Rattle.directed_graph.specs.declared.graph.GraphError.TheVariants.{Outside}
-use Rattle.directed_graph.specs.Paths.{AreWithin}
-use Rattle.owner_graph.specs.Edges.{MarksLed, back_edges, owner_edges}
 use Rattle.owner_graph.proofs.Backwards.{led, within_back}
 use Rattle.owner_graph.proofs.keeping.reaching.Goals as goal
 

@@ -1,5 +1,5 @@
-use Rattle.std.proofs.Common.{◌≡◌, ◌∙◌, ℕ, List, ap}
-use Rattle.owner_graph.specs.Labels.{at}
+use Rattle.std.proofs.Common.{◌≡◌, ℕ, List, ap, ◌∙◌}
+use Rattle.owner_graph.proofs.Prelude.{at}
 use Rattle.owner_graph.proofs.Stepping.{at_pushed}
 use Rattle.owner_graph.proofs.labels.labels_of.Goals as goal
 

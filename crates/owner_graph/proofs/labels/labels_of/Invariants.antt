@@ -1,5 +1,5 @@
-use Rattle.std.proofs.Common.{◌≡◌, ◌<◌, ℕ, length}
-use Rattle.owner_graph.specs.Labels.{at}
+use Rattle.std.proofs.Common.{◌≡◌, ℕ, ◌<◌, length}
+use Rattle.owner_graph.proofs.Prelude.{at}
 use Rattle.owner_graph.proofs.labels.labels_of.Given as goal
 
 abbrev pub invariant-loop-vertex : goal.invariant-loop-vertex

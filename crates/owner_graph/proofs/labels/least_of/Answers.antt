@@ -1,5 +1,4 @@
-use Rattle.std.proofs.Common.{◌≡◌, false, arith}
-use Rattle.std.specs.Prelude.{slice_index_or}
+use Rattle.std.proofs.Common.{◌≡◌, false, slice_index_or, arith}
 use Rattle.owner_graph.proofs.Among.{among_within}
 use Rattle.owner_graph.proofs.Stepping.{false_at, least_is, next_low, none_is, true_at}
 use Rattle.owner_graph.proofs.labels.least_of.Goals as goal

@@ -1,11 +1,6 @@
-use Rattle.std.proofs.Common.{◌≡◌, ◌∙◌, List, ap, get_or, refl, subst, sym, true≢false}
-use Rattle.std.specs.Prelude.{All}
-use Rattle.std.specs.Global.{Vec}
-use Rattle.owner_graph.specs.declared.holding.Holding.{Holding}
-use Rattle.owner_graph.specs.Ends.{is_weakened}
-use Rattle.owner_graph.specs.Members.{homes}
-use Rattle.owner_graph.specs.OneKnot.{HasHolder, Rises}
-use Rattle.owner_graph.specs.Rows.{held_on, row_at}
+use Rattle.std.proofs.Common.{◌≡◌, List, get_or, All, sym, refl, ap, ◌∙◌, subst, true≢false}
+use Rattle.owner_graph.proofs.Prelude.{held_on, Holding, homes, is_weakened, Rises, row_at, Vec}
+use Rattle.owner_graph.specs.OneKnot.{HasHolder}
 use Rattle.owner_graph.proofs.Homes.{home_listed}
 use Rattle.owner_graph.proofs.OneKnot.{all_rise, ring_stays}
 use Rattle.owner_graph.proofs.one_knot.ends_without.Goals as goal

@@ -1,10 +1,5 @@
-use Rattle.std.proofs.Common.{◌∙◌, [], List, subst, sym, true≢false}
-use Rattle.std.specs.Prelude.{All}
-use Rattle.std.proofs.lemmas.List.Elements.{All-nil, All-push}
-use Rattle.owner_graph.specs.declared.holding.Holding.{Holding}
-use Rattle.owner_graph.specs.Owners.{IsAmong}
-use Rattle.owner_graph.specs.Ties.{AreCuts}
-use Rattle.owner_graph.specs.Ties.AreCuts.{NoTies}
+use Rattle.std.proofs.Common.{List, [], All, sym, ◌∙◌, subst, true≢false}
+use Rattle.owner_graph.proofs.Prelude.{All-nil, All-push, AreCuts, Holding, IsAmong, NoTies}
 use Rattle.owner_graph.proofs.TieLemmas.{cut_more, cut_no_more}
 use Rattle.owner_graph.proofs.tying.cuts_by.Goals as goal
 

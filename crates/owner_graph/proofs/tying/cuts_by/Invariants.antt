@@ -1,7 +1,5 @@
-use Rattle.std.proofs.Common.{take}
-use Rattle.std.specs.Prelude.{All}
-use Rattle.owner_graph.specs.Owners.{IsAmong}
-use Rattle.owner_graph.specs.Ties.{AreCuts}
+use Rattle.std.proofs.Common.{take, All}
+use Rattle.owner_graph.proofs.Prelude.{AreCuts, IsAmong}
 use Rattle.owner_graph.proofs.tying.cuts_by.Given as goal
 
 abbrev pub invariant-loop-tie : goal.invariant-loop-tie

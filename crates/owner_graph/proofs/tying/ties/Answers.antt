@@ -1,5 +1,5 @@
 use Rattle.std.proofs.Common.{arith}
-use Rattle.owner_graph.specs.Ties.{ties_by}
+use Rattle.owner_graph.proofs.Prelude.{ties_by}
 use Rattle.owner_graph.proofs.Joining.{take_more}
 use Rattle.owner_graph.proofs.TieLemmas.{label_among, tied_more}
 use Rattle.owner_graph.proofs.tying.ties.Goals as goal

@@ -1,9 +1,5 @@
-use Rattle.std.proofs.Common.{◌≡◌, take}
-use Rattle.std.specs.Prelude.{◌≤◌, All}
-use Rattle.std.specs.List.{flat_map}
-use Rattle.owner_graph.specs.declared.holding.Holding.{Holding}
-use Rattle.owner_graph.specs.Owners.{IsAmong}
-use Rattle.owner_graph.specs.Ties.{IsTied, ties_by}
+use Rattle.std.proofs.Common.{◌≡◌, ◌≤◌, take, All}
+use Rattle.owner_graph.proofs.Prelude.{flat_map, Holding, IsAmong, IsTied, ties_by}
 use Rattle.owner_graph.proofs.tying.ties.Given as goal
 
 abbrev pub invariant-loop-handle : goal.invariant-loop-handle

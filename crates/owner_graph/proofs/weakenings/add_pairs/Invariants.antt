@@ -1,5 +1,5 @@
 use Rattle.std.proofs.Common.{◌≡◌, ◌++◌, map, take}
-use Rattle.owner_graph.specs.Weakenings.{label_pair}
+use Rattle.owner_graph.proofs.Prelude.{label_pair}
 use Rattle.owner_graph.proofs.weakenings.add_pairs.Given as goal
 
 abbrev pub invariant-loop-label : goal.invariant-loop-label

@@ -1,5 +1,5 @@
 use Rattle.std.proofs.Common.{sym, ◌∙◌}
-use Rattle.owner_graph.specs.Ties.{is_tie}
+use Rattle.owner_graph.proofs.Prelude.{is_tie}
 use Rattle.owner_graph.proofs.WeakeningLemmas.{passes_more, passes_no_more}
 use Rattle.owner_graph.proofs.weakenings.add_ties.Goals as goal
 

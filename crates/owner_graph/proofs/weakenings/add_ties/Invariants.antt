@@ -1,6 +1,5 @@
 use Rattle.std.proofs.Common.{◌≡◌, ◌++◌, take}
-use Rattle.std.specs.List.{filter}
-use Rattle.owner_graph.specs.Ties.{is_tie}
+use Rattle.owner_graph.proofs.Prelude.{filter, is_tie}
 use Rattle.owner_graph.proofs.weakenings.add_ties.Given as goal
 
 abbrev pub invariant-loop-handle : goal.invariant-loop-handle

@@ -1,8 +1,5 @@
-use Rattle.std.proofs.Common.{◌++◌, ◌∙◌, List, ap}
-use Rattle.std.specs.List.{filter}
-use Rattle.owner_graph.specs.declared.holding.Holding.{Holding}
-use Rattle.owner_graph.specs.Rows.{row_at}
-use Rattle.owner_graph.specs.Ties.{is_tie}
+use Rattle.std.proofs.Common.{List, ◌++◌, ap, ◌∙◌}
+use Rattle.owner_graph.proofs.Prelude.{filter, Holding, is_tie, row_at}
 use Rattle.owner_graph.proofs.Joining.{take_more}
 use Rattle.owner_graph.proofs.weakenings.knot_ties.Goals as goal
 

@@ -1,4 +1,4 @@
-use Rattle.owner_graph.specs.Weakenings.{labels_of}
+use Rattle.owner_graph.proofs.Prelude.{labels_of}
 use Rattle.owner_graph.proofs.WeakeningLemmas.{label_known, label_new}
 use Rattle.owner_graph.proofs.weakenings.labels_of.Goals as goal
 

@@ -1,5 +1,5 @@
 use Rattle.std.proofs.Common.{◌≡◌, ◌++◌, drop}
-use Rattle.owner_graph.specs.Weakenings.{labels_of, new_labels}
+use Rattle.owner_graph.proofs.Prelude.{labels_of, new_labels}
 use Rattle.owner_graph.proofs.weakenings.labels_of.Given as goal
 
 abbrev pub invariant-loop-handle : goal.invariant-loop-handle

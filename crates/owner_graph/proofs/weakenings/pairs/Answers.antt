@@ -1,5 +1,5 @@
 use Rattle.std.proofs.Common.{arith}
-use Rattle.owner_graph.specs.Weakenings.{pairs}
+use Rattle.owner_graph.proofs.Prelude.{pairs}
 use Rattle.owner_graph.proofs.WeakeningLemmas.{pairs_done, pairs_next}
 use Rattle.owner_graph.proofs.weakenings.pairs.Goals as goal
 

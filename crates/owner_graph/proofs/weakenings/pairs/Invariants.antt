@@ -1,5 +1,5 @@
 use Rattle.std.proofs.Common.{◌≡◌, ◌++◌, length}
-use Rattle.owner_graph.specs.Weakenings.{pairs}
+use Rattle.owner_graph.proofs.Prelude.{pairs}
 use Rattle.owner_graph.proofs.weakenings.pairs.Given as goal
 
 abbrev pub invariant-loop-left : goal.invariant-loop-left

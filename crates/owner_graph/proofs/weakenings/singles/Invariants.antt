@@ -1,5 +1,5 @@
 use Rattle.std.proofs.Common.{◌≡◌, map, take}
-use Rattle.owner_graph.specs.Weakenings.{twice}
+use Rattle.owner_graph.proofs.Prelude.{twice}
 use Rattle.owner_graph.proofs.weakenings.singles.Given as goal
 
 abbrev pub invariant-loop-label : goal.invariant-loop-label

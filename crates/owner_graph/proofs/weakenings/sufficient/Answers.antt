@@ -1,7 +1,5 @@
-use Rattle.std.proofs.Common.{[], List, subst, sym, true≢false, ◌∙◌}
-use Rattle.owner_graph.specs.declared.weakenings.LabelPair.{LabelPair}
-use Rattle.owner_graph.specs.Weakenings.{AreThose, Suffices}
-use Rattle.owner_graph.specs.Weakenings.AreThose.{NoMore}
+use Rattle.std.proofs.Common.{List, [], sym, ◌∙◌, subst, true≢false}
+use Rattle.owner_graph.proofs.Prelude.{AreThose, LabelPair, NoMore, Suffices}
 use Rattle.owner_graph.proofs.Inside.{labelled_inside}
 use Rattle.owner_graph.proofs.WeakeningLemmas.{those_more, those_no_more}
 use Rattle.owner_graph.proofs.weakenings.sufficient.Goals as goal

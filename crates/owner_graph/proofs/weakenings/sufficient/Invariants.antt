@@ -1,5 +1,5 @@
 use Rattle.std.proofs.Common.{take}
-use Rattle.owner_graph.specs.Weakenings.{AreThose, Suffices}
+use Rattle.owner_graph.proofs.Prelude.{AreThose, Suffices}
 use Rattle.owner_graph.proofs.weakenings.sufficient.Given as goal
 
 abbrev pub invariant-loop-pair : goal.invariant-loop-pair

@@ -1,5 +1,5 @@
-use Rattle.std.proofs.Common.{◌∙◌, ap, arith, length, map}
-use Rattle.owner_graph.specs.Weakenings.{labels_of, pairs, twice}
+use Rattle.std.proofs.Common.{map, length, ap, ◌∙◌, arith}
+use Rattle.owner_graph.proofs.Prelude.{labels_of, pairs, twice}
 use Rattle.owner_graph.proofs.WeakeningLemmas.{emptied, filled, none_is_told, one_suffices}
 use Rattle.owner_graph.proofs.WeakeningLemmas.{two_suffice}
 use Rattle.owner_graph.proofs.weakenings.weakenings_of.Goals as goal

@@ -1,5 +1,5 @@
-use Rattle.std.proofs.Common.{◌≡◌, ◌≢◌, true}
-use Rattle.owner_graph.specs.Fed.{marked}
+use Rattle.std.proofs.Common.{◌≡◌, true, ◌≢◌}
+use Rattle.owner_graph.proofs.Prelude.{marked}
 use Rattle.owner_graph.proofs.Stepping.{next_below}
 use Rattle.owner_graph.proofs.guesses.layers.are_fed.Goals as goal
 

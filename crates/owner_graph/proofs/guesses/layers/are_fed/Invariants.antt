@@ -1,5 +1,5 @@
-use Rattle.std.proofs.Common.{◌≡◌, ◌≢◌, ◌<◌, ℕ, true}
-use Rattle.owner_graph.specs.Fed.{marked}
+use Rattle.std.proofs.Common.{◌≡◌, ℕ, ◌<◌, true, ◌≢◌}
+use Rattle.owner_graph.proofs.Prelude.{marked}
 use Rattle.owner_graph.proofs.guesses.layers.are_fed.Given as goal
 
 abbrev pub invariant-loop-vertex : goal.invariant-loop-vertex

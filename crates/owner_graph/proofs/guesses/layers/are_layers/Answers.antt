@@ -1,7 +1,5 @@
 use Rattle.std.proofs.Common.{Bool, List, subst}
-use Rattle.owner_graph.specs.Ends.{is_weakened, without}
-use Rattle.owner_graph.specs.Fed.{IsFed}
-use Rattle.owner_graph.specs.Layers.{AllFed}
+use Rattle.owner_graph.proofs.Prelude.{AllFed, is_weakened, IsFed, without}
 use Rattle.owner_graph.proofs.Layering.{layers_end}
 use Rattle.owner_graph.proofs.guesses.layers.are_layers.Goals as goal
 

@@ -1,5 +1,5 @@
-use Rattle.std.proofs.Common.{◌++◌, ◌∙◌, [], ◌∷◌, ap}
-use Rattle.owner_graph.specs.declared.holding.Holding.{Holding}
+use Rattle.std.proofs.Common.{[], ◌∷◌, ◌++◌, ap, ◌∙◌}
+use Rattle.owner_graph.proofs.Prelude.{Holding}
 use Rattle.owner_graph.proofs.Stepping.{ends_more, own_label}
 use Rattle.owner_graph.proofs.looks.looking.add_ends.Goals as goal
 

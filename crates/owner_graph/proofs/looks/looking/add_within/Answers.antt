@@ -1,5 +1,5 @@
-use Rattle.std.proofs.Common.{◌∙◌, ap, sym}
-use Rattle.owner_graph.specs.Labels.{at}
+use Rattle.std.proofs.Common.{sym, ap, ◌∙◌}
+use Rattle.owner_graph.proofs.Prelude.{at}
 use Rattle.owner_graph.proofs.Stepping.{not_zero, within_more}
 use Rattle.owner_graph.proofs.looks.looking.add_within.Goals as goal
 

@@ -1,6 +1,5 @@
 use Rattle.std.proofs.Common.{List, subst}
-use Rattle.owner_graph.specs.declared.holding.Holding.{Holding}
-use Rattle.owner_graph.specs.Owners.{OwnersLead}
+use Rattle.owner_graph.proofs.Prelude.{Holding, OwnersLead}
 use Rattle.owner_graph.proofs.Stepping.{knots_are}
 use Rattle.owner_graph.proofs.looks.looking.are_knots.Goals as goal
 

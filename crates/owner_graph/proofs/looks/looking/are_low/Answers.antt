@@ -1,5 +1,5 @@
-use Rattle.std.specs.Prelude.{◌≤◌}
-use Rattle.owner_graph.specs.Labels.{at}
+use Rattle.std.proofs.Common.{◌≤◌}
+use Rattle.owner_graph.proofs.Prelude.{at}
 use Rattle.owner_graph.proofs.Stepping.{low_at, next_low}
 use Rattle.owner_graph.proofs.looks.looking.are_low.Goals as goal
 

@@ -1,4 +1,4 @@
-use Rattle.owner_graph.specs.Labels.{AreLow}
+use Rattle.owner_graph.proofs.Prelude.{AreLow}
 use Rattle.owner_graph.proofs.looks.looking.are_low.Given as goal
 
 abbrev pub invariant-loop-before : goal.invariant-loop-before

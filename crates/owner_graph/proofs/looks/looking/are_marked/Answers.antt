@@ -1,5 +1,4 @@
-use Rattle.std.proofs.Common.{◌≡◌, ◌+◌, ℕ, true, false, subst}
-use Rattle.std.specs.Prelude.{slice_index_or}
+use Rattle.std.proofs.Common.{◌≡◌, ℕ, ◌+◌, true, false, slice_index_or, subst}
 use Rattle.owner_graph.proofs.Stepping.{next_low}
 use Rattle.owner_graph.proofs.looks.looking.are_marked.Goals as goal
 

@@ -1,5 +1,4 @@
-use Rattle.std.proofs.Common.{◌≡◌, Bool, List, false, subst, true}
-use Rattle.std.specs.Prelude.{slice_index_or}
+use Rattle.std.proofs.Common.{◌≡◌, Bool, true, false, List, slice_index_or, subst}
 use Rattle.owner_graph.proofs.looks.looking.lead_down.Goals as goal
 
 pub returns-in-Ok : goal.returns-in-Ok

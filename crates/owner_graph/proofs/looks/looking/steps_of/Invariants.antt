@@ -1,4 +1,4 @@
-use Rattle.owner_graph.specs.Labels.{AreInner}
+use Rattle.owner_graph.proofs.Prelude.{AreInner}
 use Rattle.owner_graph.proofs.looks.looking.steps_of.Given as goal
 
 abbrev pub invariant-loop-before : goal.invariant-loop-before

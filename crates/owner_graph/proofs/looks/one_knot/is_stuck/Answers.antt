@@ -1,8 +1,6 @@
-use Rattle.std.proofs.Common.{ℕ, subst}
-use Rattle.std.specs.Prelude.{All}
-use Rattle.owner_graph.specs.Ends.{is_weakened}
+use Rattle.std.proofs.Common.{ℕ, All, subst}
+use Rattle.owner_graph.proofs.Prelude.{is_weakened, row_at}
 use Rattle.owner_graph.specs.OneKnot.{HasHolder}
-use Rattle.owner_graph.specs.Rows.{row_at}
 use Rattle.owner_graph.proofs.looks.one_knot.is_stuck.Goals as goal
 
 pub returns-then-has_witness-clause-holders : goal.returns-then-has_witness-clause-holders
