@@ -1,8 +1,7 @@
 -- Tables are absorbed one after the other, the last first.
-use Rattle.std.proofs.Common.{◌≡◌, List, [], ◌∷◌, ◌++◌, append_assoc, ap, refl, subst, sym, ◌∙◌}
-use Rattle.std.proofs.lemmas.List.{append-nil}
-use Rattle.handle_table.specs.Parting.{Absorbs, AbsorbsAll}
-use Rattle.handle_table.specs.Tables.{TableNow}
+use Rattle.std.proofs.Common.{◌≡◌, List, [], ◌∷◌, ◌++◌, sym, refl, ap, ◌∙◌, subst, append_assoc}
+use Rattle.std.proofs.Common.{append-nil}
+use Rattle.handle_table.proofs.Prelude.{Absorbs, AbsorbsAll, TableNow}
 
 module _ {V : Type 0} where
   -- of all tables these are left

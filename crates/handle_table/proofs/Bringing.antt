@@ -1,27 +1,19 @@
 -- What a handle that comes does to a table.
-use Rattle.std.proofs.Common.{◌≡◌, ℕ, List, Option, Some, None, Result, Ok, Err, OnOk, IfErr, IsErr, refl, sym, ap, subst, ◌∙◌}
-use Rattle.control_word.specs.declared.model.handle.NumberedHandle.{NumberedHandle}
+use Rattle.std.proofs.Common.{◌≡◌, ℕ, List, IfErr, OnOk, IsErr, Some, None, Ok, Err, Option}
+use Rattle.std.proofs.Common.{Result, sym, refl, ap, ◌∙◌, subst}
+use Rattle.handle_table.proofs.Prelude
+use Prelude.{Aliases, Arrives, Bears, beside_pile, Block, Brought, Cell, Copies, DeskNow}
+use Prelude.{DomainNow, Downgrades, Ending, FitsSlots, Held, IsAlias, IsBelow, IsCopy, IsLoaded}
+use Prelude.{IsThisOwner, IsThisWeak, IsWeakCopy, IsWhole, LoadsIntoSlot, NumberedHandle, OfHandle}
+use Prelude.{OfOwner, Pile, Place, SharesThis, SharesThisWeakly, Slot, TableNow, Weak, with_handle}
+use Prelude.{with_held}
 use Rattle.control_word.specs.declared.model.handle.Kind.TheVariants as kind
-use Rattle.control_word.specs.declared.place.Block.{Block}
-use Rattle.control_word.specs.declared.place.Place.{Place}
-use Rattle.control_block.specs.CellCalls.{with_handle}
-use Rattle.control_block.specs.Desks.{DeskNow, DomainNow}
-use Rattle.control_block.specs.HandleLists.{with_held}
-use Rattle.control_block.specs.declared.handles.Held.{Held}
-use Rattle.control_block.specs.declared.handles.Held.TheVariants.{Weak}
 use Rattle.control_block.specs.declared.handles.Weak as weak_handle
 use Rattle.shared_handle.specs.Calls.{weak_place}
 use Rattle.shared_handle.specs.Endings.{MayGiveThis}
-use Rattle.shared_handle.specs.Piles.{Bears}
-use Rattle.shared_handle.specs.declared.endings.Ending.{Ending}
-use Rattle.shared_handle.specs.declared.pile.Pile.{Pile}
-use Rattle.handle_table.specs.Bringing.{Arrives, Brought, Coming, FitsInHand, IsAlias, IsLoaded, IsThisOwner, IsThisWeak}
-use Rattle.handle_table.specs.Bringing.{Fills, IsWeakCopy, OfHandle, OfOwner, beside_pile}
-use Rattle.handle_table.specs.Calls.{Comes, Copies, Downgrades, IsBelow, IsCopy}
-use Rattle.handle_table.specs.Cells.{LoadsIntoSlot, SwapsFromSlot}
-use Rattle.handle_table.specs.declared.cells.Cell.{Cell}
-use Rattle.handle_table.specs.This.{Aliases, SharesThis, SharesThisWeakly}
-use Rattle.handle_table.specs.Tables.{FitsSlots, IsWhole, Slot, TableNow}
+use Rattle.handle_table.specs.Bringing.{Coming, FitsInHand, Fills}
+use Rattle.handle_table.specs.Calls.{Comes}
+use Rattle.handle_table.specs.Cells.{SwapsFromSlot}
 use Rattle.handle_table.proofs.Filling.{fits_none, fits_swap}
 
 module _ {V : Type 0} where

@@ -1,30 +1,19 @@
 -- Cells that are open to a desk, and handles by what cells see of them.
-use Rattle.std.proofs.Common.{◌≡◌, ℕ, ◌+◌, ◌<◌, List, Option, Some, refl, sym, ap, subst, ◌∙◌, inl, inr, nat_lt, lt-ltb, le-ltb, arith}
-use Rattle.std.proofs.lemmas.Bool.{cond-true, cond-false}
-use Rattle.std.specs.Prelude.{slice_get, Err, Ok}
+use Rattle.std.proofs.Common.{◌≡◌, ℕ, ◌+◌, ◌<◌, List, nat_lt, slice_get, Some, Ok, Err, Option}
+use Rattle.std.proofs.Common.{sym, refl, ap, ◌∙◌, subst, inl, inr, arith, le-ltb, lt-ltb}
+use Rattle.handle_table.proofs.Prelude
+use Prelude.{Block, block_of_held, Cell, cond-false, cond-true, DeskNow, FitsSlots, Held}
+use Prelude.{HoldsHandle, IsCellAtSite, IsHeldByDesk, IsOpenAt, Kind, kind_of_cell, kind_of_held}
+use Prelude.{Null, NumberedHandle, Outside, Owner, Place, place_of_held, Refusal, Shared, Slot}
+use Prelude.{Weak, with_handle, with_held, without_handle, without_held}
 use Rattle.control_word.specs.State.{kind_of_free, kind_of_member}
-use Rattle.control_word.specs.declared.model.handle.NumberedHandle.{NumberedHandle}
-use Rattle.control_word.specs.declared.model.handle.Kind.{Kind}
 use Rattle.control_word.specs.declared.model.handle.Kind.TheVariants as kind
-use Rattle.control_word.specs.declared.place.Block.{Block}
-use Rattle.control_word.specs.declared.place.Place.{Place}
-use Rattle.control_word.specs.declared.refusal.Refusal.{Refusal}
-use Rattle.control_word.specs.declared.refusal.Refusal.TheVariants.{Null, Outside}
-use Rattle.control_block.specs.CellCalls.{HoldsHandle, IsOpenAt, with_handle, without_handle}
-use Rattle.control_block.specs.Desks.{DeskNow}
-use Rattle.control_block.specs.HandleLists.{IsHeldByDesk, with_held, without_held}
 use Rattle.control_word.specs.declared.site.Site.{Site}
 use Rattle.control_word.specs.declared.site.Site.TheVariants as site
-use Rattle.control_block.specs.declared.handles.Held.{Held}
-use Rattle.control_block.specs.declared.handles.Held.TheVariants.{Owner, Weak}
-use Rattle.control_block.specs.declared.handles.Shared.{Shared}
 use Rattle.atomic_cells.specs.Sites.{IsMember, number_of_member}
 use Rattle.atomic_cells.specs.declared.sites.SharedMember.{SharedMember}
 use Rattle.atomic_cells.specs.declared.sites.SharedMember.TheVariants.{First, Next}
-use Rattle.handle_table.specs.Cells.{IsCellAtSite, OwnsInto, PointsAway, kind_of_cell}
-use Rattle.handle_table.specs.Parts.{kind_of_held, block_of_held, place_of_held}
-use Rattle.handle_table.specs.Tables.{FitsSlots, Slot}
-use Rattle.handle_table.specs.declared.cells.Cell.{Cell}
+use Rattle.handle_table.specs.Cells.{OwnsInto, PointsAway}
 use Rattle.handle_table.specs.declared.cells.Cell.TheVariants as cell
 use Rattle.handle_table.specs.declared.fault.Fault.TheVariants as fault
 use Rattle.handle_table.proofs.Filling.{fits_at}

@@ -1,16 +1,12 @@
 -- What a compare does to the handles that a desk has.
-use Rattle.std.proofs.Common.{◌≡◌, ℕ, zero, suc, ◌+◌, ◌<◌, Bool, true, false, cond, List, [], ◌∷◌, length, set, Some, None}
-use Rattle.std.proofs.Common.{◌∙◌, arith, get_or, refl, sym, ap}
-use Rattle.std.proofs.lemmas.Bool.{cond-true, cond-false}
-use Rattle.std.specs.Prelude.{slice_get}
-use Rattle.control_word.specs.declared.model.handle.Kind.{Kind}
-use Rattle.control_block.specs.CellCalls.{HoldsHandle, without_handle}
-use Rattle.control_block.specs.Desks.{DeskNow, bag_of}
-use Rattle.control_block.specs.HandleLists.{with_held}
+use Rattle.std.proofs.Common.{◌≡◌, ℕ, zero, suc, ◌+◌, ◌<◌, Bool, true, false, cond, List, [], ◌∷◌}
+use Rattle.std.proofs.Common.{length, get_or, set, slice_get, Some, None, sym, refl, ap, ◌∙◌}
+use Rattle.std.proofs.Common.{arith}
+use Rattle.handle_table.proofs.Prelude.{bag_of, block_of_held, cond-false, cond-true, DeskNow}
+use Rattle.handle_table.proofs.Prelude.{FitsSlots, Held, HoldsHandle, Kind, kind_of_held}
+use Rattle.handle_table.proofs.Prelude.{place_of_held, Slot, with_held, without_handle}
 use Rattle.control_block.specs.declared.cell_calls.Content.{Content}
-use Rattle.control_block.specs.declared.handles.Held.{Held}
-use Rattle.handle_table.specs.Parts.{IsContent, kind_of_held, block_of_held, place_of_held}
-use Rattle.handle_table.specs.Tables.{FitsSlots, Slot}
+use Rattle.handle_table.specs.Parts.{IsContent}
 use Rattle.handle_table.proofs.Celled.{by_parts, held_parts, without_named}
 use Rattle.handle_table.proofs.Filling.{fits_at, fits_exchange, fits_more, fits_out}
 

@@ -1,16 +1,10 @@
 -- Tables for a team, and how the desk that has all they leave closes its domain.
-use Rattle.std.proofs.Common.{◌≡◌, ℕ, List, [], ◌∷◌, ◌++◌, ap, refl, subst, sym, ◌∙◌}
-use Rattle.std.proofs.lemmas.List.{nil_from_length}
-use Rattle.control_word.specs.declared.shape.Shape.{Shape}
-use Rattle.control_word.specs.Histories.{IsLegal}
-use Rattle.control_block.specs.Desks.{Belongs, DeskNow, DomainNow, allowance_of, bag_of, endings_of}
-use Rattle.control_block.specs.Parting.{SplitsOff}
-use Rattle.control_block.specs.Rule.{opening_of}
+use Rattle.std.proofs.Common.{◌≡◌, ℕ, List, [], ◌∷◌, ◌++◌, sym, refl, ap, ◌∙◌, subst}
+use Rattle.handle_table.proofs.Prelude.{allowance_of, bag_of, Belongs, CanClose, DeskNow}
+use Rattle.handle_table.proofs.Prelude.{DomainNow, endings_of, FitsSlots, IsLegal, IsPartedInto}
+use Rattle.handle_table.proofs.Prelude.{nil_from_length, opening_of, Shape, SplitsOff, TableNow}
 use Rattle.control_block.specs.Standing.{Standing}
 use Rattle.handle_table.proofs.Filling.{total_one}
-use Rattle.handle_table.specs.Parting.{IsPartedInto}
-use Rattle.handle_table.specs.Programs.{CanClose}
-use Rattle.handle_table.specs.Tables.{FitsSlots, TableNow}
 
 module _ {V : Type 0} where
   -- one table more

@@ -1,18 +1,12 @@
 -- An empty handle came: it is only counted.
-use Rattle.std.proofs.Common.{◌≡◌, ◌+◌, List, ◌∷◌, Option, Some, None, refl, sym, ap, subst}
+use Rattle.std.proofs.Common.{◌≡◌, ◌+◌, List, ◌∷◌, Some, None, Option, sym, refl, ap, subst}
+use Rattle.handle_table.proofs.Prelude.{bag_of, Bears, bears_kept, Block, DeskNow, DomainNow}
+use Rattle.handle_table.proofs.Prelude.{FitsSlots, KeepsEndings, Owner, Pile, Shared, Slot, Weak}
+use Rattle.handle_table.proofs.Prelude.{with_handle}
 use Rattle.control_word.specs.declared.model.handle.Kind.TheVariants as kind
-use Rattle.control_word.specs.declared.place.Block.{Block}
-use Rattle.control_block.specs.CellCalls.{with_handle}
-use Rattle.control_block.specs.Desks.{DeskNow, DomainNow, KeepsEndings, bag_of}
-use Rattle.control_block.specs.declared.handles.Held.TheVariants.{Owner, Weak}
-use Rattle.control_block.specs.declared.handles.Shared.{Shared}
 use Rattle.control_block.specs.declared.handles.Weak as weak_handle
-use Rattle.shared_handle.proofs.Piles.{bears_kept}
 use Rattle.shared_handle.specs.Calls.{counting}
-use Rattle.shared_handle.specs.Piles.{Bears}
-use Rattle.shared_handle.specs.declared.pile.Pile.{Pile}
 use Rattle.handle_table.proofs.Filling.{fits_more}
-use Rattle.handle_table.specs.Tables.{FitsSlots, Slot}
 
 module _ {V : Type 0} where
   keeps_endings : (d : DeskNow V) → KeepsEndings d (counting (d.held + 1) d)

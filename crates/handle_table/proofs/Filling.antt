@@ -1,29 +1,19 @@
 -- Handles go into slots and out of them, and the desk holds just those that are there.
-use Rattle.std.proofs.Common.{◌≡◌, ℕ, zero, suc, ◌+◌, ◌<◌, ◌≤◌, Bool, true, false, cond, List, [], ◌∷◌, ◌++◌, length, set}
-use Rattle.std.proofs.Common.{Option, Some, None}
-use Rattle.std.proofs.Common.{refl, sym, ap, subst, ◌∙◌, ⊎_elim, ◌⊎◌, inl, inr, arith}
-use Rattle.std.specs.Prelude.{slice_get}
+use Rattle.std.proofs.Common.{◌≡◌, ℕ, zero, suc, ◌+◌, ◌<◌, ◌≤◌, Bool, true, false, cond, ◌⊎◌, List}
+use Rattle.std.proofs.Common.{[], ◌∷◌, ◌++◌, length, set, slice_get, Some, None, Option, sym, refl}
+use Rattle.std.proofs.Common.{ap, ◌∙◌, subst, inl, inr, ⊎_elim, arith}
+use Rattle.handle_table.proofs.Prelude
+use Prelude.{AllVacant, as_listed, bag_of, Block, cond-false, cond-true, cond_both, DeskNow}
+use Prelude.{FitsSlots, handle_self, Has, has_object, Held, HoldsHandle, is_filled, IsHeldByDesk}
+use Prelude.{IsPermutation, Kind, NumberedHandle, Owner, Place, same_handle, Slot, slot_worth}
+use Prelude.{total, Weak, with_handle, with_held, without, without_handle, without_held}
 use Rattle.std.specs.List.{sum_by}
-use Rattle.std.specs.List.Sorted.{IsPermutation}
 use Rattle.std.proofs.lemmas.List.Sorted.{sum_by-IsPermutation}
 use Rattle.std.proofs.lemmas.List.Sums.{sum_by-append, sum_by-cons}
-use Rattle.std.proofs.lemmas.Bool.{cond_both, cond-true, cond-false}
-use Rattle.control_word.proofs.lists.Tallies.{same_handle_true, handle_self}
-use Rattle.control_word.specs.Handles.{handle, has_object, same_handle}
-use Rattle.control_word.specs.State.{Has, without}
-use Rattle.control_word.specs.Views.{total}
-use Rattle.control_word.specs.declared.model.handle.NumberedHandle.{NumberedHandle}
-use Rattle.control_word.specs.declared.model.handle.Kind.{Kind}
+use Rattle.control_word.proofs.lists.Tallies.{same_handle_true}
+use Rattle.control_word.specs.Handles.{handle}
 use Rattle.control_word.specs.declared.model.handle.Kind.TheVariants as kind
-use Rattle.control_word.specs.declared.place.Block.{Block}
-use Rattle.control_word.specs.declared.place.Place.{Place}
-use Rattle.control_block.specs.CellCalls.{HoldsHandle, with_handle, without_handle}
-use Rattle.control_block.specs.Desks.{DeskNow, bag_of}
-use Rattle.control_block.specs.HandleLists.{IsHeldByDesk, with_held, without_held}
-use Rattle.control_block.specs.Parting.{as_listed, number_of_block}
-use Rattle.control_block.specs.declared.handles.Held.{Held}
-use Rattle.control_block.specs.declared.handles.Held.TheVariants.{Owner, Weak}
-use Rattle.handle_table.specs.Tables.{AllVacant, FitsSlots, Slot, is_filled, slot_worth}
+use Rattle.control_block.specs.Parting.{number_of_block}
 
 -- one slot changes
 module _ {A : Type 0} (w : A → ℕ) where

@@ -1,24 +1,18 @@
 -- The slots from a number on go over to another desk: what a split asks of them, and what both desks hold then.
-use Rattle.std.proofs.Common.{◌≡◌, ℕ, zero, suc, ◌+◌, ◌-◌, ◌≤◌, Bool, cond, List, [], ◌∷◌, ◌++◌, drop, length, replicate, take}
-use Rattle.std.proofs.Common.{Some, None}
-use Rattle.std.proofs.Common.{refl, sym, ap, subst, ◌∙◌, arith}
-use Rattle.std.proofs.lemmas.Bool.{cond_both, cond-true}
-use Rattle.std.proofs.lemmas.List.{append-nil, drop-replicate, drop_all, length-drop, take-append-drop, take-replicate, take_all, take_at}
+use Rattle.std.proofs.Common.{◌≡◌, ℕ, zero, suc, ◌+◌, ◌-◌, ◌≤◌, Bool, cond, List, [], ◌∷◌, ◌++◌}
+use Rattle.std.proofs.Common.{length, take, drop, replicate, Some, None, sym, refl, ap, ◌∙◌, subst}
+use Rattle.std.proofs.Common.{append-nil, arith, length-drop, take-append-drop, take_all, take_at}
+use Rattle.handle_table.proofs.Prelude
+use Prelude.{AllVacant, as_listed, bag_of, Bears, bears_kept, Belongs, cond-true, cond_both}
+use Prelude.{DeskNow, DomainNow, endings_of, FitsSlots, handle_self, handles_from, handles_in, Has}
+use Prelude.{has_object, HoldsAll, is_filled, IsWhole, listed, NumberedHandle, Pile, same_handle}
+use Prelude.{Slot, slot_worth, SplitsOff, total, without, without_all}
+use Rattle.std.proofs.lemmas.List.{drop-replicate, drop_all, take-replicate}
 use borrow.Rule.Slice.PartMut.{put_mid}
-use Rattle.control_word.proofs.lists.Tallies.{handle_self}
-use Rattle.control_word.specs.Handles.{has_object, same_handle}
-use Rattle.control_word.specs.State.{Has, without}
-use Rattle.control_word.specs.Views.{total}
-use Rattle.control_word.specs.declared.model.handle.NumberedHandle.{NumberedHandle}
-use Rattle.control_block.specs.Desks.{Belongs, DeskNow, DomainNow, bag_of, endings_of}
-use Rattle.control_block.specs.Parting.{AreIn, HoldsAll, SplitsOff, as_listed, listed, without_all}
-use Rattle.control_block.specs.SlotLists.{handles_in}
-use Rattle.shared_handle.proofs.Piles.{bears_kept}
-use Rattle.shared_handle.specs.Piles.{Bears}
-use Rattle.shared_handle.specs.declared.pile.Pile.{Pile}
-use Rattle.handle_table.proofs.Filling.{counted_has, one_like, spread_one, total_one, total_without, vacant_filled, vacant_worth}
-use Rattle.handle_table.specs.Parting.{HandsOver, handles_from}
-use Rattle.handle_table.specs.Tables.{AllVacant, FitsSlots, IsWhole, Slot, is_filled, slot_worth}
+use Rattle.control_block.specs.Parting.{AreIn}
+use Rattle.handle_table.proofs.Filling.{counted_has, one_like, spread_one, total_one}
+use Rattle.handle_table.proofs.Filling.{total_without, vacant_filled, vacant_worth}
+use Rattle.handle_table.specs.Parting.{HandsOver}
 
 -- what is listed of the slots
 listed_total : (f : NumberedHandle → ℕ) (r : List Slot) → total f (listed (handles_in r)) ≡ total (slot_worth f) r

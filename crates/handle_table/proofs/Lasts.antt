@@ -1,19 +1,10 @@
 -- A fault of a slot, or of a cell, is no refusal of a call for want of allowance.
-use Rattle.std.proofs.Common.{◌≡◌, ◌∙◌, ℕ, List, Ok, Err, Result, IfErr, inl, inr, sym, subst}
-use Rattle.control_word.specs.declared.model.handle.Kind.{Kind}
+use Rattle.std.proofs.Common.{◌≡◌, ℕ, List, IfErr, Ok, Err, Result, sym, ◌∙◌, subst, inl, inr}
+use Rattle.handle_table.proofs.Prelude.{Arrives, Cell, DeskNow, Ending, Fault, Held, Kind, Limit}
+use Rattle.handle_table.proofs.Prelude.{LimitLast, Shape, Slot, WhyNoCell, WhyNoHandle, WhyNoneOf}
+use Rattle.handle_table.proofs.Prelude.{WhyNoObject, WhyNoOwner, WhyNoWeak}
 use Rattle.control_word.specs.declared.model.handle.Kind.TheVariants as kind
-use Rattle.control_word.specs.declared.refusal.Refusal.TheVariants.{Limit}
-use Rattle.control_word.specs.declared.shape.Shape.{Shape}
-use Rattle.control_block.specs.Desks.{DeskNow}
-use Rattle.control_block.specs.declared.handles.Held.{Held}
-use Rattle.shared_handle.specs.declared.endings.Ending.{Ending}
-use Rattle.handle_table.specs.Bringing.{Arrives}
-use Rattle.handle_table.specs.Calls.{LimitLast, WhyNoHandle, WhyNoOwner, WhyNoWeak}
-use Rattle.handle_table.specs.Cells.{WhyNoCell, WhyNoObject, WhyNoneOf}
-use Rattle.handle_table.specs.Tables.{Slot}
-use Rattle.handle_table.specs.declared.cells.Cell.{Cell}
 use Rattle.handle_table.specs.declared.cells.Cell.TheVariants as cell
-use Rattle.handle_table.specs.declared.fault.Fault.{Fault}
 use Rattle.handle_table.specs.declared.fault.Fault.TheVariants as fault
 
 module _ (ss : List Slot) (i : ℕ) (why : Fault) where

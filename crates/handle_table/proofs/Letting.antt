@@ -1,17 +1,13 @@
 -- Handles leave their slots one after the other, the last first.
-use Rattle.std.proofs.Common.{◌≡◌, ◌+◌, List, [], ◌∷◌, ◌++◌, None, Some, append_assoc, ap, refl, subst, sym, ◌∙◌}
-use Rattle.std.proofs.lemmas.List.{append-nil}
-use Rattle.control_block.specs.Desks.{DeskNow, DomainNow, allowance_of, bag_of}
-use Rattle.control_block.specs.HandleLists.{IsHeldByDesk, without_held}
-use Rattle.control_block.specs.declared.handles.Held.{Held}
-use Rattle.shared_handle.specs.Piles.{Bears}
+use Rattle.std.proofs.Common.{◌≡◌, ◌+◌, List, [], ◌∷◌, ◌++◌, Some, None, sym, refl, ap, ◌∙◌, subst}
+use Rattle.std.proofs.Common.{append_assoc, append-nil}
+use Rattle.handle_table.proofs.Prelude.{allowance_of, bag_of, Bears, DeskNow, DomainNow, FitsSlots}
+use Rattle.handle_table.proofs.Prelude.{Held, IsHeldByDesk, on_pile, Pile, Slot, without_held}
 use Rattle.shared_handle.specs.declared.pile.Gone.{Gone}
-use Rattle.shared_handle.specs.declared.pile.Pile.{Pile}
 use Rattle.handle_table.proofs.Filling.{fits_at, fits_less, fits_none}
 use Rattle.handle_table.proofs.Wholes.{last_out}
 use Rattle.handle_table.specs.Calls.{LetsGo}
 use Rattle.handle_table.specs.Parting.{LeaveSlots}
-use Rattle.handle_table.specs.Tables.{FitsSlots, Slot, on_pile}
 
 longer : (all rest now out : List Slot) (x y : Slot) → all ≡ now ++ out → now ≡ rest ++ x ∷ [] → x ≡ y → all ≡ rest ++ (y ∷ out)
 longer all rest now out x y parts is same =

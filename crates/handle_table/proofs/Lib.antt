@@ -1,3 +1,4 @@
+pub mod Prelude
 pub mod Slotted
 pub mod Filling
 pub mod Wholes

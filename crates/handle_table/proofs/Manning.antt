@@ -1,22 +1,18 @@
 -- Workers and tables that are put together and taken apart from the ends of their lists, and what each worker did.
-use Rattle.std.proofs.Common.{◌≡◌, inl, inr, ◌↔◌, ℕ, suc, ◌<◌, IfOk, Option, None, IfNone, Result, Ok, Err, List, [], ◌∷◌}
-use Rattle.std.proofs.Common.{◌++◌, length, map, reverse, ap, sym, ◌∙◌, subst, arith, refl}
-use Rattle.std.specs.Prelude.{All, slice_index_or}
+use Rattle.std.proofs.Common.{◌≡◌, ℕ, suc, ◌<◌, ◌↔◌, List, [], ◌∷◌, ◌++◌, map, reverse, length}
+use Rattle.std.proofs.Common.{IfNone, IfOk, slice_index_or, None, Ok, Err, All, Option, Result}
+use Rattle.std.proofs.Common.{sym, refl, ap, ◌∙◌, subst, inl, inr, append_assoc, append-nil, arith}
+use Rattle.handle_table.proofs.Prelude.{AbsorbsAll, Belongs, CanClose, DeskNow, DomainNow}
+use Rattle.handle_table.proofs.Prelude.{EachDoes, IsNew, IsPartedInto, IsRefusedPart, NotSole}
+use Rattle.handle_table.proofs.Prelude.{Refusal, reverse-append, Shape, Share, StaffsIn, TableNow}
+use Rattle.handle_table.proofs.Prelude.{WorkerRelation}
 use Rattle.std.specs.List.{AllZip}
-use Rattle.std.proofs.lemmas.List.{append-nil, append_assoc, length-map, length-reverse, map-append, reverse-append}
+use Rattle.std.proofs.lemmas.List.{length-map, length-reverse, map-append}
 use Rattle.std.proofs.lemmas.List.Elements.{AllZip-push, length_all_zip}
 use Rattle.control_word.specs.Layout.{IsWithinLimits}
-use Rattle.control_word.specs.declared.refusal.Refusal.{Refusal}
-use Rattle.control_word.specs.declared.refusal.Refusal.TheVariants.{Memory, NotSole}
 use Rattle.control_word.specs.declared.refusal.Refusal.TheVariants as refusal
-use Rattle.control_word.specs.declared.shape.Shape.{Shape}
-use Rattle.control_block.specs.Desks.{Belongs, DeskNow, DomainNow}
-use Rattle.handle_table.specs.Parting.{AbsorbsAll, IsNew, IsPartedInto, IsRefusedPart}
-use Rattle.handle_table.specs.Programs.{CanClose}
-use Rattle.handle_table.specs.Staffs.{WorkerRelation, EachDoes, Staffs, StaffsIn, StaffsOpen, StaffsOrNot}
+use Rattle.handle_table.specs.Staffs.{Staffs, StaffsOpen, StaffsOrNot}
 use Rattle.handle_table.specs.Openings.{GoesOn}
-use Rattle.handle_table.specs.Tables.{TableNow}
-use Rattle.handle_table.specs.declared.staff.Share.{Share}
 
 -- a list from its end
 turned : {X B : Type 0} (f : X → B) (xs : List X) (x : X) → reverse (map f (xs ++ x ∷ [])) ≡ f x ∷ reverse (map f xs)

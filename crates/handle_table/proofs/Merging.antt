@@ -1,29 +1,19 @@
 -- Two tables become one.
-use Rattle.std.proofs.Common.{◌≡◌, ℕ, zero, suc, ◌+◌, ◌<◌, ◌≤◌, List, [], ◌∷◌, ◌++◌, length, set, Some, None}
-use Rattle.std.proofs.Common.{refl, sym, ap, subst, ◌∙◌, arith, length-append}
-use Rattle.std.specs.Prelude.{slice_get, vec_capacity}
-use Rattle.std.specs.List.Sorted.{IsPermutation}
-use Rattle.control_word.specs.Histories.{IsLegal, leads}
+use Rattle.std.proofs.Common.{◌≡◌, ℕ, zero, suc, ◌+◌, ◌<◌, ◌≤◌, List, [], ◌∷◌, ◌++◌, length, set}
+use Rattle.std.proofs.Common.{slice_get, Some, None, vec_capacity, sym, refl, ap, ◌∙◌, subst}
+use Rattle.std.proofs.Common.{arith, length-append}
+use Rattle.handle_table.proofs.Prelude.{AreFree, bag_of, DeskNow, DomainNow, Ending, endings_of}
+use Rattle.handle_table.proofs.Prelude.{Entry, Fault, FitsSlots, Held, is_filled, IsLegal}
+use Rattle.handle_table.proofs.Prelude.{IsPermutation, IsWhole, JoinsWith, KeepsEndings, leads}
+use Rattle.handle_table.proofs.Prelude.{object_in, opening_of, Pile, Shape, Slot, slot_worth}
+use Rattle.handle_table.proofs.Prelude.{slots_together, state_of, total, WhyNoHandle}
 use Rattle.control_word.specs.State.{ending}
-use Rattle.control_word.specs.Views.{total}
-use Rattle.control_word.specs.declared.model.event.Entry.{Entry}
 use Rattle.control_block.proofs.EndingCounts.{few_ending}
 use Rattle.control_block.proofs.Endings.{still_ends}
-use Rattle.control_block.specs.Desks.{DeskNow, DomainNow, KeepsEndings, bag_of, endings_of, object_in, state_of}
-use Rattle.control_block.specs.Parting.{JoinsWith}
-use Rattle.control_block.specs.Rule.{opening_of}
-use Rattle.control_word.specs.declared.shape.Shape.{Shape}
-use Rattle.control_block.specs.declared.handles.Held.{Held}
 use Rattle.shared_handle.proofs.PiledEndings.{all_kept}
 use Rattle.shared_handle.specs.Piles.{AllEnd, NotAmong}
-use Rattle.shared_handle.specs.declared.endings.Ending.{Ending}
-use Rattle.shared_handle.specs.declared.pile.Pile.{Pile}
 use Rattle.handle_table.proofs.Filling.{bags_joined}
-use Rattle.handle_table.specs.Calls.{WhyNoHandle}
-use Rattle.handle_table.specs.declared.fault.Fault.{Fault}
 use Rattle.handle_table.specs.declared.fault.Fault.TheVariants as fault
-use Rattle.handle_table.specs.Parting.{AreFree, slots_together}
-use Rattle.handle_table.specs.Tables.{FitsSlots, IsWhole, Slot, is_filled, slot_worth}
 
 -- the last slot of the second table goes over
 together_none : (ss ts : List Slot) → slots_together ss (ts ++ None ∷ []) ≡ slots_together ss ts

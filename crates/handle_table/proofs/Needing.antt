@@ -1,15 +1,10 @@
 -- What workers need of the tables that they are lent.
-use Rattle.std.proofs.Common.{◌≡◌, ◌∙◌, List, [], ◌∷◌, ◌++◌, map, refl, reverse, subst, sym}
-use Rattle.std.proofs.lemmas.List.{reverse-append}
+use Rattle.std.proofs.Common.{◌≡◌, List, [], ◌∷◌, ◌++◌, map, reverse, All, sym, refl, ◌∙◌, subst}
+use Rattle.handle_table.proofs.Prelude.{DeskNow, IsNew, IsPartedInto, reverse-append, Shape, Share}
+use Rattle.handle_table.proofs.Prelude.{TableNow}
 use Rattle.std.proofs.lemmas.List.Elements.{All-from_recursion, All-weaker, recursion_from_All}
 use Rattle.std.specs.List.{AllByRecursion}
-use Rattle.std.specs.Prelude.{All}
-use Rattle.control_block.specs.Desks.{DeskNow}
-use Rattle.control_word.specs.declared.shape.Shape.{Shape}
-use Rattle.handle_table.specs.Parting.{IsNew, IsPartedInto}
 use Rattle.handle_table.specs.Staffs.{IsLent, MeetsNeeds, WorkerNeeds}
-use Rattle.handle_table.specs.Tables.{TableNow}
-use Rattle.handle_table.specs.declared.staff.Share.{Share}
 
 module _ {V : Type 0} where
   -- the new tables of a desk's parts can be lent

@@ -1,9 +1,8 @@
 -- What `?` hands on: a refusal, a fault, or a handle.
-use Rattle.std.proofs.Common.{◌≡◌, Result, Ok, Err, Some, ap, sym, subst}
+use Rattle.std.proofs.Common.{◌≡◌, IfOk, IfErr, Some, Ok, Err, Result, sym, ap, subst}
+use Rattle.handle_table.proofs.Prelude.{Fault}
 use Rattle.std.proofs.lemmas.Option.{same_Some}
-use Rattle.std.specs.Prelude.{IfErr, IfOk}
 use Rattle.std.specs.Result.{IsErr, IsErrAnd, result_ok}
-use Rattle.handle_table.specs.declared.fault.Fault.{Fault}
 
 module _ {A : Type 0} where
   pub fault_is : (r : Result A Fault) (why : Fault) → IsErr r → IsErrAnd r (λ w. w ≡ why) → r ≡ Err why

@@ -1,16 +1,11 @@
 -- Where each worker leaves its table the allowance that it had, the last desk has the whole one again.
-use Rattle.std.proofs.Common.{◌≡◌, ℕ, ◌+◌, List, [], ◌∷◌, Result, Ok, Err, IfErr, refl, sym, ap}
+use Rattle.std.proofs.Common.{◌≡◌, ℕ, ◌+◌, List, [], ◌∷◌, IfErr, Ok, Err, Result, sym, refl, ap}
 use Rattle.std.proofs.Common.{◌∙◌, arith}
-use Rattle.control_block.specs.Desks.{DeskNow, DomainNow, allowance_of}
-use Rattle.control_block.specs.Own.{IsSole}
-use Rattle.control_word.specs.declared.refusal.Refusal.TheVariants.{NotSole}
-use Rattle.control_word.specs.declared.refusal.Refusal.{Refusal}
-use Rattle.control_word.specs.declared.shape.Shape.{Shape}
+use Rattle.handle_table.proofs.Prelude.{AbsorbsAll, allowance_of, DeskNow, DomainNow, EachDoes}
+use Rattle.handle_table.proofs.Prelude.{IsPartedInto, IsSole, NotSole, Refusal, Shape, Share}
+use Rattle.handle_table.proofs.Prelude.{StaffsIn, TableNow, WorkerRelation}
 use Rattle.handle_table.proofs.Sharing.{first_whole}
-use Rattle.handle_table.specs.Parting.{AbsorbsAll, IsPartedInto}
-use Rattle.handle_table.specs.Staffs.{EachDoes, KeepsAllowance, StaffsIn, WorkerRelation}
-use Rattle.handle_table.specs.Tables.{TableNow}
-use Rattle.handle_table.specs.declared.staff.Share.{Share}
+use Rattle.handle_table.specs.Staffs.{KeepsAllowance}
 
 module _ {V : Type 0} where
   -- what these tables have of the allowance together

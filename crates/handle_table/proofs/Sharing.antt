@@ -1,20 +1,17 @@
 -- Where a desk has such a share for each of its workers, only memory is refused.
-use Rattle.std.proofs.Common.{◌≡◌, ◌⊎◌, inl, inr, ℕ, zero, suc, ◌+◌, ◌*◌, ◌-◌, ◌<◌, ◌≤◌, ◌==◌, max, min}
-use Rattle.std.proofs.Common.{List, [], ◌∷◌, length, refl, sym, ap, subst, arith, ◌∙◌}
+use Rattle.std.proofs.Common.{◌≡◌, ℕ, zero, suc, ◌+◌, ◌-◌, ◌*◌, ◌<◌, ◌≤◌, min, max, ◌⊎◌, List, []}
+use Rattle.std.proofs.Common.{◌∷◌, length, ◌==◌, sym, refl, ap, ◌∙◌, subst, inl, inr, arith}
+use Rattle.handle_table.proofs.Prelude.{allowance_of, DeskNow, DomainNow, HasShares, held_of}
+use Rattle.handle_table.proofs.Prelude.{IsFirstDesk, IsPartedInto, IsTooMuch, leads, Limit, Memory}
+use Rattle.handle_table.proofs.Prelude.{opening_of, Refusal, Share, stock_of, Stored, TableNow}
+use Rattle.handle_table.proofs.Prelude.{WhyFewer}
 use Rattle.std.proofs.lemmas.Nat.{mul-le}
 use Rattle.std.specs.List.{filter}
-use Rattle.control_word.specs.Histories.{leads}
-use Rattle.control_word.specs.State.{Stored, all_stored, stock}
-use Rattle.control_word.specs.declared.refusal.Refusal.TheVariants.{Full, Limit, Memory}
-use Rattle.control_word.specs.declared.refusal.Refusal.{Refusal}
-use Rattle.control_block.specs.Desks.{DeskNow, DomainNow, IsFirstDesk, allowance_of, held_of, stock_of}
-use Rattle.control_block.specs.Parting.{IsTooMuch, free_of}
-use Rattle.control_block.specs.Rule.{opening_of}
+use Rattle.control_word.specs.State.{all_stored, stock}
+use Rattle.control_word.specs.declared.refusal.Refusal.TheVariants.{Full}
+use Rattle.control_block.specs.Parting.{free_of}
 use Rattle.handle_table.proofs.Wholes.{no_endings}
-use Rattle.handle_table.specs.Parting.{IsPartedInto, WhyFewer}
-use Rattle.handle_table.specs.Staffs.{CanShare, HasShares}
-use Rattle.handle_table.specs.Tables.{TableNow}
-use Rattle.handle_table.specs.declared.staff.Share.{Share}
+use Rattle.handle_table.specs.Staffs.{CanShare}
 
 -- m parts went to others, and there are n: there is one more
 one_more : (a m n whole rest kept : ℕ) → rest + m * a ≡ whole → m < n → n * a ≤ whole - kept → a ≤ rest - kept

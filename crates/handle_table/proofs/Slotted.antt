@@ -1,18 +1,13 @@
 -- What lies in a slot, by its parts in memory.
-use Rattle.std.proofs.Common.{◌≡◌, ◌<◌, ℕ, Bool, true, false, Option, None, Some, ap, arith, cond, refl, subst, sym, ◌∙◌}
-use Rattle.std.proofs.lemmas.Bool.{ne_eqb}
-use Rattle.std.specs.Prelude.{◌||◌, is_some, not}
+use Rattle.std.proofs.Common.{◌≡◌, ℕ, ◌<◌, Bool, true, false, cond, not, ◌||◌, is_some, Some, None}
+use Rattle.std.proofs.Common.{Option, sym, refl, ap, ◌∙◌, subst, arith, ne_eqb}
+use Rattle.handle_table.proofs.Prelude.{Block, Held, IsOwned, Owner, owner_in, Place, Shared}
 use Rattle.std.specs.Coded.{Coded-set, coded_option}
 use Rattle.control_word.specs.Packing.{block_number}
 use Rattle.control_word.specs.contracts.place.Place as place_type
 use Rattle.control_word.specs.declared.model.handle.Kind.TheVariants as kind
-use Rattle.control_word.specs.declared.place.Block.{Block}
-use Rattle.control_word.specs.declared.place.Place.{Place}
 use Rattle.control_block.specs.Handles.{IsProper, IsProper-prop}
-use Rattle.control_block.specs.declared.handles.Held.{Held}
-use Rattle.control_block.specs.declared.handles.Held.TheVariants.{Owner}
-use Rattle.control_block.specs.declared.handles.Shared.{Shared}
-use Rattle.handle_table.specs.Slots.{IsOther, IsOwned, lies_in, owner_in}
+use Rattle.handle_table.specs.Slots.{IsOther, lies_in}
 
 place_set : IsSet (Option Place)
 place_set = Coded-set (coded_option place_type.the_row.coded)

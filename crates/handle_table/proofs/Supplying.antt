@@ -1,20 +1,14 @@
 -- Makes that take a block from the shelf.
-use Rattle.std.proofs.Common.{◌≡◌, ◌⊎◌, ℕ, zero, suc, ◌+◌, ◌<◌, ◌≤◌, List, length, [], ◌∷◌}
-use Rattle.std.proofs.Common.{refl, sym, ap, subst, ◌∙◌, inl, inr, arith}
-use Rattle.std.specs.Prelude.{min}
-use Rattle.control_block.specs.Desks.{DeskNow, DomainNow, allowance_of, endings_of, held_of, stock_of}
-use Rattle.control_block.specs.Own.{IsSole}
-use Rattle.control_block.specs.Shelf.{Passes, shelved_of}
-use Rattle.control_word.specs.State.{Stored}
+use Rattle.std.proofs.Common.{◌≡◌, ℕ, zero, suc, ◌+◌, ◌<◌, ◌≤◌, min, ◌⊎◌, List, [], ◌∷◌, length}
+use Rattle.std.proofs.Common.{sym, refl, ap, ◌∙◌, subst, inl, inr, arith}
+use Rattle.handle_table.proofs.Prelude.{allowance_of, bears_kept, Block, DeskNow, DomainNow}
+use Rattle.handle_table.proofs.Prelude.{endings_of, Fault, held_of, IsBelow, IsSole, IsWhole, Pile}
+use Rattle.handle_table.proofs.Prelude.{shelved_of, Slot, stock_of, Stored, TableNow}
+use Rattle.handle_table.proofs.Prelude.{TakesFromShelf, WhyNotMade}
+use Rattle.control_block.specs.Shelf.{Passes}
 use Rattle.control_word.specs.declared.model.event.Event.{Event}
-use Rattle.control_word.specs.declared.place.Block.{Block}
-use Rattle.handle_table.specs.Calls.{IsBelow, WhyNotMade}
-use Rattle.handle_table.specs.Shelving.{Supplies, TakesFromShelf, WhyNotSupplied}
-use Rattle.handle_table.specs.Tables.{IsWhole, Slot, TableNow}
-use Rattle.handle_table.specs.declared.fault.Fault.{Fault}
+use Rattle.handle_table.specs.Shelving.{Supplies, WhyNotSupplied}
 use Rattle.handle_table.proofs.Filling.{fits_still}
-use Rattle.shared_handle.proofs.Piles.{bears_kept}
-use Rattle.shared_handle.specs.declared.pile.Pile.{Pile}
 
 module _ {V : Type 0} where
   -- a call by which blocks go or come

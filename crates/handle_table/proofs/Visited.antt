@@ -1,15 +1,8 @@
 -- What a visit answers.
-use Rattle.std.proofs.Common.{◌≡◌, ℕ, Option, None, Some, refl, subst}
-use Rattle.std.specs.Prelude.{Err, Ok}
-use Rattle.control_word.specs.declared.place.Block.{Block}
-use Rattle.control_word.specs.declared.place.Place.{Place}
-use Rattle.control_word.specs.declared.refusal.Refusal.TheVariants.{Null}
+use Rattle.std.proofs.Common.{◌≡◌, ℕ, Some, None, Ok, Err, Option, refl, subst}
+use Rattle.handle_table.proofs.Prelude.{Block, DeskNow, IsAt, Null, Owner, Place, Shared, TableNow}
 use Rattle.control_word.specs.declared.refusal.Refused.{Refused}
-use Rattle.control_block.specs.Desks.{DeskNow}
-use Rattle.control_block.specs.declared.handles.Held.TheVariants.{Owner}
-use Rattle.control_block.specs.declared.handles.Shared.{Shared}
 use Rattle.shared_handle.specs.Visits.{IsVisit}
-use Rattle.handle_table.specs.Tables.{IsAt, TableNow}
 use Rattle.handle_table.specs.Visits.{VisitsSlot}
 
 module _ {V R F : Type 0} (changes : V → R → V → Type 0) (f : F) where

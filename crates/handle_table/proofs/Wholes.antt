@@ -1,25 +1,15 @@
 -- What is true of a whole table stays true.
-use Rattle.std.proofs.Common.{◌≡◌, ℕ, zero, suc, ◌+◌, List, [], ◌∷◌, ◌++◌, set, Option, Some, None, refl, sym, ap, subst, arith, length}
-use Rattle.std.proofs.Common.{◌∙◌}
-use Rattle.std.specs.Prelude.{slice_get, Err}
-use Rattle.std.specs.List.Sorted.{IsPermutation}
-use Rattle.control_word.specs.Histories.{leads}
-use Rattle.control_word.specs.declared.place.Block.{Block}
-use Rattle.control_word.specs.declared.place.Place.{Place}
-use Rattle.control_word.specs.declared.refusal.Refusal.{Refusal}
-use Rattle.control_word.specs.declared.refusal.Refusal.TheVariants.{Null, Outside}
-use Rattle.control_block.specs.HandleLists.{without_held}
-use Rattle.control_block.specs.Parting.{JoinsWith, SplitsOff, listed, without_all}
-use Rattle.control_block.specs.declared.handles.Held.{Held}
+use Rattle.std.proofs.Common.{◌≡◌, ℕ, zero, suc, ◌+◌, List, [], ◌∷◌, ◌++◌, length, set, slice_get}
+use Rattle.std.proofs.Common.{Some, None, Err, Option, sym, refl, ap, ◌∙◌, subst, arith}
+use Rattle.handle_table.proofs.Prelude
+use Prelude.{AllVacant, bag_of, Bears, bears_kept, Belongs, Block, DeskNow, DomainNow, endings_of}
+use Prelude.{Entry, FitsSlots, Held, IsFirstDesk, IsPermutation, IsWhole, JoinsWith, KeepsEndings}
+use Prelude.{leads, listed, Null, on_pile, opening_of, Outside, Pile, Place, Refusal, Slot}
+use Prelude.{SplitsOff, state_of, TableNow, without_all, without_held}
 use Rattle.shared_handle.specs.Endings.{IsRead}
-use Rattle.control_word.specs.declared.model.event.Entry.{Entry}
-use Rattle.control_block.specs.Desks.{IsFirstDesk, Belongs, DeskNow, DomainNow, Keeps, KeepsEndings, bag_of, endings_of, ends_with, many_ending, state_of}
-use Rattle.control_block.specs.Rule.{opening_of}
-use Rattle.shared_handle.proofs.Piles.{bears_kept}
-use Rattle.shared_handle.specs.Piles.{Bears}
-use Rattle.shared_handle.specs.declared.pile.Pile.{Pile}
-use Rattle.handle_table.proofs.Filling.{fits_joined, fits_last, fits_less, fits_out, fits_still, fits_vacant}
-use Rattle.handle_table.specs.Tables.{AllVacant, FitsSlots, IsWhole, Slot, TableNow, on_pile}
+use Rattle.control_block.specs.Desks.{Keeps, ends_with, many_ending}
+use Rattle.handle_table.proofs.Filling.{fits_joined, fits_last, fits_less, fits_out, fits_still}
+use Rattle.handle_table.proofs.Filling.{fits_vacant}
 
 module _ {V : Type 0} where
   abbrev pub seen : DeskNow V → List Slot → Pile V → TableNow V

@@ -1,8 +1,5 @@
-use Rattle.std.proofs.Common.{subst, sym}
-use Rattle.control_word.specs.declared.model.handle.Kind.{Kind}
-use Rattle.control_word.specs.declared.shape.Shape.{Shape}
-use Rattle.control_block.specs.CellCalls.{IsOpenAt}
-use Rattle.handle_table.specs.Cells.{IsCellAtSite, WhyNoCell}
+use Rattle.std.proofs.Common.{sym, subst}
+use Rattle.handle_table.proofs.Prelude.{IsCellAtSite, IsOpenAt, Kind, Shape, WhyNoCell}
 use Rattle.handle_table.proofs.Celled.{is_open}
 use Rattle.handle_table.proofs.cells.find.Goals as goal
 

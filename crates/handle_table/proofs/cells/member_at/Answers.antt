@@ -1,8 +1,6 @@
-use Rattle.std.proofs.Common.{◌≡◌, inr, refl}
-use Rattle.control_word.specs.declared.place.Block.{Block}
+use Rattle.std.proofs.Common.{◌≡◌, refl, inr}
+use Rattle.handle_table.proofs.Prelude.{Block, Call, WhyNoObject}
 use Rattle.handle_table.proofs.Celled.{away, owns_into}
-use Rattle.handle_table.specs.Cells.{WhyNoObject}
-use Rattle.handle_table.specs.declared.fault.Fault.TheVariants.{Call}
 use Rattle.handle_table.proofs.Refused.{if_fault}
 use Rattle.handle_table.proofs.cells.member_at.Goals as goal
 

@@ -1,4 +1,4 @@
-use Rattle.std.proofs.Common.{◌≡◌, ◌∙◌, ◌++◌, arith, drop, length, take}
+use Rattle.std.proofs.Common.{◌≡◌, ◌++◌, length, take, drop, ◌∙◌, arith}
 use Rattle.handle_table.proofs.Handing.{handed_over, written}
 use Rattle.handle_table.proofs.parting.hand_over.Goals as goal
 

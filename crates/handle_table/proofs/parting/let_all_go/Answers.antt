@@ -1,5 +1,5 @@
 use Rattle.std.proofs.Common.{sym, ◌∙◌, arith}
-use Rattle.std.proofs.lemmas.List.{nil_from_length}
+use Rattle.handle_table.proofs.Prelude.{nil_from_length}
 use Rattle.handle_table.proofs.Letting.{all_gone, begins, goes, held_last, passes}
 use Rattle.handle_table.proofs.parting.let_all_go.Goals as goal
 

@@ -1,5 +1,5 @@
-use Rattle.std.proofs.Common.{◌≡◌, ◌≤◌, ◌-◌, length, vec_capacity}
-use Rattle.handle_table.specs.Tables.{AllVacant}
+use Rattle.std.proofs.Common.{◌≡◌, ◌-◌, ◌≤◌, length, vec_capacity}
+use Rattle.handle_table.proofs.Prelude.{AllVacant}
 use Rattle.handle_table.proofs.slots.open_slots.Given as goal
 
 abbrev pub invariant-loop-slots : goal.invariant-loop-slots

@@ -1,6 +1,6 @@
-use Rattle.std.proofs.Common.{◌≡◌, ◌∙◌, Some, None, set, slice_get, sym, ap, subst}
+use Rattle.std.proofs.Common.{◌≡◌, set, slice_get, Some, None, sym, ap, ◌∙◌, subst}
+use Rattle.handle_table.proofs.Prelude.{Slot}
 use Rattle.handle_table.proofs.Compared.{is_there, put_same}
-use Rattle.handle_table.specs.Tables.{Slot}
 use Rattle.handle_table.proofs.slots.take_handle.Goals as goal
 
 pub returns-in-None-clause-fault : goal.returns-in-None-clause-fault

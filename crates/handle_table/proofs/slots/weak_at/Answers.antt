@@ -1,5 +1,5 @@
-use Rattle.std.proofs.Common.{◌∙◌, Some, ap, inr, refl, sym}
-use Rattle.control_block.specs.declared.handles.Held.{Held}
+use Rattle.std.proofs.Common.{Some, sym, refl, ap, ◌∙◌, inr}
+use Rattle.handle_table.proofs.Prelude.{Held}
 use Rattle.handle_table.proofs.slots.weak_at.Goals as goal
 
 pub returns-in-Owner-clause-fault : goal.returns-in-Owner-clause-fault

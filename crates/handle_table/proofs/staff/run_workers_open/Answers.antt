@@ -1,15 +1,11 @@
-use Rattle.std.proofs.Common.{◌≡◌, IfSome, Option, inl, inr, length, subst, sym}
-use Rattle.std.proofs.lemmas.Result.{IfErr-weaker}
-use Rattle.control_word.specs.declared.refusal.Refusal.{Refusal}
-use Rattle.control_word.specs.declared.refusal.Refusal.TheVariants.{Memory}
-use Rattle.control_word.specs.declared.shape.Shape.{Shape}
+use Rattle.std.proofs.Common.{◌≡◌, length, IfSome, Option, sym, subst, inl, inr}
+use Rattle.handle_table.proofs.Prelude.{HasShares, IfErr-weaker, IsRefusedPart, Memory, Refusal}
+use Rattle.handle_table.proofs.Prelude.{Shape, StaffsIn}
 use Rattle.handle_table.proofs.Manning.{not_shape, opened, part_shape, part_sole, staffs_in}
 use Rattle.handle_table.proofs.Needing.{same_needs}
 use Rattle.handle_table.proofs.Regained.{never_parted, sole_again}
 use Rattle.handle_table.proofs.Sharing.{first_shares}
 use Rattle.handle_table.proofs.staff.run_workers_open.Goals as goal
-use Rattle.handle_table.specs.Parting.{IsRefusedPart}
-use Rattle.handle_table.specs.Staffs.{HasShares, StaffsIn}
 
 -- what the workers did, or why none has
 worked : (g : _) (c : goal.After-keep_sole g)

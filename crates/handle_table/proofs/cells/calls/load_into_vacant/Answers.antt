@@ -1,8 +1,6 @@
-use Rattle.std.proofs.Common.{◌∙◌, arith, subst}
-use Rattle.control_word.specs.declared.model.handle.Kind.{Kind}
-use Rattle.control_block.specs.CellCalls.{cell_of_site}
+use Rattle.std.proofs.Common.{◌∙◌, subst, arith}
+use Rattle.handle_table.proofs.Prelude.{block_of_held, cell_of_site, Kind, place_of_held}
 use Rattle.atomic_cells.specs.Cells as cells
-use Rattle.handle_table.specs.Parts.{block_of_held, place_of_held}
 use Rattle.handle_table.proofs.Filling.{fits_more}
 use Rattle.handle_table.proofs.Wholes.{kept}
 use Rattle.handle_table.proofs.cells.calls.load_into_vacant.Goals as goal

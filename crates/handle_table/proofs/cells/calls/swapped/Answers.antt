@@ -1,10 +1,7 @@
-use Rattle.std.proofs.Common.{◌∷◌, ◌∙◌, List, Some, inl, inr, refl, subst, sym}
-use Rattle.control_word.specs.declared.model.handle.Kind.{Kind}
-use Rattle.control_block.specs.CellCalls.{cell_of_site}
+use Rattle.std.proofs.Common.{List, ◌∷◌, Some, sym, refl, ◌∙◌, subst, inl, inr}
+use Rattle.handle_table.proofs.Prelude.{block_of_held, cell_of_site, FitsSlots, Kind}
+use Rattle.handle_table.proofs.Prelude.{place_of_held, Slot, WhyNoneOf}
 use Rattle.atomic_cells.specs.Cells as cells
-use Rattle.handle_table.specs.Cells.{WhyNoneOf}
-use Rattle.handle_table.specs.Parts.{block_of_held, place_of_held}
-use Rattle.handle_table.specs.Tables.{FitsSlots, Slot}
 use Rattle.handle_table.proofs.Filling.{fits_at, fits_exchange, fits_out, slot_there}
 use Rattle.handle_table.proofs.Wholes.{kept}
 use Rattle.handle_table.proofs.cells.calls.swapped.Goals as goal

@@ -1,9 +1,7 @@
-use Rattle.std.proofs.Common.{◌∙◌, ap, inl, inr, refl, subst, sym}
-use Rattle.control_word.specs.declared.model.handle.Kind.{Kind}
-use Rattle.control_block.specs.CellCalls.{cell_of_site}
+use Rattle.std.proofs.Common.{sym, refl, ap, ◌∙◌, subst, inl, inr}
+use Rattle.handle_table.proofs.Prelude.{block_of_held, cell_of_site, Kind, kind_of_cell}
+use Rattle.handle_table.proofs.Prelude.{place_of_held, WhyNoneOf}
 use Rattle.atomic_cells.specs.Compares as cells
-use Rattle.handle_table.specs.Cells.{WhyNoneOf, kind_of_cell}
-use Rattle.handle_table.specs.Parts.{block_of_held, place_of_held}
 use Rattle.handle_table.specs.declared.fault.Fault.TheVariants as fault
 use Rattle.handle_table.proofs.Celled.{by_parts}
 use Rattle.handle_table.proofs.Compared.{content_held, fits_differs, fits_swapped, found_below}

@@ -1,5 +1,5 @@
-use Rattle.std.proofs.Common.{List, None, refl, set, subst, sym}
-use Rattle.handle_table.specs.Tables.{FitsSlots, Slot}
+use Rattle.std.proofs.Common.{List, set, None, sym, refl, subst}
+use Rattle.handle_table.proofs.Prelude.{FitsSlots, Slot}
 use Rattle.handle_table.proofs.Filling.{fits_at, fits_less}
 use Rattle.handle_table.proofs.cells.compares.follow.Goals as goal
 

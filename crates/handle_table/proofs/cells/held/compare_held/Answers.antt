@@ -1,6 +1,5 @@
-use Rattle.std.proofs.Common.{◌≡◌, ◌∙◌, cond, refl, subst, sym}
-use Rattle.control_block.specs.CellCalls.{cell_of_site, with_handle, without_handle}
-use Rattle.control_block.specs.Desks.{bag_of}
+use Rattle.std.proofs.Common.{◌≡◌, cond, sym, refl, ◌∙◌, subst}
+use Rattle.handle_table.proofs.Prelude.{bag_of, cell_of_site, with_handle, without_handle}
 use Rattle.atomic_cells.specs.Compares as cells
 use Rattle.handle_table.proofs.Celled.{by_parts, with_named}
 use Rattle.handle_table.proofs.cells.held.compare_held.Goals as goal

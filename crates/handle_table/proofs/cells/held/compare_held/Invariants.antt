@@ -1,4 +1,4 @@
-use Rattle.control_block.specs.CellCalls.{cell_of_site, handle_in}
+use Rattle.handle_table.proofs.Prelude.{cell_of_site, handle_in}
 use Rattle.handle_table.proofs.cells.held.compare_held.Given as goal
 
 abbrev pub ghosts-compare : goal.ghosts-compare

@@ -1,11 +1,8 @@
-use Rattle.std.proofs.Common.{◌∙◌, List, ap, refl, subst, sym}
-use Rattle.control_word.specs.declared.model.handle.NumberedHandle.{NumberedHandle}
-use Rattle.control_word.specs.declared.model.handle.Kind.{Kind}
-use Rattle.control_block.specs.CellCalls.{HoldsHandle, IsOpenAt, cell_of_site, with_handle}
-use Rattle.control_block.specs.Desks.{bag_of}
-use Rattle.control_block.specs.HandleLists.{without_held}
+use Rattle.std.proofs.Common.{List, sym, refl, ap, ◌∙◌, subst}
+use Rattle.handle_table.proofs.Prelude.{bag_of, block_of_held, cell_of_site, HoldsHandle, IsOpenAt}
+use Rattle.handle_table.proofs.Prelude.{Kind, NumberedHandle, place_of_held, with_handle}
+use Rattle.handle_table.proofs.Prelude.{without_held}
 use Rattle.atomic_cells.specs.Cells as cells
-use Rattle.handle_table.specs.Parts.{block_of_held, place_of_held}
 use Rattle.handle_table.proofs.Celled.{by_parts, held_parts, with_named, without_named}
 use Rattle.handle_table.proofs.cells.held.exchange_held.Goals as goal
 

@@ -1,6 +1,5 @@
 use Rattle.std.proofs.Common.{false}
-use Rattle.control_word.specs.Handles.{empty}
-use Rattle.control_block.specs.CellCalls.{cell_of_site, handle_in}
+use Rattle.handle_table.proofs.Prelude.{cell_of_site, empty, handle_in}
 use Rattle.handle_table.proofs.cells.held.exchange_held.Given as goal
 
 abbrev pub ghosts-exchange : goal.ghosts-exchange

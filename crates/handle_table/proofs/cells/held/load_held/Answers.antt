@@ -1,6 +1,5 @@
-use Rattle.std.proofs.Common.{◌∙◌, refl, sym}
-use Rattle.control_block.specs.CellCalls.{cell_of_site}
-use Rattle.control_block.specs.Desks.{bag_of}
+use Rattle.std.proofs.Common.{sym, refl, ◌∙◌}
+use Rattle.handle_table.proofs.Prelude.{bag_of, cell_of_site}
 use Rattle.atomic_cells.specs.Cells as cells
 use Rattle.handle_table.proofs.Celled.{by_parts, with_named}
 use Rattle.handle_table.proofs.cells.held.load_held.Goals as goal

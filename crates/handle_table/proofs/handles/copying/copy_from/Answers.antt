@@ -1,10 +1,10 @@
-use Rattle.std.proofs.Common.{ap, arith, inl, inr, refl}
+use Rattle.std.proofs.Common.{refl, ap, inl, inr, arith}
+use Rattle.handle_table.proofs.Prelude.{beside_pile, Brought, IsCopy, IsHandleAt, LimitLast}
+use Rattle.handle_table.proofs.Prelude.{OfHandle, WhyNoCopy}
 use Rattle.handle_table.specs.declared.fault.Fault.TheVariants as fault
 use Rattle.handle_table.proofs.Filling.{fits_at, fits_more}
 use Rattle.handle_table.proofs.Refused.{at_fault}
 use Rattle.handle_table.proofs.Wholes.{kept}
-use Rattle.handle_table.specs.Bringing.{Brought, OfHandle, beside_pile}
-use Rattle.handle_table.specs.Calls.{IsCopy, IsHandleAt, LimitLast, WhyNoCopy}
 use Rattle.handle_table.proofs.handles.copying.copy_from.Goals as goal
 
 pub copy_of-requires-clause-held : goal.copy_of-requires-clause-held

@@ -1,10 +1,6 @@
-use Rattle.std.proofs.Common.{◌∙◌, refl, subst, sym}
+use Rattle.std.proofs.Common.{sym, refl, ◌∙◌, subst}
+use Rattle.handle_table.proofs.Prelude.{bag_of, Held, IsCopy, Owner, Weak, with_handle}
 use Rattle.control_word.specs.declared.model.handle.Kind.TheVariants as kind
-use Rattle.control_block.specs.CellCalls.{with_handle}
-use Rattle.control_block.specs.Desks.{bag_of}
-use Rattle.control_block.specs.declared.handles.Held.{Held}
-use Rattle.control_block.specs.declared.handles.Held.TheVariants.{Owner, Weak}
-use Rattle.handle_table.specs.Calls.{IsCopy}
 use Rattle.handle_table.proofs.Bringing.{weakly}
 use Rattle.handle_table.proofs.handles.copying.copy_of.Goals as goal
 

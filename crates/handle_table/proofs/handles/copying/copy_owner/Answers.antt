@@ -1,10 +1,7 @@
-use Rattle.std.proofs.Common.{◌≡◌, arith, refl, subst, sym}
+use Rattle.std.proofs.Common.{◌≡◌, sym, refl, subst, arith}
+use Rattle.handle_table.proofs.Prelude.{bag_of, HoldsHandle, owner_in, Shared, SharesOwner}
+use Rattle.handle_table.proofs.Prelude.{with_handle}
 use Rattle.control_word.specs.declared.model.handle.Kind.TheVariants.{Owner}
-use Rattle.control_block.specs.CellCalls.{HoldsHandle, with_handle}
-use Rattle.control_block.specs.Desks.{bag_of}
-use Rattle.control_block.specs.declared.handles.Shared.{Shared}
-use Rattle.shared_handle.specs.Calls.{SharesOwner}
-use Rattle.handle_table.specs.Slots.{owner_in}
 use Rattle.handle_table.proofs.Filling.{fits_at, fits_more}
 use Rattle.handle_table.proofs.Slotted.{none_full, owner_parts, same_owner}
 use Rattle.handle_table.proofs.Wholes.{kept}

@@ -1,13 +1,11 @@
-use Rattle.std.proofs.Common.{◌∙◌, ap, arith, inl, inr, refl}
-use Rattle.control_block.specs.Desks.{bag_of}
-use Rattle.control_block.specs.declared.handles.Held.TheVariants.{Owner, Weak}
+use Rattle.std.proofs.Common.{refl, ap, ◌∙◌, inl, inr, arith}
+use Rattle.handle_table.proofs.Prelude.{bag_of, beside_pile, Brought, IsOwnerAt, IsWeakCopy}
+use Rattle.handle_table.proofs.Prelude.{LimitLast, OfOwner, Owner, Weak, WhyNotDowngraded}
 use Rattle.handle_table.specs.declared.fault.Fault.TheVariants as fault
 use Rattle.handle_table.proofs.Filling.{fits_at, fits_more}
 use Rattle.handle_table.proofs.Bringing.{weakly}
 use Rattle.handle_table.proofs.Refused.{at_fault}
 use Rattle.handle_table.proofs.Wholes.{kept}
-use Rattle.handle_table.specs.Bringing.{Brought, IsWeakCopy, OfOwner, beside_pile}
-use Rattle.handle_table.specs.Calls.{IsOwnerAt, LimitLast, WhyNotDowngraded}
 use Rattle.handle_table.proofs.handles.copying.weak_from.Goals as goal
 
 pub downgrade-requires-clause-holds : goal.downgrade-requires-clause-holds

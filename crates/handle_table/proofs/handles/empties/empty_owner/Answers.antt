@@ -1,4 +1,4 @@
-use Rattle.std.proofs.Common.{ap, arith, inl, inr, refl}
+use Rattle.std.proofs.Common.{refl, ap, inl, inr, arith}
 use Rattle.handle_table.specs.declared.fault.Fault.TheVariants as fault
 use Rattle.handle_table.proofs.Emptied.{bears_counted, fits_empty}
 use Rattle.handle_table.proofs.handles.empties.empty_owner.Goals as goal

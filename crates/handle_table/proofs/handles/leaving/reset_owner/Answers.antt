@@ -1,10 +1,7 @@
-use Rattle.std.proofs.Common.{◌≡◌, subst, sym}
+use Rattle.std.proofs.Common.{◌≡◌, sym, subst}
+use Rattle.handle_table.proofs.Prelude.{bag_of, HoldsHandle, owner_in, Shared, without_handle}
 use Rattle.control_word.specs.declared.model.handle.Kind.TheVariants.{Owner}
-use Rattle.control_block.specs.CellCalls.{HoldsHandle, without_handle}
-use Rattle.control_block.specs.Desks.{bag_of}
-use Rattle.control_block.specs.declared.handles.Shared.{Shared}
 use Rattle.shared_handle.specs.Piles.{Drops}
-use Rattle.handle_table.specs.Slots.{owner_in}
 use Rattle.handle_table.proofs.Filling.{fits_at}
 use Rattle.handle_table.proofs.Slotted.{owner_parts, same_owner}
 use Rattle.handle_table.proofs.Wholes.{fits_left}

@@ -1,6 +1,5 @@
-use Rattle.std.proofs.Common.{arith, inl, refl}
-use Rattle.control_block.specs.declared.handles.Held.TheVariants.{Owner}
-use Rattle.shared_handle.proofs.Piles.{bears_kept}
+use Rattle.std.proofs.Common.{refl, inl, arith}
+use Rattle.handle_table.proofs.Prelude.{bears_kept, Owner}
 use Rattle.handle_table.proofs.Filling.{fits_more}
 use Rattle.handle_table.proofs.handles.making.made.Goals as goal
 

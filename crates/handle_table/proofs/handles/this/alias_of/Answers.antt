@@ -1,18 +1,13 @@
-use Rattle.std.proofs.Common.{◌≡◌, ◌∙◌, Option, ap, arith, inl, inr, refl, subst, sym}
+use Rattle.std.proofs.Common.{◌≡◌, Option, sym, refl, ap, ◌∙◌, subst, inl, inr, arith}
+use Rattle.handle_table.proofs.Prelude.{bag_of, beside_pile, Brought, IsAlias, IsOwnerAt}
+use Rattle.handle_table.proofs.Prelude.{IsPointer, LimitLast, OfOwner, Owner, Place, SharesOwner}
+use Rattle.handle_table.proofs.Prelude.{WhyNoAlias, with_handle}
 use Rattle.control_word.specs.declared.model.handle.Kind.TheVariants as kind
-use Rattle.control_word.specs.declared.place.Place.{Place}
-use Rattle.control_block.specs.CellCalls.{with_handle}
-use Rattle.control_block.specs.Desks.{bag_of}
-use Rattle.shared_handle.specs.Calls.{SharesOwner, pointed}
-use Rattle.control_block.specs.declared.handles.Held.TheVariants.{Owner}
+use Rattle.shared_handle.specs.Calls.{pointed}
 use Rattle.handle_table.specs.declared.fault.Fault.TheVariants as fault
 use Rattle.handle_table.proofs.Filling.{fits_at, fits_more}
 use Rattle.handle_table.proofs.Refused.{at_fault}
 use Rattle.handle_table.proofs.Wholes.{kept}
-use Rattle.control_word.specs.Handles.{IsPointer}
-use Rattle.handle_table.specs.Bringing.{Brought, IsAlias, OfOwner, beside_pile}
-use Rattle.handle_table.specs.Calls.{IsOwnerAt, LimitLast}
-use Rattle.handle_table.specs.This.{WhyNoAlias}
 use Rattle.handle_table.proofs.handles.this.alias_of.Goals as goal
 
 pub alias-requires-clause-holds : goal.alias-requires-clause-holds

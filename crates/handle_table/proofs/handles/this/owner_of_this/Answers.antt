@@ -1,9 +1,6 @@
-use Rattle.std.proofs.Common.{arith, inl, inr, refl}
-use Rattle.control_block.specs.declared.handles.Held.TheVariants.{Owner}
-use Rattle.handle_table.specs.Bringing.{Brought, IsThisOwner, OfOwner, beside_pile}
-use Rattle.handle_table.specs.Calls.{IsOwnerAt, LimitLast}
-use Rattle.handle_table.specs.This.{WhyNoThis}
-use Rattle.handle_table.specs.declared.fault.Fault.TheVariants.{Call}
+use Rattle.std.proofs.Common.{refl, inl, inr, arith}
+use Rattle.handle_table.proofs.Prelude.{beside_pile, Brought, Call, IsOwnerAt, IsThisOwner}
+use Rattle.handle_table.proofs.Prelude.{LimitLast, OfOwner, Owner, WhyNoThis}
 use Rattle.handle_table.proofs.Bringing.{this_below}
 use Rattle.handle_table.proofs.Filling.{fits_at, fits_more}
 use Rattle.handle_table.proofs.Refused.{at_fault}

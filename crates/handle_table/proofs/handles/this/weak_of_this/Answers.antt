@@ -1,13 +1,10 @@
-use Rattle.std.proofs.Common.{arith, inl, inr, refl}
-use Rattle.control_block.specs.declared.handles.Held.TheVariants.{Owner, Weak}
+use Rattle.std.proofs.Common.{refl, inl, inr, arith}
+use Rattle.handle_table.proofs.Prelude.{beside_pile, Brought, Call, IsOwnerAt, IsThisWeak}
+use Rattle.handle_table.proofs.Prelude.{LimitLast, OfOwner, Owner, Weak, WhyNoThis}
 use Rattle.handle_table.proofs.Bringing.{this_below}
 use Rattle.handle_table.proofs.Filling.{fits_at, fits_more}
 use Rattle.handle_table.proofs.Refused.{at_fault}
 use Rattle.handle_table.proofs.Wholes.{kept}
-use Rattle.handle_table.specs.Bringing.{Brought, IsThisWeak, OfOwner, beside_pile}
-use Rattle.handle_table.specs.Calls.{IsOwnerAt, LimitLast}
-use Rattle.handle_table.specs.This.{WhyNoThis}
-use Rattle.handle_table.specs.declared.fault.Fault.TheVariants.{Call}
 use Rattle.handle_table.proofs.handles.this.weak_of_this.Goals as goal
 
 pub weak_from_this-requires-clause-holds : goal.weak_from_this-requires-clause-holds

@@ -1,6 +1,6 @@
 use Rattle.std.proofs.Common.{◌≡◌, Some, arith}
+use Rattle.handle_table.proofs.Prelude.{Held}
 use Rattle.std.specs.List.{slice_get}
-use Rattle.control_block.specs.declared.handles.Held.{Held}
 use Rattle.handle_table.specs.declared.slots.seen.Seen.{Seen}
 use Rattle.handle_table.proofs.Refused.{if_ok}
 use Rattle.handle_table.proofs.parting.joining.clash.Goals as goal

@@ -1,5 +1,5 @@
 use Rattle.std.proofs.Common.{sym, ◌∙◌, arith}
-use Rattle.std.proofs.lemmas.List.{nil_from_length}
+use Rattle.handle_table.proofs.Prelude.{nil_from_length}
 use Rattle.handle_table.proofs.Merging.{next_none, next_some, nothing, room, all_over}
 use Rattle.handle_table.proofs.parting.joining.take_in.Goals as goal
 

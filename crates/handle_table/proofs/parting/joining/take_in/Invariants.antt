@@ -1,5 +1,5 @@
 use Rattle.std.proofs.Common.{◌≡◌, length}
-use Rattle.handle_table.specs.Parting.{AreFree, slots_together}
+use Rattle.handle_table.proofs.Prelude.{AreFree, slots_together}
 use Rattle.handle_table.proofs.parting.joining.take_in.Given as goal
 
 abbrev pub invariant-loop-other : goal.invariant-loop-other

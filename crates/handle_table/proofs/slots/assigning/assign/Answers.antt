@@ -1,5 +1,5 @@
-use Rattle.std.proofs.Common.{Some, None, subst, sym}
-use Rattle.handle_table.specs.Tables.{FitsSlots}
+use Rattle.std.proofs.Common.{Some, None, sym, subst}
+use Rattle.handle_table.proofs.Prelude.{FitsSlots}
 use Rattle.handle_table.proofs.Filling.{fits_none, fits_swap}
 use Rattle.handle_table.proofs.slots.assigning.assign.Goals as goal
 

@@ -1,4 +1,4 @@
-use Rattle.shared_handle.proofs.Piles.{bears_kept}
+use Rattle.handle_table.proofs.Prelude.{bears_kept}
 use Rattle.handle_table.proofs.slots.assigning.let_go.Goals as goal
 
 pub returns-after-block-clause-bears : goal.returns-after-block-clause-bears

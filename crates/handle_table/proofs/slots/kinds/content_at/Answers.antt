@@ -1,5 +1,5 @@
-use Rattle.std.proofs.Common.{◌∙◌, Some, ap, sym}
-use Rattle.control_block.specs.declared.handles.Held.TheVariants.{Owner, Weak}
+use Rattle.std.proofs.Common.{Some, sym, ap, ◌∙◌}
+use Rattle.handle_table.proofs.Prelude.{Owner, Weak}
 use Rattle.handle_table.proofs.slots.kinds.content_at.Goals as goal
 
 pub returns-in_ok-owner_at-in-Owner-clause-found : goal.returns-in_ok-owner_at-in-Owner-clause-found

@@ -1,5 +1,5 @@
-use Rattle.std.proofs.Common.{ap, arith, length}
-use Rattle.std.proofs.lemmas.List.{nil_from_length}
+use Rattle.std.proofs.Common.{length, ap, arith}
+use Rattle.handle_table.proofs.Prelude.{nil_from_length}
 use Rattle.handle_table.proofs.Manning.{all_back, from_none, gone}
 use Rattle.handle_table.proofs.staff.posts.dismiss.Goals as goal
 

@@ -1,4 +1,4 @@
-use Rattle.std.proofs.Common.{◌≡◌, ◌≤◌, ◌+◌, ◌++◌, length, map, reverse, vec_capacity}
+use Rattle.std.proofs.Common.{◌≡◌, ◌+◌, ◌≤◌, ◌++◌, map, reverse, length, vec_capacity}
 use Rattle.handle_table.proofs.staff.posts.dismiss.Given as goal
 
 abbrev pub invariant-loop-post : goal.invariant-loop-post

@@ -1,5 +1,5 @@
 use Rattle.std.proofs.Common.{◌∙◌, arith}
-use Rattle.std.proofs.lemmas.List.{nil_from_length}
+use Rattle.handle_table.proofs.Prelude.{nil_from_length}
 use Rattle.handle_table.proofs.Manning.{all_put, put}
 use Rattle.handle_table.proofs.staff.posts.man.Goals as goal
 

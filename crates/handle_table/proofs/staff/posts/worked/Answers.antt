@@ -1,4 +1,4 @@
-use Rattle.std.proofs.Common.{◌∙◌, ap, arith, map, reverse, sym}
+use Rattle.std.proofs.Common.{map, reverse, sym, ap, ◌∙◌, arith}
 use Rattle.thread_jobs.specs.Jobs.{Keeps}
 use Rattle.handle_table.proofs.Manning.{as_many, each_worked}
 use Rattle.handle_table.proofs.Needing.{posts_meet}

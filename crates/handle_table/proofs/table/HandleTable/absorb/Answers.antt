@@ -1,7 +1,5 @@
-use Rattle.std.proofs.Common.{◌∙◌, ◌+◌, refl, subst}
-use Rattle.control_block.specs.Desks.{allowance_of}
-use Rattle.handle_table.specs.Parting.{Absorbs}
-use Rattle.handle_table.specs.Tables.{TableNow}
+use Rattle.std.proofs.Common.{◌+◌, refl, ◌∙◌, subst}
+use Rattle.handle_table.proofs.Prelude.{Absorbs, allowance_of, TableNow}
 use Rattle.handle_table.proofs.Wholes.{absorb_whole, seen}
 use Rattle.handle_table.proofs.table.HandleTable.absorb.Goals as goal
 

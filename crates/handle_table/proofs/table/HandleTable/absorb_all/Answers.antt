@@ -1,5 +1,5 @@
 use Rattle.std.proofs.Common.{arith}
-use Rattle.std.proofs.lemmas.List.{nil_from_length}
+use Rattle.handle_table.proofs.Prelude.{nil_from_length}
 use Rattle.handle_table.proofs.Absorbing.{all_gone, begins, goes}
 use Rattle.handle_table.proofs.table.HandleTable.absorb_all.Goals as goal
 

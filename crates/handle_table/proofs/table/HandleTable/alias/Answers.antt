@@ -1,10 +1,7 @@
 use Rattle.std.proofs.Common.{◌≡◌, IfErr, OnOk, subst}
-use Rattle.std.proofs.lemmas.Result.{IfErr-weaker, on_ok_weaker}
-use Rattle.control_word.specs.Handles.{IsPointer}
-use Rattle.handle_table.specs.Bringing.{IsAlias, OfOwner}
-use Rattle.handle_table.specs.This.{Aliases, WhyNoAlias}
-use Rattle.handle_table.specs.Calls.{IsOwnerAt, LimitLast}
-use Rattle.handle_table.specs.Tables.{TableNow, on_pile}
+use Rattle.handle_table.proofs.Prelude.{Aliases, IfErr-weaker, IsAlias, IsOwnerAt, IsPointer}
+use Rattle.handle_table.proofs.Prelude.{LimitLast, OfOwner, on_ok_weaker, on_pile, TableNow}
+use Rattle.handle_table.proofs.Prelude.{WhyNoAlias}
 use Rattle.handle_table.proofs.Bringing.{bears_brought, comes, aliases, fits_brought, not_brought}
 use Rattle.handle_table.proofs.Lasts.{with_last}
 use Rattle.handle_table.proofs.Wholes.{seen}

@@ -1,7 +1,6 @@
-use Rattle.std.proofs.Common.{◌∙◌, ap, subst}
-use Rattle.control_block.specs.Desks.{DeskNow}
+use Rattle.std.proofs.Common.{ap, ◌∙◌, subst}
+use Rattle.handle_table.proofs.Prelude.{DeskNow, TableNow}
 use Rattle.handle_table.specs.Compares.{ComparesLast, ComparesSlots, WhyNotCompared}
-use Rattle.handle_table.specs.Tables.{TableNow}
 use Rattle.handle_table.proofs.Wholes.{seen}
 use Rattle.handle_table.proofs.table.HandleTable.compare.Goals as goal
 

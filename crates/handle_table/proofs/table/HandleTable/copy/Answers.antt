@@ -1,8 +1,6 @@
-use Rattle.std.specs.Prelude.{IfErr, List}
-use Rattle.std.proofs.Common.{subst}
-use Rattle.handle_table.specs.Bringing.{OfHandle}
-use Rattle.handle_table.specs.Calls.{Copies, IsCopy, IsHandleAt, LimitLast}
-use Rattle.handle_table.specs.Tables.{Slot, TableNow, on_pile}
+use Rattle.std.proofs.Common.{List, IfErr, subst}
+use Rattle.handle_table.proofs.Prelude.{Copies, IsCopy, IsHandleAt, LimitLast, OfHandle, on_pile}
+use Rattle.handle_table.proofs.Prelude.{Slot, TableNow}
 use Rattle.handle_table.proofs.Bringing.{copies, filled_comes, filled_whole}
 use Rattle.handle_table.proofs.Wholes.{seen}
 use Rattle.handle_table.proofs.table.HandleTable.copy.Goals as goal

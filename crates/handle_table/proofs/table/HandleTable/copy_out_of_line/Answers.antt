@@ -1,8 +1,6 @@
 use Rattle.std.proofs.Common.{◌≡◌, IfErr, OnOk, subst}
-use Rattle.std.proofs.lemmas.Result.{IfErr-weaker, on_ok_weaker}
-use Rattle.handle_table.specs.Bringing.{OfHandle}
-use Rattle.handle_table.specs.Calls.{Copies, IsCopy, IsHandleAt, LimitLast, WhyNoCopy}
-use Rattle.handle_table.specs.Tables.{TableNow, on_pile}
+use Rattle.handle_table.proofs.Prelude.{Copies, IfErr-weaker, IsCopy, IsHandleAt, LimitLast}
+use Rattle.handle_table.proofs.Prelude.{OfHandle, on_ok_weaker, on_pile, TableNow, WhyNoCopy}
 use Rattle.handle_table.proofs.Bringing.{bears_brought, comes, copies, fits_brought, not_brought}
 use Rattle.handle_table.proofs.Lasts.{with_last}
 use Rattle.handle_table.proofs.Wholes.{seen}

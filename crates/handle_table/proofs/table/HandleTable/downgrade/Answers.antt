@@ -1,9 +1,8 @@
 use Rattle.std.proofs.Common.{◌≡◌, IfErr, OnOk, subst}
-use Rattle.std.proofs.lemmas.Result.{IfErr-weaker, on_ok_weaker}
-use Rattle.handle_table.specs.Bringing.{IsWeakCopy, OfOwner}
-use Rattle.handle_table.specs.Calls.{Downgrades, IsOwnerAt, LimitLast, WhyNotDowngraded}
-use Rattle.handle_table.specs.Tables.{TableNow, on_pile}
-use Rattle.handle_table.proofs.Bringing.{bears_brought, comes, downgrades, fits_brought, not_brought}
+use Rattle.handle_table.proofs.Prelude.{Downgrades, IfErr-weaker, IsOwnerAt, IsWeakCopy, LimitLast}
+use Rattle.handle_table.proofs.Prelude.{OfOwner, on_ok_weaker, on_pile, TableNow, WhyNotDowngraded}
+use Rattle.handle_table.proofs.Bringing.{bears_brought, comes, downgrades, fits_brought}
+use Rattle.handle_table.proofs.Bringing.{not_brought}
 use Rattle.handle_table.proofs.Lasts.{with_last}
 use Rattle.handle_table.proofs.Wholes.{seen}
 use Rattle.handle_table.proofs.table.HandleTable.downgrade.Goals as goal

@@ -1,9 +1,7 @@
 use Rattle.std.proofs.Common.{◌≡◌, IfErr, OnOk, subst}
-use Rattle.std.proofs.lemmas.Result.{IfErr-weaker}
+use Rattle.handle_table.proofs.Prelude.{IfErr-weaker, LimitLast, on_pile, TableNow, WhyNotEmptied}
 use Rattle.handle_table.specs.Bringing.{IsEmptyOwner}
-use Rattle.handle_table.specs.Handles.{EmptiesSlot, WhyNotEmptied}
-use Rattle.handle_table.specs.Calls.{LimitLast}
-use Rattle.handle_table.specs.Tables.{TableNow, on_pile}
+use Rattle.handle_table.specs.Handles.{EmptiesSlot}
 use Rattle.handle_table.proofs.Bringing.{bears_brought, comes, fits_brought, not_brought}
 use Rattle.handle_table.proofs.Lasts.{with_last}
 use Rattle.handle_table.proofs.Wholes.{seen}

@@ -1,7 +1,6 @@
-use Rattle.std.proofs.Common.{◌∙◌, List, refl, subst}
-use Rattle.handle_table.specs.Calls.{Assigns}
-use Rattle.handle_table.specs.Cells.{ExchangesSlot, WhyNotSwapped}
-use Rattle.handle_table.specs.Tables.{Slot, TableNow, on_pile}
+use Rattle.std.proofs.Common.{List, refl, ◌∙◌, subst}
+use Rattle.handle_table.proofs.Prelude.{Assigns, on_pile, Slot, TableNow, WhyNotSwapped}
+use Rattle.handle_table.specs.Cells.{ExchangesSlot}
 use Rattle.handle_table.proofs.Bringing.{swaps_of}
 use Rattle.handle_table.proofs.Wholes.{seen, whole_same}
 use Rattle.handle_table.proofs.table.HandleTable.exchange.Goals as goal

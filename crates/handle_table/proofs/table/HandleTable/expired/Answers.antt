@@ -1,7 +1,6 @@
 use Rattle.std.proofs.Common.{◌≡◌, refl, subst}
-use Rattle.control_block.specs.declared.handles.Held.TheVariants.{Weak}
-use Rattle.handle_table.specs.Calls.{Expires, WhyNoWeak}
-use Rattle.handle_table.specs.Tables.{TableNow}
+use Rattle.handle_table.proofs.Prelude.{TableNow, Weak, WhyNoWeak}
+use Rattle.handle_table.specs.Calls.{Expires}
 use Rattle.handle_table.proofs.Filling.{fits_at}
 use Rattle.handle_table.proofs.Wholes.{seen, still}
 use Rattle.handle_table.proofs.Refused.{if_fault}

@@ -1,9 +1,8 @@
-use Rattle.std.proofs.Common.{◌∙◌, refl, subst, sym}
-use Rattle.control_block.specs.CellCalls.{cell_of_site}
+use Rattle.std.proofs.Common.{sym, refl, ◌∙◌, subst}
+use Rattle.handle_table.proofs.Prelude.{block_of_held, cell_of_site, kind_of_cell, place_of_held}
+use Rattle.handle_table.proofs.Prelude.{TableNow}
 use Rattle.atomic_cells.specs.Cells as cells
-use Rattle.handle_table.specs.Cells.{TellsSlotHeld, kind_of_cell}
-use Rattle.handle_table.specs.Parts.{block_of_held, place_of_held}
-use Rattle.handle_table.specs.Tables.{TableNow}
+use Rattle.handle_table.specs.Cells.{TellsSlotHeld}
 use Rattle.handle_table.proofs.Celled.{by_parts}
 use Rattle.handle_table.proofs.Compared.{content_held}
 use Rattle.handle_table.proofs.Wholes.{seen, still}

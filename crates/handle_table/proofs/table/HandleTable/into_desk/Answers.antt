@@ -1,8 +1,7 @@
-use Rattle.std.proofs.Common.{◌∙◌, sym, subst, List}
+use Rattle.std.proofs.Common.{List, sym, ◌∙◌, subst}
+use Rattle.handle_table.proofs.Prelude.{Ending, on_pile, TableNow}
 use Rattle.shared_handle.specs.Piles.{AreRounds}
-use Rattle.shared_handle.specs.declared.endings.Ending.{Ending}
 use Rattle.handle_table.specs.Parting.{WindsUp}
-use Rattle.handle_table.specs.Tables.{TableNow, on_pile}
 use Rattle.handle_table.proofs.table.HandleTable.into_desk.Goals as goal
 
 pub returns-clause-wound : goal.returns-clause-wound

@@ -1,6 +1,6 @@
-use Rattle.std.proofs.Common.{arith, refl, subst}
+use Rattle.std.proofs.Common.{refl, subst, arith}
+use Rattle.handle_table.proofs.Prelude.{TableNow}
 use Rattle.handle_table.specs.Parting.{WhyNotJoined}
-use Rattle.handle_table.specs.Tables.{TableNow}
 use Rattle.handle_table.proofs.Merging.{joined_whole, room_both}
 use Rattle.handle_table.proofs.table.HandleTable.join.Goals as goal
 

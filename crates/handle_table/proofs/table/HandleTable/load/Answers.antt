@@ -1,7 +1,5 @@
 use Rattle.std.proofs.Common.{subst}
-use Rattle.handle_table.specs.Bringing.{IsLoaded}
-use Rattle.handle_table.specs.Cells.{LoadsIntoSlot}
-use Rattle.handle_table.specs.Tables.{TableNow, on_pile}
+use Rattle.handle_table.proofs.Prelude.{IsLoaded, LoadsIntoSlot, on_pile, TableNow}
 use Rattle.handle_table.proofs.Bringing.{filled_comes, filled_whole, loads}
 use Rattle.handle_table.proofs.Wholes.{seen}
 use Rattle.handle_table.proofs.table.HandleTable.load.Goals as goal

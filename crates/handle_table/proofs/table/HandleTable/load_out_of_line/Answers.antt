@@ -1,9 +1,7 @@
 use Rattle.std.proofs.Common.{◌≡◌, IfErr, OnOk, subst}
-use Rattle.std.proofs.lemmas.Result.{IfErr-weaker, on_ok_weaker}
-use Rattle.handle_table.specs.Bringing.{IsLoaded}
-use Rattle.handle_table.specs.Cells.{IsCellThere, LoadsIntoSlot, WhyNotLoaded}
-use Rattle.handle_table.specs.Calls.{LimitLast}
-use Rattle.handle_table.specs.Tables.{TableNow, on_pile}
+use Rattle.handle_table.proofs.Prelude.{IfErr-weaker, IsLoaded, LimitLast, LoadsIntoSlot}
+use Rattle.handle_table.proofs.Prelude.{on_ok_weaker, on_pile, TableNow}
+use Rattle.handle_table.specs.Cells.{IsCellThere, WhyNotLoaded}
 use Rattle.handle_table.proofs.Bringing.{bears_brought, comes, loads, fits_brought, not_brought}
 use Rattle.handle_table.proofs.Lasts.{with_last}
 use Rattle.handle_table.proofs.Wholes.{seen}

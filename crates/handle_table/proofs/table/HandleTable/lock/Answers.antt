@@ -1,9 +1,8 @@
-use Rattle.std.proofs.Common.{◌≡◌, ◌∙◌, Bool, is_some, ap, inl, inr, refl, subst, sym, arith}
-use Rattle.control_block.specs.declared.handles.Held.TheVariants.{Owner, Weak}
+use Rattle.std.proofs.Common.{◌≡◌, Bool, is_some, sym, refl, ap, ◌∙◌, subst, inl, inr, arith}
+use Rattle.handle_table.proofs.Prelude.{IsWeakAt, LimitLast, Owner, TableNow, Weak}
 use Rattle.shared_handle.specs.Locks as locks
-use Rattle.handle_table.specs.Calls.{IsWeakAt, LimitLast, LocksSlot, WhyNotLocked}
+use Rattle.handle_table.specs.Calls.{LocksSlot, WhyNotLocked}
 use Rattle.handle_table.specs.declared.fault.Fault.TheVariants as fault
-use Rattle.handle_table.specs.Tables.{TableNow}
 use Rattle.handle_table.proofs.Filling.{fits_at, fits_more}
 use Rattle.handle_table.proofs.Wholes.{kept, seen}
 use Rattle.handle_table.proofs.Refused.{if_fault}

@@ -1,11 +1,10 @@
-use Rattle.std.proofs.Common.{◌≡◌, ◌∙◌, IfErr, OnOk, ap, subst}
-use Rattle.std.proofs.lemmas.Result.{IfErr-weaker}
-use Rattle.control_block.specs.Desks.{stock_of}
+use Rattle.std.proofs.Common.{◌≡◌, IfErr, OnOk, ap, ◌∙◌, subst}
+use Rattle.handle_table.proofs.Prelude.{IfErr-weaker, LimitLast, on_pile, Returned, stock_of}
+use Rattle.handle_table.proofs.Prelude.{TableNow, WhyNotMade}
 use Rattle.handle_table.specs.Bringing.{IsMade}
-use Rattle.handle_table.specs.Calls.{LimitLast, MakesIntoSlot, WhyNotMade}
-use Rattle.handle_table.specs.declared.fault.Returned.{Returned}
-use Rattle.handle_table.specs.Tables.{TableNow, on_pile}
-use Rattle.handle_table.proofs.Bringing.{bears_brought, comes, err_stays, fits_brought, not_brought}
+use Rattle.handle_table.specs.Calls.{MakesIntoSlot}
+use Rattle.handle_table.proofs.Bringing.{bears_brought, comes, err_stays, fits_brought}
+use Rattle.handle_table.proofs.Bringing.{not_brought}
 use Rattle.handle_table.proofs.Lasts.{fault_arrives}
 use Rattle.handle_table.proofs.Wholes.{seen}
 use Rattle.handle_table.proofs.table.HandleTable.make_from_stock.Goals as goal

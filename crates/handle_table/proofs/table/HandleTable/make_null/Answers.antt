@@ -1,7 +1,5 @@
 use Rattle.std.proofs.Common.{length, ap, ◌∙◌, arith}
-use Rattle.std.proofs.lemmas.Result.{IfErr-weaker, on_ok_weaker}
-use Rattle.control_block.specs.Desks.{stock_of}
-use Rattle.handle_table.specs.Tables.{TableNow}
+use Rattle.handle_table.proofs.Prelude.{IfErr-weaker, on_ok_weaker, stock_of, TableNow}
 use Rattle.handle_table.proofs.Supplying.{not_supplied}
 use Rattle.handle_table.proofs.table.HandleTable.make_null.Goals as goal
 

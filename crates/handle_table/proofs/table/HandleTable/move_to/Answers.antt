@@ -1,6 +1,6 @@
-use Rattle.std.proofs.Common.{◌∷◌, List, Some, subst, sym}
-use Rattle.handle_table.specs.Calls.{Assigns, MovesSlot}
-use Rattle.handle_table.specs.Tables.{FitsSlots, Slot, TableNow, on_pile}
+use Rattle.std.proofs.Common.{List, ◌∷◌, Some, sym, subst}
+use Rattle.handle_table.proofs.Prelude.{Assigns, FitsSlots, on_pile, Slot, TableNow}
+use Rattle.handle_table.specs.Calls.{MovesSlot}
 use Rattle.handle_table.proofs.Filling.{fits_out}
 use Rattle.handle_table.proofs.Wholes.{seen}
 use Rattle.handle_table.proofs.table.HandleTable.move_to.Goals as goal

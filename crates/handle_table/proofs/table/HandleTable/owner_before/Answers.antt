@@ -1,6 +1,6 @@
 use Rattle.std.proofs.Common.{subst}
+use Rattle.handle_table.proofs.Prelude.{TableNow}
 use Rattle.handle_table.specs.Pairs.{AreInOrder}
-use Rattle.handle_table.specs.Tables.{TableNow}
 use Rattle.handle_table.proofs.table.HandleTable.owner_before.Goals as goal
 
 pub returns-clause-told : goal.returns-clause-told

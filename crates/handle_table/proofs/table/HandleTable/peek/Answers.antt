@@ -1,7 +1,6 @@
 use Rattle.std.proofs.Common.{subst}
-use Rattle.control_block.specs.declared.handles.Held.{Held}
+use Rattle.handle_table.proofs.Prelude.{Held, IsAt, TableNow}
 use Rattle.handle_table.specs.Peeks.{IsPeeked}
-use Rattle.handle_table.specs.Tables.{IsAt, TableNow}
 use Rattle.handle_table.proofs.table.HandleTable.peek.Goals as goal
 
 pub returns-clause-there : goal.returns-clause-there

@@ -1,6 +1,6 @@
 use Rattle.std.proofs.Common.{subst}
+use Rattle.handle_table.proofs.Prelude.{TableNow}
 use Rattle.handle_table.specs.Calls.{PointsTo}
-use Rattle.handle_table.specs.Tables.{TableNow}
 use Rattle.handle_table.proofs.table.HandleTable.place.Goals as goal
 
 pub returns-clause-place : goal.returns-clause-place

@@ -1,8 +1,6 @@
-use Rattle.std.proofs.Common.{◌≡◌, ◌⊎◌, ◌∙◌, ap, inl, inr, refl, subst, Ok}
-use Rattle.control_block.specs.Desks.{DeskNow}
-use Rattle.control_block.specs.declared.handles.Held.TheVariants.{Owner}
-use Rattle.handle_table.specs.Calls.{IsNotRead, ReadsSlot, WhyNoOwner}
-use Rattle.handle_table.specs.Tables.{TableNow}
+use Rattle.std.proofs.Common.{◌≡◌, ◌⊎◌, Ok, refl, ap, ◌∙◌, subst, inl, inr}
+use Rattle.handle_table.proofs.Prelude.{DeskNow, Owner, TableNow, WhyNoOwner}
+use Rattle.handle_table.specs.Calls.{IsNotRead, ReadsSlot}
 use Rattle.handle_table.specs.declared.fault.Fault.TheVariants as fault
 use Rattle.handle_table.proofs.Filling.{fits_at}
 use Rattle.handle_table.proofs.Wholes.{read_same, seen, still}

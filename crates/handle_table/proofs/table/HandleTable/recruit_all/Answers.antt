@@ -1,8 +1,7 @@
-use Rattle.std.proofs.Common.{◌∙◌, List, [], ◌∷◌, arith, subst, sym}
+use Rattle.std.proofs.Common.{List, [], ◌∷◌, sym, ◌∙◌, subst, arith}
+use Rattle.handle_table.proofs.Prelude.{IsNew, IsPartedInto, TableNow}
 use Rattle.std.proofs.lemmas.List.Elements.{All-append, All-cons, All-nil}
 use Rattle.std.specs.List.{All}
-use Rattle.handle_table.specs.Parting.{IsNew, IsPartedInto}
-use Rattle.handle_table.specs.Tables.{TableNow}
 use Rattle.handle_table.proofs.Crews.{parted_more}
 use Rattle.handle_table.proofs.table.HandleTable.recruit_all.Goals as goal
 

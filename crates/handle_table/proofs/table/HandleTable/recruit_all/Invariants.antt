@@ -1,5 +1,5 @@
-use Rattle.std.proofs.Common.{◌≡◌, ◌≤◌, ◌-◌, All, length, vec_capacity}
-use Rattle.handle_table.specs.Parting.{IsNew, IsPartedInto}
+use Rattle.std.proofs.Common.{◌≡◌, ◌-◌, ◌≤◌, length, vec_capacity, All}
+use Rattle.handle_table.proofs.Prelude.{IsNew, IsPartedInto}
 use Rattle.handle_table.proofs.table.HandleTable.recruit_all.Given as goal
 
 abbrev pub invariant-loop-alloc : goal.invariant-loop-alloc

@@ -1,7 +1,6 @@
-use Rattle.std.proofs.Common.{◌≡◌, ℕ, ◌<◌, subst, sym}
-use Rattle.std.specs.Prelude.{slice_index}
+use Rattle.std.proofs.Common.{◌≡◌, ℕ, ◌<◌, slice_index, sym, subst}
+use Rattle.handle_table.proofs.Prelude.{DeskNow, object_in}
 use Rattle.shared_handle.specs.Endings.{EndsInHand}
-use Rattle.control_block.specs.Desks.{DeskNow, object_in}
 use Rattle.handle_table.specs.Ends.{IsToEnd}
 use Rattle.handle_table.specs.declared.ends.Remains.TheVariants.{Fields, Null}
 use Rattle.handle_table.proofs.table.HandleTable.remains.Goals as goal

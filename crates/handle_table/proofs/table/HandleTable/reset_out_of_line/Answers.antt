@@ -1,6 +1,6 @@
 use Rattle.std.proofs.Common.{subst}
+use Rattle.handle_table.proofs.Prelude.{TableNow}
 use Rattle.handle_table.specs.Calls.{Resets}
-use Rattle.handle_table.specs.Tables.{TableNow}
 use Rattle.handle_table.proofs.Filling.{fits_at}
 use Rattle.handle_table.proofs.Wholes.{fits_left, seen}
 use Rattle.handle_table.proofs.table.HandleTable.reset_out_of_line.Goals as goal

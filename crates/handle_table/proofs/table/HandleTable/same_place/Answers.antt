@@ -1,7 +1,6 @@
-use Rattle.std.proofs.Common.{◌∙◌, ap, inl, inr, subst}
-use Rattle.control_block.specs.Desks.{DeskNow}
+use Rattle.std.proofs.Common.{ap, ◌∙◌, subst, inl, inr}
+use Rattle.handle_table.proofs.Prelude.{DeskNow, TableNow}
 use Rattle.handle_table.specs.Pairs.{PointAlike, WhyNoOwners}
-use Rattle.handle_table.specs.Tables.{TableNow}
 use Rattle.handle_table.proofs.Wholes.{same_whole, seen}
 use Rattle.handle_table.proofs.Refused.{if_fault}
 use Rattle.handle_table.proofs.table.HandleTable.same_place.Goals as goal

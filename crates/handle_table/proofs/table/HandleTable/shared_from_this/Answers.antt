@@ -1,10 +1,8 @@
 use Rattle.std.proofs.Common.{◌≡◌, IfErr, OnOk, subst}
-use Rattle.std.proofs.lemmas.Result.{IfErr-weaker, on_ok_weaker}
-use Rattle.handle_table.specs.Bringing.{IsThisOwner, OfOwner}
-use Rattle.handle_table.specs.This.{SharesThis, WhyNoThis}
-use Rattle.handle_table.specs.Calls.{IsOwnerAt, LimitLast}
-use Rattle.handle_table.specs.Tables.{TableNow, on_pile}
-use Rattle.handle_table.proofs.Bringing.{bears_brought, comes, shares_this, fits_brought, not_brought}
+use Rattle.handle_table.proofs.Prelude.{IfErr-weaker, IsOwnerAt, IsThisOwner, LimitLast, OfOwner}
+use Rattle.handle_table.proofs.Prelude.{on_ok_weaker, on_pile, SharesThis, TableNow, WhyNoThis}
+use Rattle.handle_table.proofs.Bringing.{bears_brought, comes, shares_this, fits_brought}
+use Rattle.handle_table.proofs.Bringing.{not_brought}
 use Rattle.handle_table.proofs.Lasts.{with_last}
 use Rattle.handle_table.proofs.Wholes.{seen}
 use Rattle.handle_table.proofs.table.HandleTable.shared_from_this.Goals as goal

@@ -1,8 +1,6 @@
-use Rattle.std.proofs.Common.{ap, refl, ◌∙◌, subst, length}
-use Rattle.std.specs.Prelude.{min}
-use Rattle.control_block.specs.Desks.{stock_of}
+use Rattle.std.proofs.Common.{min, length, refl, ap, ◌∙◌, subst}
+use Rattle.handle_table.proofs.Prelude.{stock_of, TableNow}
 use Rattle.handle_table.specs.Shelving.{GivesToShelf}
-use Rattle.handle_table.specs.Tables.{TableNow}
 use Rattle.handle_table.proofs.Supplying.{passed}
 use Rattle.handle_table.proofs.Wholes.{seen}
 use Rattle.handle_table.proofs.table.HandleTable.shelve.Goals as goal

@@ -1,9 +1,7 @@
-use Rattle.std.proofs.Common.{◌∙◌, List, ap, arith, inl, inr, length, refl, subst, sym}
-use Rattle.control_block.specs.Desks.{DeskNow}
-use Rattle.control_block.specs.Parting.{HoldsAll, IsTooMuch, SplitsOff}
-use Rattle.control_block.specs.SlotLists.{handles_in}
-use Rattle.handle_table.specs.Parting.{SplitsTable, WhyNoPart, WhyNotSplit, handles_from}
-use Rattle.handle_table.specs.Tables.{Slot, TableNow}
+use Rattle.std.proofs.Common.{List, length, sym, refl, ap, ◌∙◌, subst, inl, inr, arith}
+use Rattle.handle_table.proofs.Prelude.{DeskNow, handles_from, handles_in, HoldsAll, IsTooMuch}
+use Rattle.handle_table.proofs.Prelude.{Slot, SplitsOff, TableNow}
+use Rattle.handle_table.specs.Parting.{SplitsTable, WhyNoPart, WhyNotSplit}
 use Rattle.handle_table.specs.declared.fault.Fault.TheVariants as fault
 use Rattle.handle_table.proofs.Handing.{handed_from, holds_from, new_whole, old_whole}
 use Rattle.handle_table.proofs.Wholes.{seen}

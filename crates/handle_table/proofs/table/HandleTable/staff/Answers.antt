@@ -1,9 +1,8 @@
-use Rattle.std.proofs.Common.{IfSome, Option, arith, length, subst}
-use Rattle.control_word.specs.declared.refusal.Refusal.{Refusal}
+use Rattle.std.proofs.Common.{length, IfSome, Option, subst, arith}
+use Rattle.handle_table.proofs.Prelude.{Refusal, WhyFewer}
 use Rattle.handle_table.proofs.Manning.{staffed}
 use Rattle.handle_table.proofs.Needing.{lent_meet}
 use Rattle.handle_table.proofs.Sharing.{only_memory}
-use Rattle.handle_table.specs.Parting.{WhyFewer}
 use Rattle.handle_table.specs.Programs.{IsManned}
 use Rattle.handle_table.proofs.table.HandleTable.staff.Goals as goal
 

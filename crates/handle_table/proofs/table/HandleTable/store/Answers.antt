@@ -1,6 +1,6 @@
-use Rattle.std.proofs.Common.{◌∙◌, refl, subst}
-use Rattle.handle_table.specs.Cells.{StoresFromSlot, WhyNotSwapped}
-use Rattle.handle_table.specs.Tables.{TableNow, on_pile}
+use Rattle.std.proofs.Common.{refl, ◌∙◌, subst}
+use Rattle.handle_table.proofs.Prelude.{on_pile, TableNow, WhyNotSwapped}
+use Rattle.handle_table.specs.Cells.{StoresFromSlot}
 use Rattle.handle_table.proofs.Bringing.{swaps_of}
 use Rattle.handle_table.proofs.Filling.{fits_at, fits_less}
 use Rattle.handle_table.proofs.Wholes.{seen, whole_same}

@@ -1,6 +1,5 @@
 use Rattle.std.proofs.Common.{length, sym, ap, ◌∙◌, inr, arith}
-use Rattle.control_block.specs.Desks.{allowance_of, held_of, stock_of}
-use Rattle.handle_table.specs.Tables.{TableNow}
+use Rattle.handle_table.proofs.Prelude.{allowance_of, held_of, stock_of, TableNow}
 use Rattle.handle_table.proofs.Supplying.{no_stock, none_found, one_sought}
 use Rattle.handle_table.proofs.table.HandleTable.supply.Goals as goal
 

@@ -1,10 +1,5 @@
-use Rattle.std.proofs.Common.{refl, subst, sym, ap, ◌∙◌}
-use Rattle.std.specs.Prelude.{min}
-use Rattle.control_block.specs.Own.{IsSole}
-use Rattle.control_block.specs.Shelf.{shelved_of}
-use Rattle.control_block.specs.Desks.{DeskNow}
-use Rattle.handle_table.specs.Shelving.{TakesFromShelf}
-use Rattle.handle_table.specs.Tables.{TableNow}
+use Rattle.std.proofs.Common.{min, sym, refl, ap, ◌∙◌, subst}
+use Rattle.handle_table.proofs.Prelude.{DeskNow, IsSole, shelved_of, TableNow, TakesFromShelf}
 use Rattle.handle_table.proofs.Supplying.{passed}
 use Rattle.handle_table.proofs.Wholes.{seen}
 use Rattle.handle_table.proofs.table.HandleTable.unshelve.Goals as goal

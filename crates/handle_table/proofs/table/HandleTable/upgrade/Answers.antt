@@ -1,8 +1,6 @@
-use Rattle.std.proofs.Common.{inl, inr, refl, subst, arith}
-use Rattle.control_block.specs.declared.handles.Held.TheVariants.{Owner, Weak}
-use Rattle.handle_table.specs.Calls.{IsWeakAt, LimitLast}
+use Rattle.std.proofs.Common.{refl, subst, inl, inr, arith}
+use Rattle.handle_table.proofs.Prelude.{IsWeakAt, LimitLast, Owner, TableNow, Weak}
 use Rattle.handle_table.specs.Handles.{Upgrades, WhyNotUpgraded}
-use Rattle.handle_table.specs.Tables.{TableNow}
 use Rattle.handle_table.specs.declared.fault.Fault.TheVariants as fault
 use Rattle.handle_table.proofs.Filling.{fits_at, fits_more}
 use Rattle.handle_table.proofs.Wholes.{kept, seen, still}

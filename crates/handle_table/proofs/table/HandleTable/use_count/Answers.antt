@@ -1,6 +1,6 @@
 use Rattle.std.proofs.Common.{refl, subst}
+use Rattle.handle_table.proofs.Prelude.{TableNow}
 use Rattle.handle_table.specs.Calls.{CountsSlot}
-use Rattle.handle_table.specs.Tables.{TableNow}
 use Rattle.handle_table.proofs.Filling.{fits_at}
 use Rattle.handle_table.proofs.Wholes.{seen, still}
 use Rattle.handle_table.proofs.table.HandleTable.use_count.Goals as goal

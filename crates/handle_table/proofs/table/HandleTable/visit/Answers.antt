@@ -1,7 +1,5 @@
-use Rattle.std.proofs.Common.{◌∙◌, ap, inl, inr, refl, subst}
-use Rattle.control_block.specs.Desks.{DeskNow}
-use Rattle.control_block.specs.declared.handles.Held.TheVariants.{Owner}
-use Rattle.handle_table.specs.Tables.{TableNow}
+use Rattle.std.proofs.Common.{refl, ap, ◌∙◌, subst, inl, inr}
+use Rattle.handle_table.proofs.Prelude.{DeskNow, Owner, TableNow}
 use Rattle.handle_table.specs.Visits.{WhyNotVisited}
 use Rattle.handle_table.specs.declared.fault.Fault.TheVariants as fault
 use Rattle.handle_table.proofs.Filling.{fits_at}

@@ -1,10 +1,9 @@
 use Rattle.std.proofs.Common.{◌≡◌, IfErr, OnOk, subst}
-use Rattle.std.proofs.lemmas.Result.{IfErr-weaker, on_ok_weaker}
-use Rattle.handle_table.specs.Bringing.{IsThisWeak, OfOwner}
-use Rattle.handle_table.specs.This.{SharesThisWeakly, WhyNoThis}
-use Rattle.handle_table.specs.Calls.{IsOwnerAt, LimitLast}
-use Rattle.handle_table.specs.Tables.{TableNow, on_pile}
-use Rattle.handle_table.proofs.Bringing.{bears_brought, comes, shares_this_weakly, fits_brought, not_brought}
+use Rattle.handle_table.proofs.Prelude.{IfErr-weaker, IsOwnerAt, IsThisWeak, LimitLast, OfOwner}
+use Rattle.handle_table.proofs.Prelude.{on_ok_weaker, on_pile, SharesThisWeakly, TableNow}
+use Rattle.handle_table.proofs.Prelude.{WhyNoThis}
+use Rattle.handle_table.proofs.Bringing.{bears_brought, comes, shares_this_weakly, fits_brought}
+use Rattle.handle_table.proofs.Bringing.{not_brought}
 use Rattle.handle_table.proofs.Lasts.{with_last}
 use Rattle.handle_table.proofs.Wholes.{seen}
 use Rattle.handle_table.proofs.table.HandleTable.weak_from_this.Goals as goal

@@ -1,5 +1,5 @@
-use Rattle.std.proofs.Common.{◌∙◌, Some, ap, sym}
-use Rattle.control_block.specs.declared.handles.Held.{Held}
+use Rattle.std.proofs.Common.{Some, sym, ap, ◌∙◌}
+use Rattle.handle_table.proofs.Prelude.{Held}
 use Rattle.handle_table.proofs.Slotted.{owner_numbered}
 use Rattle.handle_table.proofs.slots.slot.Slot.fill.Goals as goal
 

@@ -1,5 +1,5 @@
-use Rattle.std.proofs.Common.{subst, sym}
-use Rattle.handle_table.specs.Slots.{IsOwned}
+use Rattle.std.proofs.Common.{sym, subst}
+use Rattle.handle_table.proofs.Prelude.{IsOwned}
 use Rattle.handle_table.proofs.Slotted.{not_owned}
 use Rattle.handle_table.proofs.slots.slot.Slot.owned.Goals as goal
 

@@ -1,9 +1,9 @@
-use Rattle.std.proofs.Common.{take, arith, ◌∙◌}
-use Rattle.std.proofs.lemmas.List.{length-take}
+use Rattle.std.proofs.Common.{take, ◌∙◌, arith, length-take}
 use Rattle.control_block.proofs.SlotLists.{filled_few, next_filled, next_vacant}
 use Rattle.handle_table.proofs.Slotted.{filled, unfilled}
 use Rattle.handle_table.proofs.slots.slot.SlotLent.count.Goals as goal
-use Rattle.handle_table.proofs.slots.slot.SlotLent.count.Goals.{then-not-is_vacant, else-not-is_vacant}
+use Rattle.handle_table.proofs.slots.slot.SlotLent.count.Goals.{then-not-is_vacant}
+use Rattle.handle_table.proofs.slots.slot.SlotLent.count.Goals.{else-not-is_vacant}
 
 pub overflow_add-count : goal.overflow_add-count
 overflow_add-count c =

@@ -1,5 +1,5 @@
 use Rattle.std.proofs.Common.{◌≡◌, length, take}
-use Rattle.control_block.specs.SlotLists.{handles_in}
+use Rattle.handle_table.proofs.Prelude.{handles_in}
 use Rattle.handle_table.proofs.slots.slot.SlotLent.count.Given as goal
 
 abbrev pub invariant-loop-slot : goal.invariant-loop-slot
