@@ -1,30 +1,20 @@
 -- Objects that end beside each other in a desk's hands, one out of the other's member.
-use Rattle.std.proofs.Common.{◌≡◌, ◌≢◌, ◌++◌, ℕ, true, true≢false, cond, Option, None, Some, refl, sym, ap, subst, ◌∙◌}
-use Rattle.std.specs.Prelude.{IfSome, is_some}
-use Rattle.control_word.proofs.history.Legal.{sound}
-use Rattle.control_word.proofs.lists.Tallies.{put_cases}
+use Rattle.std.proofs.Common.{◌≡◌, ℕ, true, cond, ◌≢◌, ◌++◌, is_some, IfSome, Some, None, Option}
+use Rattle.std.proofs.Common.{sym, refl, ap, ◌∙◌, subst, true≢false}
+use Rattle.shared_handle.proofs.Prelude
+use Prelude.{AddsEvent, Block, ClearMember, ClearsUp, DeskNow, Empty, empty, Ending, ending}
+use Prelude.{EndsInHand, Event, IsBeside, IsEnding, IsLeft, IsLegal, KeepsOtherEndings}
+use Prelude.{kind_of_member, Last, latest_of, leads, Leave, LeavesWeakly, Left, more_ending}
+use Prelude.{NumberedHandle, Object, object_in, on_latest, opening_of, Others, Owner, Place, put}
+use Prelude.{put_cases, sound, State, state_of, still_ends, Weak}
 use Rattle.control_word.specs.Events.{after, loses}
-use Rattle.control_word.specs.Handles.{empty}
-use Rattle.control_word.specs.Histories.{IsLegal, leads}
-use Rattle.control_word.specs.State.{Object, State, ending, kind_of_member, put}
 use Rattle.control_word.specs.declared.model.event.Cell.{Cell}
-use Rattle.control_word.specs.declared.model.event.Event.{Event}
-use Rattle.control_word.specs.declared.model.event.Event.TheVariants.{ClearMember, Leave, Swap}
-use Rattle.control_word.specs.declared.model.handle.NumberedHandle.{NumberedHandle}
-use Rattle.control_word.specs.declared.model.handle.Kind.TheVariants.{Owner, Weak}
-use Rattle.control_word.specs.declared.place.Block.{Block}
-use Rattle.control_word.specs.declared.place.Place.{Place}
-use Rattle.control_block.proofs.Endings.{fills_latest, fills_phase, not_live, still_ends}
+use Rattle.control_word.specs.declared.model.event.Event.TheVariants.{Swap}
+use Rattle.control_block.proofs.Endings.{fills_latest, fills_phase, not_live}
 use Rattle.control_block.specs.Clearing.{Empties, Lets}
-use Rattle.control_block.specs.Desks.{AddsEvent, DeskNow, IsEnding, KeepsOtherEndings, latest_of, object_in, on_latest, state_of}
 use Rattle.control_block.specs.Leaving.{IsReleasedBy}
-use Rattle.control_block.specs.Rule.{opening_of}
 use Rattle.control_block.specs.declared.released.Released.{Released}
-use Rattle.shared_handle.specs.Calls.{LeavesWeakly}
-use Rattle.shared_handle.specs.Endings.{ClearsUp, EndsInHand, IsApart, IsBeside, IsGone, IsLeft, IsLeftOf, IsUncleared, more_ending}
-use Rattle.shared_handle.specs.declared.endings.Ending.{Ending}
-use Rattle.shared_handle.specs.declared.endings.Left.{Left}
-use Rattle.shared_handle.specs.declared.endings.Left.TheVariants.{Empty, Last, Others}
+use Rattle.shared_handle.specs.Endings.{IsApart, IsGone, IsLeftOf, IsUncleared}
 
 module _ {V : Type 0} where
   -- an owner that was the last had a live object, which isn't one that ended before

@@ -1,18 +1,16 @@
 -- What callers cite: which handles a desk has as they come and leave, and what ends in its hands.
-use Rattle.std.proofs.Common.{◌≡◌, ◌∷◌, ◌++◌, [], Bool, true, false, List, Option, None, Some, inl, inr, refl, ap, subst, sym, ◌∙◌}
-use Rattle.std.proofs.lemmas.Bool.{cond-true, cond-false}
+use Rattle.std.proofs.Common.{◌≡◌, Bool, true, false, List, [], ◌∷◌, ◌++◌, Some, None, Option, sym}
+use Rattle.std.proofs.Common.{refl, ap, ◌∙◌, subst, inl, inr}
+use Rattle.shared_handle.proofs.Prelude.{bag_of, Block, cond-false, cond-true, DeskNow, Ending}
+use Rattle.shared_handle.proofs.Prelude.{EndsInHand, handle, HoldsHandle, KeepsEndings}
+use Rattle.shared_handle.proofs.Prelude.{NumberedHandle, Place}
 use Rattle.control_word.proofs.lists.Tallies.{handle_self, same_handle_true}
-use Rattle.control_word.specs.Handles.{handle, same_handle}
+use Rattle.control_word.specs.Handles.{same_handle}
 use Rattle.control_word.specs.State.{Has, without}
-use Rattle.control_word.specs.declared.model.handle.NumberedHandle.{NumberedHandle}
 use Rattle.control_word.specs.declared.model.handle.Kind.{Kind}
-use Rattle.control_word.specs.declared.place.Block.{Block}
-use Rattle.control_word.specs.declared.place.Place.{Place}
-use Rattle.control_block.specs.Desks.{DeskNow, Keeps, KeepsEndings, bag_of}
+use Rattle.control_block.specs.Desks.{Keeps}
 use Rattle.control_block.specs.Parting.{AreIn}
-use Rattle.control_block.specs.CellCalls.{HoldsHandle, with_handle, without_handle}
-use Rattle.shared_handle.specs.Endings.{EndsInHand}
-use Rattle.shared_handle.specs.declared.endings.Ending.{Ending}
+use Rattle.control_block.specs.CellCalls.{with_handle, without_handle}
 
 -- a handle that came last leaves
 pub first_out : (k : Kind) (b : Option Block) (p : Option Place) (l : List NumberedHandle) → without_handle k b p (with_handle k b p l) ≡ l

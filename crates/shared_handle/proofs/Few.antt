@@ -1,16 +1,13 @@
 -- Objects that end in the desk's hands, each in a block of its own, are no more than are counted there.
-use Rattle.std.proofs.Common.{◌≡◌, ◌≢◌, ℕ, suc, ◌-◌, ◌≤◌, ◌==◌, List, [], ◌∷◌, length, refl, sym, ap, subst, ◌∙◌}
-use Rattle.std.proofs.Common.{arith, eq-eqb}
-use Rattle.std.proofs.lemmas.Bool.{cond-true}
-use Rattle.control_word.proofs.history.Legal.{sound}
+use Rattle.std.proofs.Common.{◌≡◌, ℕ, suc, ◌-◌, ◌≤◌, ◌≢◌, List, [], ◌∷◌, length, ◌==◌, sym, refl}
+use Rattle.std.proofs.Common.{ap, ◌∙◌, subst, arith, eq-eqb}
+use Rattle.shared_handle.proofs.Prelude.{AllEnd, cond-true, DeskNow, Ending, ending, endings_of}
+use Rattle.shared_handle.proofs.Prelude.{InShape, IsLegal, latest_of, NotAmong, opening_of, put}
+use Rattle.shared_handle.proofs.Prelude.{sound, state_of}
 use Rattle.control_word.proofs.lists.Sums.{sum_put}
 use Rattle.control_word.proofs.lists.Tallies.{put_other}
-use Rattle.control_word.specs.Histories.{IsLegal}
-use Rattle.control_word.specs.State.{InShape, common, ending, put, sum_below, unmade}
-use Rattle.control_block.specs.Desks.{DeskNow, endings_of, ends_with, latest_of, state_of}
-use Rattle.control_block.specs.Rule.{opening_of}
-use Rattle.shared_handle.specs.Piles.{AllEnd, NotAmong}
-use Rattle.shared_handle.specs.declared.endings.Ending.{Ending}
+use Rattle.control_word.specs.State.{common, sum_below, unmade}
+use Rattle.control_block.specs.Desks.{ends_with}
 
 ends_unmade : (d : ℕ) → ending d ≡ unmade → ⊥
 ends_unmade d e = cc

@@ -1,20 +1,10 @@
 -- A desk's own events, one call after the other.
-use Rattle.std.proofs.Common.{◌≡◌, ℕ, Bool, [], ◌∷◌, ◌++◌, Option, None, Some, refl, sym, subst}
+use Rattle.std.proofs.Common.{◌≡◌, ℕ, Bool, [], ◌∷◌, ◌++◌, Some, None, Option, sym, refl, subst}
+use Rattle.shared_handle.proofs.Prelude.{AddsEvent, Block, DeskNow, Does, Empty, Ending, Event}
+use Rattle.shared_handle.proofs.Prelude.{First, IsClearing, IsLeft, IsParting, Last, LeavesWeakly}
+use Rattle.shared_handle.proofs.Prelude.{Left, Member, Next, Others, Place, Up}
 use Rattle.std.proofs.lemmas.List.Elements.{All-append, All-cons, All-nil}
-use Rattle.control_word.specs.declared.model.event.Event.{Event}
-use Rattle.control_word.specs.declared.place.Block.{Block}
-use Rattle.control_word.specs.declared.place.Place.{Place}
 use Rattle.control_block.proofs.Own.{goes_by_call, goes_in_turn}
-use Rattle.control_block.specs.Desks.{AddsEvent, DeskNow}
-use Rattle.control_block.specs.Own.{Does}
-use Rattle.shared_handle.specs.Calls.{LeavesWeakly}
-use Rattle.shared_handle.specs.Endings.{IsClearing, IsLeft}
-use Rattle.shared_handle.specs.Piles.{IsParting}
-use Rattle.shared_handle.specs.declared.endings.Ending.{Ending}
-use Rattle.shared_handle.specs.declared.endings.Left.{Left}
-use Rattle.shared_handle.specs.declared.endings.Left.TheVariants.{Empty, Last, Others}
-use Rattle.shared_handle.specs.declared.endings.Member.{Member}
-use Rattle.shared_handle.specs.declared.endings.Member.TheVariants.{First, Next, Up}
 
 module _ {V : Type 0} where
   -- own events in a row

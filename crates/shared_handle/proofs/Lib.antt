@@ -1,3 +1,4 @@
+pub mod Prelude
 pub mod Callers
 pub mod Beside
 pub mod PiledEndings

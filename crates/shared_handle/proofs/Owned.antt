@@ -1,27 +1,19 @@
 -- What a desk's own handles tell of what it finds.
-use Rattle.std.proofs.Common.{◌≡◌, ◌⊎◌, ◌++◌, Bool, true, ◌&&◌, not, Option, None, Some, refl, sym, ap, subst, ◌∙◌}
-use Rattle.std.proofs.Common.{ne_eqb, arith, ◌<◌, nat_lt, lt-ltb, ⊎_elim}
-use Rattle.std.proofs.lemmas.Bool.{cond-true}
+use Rattle.std.proofs.Common.{◌≡◌, ◌<◌, Bool, true, not, ◌&&◌, ◌⊎◌, ◌++◌, nat_lt, Some, None}
+use Rattle.std.proofs.Common.{Option, sym, refl, ap, ◌∙◌, subst, ⊎_elim, arith, lt-ltb, ne_eqb}
+use Rattle.shared_handle.proofs.Prelude
+use Prelude.{AddsEvent, Block, cond-true, DeskNow, handle, HasOwner, HoldsHandle, InShape, IsLegal}
+use Prelude.{IsPointer, latest_of, leads, on_latest, opening_of, Owner, Place, Standing, Weak}
 use Rattle.control_word.proofs.history.Formation.{are_formed}
 use Rattle.control_word.proofs.history.Given.{legal_seen, names_an_object}
 use Rattle.control_word.proofs.history.Kept.{has_same, same_kept}
 use Rattle.control_word.proofs.history.Moving.{owner_counted}
 use Rattle.control_word.specs.Events.{place_at}
-use Rattle.control_word.specs.Handles.{IsPointer, handle}
-use Rattle.control_word.specs.Histories.{IsLegal, leads}
-use Rattle.control_word.specs.State.{InShape, count}
+use Rattle.control_word.specs.State.{count}
 use Rattle.control_word.specs.declared.model.event.Event.TheVariants.{Lock}
-use Rattle.control_word.specs.declared.model.handle.Kind.TheVariants.{Owner, Weak}
-use Rattle.control_word.specs.declared.place.Block.{Block}
-use Rattle.control_word.specs.declared.place.Place.{Place}
 use Rattle.control_block.proofs.Bags.{shown_held}
-use Rattle.control_block.specs.Desks.{AddsEvent, DeskNow, latest_of, on_latest}
 use Rattle.control_block.specs.Handles.{IsProper}
-use Rattle.control_block.specs.Rule.{opening_of}
-use Rattle.control_block.specs.Standing.{Standing}
 use Rattle.shared_handle.specs.Calls.{IsOfThis, MayGive, pointed}
-use Rattle.control_block.specs.CellCalls.{HoldsHandle}
-use Rattle.shared_handle.specs.Locks.{HasOwner}
 
 -- a field of a block is taken as it is
 as_it_is : (q : Option Place) → IsPointer q → pointed q ≡ q

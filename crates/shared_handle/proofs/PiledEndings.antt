@@ -1,31 +1,18 @@
 -- Endings that lie one upon another, and all are in the desk's hands.
-use Rattle.std.proofs.Common.{◌≡◌, ◌≢◌, ℕ, ◌+◌, ◌≤◌, true, List, [], ◌∷◌, ◌++◌, length, Option, Some}
-use Rattle.std.proofs.Common.{vec_capacity}
-use Rattle.std.proofs.Common.{zero, suc, refl, sym, ap, subst, ◌∙◌, arith, length-append}
-use Rattle.std.specs.Prelude.{slice_get, unwrap_or}
-use Rattle.control_word.proofs.lists.Tallies.{put_cases}
-use Rattle.control_word.specs.Handles.{empty}
-use Rattle.control_word.specs.Histories.{IsLegal, entry, leads}
-use Rattle.control_word.specs.State.{Object, State, ending, kind_of_member, put}
-use Rattle.control_word.specs.declared.model.event.Event.TheVariants.{ClearMember, Leave}
-use Rattle.control_word.specs.declared.model.handle.NumberedHandle.{NumberedHandle}
-use Rattle.control_word.specs.declared.model.handle.Kind.TheVariants.{Owner}
-use Rattle.control_word.specs.declared.place.Block.{Block}
-use Rattle.control_word.specs.declared.place.Place.{Place}
-use Rattle.control_block.proofs.Endings.{still_ends}
-use Rattle.control_block.specs.Desks.{AddsEvent, DeskNow, DomainNow, IsSameDesk, KeepsEndings, KeepsOtherEndings}
-use Rattle.control_block.specs.Desks.{endings_of, latest_of, object_in, on_latest, state_of}
-use Rattle.control_block.specs.Rule.{opening_of}
+use Rattle.std.proofs.Common.{◌≡◌, ℕ, zero, suc, ◌+◌, ◌≤◌, true, ◌≢◌, List, [], ◌∷◌, ◌++◌, length}
+use Rattle.std.proofs.Common.{slice_get, Some, vec_capacity, Option, unwrap_or, sym, refl, ap, ◌∙◌}
+use Rattle.std.proofs.Common.{subst, arith, length-append}
+use Rattle.shared_handle.proofs.Prelude
+use Prelude.{AddsEvent, AllEnd, Block, Carries, ClearMember, ClearsUp, DeskNow, DomainNow, Empty}
+use Prelude.{empty, Ending, ending, endings_of, EndsInHand, First, IsBeside, IsClearing, IsLeft}
+use Prelude.{IsLegal, IsSameDesk, KeepsElsewhere, KeepsEndings, KeepsOtherEndings, kind_of_member}
+use Prelude.{Last, latest_of, leads, Leave, Left, Member, more_ending, Next, NotAmong}
+use Prelude.{NumberedHandle, Object, object_in, on_latest, opening_of, Others, Owner, Pile, piled}
+use Prelude.{Place, put, put_cases, Stacked, State, state_of, still_ends, Up}
+use Rattle.control_word.specs.Histories.{entry}
 use Rattle.shared_handle.proofs.Beside.{apart, ends_beside}
 use Rattle.shared_handle.proofs.Callers.{ends_kept}
-use Rattle.shared_handle.specs.Endings.{ClearsMember, ClearsUp, EndsInHand, IsBeside, IsClearing, IsLeft, more_ending}
-use Rattle.shared_handle.specs.Piles.{AllEnd, Carries, KeepsElsewhere, NotAmong, Stacked, piled}
-use Rattle.shared_handle.specs.declared.endings.Ending.{Ending}
-use Rattle.shared_handle.specs.declared.endings.Left.{Left}
-use Rattle.shared_handle.specs.declared.endings.Left.TheVariants.{Empty, Last, Others}
-use Rattle.shared_handle.specs.declared.endings.Member.{Member}
-use Rattle.shared_handle.specs.declared.endings.Member.TheVariants.{First, Next, Up}
-use Rattle.shared_handle.specs.declared.pile.Pile.{Pile}
+use Rattle.shared_handle.specs.Endings.{ClearsMember}
 
 module _ {V : Type 0} where
   -- what comes ends in the desk's hands, and is none of the list

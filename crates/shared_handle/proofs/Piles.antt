@@ -1,23 +1,19 @@
 -- Objects that end in the desk's hands, one upon another.
-use Rattle.std.proofs.Common.{◌≡◌, ℕ, ◌+◌, ◌≤◌, Bool, true, false, cond, List, [], ◌∷◌, ◌++◌, length, Option, None, Some}
-use Rattle.std.proofs.Common.{vec_capacity}
-use Rattle.std.proofs.Common.{refl, sym, ap, subst, ◌∙◌, arith, length-append}
-use Rattle.control_word.specs.declared.place.Block.{Block}
-use Rattle.control_word.specs.declared.place.Place.{Place}
+use Rattle.std.proofs.Common.{◌≡◌, ℕ, ◌+◌, ◌≤◌, Bool, true, false, cond, List, [], ◌∷◌, ◌++◌}
+use Rattle.std.proofs.Common.{length, Some, None, vec_capacity, Option, sym, refl, ap, ◌∙◌, subst}
+use Rattle.std.proofs.Common.{arith, length-append}
+use Rattle.shared_handle.proofs.Prelude
+use Prelude.{AllEnd, Block, Carries, DeskNow, DomainNow, Ending, endings_of, EndsInHand, First}
+use Prelude.{IsAllClear, IsBeside, IsClearing, IsLeft, IsSameDesk, KeepsElsewhere, KeepsEndings}
+use Prelude.{KeepsOtherEndings, Left, Member, more_ending, Next, next_member, Pile, piled, Place}
+use Prelude.{Stacked, Standing, Up, with_clear}
 use Rattle.control_word.specs.declared.shape.Shape.{Shape}
-use Rattle.control_block.specs.Desks.{DeskNow, DomainNow, IsSameDesk, KeepsEndings, KeepsOtherEndings, KeepsStock}
-use Rattle.control_block.specs.Desks.{endings_of}
-use Rattle.control_block.specs.Standing.{Standing}
+use Rattle.control_block.specs.Desks.{KeepsStock}
 use Rattle.shared_handle.proofs.Few.{few_listed}
-use Rattle.shared_handle.proofs.PiledEndings.{all_beside, all_kept, all_last, below_left, cleared, cleared_top, left_comes}
-use Rattle.shared_handle.proofs.PiledEndings.{piled_all, piled_cons, piled_many, swapped}
-use Rattle.shared_handle.specs.Endings.{EndsInHand, IsAllClear, IsBeside, IsClearing, IsLeft, more_ending, with_clear}
-use Rattle.shared_handle.specs.Piles.{AllEnd, Bears, Carries, KeepsElsewhere, Stacked, is_cleared, next_member, piled}
-use Rattle.shared_handle.specs.declared.endings.Ending.{Ending}
-use Rattle.shared_handle.specs.declared.endings.Left.{Left}
-use Rattle.shared_handle.specs.declared.endings.Member.{Member}
-use Rattle.shared_handle.specs.declared.endings.Member.TheVariants.{First, Next, Up}
-use Rattle.shared_handle.specs.declared.pile.Pile.{Pile}
+use Rattle.shared_handle.proofs.PiledEndings.{all_beside, all_kept, all_last, below_left, cleared}
+use Rattle.shared_handle.proofs.PiledEndings.{cleared_top, left_comes, piled_all, piled_cons}
+use Rattle.shared_handle.proofs.PiledEndings.{piled_many, swapped}
+use Rattle.shared_handle.specs.Piles.{Bears, is_cleared}
 
 module _ {V : Type 0} where
   -- no more end than there are blocks, and so there is room

@@ -1,16 +1,13 @@
 -- Rounds of a pile, one run of them after another.
-use Rattle.std.proofs.Common.{◌≡◌, ℕ, ◌+◌, ◌-◌, List, [], ◌∷◌, ◌++◌, take, MatchOption, IfSome, Option, None, Some, length, ◌<◌, arith}
-use Rattle.std.specs.Prelude.{option_to_list}
-use Rattle.std.proofs.lemmas.List.{append-nil}
-use Rattle.std.proofs.Common.{refl, sym, ap, subst, ◌∙◌}
-use Rattle.control_block.specs.Desks.{DeskNow, bag_of}
-use Rattle.shared_handle.specs.Endings.{IsClearing, with_clear}
-use Rattle.shared_handle.specs.Piles.{AreRounds, CameLast, IsRound, Past, gone_of, next_member, piled, value_of, values_of}
-use Rattle.shared_handle.specs.declared.endings.Ending.{Ending}
-use Rattle.shared_handle.specs.declared.endings.Left.{Left}
-use Rattle.shared_handle.specs.declared.endings.Member.{Member}
+use Rattle.std.proofs.Common.{◌≡◌, ℕ, ◌+◌, ◌-◌, ◌<◌, List, [], ◌∷◌, ◌++◌, length, take, IfSome}
+use Rattle.std.proofs.Common.{Some, None, Option, MatchOption, option_to_list, sym, refl, ap, ◌∙◌}
+use Rattle.std.proofs.Common.{subst, append-nil, arith}
+use Rattle.shared_handle.proofs.Prelude.{AreRounds, bag_of, Cleared, DeskNow, Ended, Ending}
+use Rattle.shared_handle.proofs.Prelude.{gone_of, IsClearing, Left, Member, next_member, Past}
+use Rattle.shared_handle.proofs.Prelude.{piled, values_of, with_clear}
+use Rattle.shared_handle.specs.Piles.{CameLast, IsRound, value_of}
 use Rattle.shared_handle.specs.declared.pile.Round.{Round}
-use Rattle.shared_handle.specs.declared.pile.Round.TheVariants.{Cleared, Ended, Settled}
+use Rattle.shared_handle.specs.declared.pile.Round.TheVariants.{Settled}
 
 -- nothing came off the top of an empty list
 pub popped_none : {A : Type 0} (xs ys : List A) (r : Option A) (n m : ℕ) → xs ≡ ys ++ option_to_list r

@@ -1,16 +1,13 @@
 -- The top of a pile, where it lies.
-use Rattle.std.proofs.Common.{◌≡◌, ℕ, ◌+◌, ◌-◌, ◌<◌, ◌≤◌, List, [], ◌∷◌, ◌++◌, length, zero, suc}
-use Rattle.std.proofs.Common.{refl, sym, ap, subst, ◌∙◌, arith, slice_index_or, slice_set, vec_capacity, vec_len}
-use Rattle.control_block.specs.Desks.{Belongs, DeskNow, DomainNow, IsSameDesk, KeepsOtherEndings}
-use Rattle.control_block.specs.Standing.{Standing}
+use Rattle.std.proofs.Common.{◌≡◌, ℕ, zero, suc, ◌+◌, ◌-◌, ◌<◌, ◌≤◌, List, [], ◌∷◌, ◌++◌, length}
+use Rattle.std.proofs.Common.{slice_index_or, slice_set, vec_len, vec_capacity, sym, refl, ap, ◌∙◌}
+use Rattle.std.proofs.Common.{subst, arith}
+use Rattle.shared_handle.proofs.Prelude.{AllEnd, Carries, DeskNow, DomainNow, Ending, EndsInHand}
+use Rattle.shared_handle.proofs.Prelude.{IsBeside, IsClearing, IsSameDesk, KeepsOtherEndings, Left}
+use Rattle.shared_handle.proofs.Prelude.{Member, more_ending, Pile, piled, Standing}
+use Rattle.control_block.specs.Desks.{Belongs}
 use Rattle.shared_handle.proofs.PiledEndings.{all_last, below_left, cleared, piled_many}
 use Rattle.shared_handle.proofs.Piles.{fits}
-use Rattle.shared_handle.specs.Endings.{EndsInHand, IsBeside, IsClearing, more_ending}
-use Rattle.shared_handle.specs.Piles.{AllEnd, Carries, piled}
-use Rattle.shared_handle.specs.declared.endings.Ending.{Ending}
-use Rattle.shared_handle.specs.declared.endings.Left.{Left}
-use Rattle.shared_handle.specs.declared.endings.Member.{Member}
-use Rattle.shared_handle.specs.declared.pile.Pile.{Pile}
 
 -- what lies last in a list, and what lies below it
 pub record IsTop {A : Type 0} (xs : List A) (k : ℕ) (x : A) : Type 0 where

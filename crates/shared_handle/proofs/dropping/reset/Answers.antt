@@ -1,4 +1,4 @@
-use Rattle.shared_handle.specs.Piles.{IsParting}
+use Rattle.shared_handle.proofs.Prelude.{IsParting}
 use Rattle.shared_handle.proofs.Goings.{does_none}
 use Rattle.shared_handle.proofs.Piles.{elsewhere_none}
 use Rattle.shared_handle.proofs.dropping.reset.Goals as goal

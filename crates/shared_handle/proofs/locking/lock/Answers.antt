@@ -1,10 +1,7 @@
-use Rattle.std.proofs.Common.{Option, true≢false, sym, ap, subst, ◌∙◌}
-use Rattle.std.specs.Prelude.{is_some}
-use Rattle.control_word.specs.declared.place.Block.{Block}
-use Rattle.control_block.specs.declared.handles.Shared.{Shared}
+use Rattle.std.proofs.Common.{is_some, Option, sym, ap, ◌∙◌, subst, true≢false}
+use Rattle.shared_handle.proofs.Prelude.{Block, HasOwner, Shared}
 use Rattle.shared_handle.proofs.Callers.{kept_twice}
 use Rattle.shared_handle.proofs.Owned.{owner_found}
-use Rattle.shared_handle.specs.Locks.{HasOwner}
 use Rattle.shared_handle.proofs.locking.lock.Goals as goal
 
 pub returns-in-Ok-clause-keeps : goal.returns-in-Ok-clause-keeps

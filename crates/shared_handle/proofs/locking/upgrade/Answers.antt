@@ -1,9 +1,6 @@
-use Rattle.std.proofs.Common.{Option, true≢false, sym, ap, subst, ◌∙◌}
-use Rattle.std.specs.Prelude.{is_some}
-use Rattle.control_word.specs.declared.place.Block.{Block}
-use Rattle.control_block.specs.declared.handles.Shared.{Shared}
+use Rattle.std.proofs.Common.{is_some, Option, sym, ap, ◌∙◌, subst, true≢false}
+use Rattle.shared_handle.proofs.Prelude.{Block, HasOwner, Shared}
 use Rattle.shared_handle.proofs.Owned.{owner_found}
-use Rattle.shared_handle.specs.Locks.{HasOwner}
 use Rattle.shared_handle.proofs.locking.upgrade.Goals as goal
 
 pub returns-in-None-clause-owned : goal.returns-in-None-clause-owned

@@ -1,6 +1,5 @@
 use Rattle.std.proofs.Common.{Option, sym, subst}
-use Rattle.control_word.specs.Handles.{IsPointer}
-use Rattle.control_word.specs.declared.place.Place.{Place}
+use Rattle.shared_handle.proofs.Prelude.{IsPointer, Place}
 use Rattle.shared_handle.proofs.Owned.{points_well}
 use Rattle.shared_handle.proofs.looks.place.Goals as goal
 

@@ -1,9 +1,6 @@
-use Rattle.std.proofs.Common.{◌≡◌, ◌+◌, cond, ℕ, Option, Some, ap, subst, sym, ◌∙◌, arith}
-use Rattle.control_word.specs.declared.place.Block.{Block}
-use Rattle.control_word.specs.declared.place.Place.{Place}
-use Rattle.control_block.specs.Desks.{endings_of}
+use Rattle.std.proofs.Common.{◌≡◌, ℕ, ◌+◌, cond, Some, Option, sym, ap, ◌∙◌, subst, arith}
+use Rattle.shared_handle.proofs.Prelude.{Block, endings_of, IsLeft, Place}
 use Rattle.shared_handle.proofs.Beside.{left_apart, left_of, more_of}
-use Rattle.shared_handle.specs.Endings.{IsLeft}
 use Rattle.shared_handle.proofs.sharing.release.Goals as goal
 
 pub returns-clause-left : goal.returns-clause-left

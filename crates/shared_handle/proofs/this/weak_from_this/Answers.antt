@@ -1,8 +1,6 @@
-use Rattle.std.proofs.Common.{refl, sym, inl, inr, subst, Option}
-use Rattle.control_word.specs.declared.model.handle.Kind.TheVariants.{Owner}
-use Rattle.control_word.specs.declared.place.Block.{Block}
-use Rattle.control_block.specs.Desks.{DeskNow, HasHandle}
-use Rattle.control_block.specs.CellCalls.{HoldsHandle}
+use Rattle.std.proofs.Common.{Option, sym, refl, subst, inl, inr}
+use Rattle.shared_handle.proofs.Prelude.{Block, DeskNow, HoldsHandle, Owner}
+use Rattle.control_block.specs.Desks.{HasHandle}
 use Rattle.shared_handle.proofs.this.weak_from_this.Goals as goal
 
 pub share_weak-requires-clause-may : goal.share_weak-requires-clause-may

@@ -1,9 +1,6 @@
-use Rattle.std.proofs.Common.{◌≡◌, cond, ℕ, Option, Some, ap, subst, sym, arith}
-use Rattle.std.specs.Prelude.{is_some}
-use Rattle.control_word.specs.declared.place.Block.{Block}
-use Rattle.control_word.specs.declared.place.Place.{Place}
+use Rattle.std.proofs.Common.{◌≡◌, ℕ, cond, is_some, Some, Option, sym, ap, subst, arith}
+use Rattle.shared_handle.proofs.Prelude.{Block, LeavesWeakly, Place}
 use Rattle.shared_handle.proofs.Beside.{weakly_of}
-use Rattle.shared_handle.specs.Calls.{LeavesWeakly}
 use Rattle.shared_handle.proofs.weaks.release_weak.Goals as goal
 
 pub returns-clause-event : goal.returns-clause-event

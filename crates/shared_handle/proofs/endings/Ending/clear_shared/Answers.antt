@@ -1,7 +1,5 @@
-use Rattle.std.proofs.Common.{◌≡◌, ℕ, cond, ap, ◌+◌, ◌∙◌, arith, ne_eqb}
-use Rattle.std.proofs.lemmas.Bool.{cond-false}
-use Rattle.control_word.specs.declared.model.handle.Kind.TheVariants.{Owner, Weak}
-use Rattle.control_block.specs.Desks.{endings_of}
+use Rattle.std.proofs.Common.{◌≡◌, ℕ, ◌+◌, cond, ap, ◌∙◌, arith, ne_eqb}
+use Rattle.shared_handle.proofs.Prelude.{cond-false, endings_of, Owner, Weak}
 use Rattle.shared_handle.proofs.Beside.{left_of, more_of, out_apart}
 use Rattle.shared_handle.proofs.endings.Ending.clear_shared.Goals as goal
 

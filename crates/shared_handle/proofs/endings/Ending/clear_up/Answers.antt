@@ -1,5 +1,4 @@
-use Rattle.std.proofs.Common.{◌≡◌, ℕ, cond, refl, ap, Option, arith}
-use Rattle.std.specs.Prelude.{is_some}
+use Rattle.std.proofs.Common.{◌≡◌, ℕ, cond, is_some, Option, refl, ap, arith}
 use Rattle.shared_handle.proofs.Beside.{gone_of, up_beside, up_none, weakly_of}
 use Rattle.shared_handle.proofs.endings.Ending.clear_up.Goals as goal
 

@@ -1,6 +1,6 @@
-use Rattle.std.proofs.Common.{subst, sym}
+use Rattle.std.proofs.Common.{sym, subst}
+use Rattle.shared_handle.proofs.Prelude.{AddsEvent, latest_of}
 use Rattle.control_word.specs.declared.model.event.Event.TheVariants.{Finish}
-use Rattle.control_block.specs.Desks.{AddsEvent, latest_of}
 use Rattle.shared_handle.proofs.endings.Ending.finish.Goals as goal
 
 pub returns-clause-event : goal.returns-clause-event

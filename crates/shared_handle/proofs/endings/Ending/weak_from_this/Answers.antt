@@ -1,6 +1,5 @@
-use Rattle.std.proofs.Common.{◌≡◌, true, Result, Ok, Err, inr, refl, subst, sym, ◌∙◌}
-use Rattle.std.specs.Prelude.{OnOk}
-use Rattle.control_block.specs.Desks.{DeskNow, IsEnding, object_in}
+use Rattle.std.proofs.Common.{◌≡◌, true, OnOk, Ok, Err, Result, sym, refl, ◌∙◌, subst, inr}
+use Rattle.shared_handle.proofs.Prelude.{DeskNow, IsEnding, object_in}
 use Rattle.shared_handle.proofs.endings.Ending.weak_from_this.Goals as goal
 
 pub share_weak-requires-clause-may : goal.share_weak-requires-clause-may

@@ -1,14 +1,10 @@
-use Rattle.std.proofs.Common.{◌≡◌, ◌∷◌, ◌∙◌, ap, refl, subst, sym}
-use Rattle.shared_handle.specs.Endings.{IsAllClear, with_clear}
-use Rattle.shared_handle.specs.Piles.{ClearsOnce, IsFinish, IsParting, piled}
-use Rattle.shared_handle.specs.declared.endings.Ending.{Ending}
-use Rattle.shared_handle.specs.declared.endings.Member.TheVariants.{First, Next, Up}
-use Rattle.shared_handle.proofs.Goings.{does_both, does_one}
+use Rattle.std.proofs.Common.{◌≡◌, List, ◌∷◌, sym, refl, ap, ◌∙◌, subst}
+use Rattle.shared_handle.proofs.Prelude.{Ending, First, IsAllClear, IsParting, KeepsElsewhere}
+use Rattle.shared_handle.proofs.Prelude.{Next, piled, Up, with_clear}
+use Rattle.shared_handle.specs.Piles.{ClearsOnce, IsFinish}
+use Rattle.shared_handle.proofs.Goings.{does_both, does_one, does_none}
 use Rattle.shared_handle.proofs.PiledEndings.{popped}
 use Rattle.shared_handle.proofs.Piles.{elsewhere_both, finished, finished_elsewhere, from_top}
-use Rattle.std.proofs.Common.{List}
-use Rattle.shared_handle.specs.Piles.{KeepsElsewhere}
-use Rattle.shared_handle.proofs.Goings.{does_none}
 use Rattle.shared_handle.proofs.Piles.{elsewhere_none}
 use Rattle.shared_handle.proofs.Rounds.{popped_none}
 use Rattle.shared_handle.proofs.pile.Pile.end_next.Goals as goal

@@ -1,13 +1,12 @@
-use Rattle.std.proofs.Common.{◌≡◌, ◌+◌, ◌≤◌, ◌∷◌, ◌++◌, [], List}
-use Rattle.std.proofs.Common.{◌∙◌, ap, arith, inl, inr, length, length-append, refl, subst, sym, vec_capacity}
-use Rattle.shared_handle.specs.Piles.{AllEnd, AreRounds, IsParting, KeepsElsewhere, gone_of}
-use Rattle.shared_handle.specs.declared.endings.Ending.{Ending}
-use Rattle.shared_handle.specs.declared.endings.Left.TheVariants.{Empty, Last, Others}
-use Rattle.shared_handle.specs.declared.pile.Round.TheVariants.{Cleared, Ended}
+use Rattle.std.proofs.Common.{◌≡◌, ◌+◌, ◌≤◌, List, [], ◌∷◌, ◌++◌, length, vec_capacity, sym, refl}
+use Rattle.std.proofs.Common.{ap, ◌∙◌, subst, inl, inr, arith, length-append}
+use Rattle.shared_handle.proofs.Prelude.{AllEnd, AreRounds, Cleared, Empty, Ended, Ending, gone_of}
+use Rattle.shared_handle.proofs.Prelude.{IsParting, KeepsElsewhere, Last, Others}
 use Rattle.shared_handle.proofs.Goings.{clearing_does, does_both, does_none, does_one}
 use Rattle.shared_handle.proofs.PiledEndings.{all_append, popped, stacked_above, stacked_on}
-use Rattle.shared_handle.proofs.Piles.{back_elsewhere, clear_all, elsewhere_both, elsewhere_none, finished, finished_elsewhere, fits, from_top}
-use Rattle.shared_handle.proofs.Piles.{room_above, same_both, same_desk}
+use Rattle.shared_handle.proofs.Piles.{back_elsewhere, clear_all, elsewhere_both, elsewhere_none}
+use Rattle.shared_handle.proofs.Piles.{finished, finished_elsewhere, fits, from_top, room_above}
+use Rattle.shared_handle.proofs.Piles.{same_both, same_desk}
 use Rattle.shared_handle.proofs.Rounds.{clears_in_hand, popped_none}
 use Rattle.shared_handle.proofs.pile.Pile.next_value.Goals as goal
 

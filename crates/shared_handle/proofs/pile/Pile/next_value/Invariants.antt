@@ -1,7 +1,6 @@
-use Rattle.std.proofs.Common.{◌≡◌, ◌+◌, length, List, [], ◌∷◌, ◌++◌}
-use Rattle.control_block.specs.Desks.{IsSameDesk, bag_of}
-use Rattle.control_block.specs.Own.{Does}
-use Rattle.shared_handle.specs.Piles.{AreRounds, IsParting, KeepsElsewhere, Past, Stacked, values_of}
+use Rattle.std.proofs.Common.{◌≡◌, ◌+◌, List, [], ◌∷◌, ◌++◌, length}
+use Rattle.shared_handle.proofs.Prelude.{AreRounds, bag_of, Does, IsParting, IsSameDesk}
+use Rattle.shared_handle.proofs.Prelude.{KeepsElsewhere, Past, Stacked, values_of}
 use Rattle.shared_handle.proofs.pile.Pile.next_value.Given as goal
 
 abbrev pub invariant-loop-rounds : goal.invariant-loop-rounds

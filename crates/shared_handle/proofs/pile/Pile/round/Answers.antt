@@ -1,9 +1,9 @@
-use Rattle.std.proofs.Common.{◌≡◌, ◌∙◌, ◌++◌, ◌∷◌, [], ap, refl, subst, sym, None}
-use Rattle.shared_handle.specs.Piles.{AllEnd, IsParting, next_member, piled}
-use Rattle.shared_handle.specs.declared.endings.Ending.{Ending}
+use Rattle.std.proofs.Common.{◌≡◌, [], ◌∷◌, ◌++◌, None, sym, refl, ap, ◌∙◌, subst}
+use Rattle.shared_handle.proofs.Prelude.{AllEnd, Ending, IsParting, next_member, piled}
 use Rattle.shared_handle.proofs.Goings.{clearing_does, does_one}
 use Rattle.shared_handle.proofs.PiledEndings.{all_last, popped}
-use Rattle.shared_handle.proofs.Piles.{back_elsewhere, clear_all, finished, finished_elsewhere, from_top}
+use Rattle.shared_handle.proofs.Piles.{back_elsewhere, clear_all, finished, finished_elsewhere}
+use Rattle.shared_handle.proofs.Piles.{from_top}
 use Rattle.shared_handle.proofs.Tops.{taken, top_back, top_of_pile, top_room}
 use Rattle.shared_handle.proofs.pile.Pile.round.Goals as goal
 

@@ -1,5 +1,5 @@
-use Rattle.std.proofs.Common.{[], ◌∷◌, ◌++◌, ◌∙◌, refl, subst, sym, of_calls, List}
-use Rattle.shared_handle.specs.Piles.{FoldsBack, IsParting}
+use Rattle.std.proofs.Common.{List, [], ◌∷◌, ◌++◌, sym, refl, ◌∙◌, subst, of_calls}
+use Rattle.shared_handle.proofs.Prelude.{FoldsBack, IsParting}
 use Rattle.shared_handle.proofs.Goings.{does_both, does_none}
 use Rattle.shared_handle.proofs.Piles.{elsewhere_both, elsewhere_none, same_both, same_desk}
 use Rattle.shared_handle.proofs.Rounds.{came_last, rounds_append, values_after}

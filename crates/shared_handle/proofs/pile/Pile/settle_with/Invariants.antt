@@ -1,7 +1,6 @@
 use Rattle.std.proofs.Common.{◌≡◌, List}
-use Rattle.control_block.specs.Desks.{IsSameDesk, bag_of}
-use Rattle.control_block.specs.Own.{Does}
-use Rattle.shared_handle.specs.Piles.{AreRounds, Carries, FoldsBack, IsParting, KeepsElsewhere, Past, values_of}
+use Rattle.shared_handle.proofs.Prelude.{AreRounds, bag_of, Carries, Does, FoldsBack, IsParting}
+use Rattle.shared_handle.proofs.Prelude.{IsSameDesk, KeepsElsewhere, Past, values_of}
 use Rattle.shared_handle.proofs.pile.Pile.settle_with.Given as goal
 
 abbrev pub invariant-loop : goal.invariant-loop

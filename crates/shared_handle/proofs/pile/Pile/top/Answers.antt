@@ -1,5 +1,4 @@
-use Rattle.std.proofs.Common.{length, ◌-◌, ap, sym, ◌∙◌}
-use Rattle.std.specs.Prelude.{slice_get}
+use Rattle.std.proofs.Common.{◌-◌, length, slice_get, sym, ap, ◌∙◌}
 use Rattle.shared_handle.proofs.PiledEndings.{one_ends}
 use Rattle.shared_handle.proofs.pile.Pile.top.Goals as goal
 
