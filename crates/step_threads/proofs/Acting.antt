@@ -1,41 +1,20 @@
 -- How a thread makes the act that it is at, with no object that ends in its hands.
-use Rattle.std.proofs.Common.{◌≡◌, ℕ, ◌<◌, ◌==◌, Bool, true, false, cond, not, ◌&&◌, [], length}
-use Rattle.std.proofs.Common.{set, refl, sym, ap, subst, ◌∙◌}
-use Rattle.std.proofs.lemmas.Bool.{cond-true, cond-false}
-use Rattle.std.specs.Prelude.{Option, Some, None, is_some, option_map, All}
-use Rattle.control_word.specs.declared.packed.cell.CellWord.{CellWord}
-use Rattle.control_word.specs.declared.model.view.Pending.TheVariants.{Idle}
-use Rattle.control_word.specs.Packing.{IsCellWord}
-use Rattle.control_word.specs.declared.site.Site.{Site}
-use Rattle.step_table.specs.declared.cell_steps.cell_step.CellStep.TheVariants.{Look}
-use Rattle.step_table.specs.declared.cell_steps.cell_step.Compared.{Compared}
-use Rattle.step_table.specs.declared.memory.ghost_history.AtomicStep.{AtomicStep}
-use Rattle.step_table.specs.declared.memory.ghost_history.AtomicStep.TheVariants.{OnCell}
-use Rattle.step_table.specs.Contents.{as_word, compared_in, is_spent, same_value, seen}
-use Rattle.step_table.specs.Registers.{is_full, slot_value}
-use Rattle.step_table.specs.AtomicSteps.{by_word}
-use Rattle.step_table.specs.GhostStates.{TableInvariant, GhostState, event_of, ghost_after_step, pending, model_state}
-use Rattle.control_word.specs.declared.handle.Handle.{Handle}
-use Rattle.step_threads.specs.declared.programs.act.Act.{Act}
-use Rattle.step_threads.specs.declared.programs.act.Act.TheVariants.{Compare, Load}
-use Rattle.step_threads.specs.declared.programs.call.CellName.{CellName}
-use Rattle.step_threads.specs.declared.programs.act.Task.{Task}
-use Rattle.step_threads.specs.declared.frame.Frame.{Frame}
-use Rattle.step_threads.specs.declared.pending_call.PendingCall.{PendingCall}
-use Rattle.step_threads.specs.declared.pending_call.PendingCall.TheVariants.{Rest, Saw}
-use Rattle.step_threads.specs.declared.said.Said.{Said}
-use Rattle.step_threads.specs.declared.said.Stepped.{Stepped}
-use Rattle.step_threads.specs.declared.said.Stepped.TheVariants.{Event, Quiet, Waited}
-use Rattle.step_threads.specs.declared.thread.Thread.{Thread}
-use Rattle.step_threads.specs.Actors.{PendingCallFits}
-use Rattle.step_threads.specs.Frames.{CanAct, HasCell, cell_of_name, comparing, done_on, hand, is_there, rest, task_at, frame_view, frame_settled}
-use Rattle.step_threads.specs.NextSteps.{atomic_step_is_event, first, pending_call_by, step_at, stepped, ghost_after, ghost_by, waits, waits_on, frame_by}
-use Rattle.step_threads.specs.Passing.{HasGoneOn}
-use Rattle.step_threads.specs.Rows.{Hands, said_by_row}
-use Rattle.step_threads.specs.AbstractStates.{came, row_in, went}
-use Rattle.step_threads.specs.Steps.{Step, silent, step_of_act, step_of_compare, step_of_look, within}
-use Rattle.step_threads.specs.Entries.{is_expected}
-use Rattle.step_threads.specs.Threads.{BeginsAct, FitsThread, HasStepped, IsSeenBy}
+use Rattle.std.proofs.Common.{◌≡◌, ℕ, ◌<◌, Bool, true, false, cond, not, ◌&&◌, [], length, set}
+use Rattle.std.proofs.Common.{is_some, ◌==◌, Some, None, All, Option, option_map, sym, refl, ap}
+use Rattle.std.proofs.Common.{◌∙◌, subst}
+use Rattle.step_threads.proofs.Prelude
+use Prelude.{Act, as_word, atomic_step_is_event, AtomicStep, BeginsAct, by_word, came}
+use Prelude.{cell_of_name, CellName, CellWord, Compare, Compared, compared_in, comparing}
+use Prelude.{cond-false, cond-true, done_on, Event, event_of, first, FitsThread, Frame, frame_by}
+use Prelude.{frame_settled, frame_view, ghost_after, ghost_after_step, ghost_by, GhostState, hand}
+use Prelude.{Handle, Hands, HasCell, HasGoneOn, HasStepped, Idle, is_expected, is_full, is_there}
+use Prelude.{IsCellWord, IsSeenBy, Load, Look, model_state, OnCell, pending, pending_call_by}
+use Prelude.{PendingCall, PendingCallFits, Quiet, Rest, rest, row_in, Said, said_by_row}
+use Prelude.{same_value, Saw, seen, silent, Site, slot_value, Step, step_at, step_of_act, Stepped}
+use Prelude.{stepped, TableInvariant, Task, task_at, Thread, Waited, waits, waits_on, went, within}
+use Rattle.step_table.specs.Contents.{is_spent}
+use Rattle.step_threads.specs.Frames.{CanAct}
+use Rattle.step_threads.specs.Steps.{step_of_compare, step_of_look}
 use Rattle.step_threads.proofs.CompareFits.{cell_of_compare}
 use Rattle.step_threads.proofs.CompareSteps.{answers, compared_frame, expected_told}
 use Rattle.step_threads.proofs.Compares.{may_compare}

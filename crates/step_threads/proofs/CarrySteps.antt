@@ -1,26 +1,12 @@
 -- What a step was that left what came out of a member.
-use Rattle.std.proofs.Common.{◌≡◌, ℕ, Bool, true, false, cond, List, ◌∷◌, set, sym, ap, ◌∙◌}
-use Rattle.std.proofs.lemmas.Bool.{cond-true}
-use Rattle.std.specs.Prelude.{Option, Some, None, option_map}
-use Rattle.step_threads.specs.declared.programs.act.Act.TheVariants.{Leave}
-use Rattle.step_threads.specs.declared.ending.Ending.{Ending}
-use Rattle.step_threads.specs.declared.pending_call.PendingCall.TheVariants.{Rest}
-use Rattle.step_table.specs.declared.memory.ended.Ended.{Ended}
-use Rattle.step_table.specs.declared.slots.registers.Registers.{Registers}
-use Rattle.control_word.specs.declared.handle.Handle.{Handle}
-use Rattle.step_threads.specs.declared.said.Said.{Said}
-use Rattle.step_threads.specs.declared.said.Stepped.{Stepped}
-use Rattle.step_threads.specs.declared.said.Stepped.TheVariants.{Event, Quiet}
-use Rattle.step_threads.specs.declared.thread.Thread.{Thread}
-use Rattle.step_threads.specs.Frames.{hand, frame_settled, todo, frame_view}
-use Rattle.step_table.specs.AtomicSteps.{is_last, leave, on}
-use Rattle.step_table.specs.Registers.{Slots, is_full, plain, slot_pointer}
-use Rattle.step_threads.specs.Rows.{ending_as, ending_by, with_end}
-use Rattle.step_threads.specs.AbstractStates.{ended_by, remains_as, went}
-use Rattle.step_threads.specs.NextSteps.{atomic_step_is_event}
-use Rattle.step_threads.specs.Steps.{step_of_act}
-use Rattle.step_table.specs.GhostStates.{GhostState, ghost_after_step, object_of_block, model_state}
-use Rattle.step_threads.specs.Threads.{FitsThread, HasStepped}
+use Rattle.std.proofs.Common.{◌≡◌, ℕ, Bool, true, false, cond, List, ◌∷◌, set, Some, None, Option}
+use Rattle.std.proofs.Common.{option_map, sym, ap, ◌∙◌}
+use Rattle.step_threads.proofs.Prelude
+use Prelude.{atomic_step_is_event, cond-true, Ended, ended_by, Ending, ending_as, ending_by, Event}
+use Prelude.{FitsThread, frame_settled, frame_view, ghost_after_step, GhostState, hand, Handle}
+use Prelude.{HasStepped, is_full, is_last, Leave, leave, model_state, object_of_block, on, plain}
+use Prelude.{Quiet, Registers, remains_as, Rest, Said, slot_pointer, Slots, step_of_act, Stepped}
+use Prelude.{Thread, todo, went, with_end}
 use Rattle.step_threads.proofs.Carrying.{none_taken}
 use Rattle.step_threads.proofs.Hands.{settled_hand}
 use Rattle.step_threads.proofs.LeaveSteps.{ended_left, left_event}

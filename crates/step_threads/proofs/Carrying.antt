@@ -1,35 +1,15 @@
 -- What came out of a member of an ending object leaves.
-use Rattle.std.proofs.Common.{◌≡◌, ◌≢◌, ℕ, suc, ◌<◌, ◌≤◌, ◌==◌, Bool, true, false, cond, List, [], ◌∷◌, length, set, refl}
-use Rattle.std.proofs.Common.{sym, ap, subst, ◌∙◌}
-use Rattle.std.proofs.Common.{⊎_elim, inl, inr, arith, eq-eqb, ne_eqb}
-use Rattle.std.proofs.lemmas.Bool.{cases_eq, cond_both, cond-true, cond-false}
-use Rattle.std.proofs.lemmas.List.Elements.{All-head, All-tail, All-cons}
-use Rattle.std.specs.Prelude.{All, None, Some}
-use Rattle.control_word.proofs.history.Legal.{sound}
-use Rattle.control_word.proofs.history.Moving.{counted_live, owner_counted}
-use Rattle.control_word.proofs.lists.Tallies.{put_cases}
-use Rattle.control_word.specs.declared.model.handle.Kind.{Kind}
-use Rattle.control_word.specs.declared.model.handle.Kind.TheVariants.{Owner, Weak}
-use Rattle.control_word.specs.declared.place.Block.{Block}
-use Rattle.control_word.specs.Events.{moved_to}
-use Rattle.control_word.specs.Handles.{empty}
-use Rattle.control_word.specs.State.{Object, ending, kind_of_member, live}
-use Rattle.step_threads.specs.declared.frame.Frame.{Frame}
-use Rattle.step_threads.specs.declared.ending.Ending.{Ending}
-use Rattle.step_threads.specs.declared.pending_call.PendingCall.{PendingCall}
-use Rattle.step_threads.specs.declared.pending_call.PendingCall.TheVariants.{Rest}
-use Rattle.step_table.specs.declared.slots.registers.Registers.{Registers}
-use Rattle.control_word.specs.declared.handle.Handle.{Handle}
-use Rattle.step_threads.specs.declared.thread.Thread.{Thread}
-use Rattle.step_table.specs.AtomicSteps.{is_last, leave, leave_as}
-use Rattle.step_table.specs.Registers.{HoldsBag, Slots, plain}
-use Rattle.step_table.specs.Openings.{opening}
-use Rattle.step_table.specs.GhostStates.{TableInvariant, GhostState, ghost_after_step, object_of_block, model_state}
-use Rattle.step_threads.specs.Frames.{IsReady, hand, todo}
-use Rattle.step_threads.specs.Rows.{ending_as, with_end}
-use Rattle.step_threads.specs.Endings.{EndsAll, IsEndingAtStage, Stack, endings_in_block}
-use Rattle.step_threads.specs.Stocks.{StoreView}
-use Rattle.step_threads.specs.Threads.{EndsFit, FitsThread, IsStocked, IsStockedBy}
+use Rattle.std.proofs.Common.{◌≡◌, ℕ, suc, ◌<◌, ◌≤◌, Bool, true, false, cond, ◌≢◌, List, [], ◌∷◌}
+use Rattle.std.proofs.Common.{length, set, ◌==◌, Some, None, All, sym, refl, ap, ◌∙◌, subst, inl}
+use Rattle.std.proofs.Common.{inr, ⊎_elim, arith, eq-eqb, ne_eqb}
+use Rattle.step_threads.proofs.Prelude
+use Prelude.{All-cons, All-head, All-tail, Block, cases_eq, cond-false, cond-true, cond_both}
+use Prelude.{counted_live, empty, Ending, ending, ending_as, endings_in_block, EndsAll, EndsFit}
+use Prelude.{FitsThread, Frame, ghost_after_step, GhostState, hand, Handle, HoldsBag, is_last}
+use Prelude.{IsEndingAtStage, IsReady, IsStocked, IsStockedBy, Kind, kind_of_member, leave}
+use Prelude.{leave_as, live, model_state, moved_to, Object, object_of_block, opening, Owner}
+use Prelude.{owner_counted, PendingCall, plain, put_cases, Registers, Rest, Slots, sound, Stack}
+use Prelude.{StoreView, TableInvariant, Thread, todo, Weak, with_end}
 use Rattle.step_threads.proofs.Endings.{idle_left, left_ending, stocks_left}
 use Rattle.step_threads.proofs.Hands.{hand_ready, still_hand}
 use Rattle.step_threads.proofs.holding.Ends.{each_end, one_more}

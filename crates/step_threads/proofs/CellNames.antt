@@ -1,28 +1,18 @@
 -- The cells of names are there, and of their kinds.
-use Rattle.std.proofs.Common.{◌≡◌, ℕ, ◌+◌, ◌≤◌, true, Option, Some, None, refl, sym, ap, subst, arith, le-ltb, lt-ltb, length}
-use Rattle.std.proofs.lemmas.Bool.{cond-true, cond-false}
-use Rattle.std.specs.Prelude.{nat_lt}
+use Rattle.std.proofs.Common.{◌≡◌, ℕ, ◌+◌, ◌≤◌, true, length, nat_lt, Some, None, Option, sym}
+use Rattle.std.proofs.Common.{refl, ap, subst, arith, le-ltb, lt-ltb}
+use Rattle.step_threads.proofs.Prelude.{Block, cell_of_name, CellName, cond-false, cond-true}
+use Rattle.step_threads.proofs.Prelude.{GhostState, Handle, Has, held, HoldsBag, inside}
+use Rattle.step_threads.proofs.Prelude.{inside_held, is_full, is_of, is_there, IsIn, IsNamed}
+use Rattle.step_threads.proofs.Prelude.{IsOpenTo, Kind, kind_at, kind_in_state, model_state, on}
+use Rattle.step_threads.proofs.Prelude.{opening, other, Owner, Slot, slot_pointer, Slots, Weak}
 use Rattle.control_word.proofs.history.Kept.{cells_led}
-use Rattle.control_word.specs.declared.model.handle.Kind.{Kind}
-use Rattle.control_word.specs.declared.model.handle.Kind.TheVariants.{Owner, Weak}
-use Rattle.control_word.specs.declared.place.Block.{Block}
-use Rattle.control_word.specs.State.{Has, held}
-use Rattle.control_word.specs.declared.handle.Handle.{Handle}
-use Rattle.step_table.specs.declared.slots.slot.Slot.{Slot}
-use Rattle.step_table.specs.CellAtomicSteps.{kind_in_state}
-use Rattle.step_table.specs.Cells.{IsOpenTo}
-use Rattle.step_table.specs.Contents.{is_of}
-use Rattle.step_table.specs.AtomicSteps.{on}
-use Rattle.step_table.specs.Registers.{HoldsBag, Slots, inside, is_full, slot_pointer}
-use Rattle.step_table.specs.Openings.{opening}
-use Rattle.step_table.specs.GhostStates.{GhostState, handle_in_block, owner_in, model_state}
+use Rattle.step_table.specs.GhostStates.{handle_in_block, owner_in}
 use Rattle.step_table.proofs.contained.Told.{shared_is}
-use Rattle.step_table.proofs.holding.Inside.{inside_held, inside_is}
-use Rattle.step_threads.specs.declared.programs.call.CellName.{CellName}
+use Rattle.step_table.proofs.holding.Inside.{inside_is}
 use Rattle.step_threads.specs.declared.programs.call.CellName.TheVariants as cell
 use Rattle.step_threads.specs.declared.programs.call.Name.{Name}
-use Rattle.step_threads.specs.Frames.{IsNamed, block_at, cell_of_name, is_there, other}
-use Rattle.step_threads.specs.Programs.{IsIn, kind_at}
+use Rattle.step_threads.specs.Frames.{block_at}
 
 pub cell_kind : (v : GhostState) (slots : Slots) (c : CellName) → IsIn v.extent.shape c
     → kind_in_state (model_state v) (cell_of_name (model_state v) slots c) ≡ kind_at c

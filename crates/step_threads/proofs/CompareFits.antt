@@ -1,42 +1,24 @@
 -- A thread that compares a cell fits the table.
-use Rattle.std.proofs.Common.{◌≡◌, ◌⊎◌, ℕ, ◌-◌, ◌<◌, Bool, true, false, [], length, refl, sym, ap, subst, ◌∙◌, ⊎_elim}
-use Rattle.std.specs.Prelude.{Some}
-use Rattle.control_word.specs.declared.packed.cell.CellWord.{CellWord}
-use Rattle.control_word.specs.declared.model.handle.Kind.{Kind}
-use Rattle.step_threads.specs.declared.programs.act.Act.{Act}
-use Rattle.step_threads.specs.declared.programs.act.Act.TheVariants.{Compare}
-use Rattle.step_threads.specs.declared.programs.call.CellName.{CellName}
+use Rattle.std.proofs.Common.{◌≡◌, ℕ, ◌-◌, ◌<◌, Bool, true, false, ◌⊎◌, [], length, Some, sym}
+use Rattle.std.proofs.Common.{refl, ap, ◌∙◌, subst, ⊎_elim}
+use Rattle.step_threads.proofs.Prelude
+use Prelude.{Act, as_word, begins_refill, Bring, cell_of_name, CellName, CellWord, Compare}
+use Prelude.{Compared, CompareSwap, Empty, FitsThread, Frame, Full, ghost_after_step, GhostState}
+use Prelude.{gives_back, hand, Handle, HasCell, HasGoneOn, is_full, IsIn, IsLoaded, IsSeenBy, Kind}
+use Prelude.{kind_in_state, kind_stays, Matched, missed, model_state, more_taken, new_of, OnCell}
+use Prelude.{owes_after, owing_for, owing_funds, pending, PendingCall, pointer_of, Refill, Rest}
+use Prelude.{same_value, Saw, Slot, slot_pointer, slot_value, TableInvariant, Take, task_at}
+use Prelude.{Thread, Turning}
 use Rattle.step_threads.specs.declared.programs.call.CellName.TheVariants as name
-use Rattle.step_table.specs.declared.cell_steps.cell_step.CellStep.TheVariants.{Bring, CompareSwap, Take}
-use Rattle.step_table.specs.declared.cell_steps.cell_step.Compared.{Compared}
-use Rattle.step_threads.specs.declared.frame.Frame.{Frame}
-use Rattle.step_threads.specs.declared.pending_call.PendingCall.{PendingCall}
-use Rattle.step_threads.specs.declared.pending_call.PendingCall.TheVariants.{Rest, Saw, Matched, Refill}
-use Rattle.control_word.specs.declared.handle.Handle.{Handle}
-use Rattle.step_table.specs.declared.memory.ghost_history.AtomicStep.TheVariants.{OnCell}
-use Rattle.step_table.specs.declared.cell_steps.refill.Stage.TheVariants.{Turning}
-use Rattle.step_table.specs.declared.slots.slot.Slot.{Slot}
-use Rattle.step_table.specs.declared.slots.slot.Slot.TheVariants.{Empty, Full}
-use Rattle.step_threads.specs.declared.thread.Thread.{Thread}
-use Rattle.step_table.specs.CellAtomicSteps.{kind_in_state, owing_funds}
-use Rattle.step_table.specs.Contents.{as_word, owing_for, same_value}
-use Rattle.step_table.specs.Registers.{is_full, pointer_of, slot_pointer, slot_value}
-use Rattle.step_table.specs.Refills.{more_taken}
-use Rattle.step_table.specs.GhostStates.{TableInvariant, GhostState, ghost_after_step, pending, model_state}
-use Rattle.step_threads.specs.Frames.{HasCell, cell_of_name, hand, new_of, task_at}
-use Rattle.step_threads.specs.Passing.{HasGoneOn}
-use Rattle.step_threads.specs.Programs.{IsIn}
-use Rattle.step_threads.specs.Steps.{gives_back, missed}
-use Rattle.step_threads.specs.Threads.{FitsThread, IsLoaded, IsMatchedBy, IsSeenBy}
+use Rattle.step_threads.specs.Threads.{IsMatchedBy}
 use Rattle.step_threads.proofs.CellNames.{cell_open}
 use Rattle.step_threads.proofs.Compares.{may_compare}
 use Rattle.step_threads.proofs.LoadFits.{owned_some, saw_next}
 use Rattle.step_threads.proofs.LookFits.{ClaimsNone, fits_gone, fits_pending_call, fits_quiet}
 use Rattle.step_threads.proofs.RefillFits.{At}
-use Rattle.step_threads.proofs.StoreFits.{claims_none, pending_call_back, pending_call_here, next_back}
+use Rattle.step_threads.proofs.StoreFits.{claims_none, pending_call_back, pending_call_here}
+use Rattle.step_threads.proofs.StoreFits.{next_back}
 use Rattle.step_threads.proofs.Threads.{cell_here}
-use Rattle.step_table.proofs.contained.Refilling.{begins_refill, owes_after}
-use Rattle.step_table.proofs.contained.Told.{kind_stays}
 
 -- what was brought for a value is to be given back
 fits_missed : (d : ℕ) (t : Thread) (v : GhostState) (h : PendingCall) (n : ℕ) (x : Slot) → FitsThread d t v → t.pending_call ≡ h → ClaimsNone h

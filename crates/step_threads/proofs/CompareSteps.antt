@@ -1,48 +1,26 @@
 -- What the steps of a thread are that compares a cell.
-use Rattle.std.proofs.Common.{◌≡◌, ℕ, ◌<◌, ◌==◌, Bool, true, false, List, length, refl, sym, ap, ◌∙◌}
-use Rattle.std.proofs.lemmas.Bool.{cond-false, cond-true}
-use Rattle.std.specs.Prelude.{Option, Some, None, is_some}
-use Rattle.control_word.specs.declared.packed.cell.CellWord.{CellWord}
-use Rattle.control_word.specs.Packing.{IsCellWord, cell_bits}
-use Rattle.step_threads.specs.declared.programs.act.Act.{Act}
-use Rattle.step_threads.specs.declared.programs.act.Act.TheVariants.{Compare}
-use Rattle.step_threads.specs.declared.programs.act.Task.{Task}
-use Rattle.step_threads.specs.declared.programs.call.CellName.{CellName}
-use Rattle.control_word.specs.declared.site.Site.{Site}
-use Rattle.step_table.specs.declared.cell_steps.cell_step.CellStep.TheVariants.{CompareSwap, Take}
-use Rattle.step_table.specs.declared.cell_steps.cell_step.Compared.{Compared}
-use Rattle.step_threads.specs.declared.pending_call.PendingCall.{PendingCall}
-use Rattle.step_threads.specs.declared.pending_call.PendingCall.TheVariants.{Saw, Matched, Refill}
-use Rattle.control_word.specs.declared.handle.Handle.{Handle}
-use Rattle.step_table.specs.declared.memory.ghost_history.AtomicStep.{AtomicStep}
-use Rattle.step_table.specs.declared.memory.ghost_history.AtomicStep.TheVariants.{OnCell}
-use Rattle.step_table.specs.declared.cell_steps.refill.Stage.TheVariants.{Turning}
+use Rattle.std.proofs.Common.{◌≡◌, ℕ, ◌<◌, Bool, true, false, List, length, is_some, ◌==◌, Some}
+use Rattle.std.proofs.Common.{None, Option, sym, refl, ap, ◌∙◌}
+use Rattle.step_threads.proofs.Prelude
+use Prelude.{Act, as_word, AtomicStep, came, cell_bits, cell_of_name, CellName, CellWord, Compare}
+use Prelude.{Compared, compared_in, CompareSwap, comparing, cond-false, cond-true, Event, event_of}
+use Prelude.{fetches, frame_settled, frame_view, FrameView, ghost_after_step, GhostState}
+use Prelude.{gives_back, hand, Handle, HasStepped, HoldsBag, is_expected, is_of, is_there}
+use Prelude.{IsCellWord, IsIn, kind_at, kind_in_state, Matched, matches, missed, model_state}
+use Prelude.{more_taken, on, OnCell, PendingCall, Quiet, Refill, rest, Said, same_value, Saw, seen}
+use Prelude.{shows_seen, silent, Site, slot_pointer, slot_value, Slots, Step, step_at, step_of_act}
+use Prelude.{Stepped, TableInvariant, Take, takes, Task, task_at, Thread, Turning, waits, within}
+use Prelude.{word_of_cell}
 use Rattle.step_threads.specs.declared.said.Answer.TheVariants.{Compared as Answered}
-use Rattle.step_threads.specs.declared.said.Said.{Said}
-use Rattle.step_threads.specs.declared.said.Stepped.{Stepped}
-use Rattle.step_threads.specs.declared.said.Stepped.TheVariants.{Event, Quiet}
-use Rattle.step_threads.specs.declared.thread.Thread.{Thread}
-use Rattle.step_table.specs.CellAtomicSteps.{kind_in_state}
-use Rattle.step_table.specs.Cells.{word_of_cell}
-use Rattle.step_table.specs.Contents.{as_word, compared_in, is_of, same_value, seen}
-use Rattle.step_table.specs.AtomicSteps.{on}
-use Rattle.step_table.specs.Registers.{HoldsBag, Slots, slot_pointer, slot_value}
-use Rattle.step_table.specs.Refills.{more_taken}
-use Rattle.step_table.specs.GhostStates.{TableInvariant, GhostState, ghost_after_step, event_of, model_state}
-use Rattle.step_threads.specs.Frames.{FrameView, cell_of_name, comparing, hand, is_there, rest, frame_settled, task_at, frame_view}
-use Rattle.step_threads.specs.Entries.{is_expected}
-use Rattle.step_threads.specs.Programs.{IsIn, kind_at}
-use Rattle.step_threads.specs.AbstractStates.{came}
 use Rattle.step_threads.specs.Rows.{compared}
-use Rattle.step_threads.specs.NextSteps.{matched, matched_on, saw, saw_on, step_at, waits}
-use Rattle.step_threads.specs.Steps.{Step, step_of_act, fetches, gives_back, matches, missed, settles, silent, takes, within}
-use Rattle.step_threads.specs.Threads.{HasStepped}
+use Rattle.step_threads.specs.NextSteps.{matched, matched_on, saw, saw_on}
+use Rattle.step_threads.specs.Steps.{settles}
 use Rattle.step_threads.proofs.CellNames.{cell_open, goes_in}
 use Rattle.step_threads.proofs.Frames.{todo_at}
 use Rattle.step_threads.proofs.LookSteps.{takes_it}
 use Rattle.step_threads.proofs.Steps.{stepped_as}
 use Rattle.step_table.proofs.contained.Coming.{open_found, seen_found}
-use Rattle.step_table.proofs.contained.Told.{alike_seen, shows_seen}
+use Rattle.step_table.proofs.contained.Told.{alike_seen}
 
 -- what a compare says that is done
 abbrev pub answers : ℕ → Bool → Said

@@ -1,27 +1,12 @@
 -- What a compare tells that has seen its cell, and how it comes to swap it.
-use Rattle.std.proofs.Common.{◌≡◌, ◌⊎◌, ℕ, ◌<◌, ◌==◌, Bool, true, false, [], length, refl, sym, ap, subst, ◌∙◌, ⊎_elim}
-use Rattle.std.proofs.lemmas.Bool.{eqb-true}
-use Rattle.std.specs.Prelude.{Some, None}
-use Rattle.control_word.specs.declared.packed.cell.CellWord.{CellWord}
-use Rattle.control_word.specs.declared.model.view.Pending.{Pending}
-use Rattle.control_word.specs.declared.model.view.Pending.TheVariants.{Idle}
-use Rattle.control_word.specs.Packing.{IsCellWord, cell_bits}
-use Rattle.step_threads.specs.declared.programs.act.Act.TheVariants.{Compare}
-use Rattle.step_threads.specs.declared.programs.call.CellName.{CellName}
-use Rattle.step_threads.specs.declared.pending_call.PendingCall.{PendingCall}
-use Rattle.step_threads.specs.declared.pending_call.PendingCall.TheVariants.{Saw, Matched}
-use Rattle.step_table.specs.declared.slots.slot.Slot.{Slot}
-use Rattle.step_table.specs.declared.slots.slot.Slot.TheVariants.{Empty, Full}
-use Rattle.step_threads.specs.declared.thread.Thread.{Thread}
-use Rattle.step_table.specs.Cells.{word_of_cell}
-use Rattle.step_table.specs.Contents.{as_word, compared_in, owing_for, same_value}
-use Rattle.step_table.specs.Registers.{pointer_of, slot_value}
-use Rattle.step_table.specs.GhostStates.{TableInvariant, Nothing, GhostState, pending, model_state}
-use Rattle.step_threads.specs.Frames.{cell_of_name, comparing, hand, rest, task_at, frame_view}
-use Rattle.step_threads.specs.Entries.{is_expected}
-use Rattle.step_threads.specs.NextSteps.{step_at, waits}
-use Rattle.step_threads.specs.Steps.{matches}
-use Rattle.step_threads.specs.Threads.{FitsThread, IsNext}
+use Rattle.std.proofs.Common.{◌≡◌, ℕ, ◌<◌, Bool, true, false, ◌⊎◌, [], length, ◌==◌, Some, None}
+use Rattle.std.proofs.Common.{sym, refl, ap, ◌∙◌, subst, ⊎_elim, eqb-true}
+use Rattle.step_threads.proofs.Prelude
+use Prelude.{as_word, cell_bits, cell_of_name, CellName, CellWord, Compare, compared_in, comparing}
+use Prelude.{Empty, FitsThread, frame_view, Full, GhostState, hand, Idle, is_expected, IsCellWord}
+use Prelude.{IsNext, Matched, matches, model_state, Nothing, owing_for, Pending, pending}
+use Prelude.{PendingCall, pointer_of, rest, same_value, Saw, Slot, slot_value, step_at}
+use Prelude.{TableInvariant, task_at, Thread, waits, word_of_cell}
 use Rattle.step_threads.proofs.CompareFits.{cell_of_compare}
 use Rattle.step_threads.proofs.CompareSteps.{expected_told, fetches_none, matched_at, shown_still}
 use Rattle.step_threads.proofs.Compares.{may_compare}

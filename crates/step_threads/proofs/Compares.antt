@@ -1,21 +1,13 @@
 -- What a thread relies on that is at a compare.
-use Rattle.std.proofs.Common.{◌≡◌, ℕ, ◌-◌, ◌<◌, ◌⊎◌, Bool, true, false, not, ◌&&◌, List, length, set, refl, sym, ap, subst, ◌∙◌}
-use Rattle.std.proofs.Common.{⊎_elim, inl, inr, arith}
-use Rattle.std.proofs.Common.{get_or-set_same, length-set}
-use Rattle.step_threads.specs.declared.programs.act.Act.{Act}
-use Rattle.step_threads.specs.declared.programs.act.Act.TheVariants.{Compare}
-use Rattle.step_threads.specs.declared.programs.act.Task.{Task}
-use Rattle.step_threads.specs.declared.programs.call.CellName.{CellName}
-use Rattle.step_threads.specs.declared.frame.Frame.{Frame}
-use Rattle.step_table.specs.declared.slots.slot.Slot.{Slot}
-use Rattle.step_table.specs.CellAtomicSteps.{kind_in_state}
-use Rattle.step_table.specs.Contents.{CanCompare, is_of, slots_swapped}
-use Rattle.step_table.specs.Registers.{plain, pointer_of, slot_value}
-use Rattle.step_table.specs.GhostStates.{GhostState, model_state}
-use Rattle.step_threads.specs.Frames.{MayComeNext, FrameReady, FrameStill, DropsInTime, MayFollow, HasCell, IsReady, TasksMayCome, cell_of_name, comparing}
-use Rattle.step_threads.specs.Frames.{dropping, hand, idle}
-use Rattle.step_threads.specs.Frames.{is_there, other, rest, taken_after, task_at}
-use Rattle.step_threads.specs.Programs.{IsIn, kind_at}
+use Rattle.std.proofs.Common.{◌≡◌, ℕ, ◌-◌, ◌<◌, Bool, true, false, not, ◌&&◌, ◌⊎◌, List, length}
+use Rattle.std.proofs.Common.{set, sym, refl, ap, ◌∙◌, subst, inl, inr, ⊎_elim, arith, length-set}
+use Rattle.std.proofs.Common.{get_or-set_same}
+use Rattle.step_threads.proofs.Prelude
+use Prelude.{Act, CanCompare, cell_of_name, CellName, Compare, comparing, dropping, DropsInTime}
+use Prelude.{Frame, FrameReady, FrameStill, GhostState, hand, HasCell, idle, is_of, is_there, IsIn}
+use Prelude.{IsReady, kind_at, kind_in_state, MayComeNext, MayFollow, model_state, other, plain}
+use Prelude.{pointer_of, rest, Slot, slot_value, slots_swapped, taken_after, Task, task_at}
+use Prelude.{TasksMayCome}
 use Rattle.step_threads.proofs.CellNames.{goes_in}
 use Rattle.step_threads.proofs.Frames.{ready_any, ready_head, todo_at}
 

@@ -1,40 +1,23 @@
 -- What a member of an ending object holds comes out.
-use Rattle.std.proofs.Common.{◌≡◌, ℕ, ◌<◌, ◌≤◌, true, false, cond, List, [], ◌∷◌, set, refl, sym, ap, subst, ◌∙◌, arith, inr}
-use Rattle.std.proofs.lemmas.Option.{same_Some}
-use Rattle.std.specs.Prelude.{Option, Some, None, is_some}
-use Rattle.control_word.specs.declared.packed.cell.CellWord.{CellWord}
-use Rattle.control_word.specs.declared.model.handle.NumberedHandle.{NumberedHandle}
-use Rattle.control_word.specs.declared.place.Block.{Block}
-use Rattle.control_word.specs.declared.model.view.Pending.TheVariants.{Idle}
-use Rattle.control_word.specs.State.{State, kind_of_member}
+use Rattle.std.proofs.Common.{◌≡◌, ℕ, ◌<◌, ◌≤◌, true, false, cond, List, [], ◌∷◌, set, is_some}
+use Rattle.std.proofs.Common.{Some, None, Option, sym, refl, ap, ◌∙◌, subst, inr, arith}
+use Rattle.step_threads.proofs.Prelude
+use Prelude.{Block, CellWord, Clearing, empties, Ending, EndsAll, Event, first_of, FitsThread}
+use Prelude.{Frame, frame_view, FrameReady, FrameStill, ghost_after_step, GhostState, gives_back}
+use Prelude.{hand, Handle, HasStepped, held_in, HoldsBag, Idle, idle, is_full, IsCarried}
+use Prelude.{IsEndingAtStage, IsNext, IsReady, kind_of_member, Member, model_state, NumberedHandle}
+use Prelude.{OnCell, owes_after, pending, PendingCall, PendingCallFits, pointer_of, Registers}
+use Prelude.{same_Some, seen, silent, Slot, slot_of, slot_pointer, Slots, Stack, staged}
+use Prelude.{staged_first, State, Stocks, TableInvariant, TakeOut, task_at, Thread, todo}
 use Rattle.control_word.specs.Words.{block_of, blocks_of}
-use Rattle.step_threads.specs.declared.frame.Frame.{Frame}
-use Rattle.step_threads.specs.declared.ending.Ending.{Ending}
-use Rattle.step_threads.specs.declared.pending_call.PendingCall.{PendingCall}
-use Rattle.step_threads.specs.declared.pending_call.PendingCall.TheVariants.{Clearing}
-use Rattle.control_word.specs.declared.site.Site.TheVariants.{Member}
-use Rattle.step_table.specs.declared.cell_steps.cell_step.CellStep.TheVariants.{TakeOut}
-use Rattle.step_table.specs.declared.slots.registers.Registers.{Registers}
-use Rattle.control_word.specs.declared.handle.Handle.{Handle}
-use Rattle.step_table.specs.declared.memory.ghost_history.AtomicStep.TheVariants.{OnCell}
-use Rattle.step_table.specs.declared.slots.slot.Slot.{Slot}
-use Rattle.step_threads.specs.declared.said.Stepped.TheVariants.{Event}
-use Rattle.step_threads.specs.declared.thread.Thread.{Thread}
 use Rattle.step_table.specs.CellAtomicSteps.{handle_as}
-use Rattle.step_table.specs.Contents.{held_in, seen, slot_as, slot_of}
-use Rattle.step_table.specs.Registers.{HoldsBag, Slots, is_full, pointer_of, slot_pointer}
-use Rattle.step_table.specs.GhostStates.{TableInvariant, GhostState, ghost_after_step, pending, model_state}
-use Rattle.step_threads.specs.Actors.{PendingCallFits, Stocks}
-use Rattle.step_threads.specs.Frames.{FrameReady, FrameStill, IsCarried, IsReady, hand, idle, task_at, todo, frame_view}
-use Rattle.step_threads.specs.Endings.{EndsAll, IsEndingAtStage, Stack, first_of, staged, staged_first}
-use Rattle.step_threads.specs.Steps.{empties, gives_back, silent}
-use Rattle.step_threads.specs.Threads.{FitsThread, HasStepped, IsClearingMember, IsNext}
+use Rattle.step_table.specs.Contents.{slot_as}
+use Rattle.step_threads.specs.Threads.{IsClearingMember}
 use Rattle.step_threads.proofs.Carrying.{none_taken}
 use Rattle.step_threads.proofs.EndSteps.{cleared_ends, ready_bare}
 use Rattle.step_threads.proofs.Hands.{hand_ready, held_hand, still_hand}
 use Rattle.step_threads.proofs.Steps.{at_clearing, stepped_as, waits_clearing}
 use Rattle.step_threads.proofs.StoreFits.{claims_none, pending_call_back, next_back}
-use Rattle.step_table.proofs.contained.Refilling.{owes_after}
 
 pub none_full : (o : Option Handle) → is_full o ≡ false → o ≡ None
 none_full None e = refl

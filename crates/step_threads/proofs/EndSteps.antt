@@ -1,37 +1,21 @@
 -- The steps of an object's end keep a thread fitting the table.
-use Rattle.std.proofs.Common.{◌≡◌, ◌≢◌, ℕ, ◌<◌, ◌≤◌, ◌==◌, ◌⊎◌, Bool, true, false, cond, List, [], ◌∷◌, refl, sym, ap}
-use Rattle.std.proofs.Common.{subst, ◌∙◌}
-use Rattle.std.proofs.Common.{⊎_elim, inl, inr, arith}
-use Rattle.std.proofs.lemmas.Bool.{cases_eq, false≢true}
-use Rattle.std.proofs.lemmas.List.Elements.{All-tail, All-cons}
-use Rattle.std.proofs.lemmas.List.Sorted.{sum_by_pushed}
-use Rattle.std.specs.List.Sorted.{IsPermutation}
-use Rattle.control_word.proofs.lists.Tallies.{put_cases}
+use Rattle.std.proofs.Common.{◌≡◌, ℕ, ◌<◌, ◌≤◌, Bool, true, false, cond, ◌≢◌, ◌⊎◌, List, [], ◌∷◌}
+use Rattle.std.proofs.Common.{◌==◌, sym, refl, ap, ◌∙◌, subst, inl, inr, ⊎_elim, arith}
+use Rattle.step_threads.proofs.Prelude
+use Prelude.{All-cons, All-tail, Block, cases_eq, empty, Ending, ending, ending_busy, EndsAll}
+use Prelude.{EndsFit, false≢true, Finish, FitsThread, Frame, FrameReady, ghost_after_step}
+use Prelude.{GhostState, hand, Idle, is_full, IsCarried, IsEndingAtStage, IsPermutation, IsReady}
+use Prelude.{kind_of_member, model_state, Nothing, NumberedHandle, Object, object_of_block}
+use Prelude.{pending, PendingCall, PendingCallFits, plain, put_cases, Rest, slot_pointer}
+use Prelude.{slot_value, Stack, staged, staged_first, StoreView, sum_by_pushed, TableInvariant}
+use Prelude.{task_at, there, Thread, todo, View}
 use Rattle.control_word.specs.declared.model.event.Event.TheVariants.{ClearMember}
-use Rattle.control_word.specs.declared.model.handle.NumberedHandle.{NumberedHandle}
-use Rattle.control_word.specs.declared.place.Block.{Block}
-use Rattle.control_word.specs.declared.model.view.Pending.TheVariants.{Idle}
-use Rattle.control_word.specs.declared.model.view.View.{View}
-use Rattle.control_word.specs.Handles.{empty}
 use Rattle.control_word.specs.Histories.{entry}
-use Rattle.control_word.specs.State.{Object, ending, kind_of_member}
-use Rattle.step_threads.specs.declared.frame.Frame.{Frame}
-use Rattle.step_threads.specs.declared.ending.Ending.{Ending}
-use Rattle.step_threads.specs.declared.pending_call.PendingCall.{PendingCall}
-use Rattle.step_threads.specs.declared.pending_call.PendingCall.TheVariants.{Rest}
-use Rattle.step_table.specs.declared.memory.ghost_history.AtomicStep.TheVariants.{Clear, Finish}
-use Rattle.step_threads.specs.declared.thread.Thread.{Thread}
-use Rattle.step_threads.specs.Actors.{PendingCallFits}
-use Rattle.step_threads.specs.Frames.{FrameReady, IsCarried, IsReady, hand, task_at, todo}
-use Rattle.step_threads.specs.Endings.{EndsAll, IsEndingAtStage, Stack, staged, staged_first}
-use Rattle.step_threads.specs.Stocks.{StoreView}
-use Rattle.step_table.specs.Registers.{is_full, plain, slot_pointer, slot_value}
-use Rattle.step_table.specs.GhostStates.{TableInvariant, Nothing, GhostState, ghost_after_step, object_of_block, pending, model_state}
-use Rattle.step_threads.specs.Threads.{EndsFit, FitsThread}
+use Rattle.step_table.specs.declared.memory.ghost_history.AtomicStep.TheVariants.{Clear}
 use Rattle.step_threads.proofs.Endings.{finished_store}
 use Rattle.step_threads.proofs.Threads.{own_pending, resting}
-use Rattle.step_threads.proofs.holding.Ends.{each_end, once_first, once_rest, once_staged, others_end}
-use Rattle.step_table.proofs.tables.Places.{ending_busy, there}
+use Rattle.step_threads.proofs.holding.Ends.{each_end, once_first, once_rest, once_staged}
+use Rattle.step_threads.proofs.holding.Ends.{others_end}
 
 pub idle_here : (d : ℕ) (t : Thread) (v : GhostState) → FitsThread d t v → t.pending_call ≡ Rest → pending v d ≡ Idle
 idle_here d t v fits e = subst (λ (h : PendingCall). PendingCallFits d h t.frame.registers.slots.items (task_at t.frame).act v) e fits.pending_call

@@ -1,41 +1,22 @@
 -- What a leave makes of a thread's store and endings, so that it fits the table.
-use Rattle.std.proofs.Common.{◌≡◌, ℕ, ◌+◌, ◌<◌, ◌≤◌, ◌==◌, Bool, true, false, cond, List, [], ◌∷◌, length, refl, sym, ap, subst}
-use Rattle.std.proofs.Common.{◌∙◌, inl, inr, arith}
-use Rattle.std.proofs.lemmas.Bool.{cond-true}
-use Rattle.std.proofs.lemmas.List.Sorted.{sum_by_pushed}
-use Rattle.std.proofs.lemmas.List.Sums.{sum_by-cons}
-use Rattle.control_word.proofs.lists.Tallies.{num_cons, put_cases}
-use Rattle.control_word.specs.Events.{moved_to}
-use Rattle.control_word.specs.declared.place.Block.{Block}
-use Rattle.control_word.specs.declared.model.view.Pending.TheVariants.{Idle}
-use Rattle.control_word.specs.State.{Object, ending, same_stored, stored}
-use Rattle.step_threads.specs.declared.frame.Frame.{Frame}
-use Rattle.step_threads.specs.declared.ending.Ending.{Ending}
-use Rattle.step_threads.specs.declared.pending_call.PendingCall.{PendingCall}
-use Rattle.step_threads.specs.declared.pending_call.PendingCall.TheVariants.{Rest}
-use Rattle.control_word.specs.declared.handle.Handle.{Handle}
-use Rattle.std.specs.Prelude.{Option, Some, None}
-use Rattle.control_word.specs.declared.model.handle.Kind.{Kind}
-use Rattle.control_word.specs.declared.model.handle.Kind.TheVariants.{Owner, Weak}
-use Rattle.control_word.specs.declared.place.Place.{Place}
-use Rattle.step_table.specs.declared.memory.ghost_history.AtomicStep.TheVariants.{Finish, Leave, WeakLeave}
-use Rattle.step_table.specs.AtomicSteps.{is_last, leave, leave_as, on}
-use Rattle.step_threads.specs.declared.thread.Thread.{Thread}
-use Rattle.step_threads.specs.Actors.{PendingCallFits, Stocks, in_store}
-use Rattle.step_threads.specs.Frames.{FrameReady, IsReady, done_on, task_at, todo}
-use Rattle.step_threads.specs.Passing.{HasGoneOn}
-use Rattle.step_threads.specs.Rows.{ending_as, ending_by, with_end}
-use Rattle.step_threads.specs.Endings.{EndsAll, IsEndingAtStage, Stack}
-use Rattle.step_table.specs.Registers.{HoldsBag}
-use Rattle.step_threads.specs.Stocks.{StoreView}
-use Rattle.step_table.specs.GhostStates.{TableInvariant, GhostState, ghost_after_step, object_of_block, pending, model_state}
-use Rattle.step_threads.specs.Threads.{FitsThread, IsStocked, IsStockedBy}
+use Rattle.std.proofs.Common.{◌≡◌, ℕ, ◌+◌, ◌<◌, ◌≤◌, Bool, true, false, cond, List, [], ◌∷◌}
+use Rattle.std.proofs.Common.{length, ◌==◌, Some, None, Option, sym, refl, ap, ◌∙◌, subst, inl}
+use Rattle.std.proofs.Common.{inr, arith}
+use Rattle.step_threads.proofs.Prelude
+use Prelude.{Block, cond-true, done_on, Ending, ending, ending_as, ending_busy, ending_by, EndsAll}
+use Prelude.{Finish, FitsThread, Frame, FrameReady, ghost_after_step, GhostState, Handle}
+use Prelude.{handle_busy, HasGoneOn, HoldsBag, Idle, in_store, is_last, IsEndingAtStage, IsReady}
+use Prelude.{IsStocked, IsStockedBy, Kind, leave, leave_as, model_state, moved_to, num_cons}
+use Prelude.{Object, object_of_block, on, Owner, pending, PendingCall, PendingCallFits, Place}
+use Prelude.{put_cases, Rest, same_stored, Stack, Stocks, stored, StoreView, sum_by-cons}
+use Prelude.{sum_by_pushed, TableInvariant, task_at, there, Thread, todo, Weak, WeakLeave}
+use Prelude.{with_end}
+use Rattle.step_table.specs.declared.memory.ghost_history.AtomicStep.TheVariants.{Leave}
 use Rattle.step_threads.proofs.Frames.{hand_plain}
 use Rattle.step_threads.proofs.holding.Few.{store_few}
 use Rattle.step_threads.proofs.Threads.{cells_on, own_pending, resting}
 use Rattle.step_threads.proofs.holding.Ends.{ends_none, ends_nothing, ends_one}
 use Rattle.step_threads.proofs.holding.Storing.{one_stored}
-use Rattle.step_table.proofs.tables.Places.{ending_busy, handle_busy, there}
 
 pub finished_store : (d : ℕ) (v : GhostState) (b : Block) (c : ℕ) → ((model_state v).object (object_of_block v b)).block ≡ b.0
     → in_store (model_state (ghost_after_step v d (Finish b true))) d c ≡ cond (b.0 == c) 1 0 + in_store (model_state v) d c

@@ -1,22 +1,17 @@
 -- Going past idle tasks changes nothing that a thread means.
-use Rattle.std.proofs.Common.{◌≡◌, ℕ, ◌+◌, ◌-◌, ◌<◌, ◌≤◌, Bool, true, false, cond, List, [], ◌∷◌, length, set, drop, refl, sym}
-use Rattle.std.proofs.Common.{ap, subst, ◌∙◌, arith, length-set}
-use Rattle.std.proofs.Common.{◌⊎◌, ⊎_elim, inl, inr, get_or-set_same, get_or-set_other}
-use Rattle.std.proofs.lemmas.Bool.{cond-true, cond-false, false≢true}
+use Rattle.std.proofs.Common.{◌≡◌, ℕ, ◌+◌, ◌-◌, ◌<◌, ◌≤◌, Bool, true, false, cond, ◌⊎◌, List, []}
+use Rattle.std.proofs.Common.{◌∷◌, length, drop, set, sym, refl, ap, ◌∙◌, subst, inl, inr, ⊎_elim}
+use Rattle.std.proofs.Common.{arith, length-set, get_or-set_other, get_or-set_same}
+use Rattle.step_threads.proofs.Prelude
+use Prelude.{Act, Alias, Ask, Clear, Compare, cond-false, cond-true, Count, Downgrade, Drop}
+use Prelude.{dropping, DropsInTime, Ending, Exchange, Expired, false≢true, Frame, frame_settled}
+use Prelude.{FrameReady, FrameView, FromThis, hand, Holds, idle, is_full, IsCarried, IsReady}
+use Prelude.{Leave, Load, Lock, Make, MayComeNext, MayFollow, Move, no_task, Offer, OnShelf, other}
+use Prelude.{placed, plain, pointer_of, Put, Read, rest, Share, Slot, slot_value, Slots, Stack}
+use Prelude.{Swap, taken_after, Task, task_at, TasksMayCome, todo, with_endings}
 use Rattle.std.proofs.lemmas.List.{drop_more}
-use Rattle.step_threads.specs.declared.programs.act.Act.{Act}
-use Rattle.step_threads.specs.declared.programs.act.Act.TheVariants.{Make, Share, Downgrade, Lock, Put, Leave, Clear, Count, Expired, Read, FromThis, Alias}
-use Rattle.step_threads.specs.declared.programs.act.Act.TheVariants.{Move, Ask, Offer, Swap, Exchange, Load, Compare, Holds, Drop, OnShelf}
-use Rattle.step_threads.specs.declared.programs.act.Task.{Task}
-use Rattle.step_threads.specs.declared.frame.Frame.{Frame}
-use Rattle.step_threads.specs.declared.ending.Ending.{Ending}
-use Rattle.step_threads.specs.Frames.{MayComeNext, FrameReady, DropsInTime, MayFollow, IsCarried, IsReady, TasksMayCome, FrameView, dropping, hand, idle}
-use Rattle.step_threads.specs.Frames.{frame_settled, no_task, other, placed, rest, slots_idle, taken_after, taken_idle, task_at, todo}
+use Rattle.step_threads.specs.Frames.{slots_idle, taken_idle}
 use Rattle.step_threads.specs.Passing.{IsPassed}
-use Rattle.step_threads.specs.Endings.{Stack}
-use Rattle.step_table.specs.declared.slots.slot.Slot.{Slot}
-use Rattle.step_table.specs.Registers.{Slots, is_full, plain, pointer_of, slot_value}
-use Rattle.step_threads.specs.Steps.{with_endings}
 
 pub todo_at : (c : Frame) → c.at < length c.tasks.items → todo c ≡ task_at c ∷ drop (c.at + 1) c.tasks.items
 todo_at c lt = drop_more c.tasks.items c.at no_task lt

@@ -1,23 +1,12 @@
 -- A thread that asks an object for a pointer fits the table.
-use Rattle.std.proofs.Common.{◌≡◌, ℕ, ◌<◌, true, false, [], length, Some, inl, subst}
-use Rattle.control_word.specs.declared.model.handle.Kind.{Kind}
-use Rattle.control_word.specs.declared.model.view.Pending.TheVariants.{Idle}
-use Rattle.step_threads.specs.declared.programs.act.Act.{Act}
-use Rattle.step_threads.specs.declared.programs.act.Act.TheVariants.{FromThis}
-use Rattle.step_threads.specs.declared.frame.Frame.{Frame}
-use Rattle.step_threads.specs.declared.pending_call.PendingCall.{PendingCall}
-use Rattle.step_threads.specs.declared.pending_call.PendingCall.TheVariants.{Rest, Giving}
-use Rattle.control_word.specs.declared.handle.Handle.{Handle}
-use Rattle.step_threads.specs.declared.thread.Thread.{Thread}
-use Rattle.step_threads.specs.Actors.{PendingCallFits}
-use Rattle.step_threads.specs.Frames.{MayComeNext, FrameReady, IsReady, TasksMayCome, other, rest, taken_after, task_at}
-use Rattle.step_table.specs.AtomicSteps.{is_enabled}
-use Rattle.step_table.specs.Registers.{inside, slot_pointer}
-use Rattle.step_table.specs.GhostStates.{GhostState, pending, model_state}
-use Rattle.step_threads.specs.Threads.{FitsThread}
+use Rattle.std.proofs.Common.{◌≡◌, ℕ, ◌<◌, true, false, [], length, Some, subst, inl}
+use Rattle.step_threads.proofs.Prelude.{Act, FitsThread, Frame, FrameReady, FromThis, GhostState}
+use Rattle.step_threads.proofs.Prelude.{Giving, Handle, Idle, inside, inside_held, is_enabled}
+use Rattle.step_threads.proofs.Prelude.{IsReady, Kind, MayComeNext, model_state, other, pending}
+use Rattle.step_threads.proofs.Prelude.{PendingCall, PendingCallFits, Rest, rest, slot_pointer}
+use Rattle.step_threads.proofs.Prelude.{taken_after, task_at, TasksMayCome, Thread}
 use Rattle.step_threads.proofs.Frames.{owed_by, ready_any, ready_head}
 use Rattle.step_threads.proofs.Threads.{resting}
-use Rattle.step_table.proofs.holding.Inside.{inside_held}
 
 -- a pointer from this that is refused takes nothing
 pub refused_this : (c : Frame) (k : ℕ) (q : Kind) → c.at < length c.tasks.items → FrameReady c → (task_at c).act ≡ FromThis k q

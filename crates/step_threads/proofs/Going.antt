@@ -1,28 +1,21 @@
 -- What the frame of a thread relies on after an act, by what the act did to its slots.
-use Rattle.std.proofs.Common.{◌≡◌, ◌≢◌, ℕ, ◌-◌, ◌<◌, ◌⊎◌, Bool, true, false, cond, [], length, set, refl, sym, ap, subst, ◌∙◌}
-use Rattle.std.proofs.Common.{⊎_elim, inl, inr, arith, get_or-set_same, get_or-set_other, length-set}
-use Rattle.std.specs.Prelude.{None, Option, Some, option_map, ◌||◌}
-use Rattle.step_table.specs.AtomicSteps.{aliased, as_weak}
-use Rattle.step_table.specs.Contents.{differed, is_of, slots_swapped}
+use Rattle.std.proofs.Common.{◌≡◌, ℕ, ◌-◌, ◌<◌, Bool, true, false, cond, ◌||◌, ◌≢◌, ◌⊎◌, []}
+use Rattle.std.proofs.Common.{length, set, Some, None, Option, option_map, sym, refl, ap, ◌∙◌}
+use Rattle.std.proofs.Common.{subst, inl, inr, ⊎_elim, arith, length-set, get_or-set_other}
+use Rattle.std.proofs.Common.{get_or-set_same}
+use Rattle.step_threads.proofs.Prelude
+use Prelude.{Act, aliased, as_weak, CellName, Clear, Compare, cond-false, cond-true, cond_both}
+use Prelude.{differed, Drop, dropping, DropsInTime, Empty, false≢true, filled, fitting, Frame}
+use Prelude.{FrameReady, Full, hand, Handle, inside, is_of, is_there, IsReady, Kind, kind_at}
+use Prelude.{Leave, MayComeNext, MayFollow, offered, other, owner_slot, Place, place_in, placed}
+use Prelude.{plain, pointer_of, Put, rest, Slot, slot_pointer, slot_value, Slots, slots_swapped}
+use Prelude.{Swap, taken_after, task_at, TasksMayCome, weak_slot}
 use Rattle.step_table.specs.declared.memory.field.Field.{Field}
-use Rattle.control_word.specs.declared.model.handle.Kind.{Kind}
-use Rattle.step_threads.specs.declared.programs.call.CellName.{CellName}
-use Rattle.step_threads.specs.Programs.{kind_at}
-use Rattle.std.proofs.lemmas.Bool.{cond_both, cond-true, cond-false, false≢true}
 use Rattle.std.proofs.lemmas.List.{set-get_or}
-use Rattle.step_threads.specs.declared.programs.act.Act.{Act}
-use Rattle.step_threads.specs.declared.programs.act.Act.TheVariants.{Put, Leave, Clear, Drop, Swap, Compare}
-use Rattle.step_threads.specs.declared.frame.Frame.{Frame}
-use Rattle.step_table.specs.declared.slots.slot.Slot.{Slot}
-use Rattle.step_table.specs.declared.slots.slot.Slot.TheVariants.{Empty, Full}
-use Rattle.control_word.specs.declared.place.Place.{Place}
-use Rattle.control_word.specs.declared.handle.Handle.{Handle}
-use Rattle.step_table.specs.Registers.{Slots, filled, inside, owner_slot, place_in, place_of, plain, pointer_of, slot_pointer, slot_value, weak_slot}
+use Rattle.step_table.specs.Registers.{place_of}
 use Rattle.step_table.proofs.holding.Slots.{full_is}
-use Rattle.step_threads.specs.Frames.{FrameReady, DropsInTime, IsReady, MayComeNext, MayFollow, TasksMayCome, dropping, fitting}
-use Rattle.step_threads.specs.Frames.{hand, is_there, offered, other, placed, rest, taken_after}
-use Rattle.step_threads.specs.Frames.{task_at}
-use Rattle.step_threads.proofs.Frames.{drop_ready, free_same, hand_plain, owed_by, owes_head, put_ready, ready_head, ready_same}
+use Rattle.step_threads.proofs.Frames.{drop_ready, free_same, hand_plain, owed_by, owes_head}
+use Rattle.step_threads.proofs.Frames.{put_ready, ready_head, ready_same}
 use Rattle.step_threads.proofs.Hands.{hand_ready}
 
 module _ (slots : Slots) (k : ℕ) (x : Slot) (some : 1 < length slots) (below : k < other slots) where

@@ -1,23 +1,14 @@
 -- What is in hand has no part in the next task, where nothing was taken.
-use Rattle.std.proofs.Common.{◌≡◌, ℕ, ◌+◌, ◌-◌, ◌<◌, ◌≤◌, ◌⊎◌, Bool, true, false, not, List, length, set, drop, refl, sym}
-use Rattle.std.proofs.Common.{ap, subst}
-use Rattle.std.proofs.Common.{◌∙◌, arith}
-use Rattle.std.proofs.Common.{⊎_elim, inl, inr, get_or-set_same, get_or-set_other, length-set}
-use Rattle.std.proofs.lemmas.Bool.{cases_lt}
+use Rattle.std.proofs.Common.{◌≡◌, ℕ, ◌+◌, ◌-◌, ◌<◌, ◌≤◌, Bool, true, false, not, ◌⊎◌, List}
+use Rattle.std.proofs.Common.{length, drop, set, sym, refl, ap, ◌∙◌, subst, inl, inr, ⊎_elim}
+use Rattle.std.proofs.Common.{arith, length-set, get_or-set_other, get_or-set_same}
+use Rattle.step_threads.proofs.Prelude
+use Prelude.{Act, Alias, Ask, cases_lt, Clear, Compare, Count, Downgrade, Drop, Ending, Exchange}
+use Prelude.{Expired, false≢true, Frame, frame_settled, FrameReady, FrameStill, FromThis, hand}
+use Prelude.{Holds, idle, is_full, IsCarried, IsReady, Leave, Load, Lock, Make, MayComeNext, Move}
+use Prelude.{Offer, OnShelf, other, plain, pointer_of, Put, Read, rest, Share, Slot, slot_pointer}
+use Prelude.{slot_value, Slots, Swap, taken_after, Task, task_at, TasksMayCome, todo}
 use Rattle.std.proofs.lemmas.List.{drop_all}
-use Rattle.step_threads.specs.declared.programs.act.Act.{Act}
-use Rattle.step_threads.specs.declared.programs.act.Act.TheVariants.{Make, Share, Downgrade, Lock, Put, Leave, Clear, Count, Expired, Read, FromThis, Alias}
-use Rattle.step_threads.specs.declared.programs.act.Act.TheVariants.{Move, Ask}
-use Rattle.step_threads.specs.declared.programs.act.Act.TheVariants.{Offer, Swap, Exchange, Load, Compare, Holds, Drop, OnShelf}
-use Rattle.step_threads.specs.declared.programs.act.Task.{Task}
-use Rattle.step_threads.specs.declared.frame.Frame.{Frame}
-use Rattle.step_threads.specs.declared.ending.Ending.{Ending}
-use Rattle.step_table.specs.declared.slots.slot.Slot.{Slot}
-use Rattle.step_table.specs.Registers.{Slots, is_full, plain, pointer_of, slot_pointer, slot_value}
-use Rattle.step_threads.specs.Frames.{MayComeNext, FrameReady, FrameStill, IsCarried, IsReady, TasksMayCome, hand, idle, other, rest, frame_settled}
-use Rattle.step_threads.specs.Frames.{taken_after, task_at}
-use Rattle.step_threads.specs.Frames.{todo}
-use Rattle.std.proofs.lemmas.Bool.{false≢true}
 use Rattle.step_threads.proofs.Frames.{owed_by, ready_head, settled_still, todo_at}
 
 -- a frame that is at an act with these slots, or at its end, stays there

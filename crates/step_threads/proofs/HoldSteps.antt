@@ -1,29 +1,14 @@
 -- A thread that asks whether a cell holds what a name does.
-use Rattle.std.proofs.Common.{◌≡◌, ℕ, Bool, true, false, cond, ◌&&◌, refl, sym, ap, subst, ◌∙◌}
-use Rattle.std.specs.Prelude.{Option, Some, None}
-use Rattle.control_word.specs.declared.packed.cell.CellWord.{CellWord}
-use Rattle.control_word.specs.declared.site.Site.{Site}
+use Rattle.std.proofs.Common.{◌≡◌, ℕ, Bool, true, cond, ◌&&◌, Some, None, Option, sym, refl, ap}
+use Rattle.std.proofs.Common.{◌∙◌, subst}
+use Rattle.step_threads.proofs.Prelude
+use Prelude.{Answer, as_word, AtomicStep, BeginsAct, cell_of_name, CellName, CellWord, first}
+use Prelude.{FitsThread, Frame, frame_view, ghost_after_step, GhostState, HasGoneOn, Holds}
+use Prelude.{is_expected, is_of, is_there, kind_at, may_go, model_state, OnCell, refusal, Rest}
+use Prelude.{rest, Site, slot_value, Slots, step_of_act, TableInvariant, task_at, Thread}
 use Rattle.step_table.specs.declared.cell_steps.cell_step.CellStep.TheVariants.{Holds as HoldsStep}
-use Rattle.step_table.specs.declared.memory.ghost_history.AtomicStep.{AtomicStep}
-use Rattle.step_table.specs.declared.memory.ghost_history.AtomicStep.TheVariants.{OnCell}
-use Rattle.step_table.specs.Contents.{as_word, is_of}
-use Rattle.step_table.specs.GhostStates.{TableInvariant, GhostState, ghost_after_step, model_state}
-use Rattle.step_table.specs.Registers.{Slots, slot_value}
-use Rattle.step_threads.specs.declared.frame.Frame.{Frame}
-use Rattle.step_threads.specs.declared.programs.act.Act.TheVariants.{Holds}
-use Rattle.step_threads.specs.declared.programs.call.CellName.{CellName}
-use Rattle.step_threads.specs.declared.said.Answer.{Answer}
 use Rattle.step_threads.specs.declared.said.Answer.TheVariants as answer
-use Rattle.step_threads.specs.declared.thread.Thread.{Thread}
-use Rattle.step_threads.specs.declared.pending_call.PendingCall.TheVariants.{Rest}
-use Rattle.step_threads.specs.Entries.{is_expected}
-use Rattle.step_threads.specs.Frames.{cell_of_name, is_there, rest, task_at, frame_view}
-use Rattle.step_threads.specs.NextSteps.{first}
-use Rattle.step_threads.specs.Passing.{HasGoneOn}
-use Rattle.step_threads.specs.Programs.{kind_at}
-use Rattle.step_threads.specs.Rows.{may_go, refusal, unless}
-use Rattle.step_threads.specs.Steps.{Step, step_of_act}
-use Rattle.step_threads.specs.Threads.{BeginsAct, FitsThread}
+use Rattle.step_threads.specs.Rows.{unless}
 use Rattle.step_threads.proofs.Acting.{Rested, went_on}
 use Rattle.step_threads.proofs.Named.{refusal_none}
 use Rattle.step_threads.proofs.Threads.{own_pending}

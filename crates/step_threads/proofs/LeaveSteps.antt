@@ -1,33 +1,14 @@
 -- What a step was that left what a slot held.
-use Rattle.std.proofs.Common.{◌≡◌, ℕ, ◌<◌, Bool, true, false, cond, List, [], length, refl, sym, ap, ◌∙◌}
-use Rattle.std.specs.Prelude.{Option, Some, None, is_some, option_map}
-use Rattle.control_word.proofs.lists.Tallies.{put_cases}
-use Rattle.control_word.specs.declared.model.handle.Kind.{Kind}
-use Rattle.control_word.specs.declared.model.handle.Kind.TheVariants.{Owner, Weak}
-use Rattle.control_word.specs.Events.{moved_to}
-use Rattle.control_word.specs.declared.place.Block.{Block}
-use Rattle.control_word.specs.State.{Object, ending}
-use Rattle.step_threads.specs.declared.programs.act.Act.{Act}
-use Rattle.step_threads.specs.declared.frame.Frame.{Frame}
-use Rattle.step_threads.specs.declared.ending.Ending.{Ending}
-use Rattle.step_threads.specs.declared.pending_call.PendingCall.TheVariants.{Rest}
-use Rattle.control_word.specs.declared.handle.Handle.{Handle}
-use Rattle.step_table.specs.declared.memory.ended.Ended.{Ended}
-use Rattle.step_threads.specs.declared.said.Answer.{Answer}
-use Rattle.step_threads.specs.declared.said.Said.{Said}
-use Rattle.step_threads.specs.declared.said.Stepped.{Stepped}
-use Rattle.step_threads.specs.declared.said.Stepped.TheVariants.{Event, Quiet}
-use Rattle.step_threads.specs.declared.thread.Thread.{Thread}
-use Rattle.step_threads.specs.Frames.{FrameView, done_on, rest, frame_settled, task_at, frame_view}
-use Rattle.step_table.specs.AtomicSteps.{by_word, exact, is_last, leave, leave_as, owned, on, remains}
-use Rattle.step_threads.specs.Endings.{Stack}
-use Rattle.step_table.specs.Registers.{is_full}
-use Rattle.step_threads.specs.Rows.{ending_by, said_by_row, with_end}
-use Rattle.step_threads.specs.AbstractStates.{ended_by, remains_as, row_in, went}
-use Rattle.step_threads.specs.NextSteps.{first, waits_on}
-use Rattle.step_threads.specs.Steps.{Step, step_of_act, with_endings}
-use Rattle.step_table.specs.GhostStates.{GhostState, ghost_after_step, event_of, object_of_block, model_state}
-use Rattle.step_threads.specs.Threads.{HasStepped}
+use Rattle.std.proofs.Common.{◌≡◌, ℕ, ◌<◌, Bool, true, false, cond, List, [], length, is_some}
+use Rattle.std.proofs.Common.{Some, None, Option, option_map, sym, refl, ap, ◌∙◌}
+use Rattle.step_threads.proofs.Prelude
+use Prelude.{Act, Answer, Block, by_word, done_on, Ended, ended_by, Ending, ending, ending_by}
+use Prelude.{Event, event_of, first, Frame, frame_settled, frame_view, FrameView, ghost_after_step}
+use Prelude.{GhostState, Handle, HasStepped, is_full, is_last, Kind, leave, leave_as, model_state}
+use Prelude.{moved_to, Object, object_of_block, on, Owner, put_cases, Quiet, remains_as, Rest}
+use Prelude.{rest, row_in, Said, said_by_row, Stack, Step, step_of_act, Stepped, task_at, Thread}
+use Prelude.{waits_on, Weak, went, with_end, with_endings}
+use Rattle.step_table.specs.AtomicSteps.{exact, owned, remains}
 use Rattle.step_threads.proofs.Frames.{settled_with}
 use Rattle.step_threads.proofs.Endings.{HasLeft}
 use Rattle.step_threads.proofs.Steps.{at_act, on_slot, says_on, stepped_as, waits_act}

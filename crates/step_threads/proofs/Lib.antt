@@ -1,3 +1,4 @@
+pub mod Prelude
 pub mod Stocks
 pub mod Frames
 pub mod Hands

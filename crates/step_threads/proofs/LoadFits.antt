@@ -1,28 +1,14 @@
 -- A thread that loads what a cell holds fits the table.
-use Rattle.std.proofs.Common.{◌≡◌, ◌≢◌, ◌<◌, ℕ, true, length, refl, subst}
-use Rattle.std.specs.Prelude.{Option, Some, None}
-use Rattle.control_word.specs.declared.packed.cell.CellWord.{CellWord}
-use Rattle.control_word.specs.declared.place.Block.{Block}
-use Rattle.step_threads.specs.declared.programs.act.Act.{Act}
-use Rattle.step_threads.specs.declared.programs.act.Act.TheVariants.{Load}
-use Rattle.step_threads.specs.declared.programs.call.CellName.{CellName}
-use Rattle.step_table.specs.declared.cell_steps.cell_step.CellStep.TheVariants.{Take}
-use Rattle.step_threads.specs.declared.frame.Frame.{Frame}
-use Rattle.step_threads.specs.declared.pending_call.PendingCall.TheVariants.{Saw, Refill}
-use Rattle.step_table.specs.declared.memory.ghost_history.AtomicStep.TheVariants.{OnCell}
-use Rattle.step_table.specs.declared.cell_steps.refill.Stage.TheVariants.{Turning}
-use Rattle.step_threads.specs.declared.thread.Thread.{Thread}
-use Rattle.step_table.specs.Refills.{more_taken}
-use Rattle.step_threads.specs.Frames.{HasCell, cell_of_name, is_there, task_at}
-use Rattle.step_threads.specs.Passing.{HasGoneOn}
-use Rattle.step_threads.specs.Programs.{IsIn}
-use Rattle.step_table.specs.GhostStates.{TableInvariant, GhostState, ghost_after_step, model_state}
-use Rattle.step_threads.specs.Threads.{FitsThread, IsLoaded, IsNext, IsSeenBy}
+use Rattle.std.proofs.Common.{◌≡◌, ℕ, ◌<◌, true, ◌≢◌, length, Some, None, Option, refl, subst}
+use Rattle.step_threads.proofs.Prelude.{Act, begins_refill, Block, cell_of_name, CellName}
+use Rattle.step_threads.proofs.Prelude.{CellWord, FitsThread, Frame, ghost_after_step, GhostState}
+use Rattle.step_threads.proofs.Prelude.{HasCell, HasGoneOn, is_there, IsIn, IsLoaded, IsNext}
+use Rattle.step_threads.proofs.Prelude.{IsSeenBy, Load, model_state, more_taken, OnCell, Refill}
+use Rattle.step_threads.proofs.Prelude.{Saw, TableInvariant, Take, task_at, Thread, Turning}
 use Rattle.step_threads.proofs.CellNames.{cell_open}
 use Rattle.step_threads.proofs.LookFits.{fits_gone}
 use Rattle.step_threads.proofs.StoreFits.{pending_call_here}
 use Rattle.step_threads.proofs.Threads.{cell_here}
-use Rattle.step_table.proofs.contained.Refilling.{begins_refill}
 
 -- what was seen has an object, and not all of its funds were taken
 pub owned_some : (o : Option Block) → o ≢ None → (b : Block) × (o ≡ Some b)

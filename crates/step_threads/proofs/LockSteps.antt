@@ -1,23 +1,15 @@
 -- What the steps of a thread are that locks a weak pointer.
-use Rattle.std.proofs.Common.{◌≡◌, ℕ, ◌<◌, ◌==◌, Bool, true, false, cond, List, length, sym, ap, ◌∙◌}
-use Rattle.std.proofs.lemmas.Bool.{cond-true, cond-false}
-use Rattle.std.specs.Prelude.{Option, Some, None, option_map}
-use Rattle.control_word.specs.declared.handle.Handle.{Handle}
-use Rattle.step_table.specs.AtomicSteps.{as_owner, by_word, lock, on, owner_word}
-use Rattle.step_table.specs.Registers.{slot_pointer, weak_slot}
-use Rattle.step_table.specs.GhostStates.{GhostState, model_state}
-use Rattle.step_threads.specs.declared.programs.act.Act.{Act}
-use Rattle.step_threads.specs.declared.programs.act.Act.TheVariants.{Lock}
-use Rattle.step_threads.specs.declared.programs.act.Task.{Task}
-use Rattle.step_threads.specs.declared.pending_call.PendingCall.{PendingCall}
-use Rattle.step_threads.specs.declared.pending_call.PendingCall.TheVariants.{Rest, Locking}
-use Rattle.step_threads.specs.declared.said.Said.{Said}
-use Rattle.step_threads.specs.declared.thread.Thread.{Thread}
-use Rattle.step_threads.specs.Frames.{FrameView, locked_pointer, rest, task_at, frame_view, frame_settled}
-use Rattle.step_threads.specs.NextSteps.{first, step_at, tried}
-use Rattle.step_threads.specs.Rows.{lock_answer, said_by_row, taking}
-use Rattle.step_threads.specs.AbstractStates.{finds_owner, row_in, went}
-use Rattle.step_threads.specs.Steps.{Step, looks, step_of_act, tries, trying}
+use Rattle.std.proofs.Common.{◌≡◌, ℕ, ◌<◌, Bool, true, false, cond, List, length, ◌==◌, Some, None}
+use Rattle.std.proofs.Common.{Option, option_map, sym, ap, ◌∙◌}
+use Rattle.step_threads.proofs.Prelude
+use Prelude.{Act, as_owner, by_word, cond-false, cond-true, first, frame_settled, frame_view}
+use Prelude.{FrameView, GhostState, Handle, Lock, lock, locked_pointer, Locking, model_state, on}
+use Prelude.{owner_word, PendingCall, Rest, rest, row_in, Said, said_by_row, slot_pointer, Step}
+use Prelude.{step_at, step_of_act, taking, Task, task_at, Thread, trying, weak_slot, went}
+use Rattle.step_threads.specs.NextSteps.{tried}
+use Rattle.step_threads.specs.Rows.{lock_answer}
+use Rattle.step_threads.specs.AbstractStates.{finds_owner}
+use Rattle.step_threads.specs.Steps.{looks, tries}
 use Rattle.step_threads.proofs.Frames.{todo_at}
 
 -- what a lock says that is done

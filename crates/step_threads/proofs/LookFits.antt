@@ -1,23 +1,14 @@
 -- A thread within an act on a cell fits the table after a step.
-use Rattle.std.proofs.Common.{◌≡◌, ℕ, [], length, refl, sym, ap, subst, ◌∙◌, arith}
-use Rattle.std.specs.List.{filter}
-use Rattle.std.specs.Prelude.{Option, None}
+use Rattle.std.proofs.Common.{◌≡◌, ℕ, [], length, None, Option, sym, refl, ap, ◌∙◌, subst, arith}
+use Rattle.step_threads.proofs.Prelude.{AtomicStep, claimed, empty, ending, event_of, filter}
+use Rattle.step_threads.proofs.Prelude.{FitsThread, Frame, ghost_after_step, GhostState, HasGoneOn}
+use Rattle.step_threads.proofs.Prelude.{holds_quiet, IsNext, kind_of_member, model_state, Nothing}
+use Rattle.step_threads.proofs.Prelude.{opening, PendingCall, PendingCallFits, same_stored, State}
+use Rattle.step_threads.proofs.Prelude.{Stocks, stored, task_at, Thread}
 use Rattle.control_word.specs.declared.model.event.Event.{Event}
 use Rattle.control_word.specs.Histories.{leads}
-use Rattle.control_word.specs.Handles.{empty}
-use Rattle.control_word.specs.State.{State, ending, kind_of_member, same_stored, stored}
-use Rattle.step_threads.specs.declared.frame.Frame.{Frame}
-use Rattle.step_threads.specs.declared.pending_call.PendingCall.{PendingCall}
-use Rattle.step_table.specs.declared.memory.ghost_history.AtomicStep.{AtomicStep}
-use Rattle.step_threads.specs.declared.thread.Thread.{Thread}
-use Rattle.step_threads.specs.Actors.{PendingCallFits, Stocks, claimed}
-use Rattle.step_threads.specs.Frames.{task_at}
-use Rattle.step_threads.specs.Passing.{HasGoneOn}
-use Rattle.step_table.specs.Openings.{opening}
-use Rattle.step_table.specs.GhostStates.{Nothing, GhostState, event_added, ghost_after_step, event_of, model_state}
-use Rattle.step_threads.specs.Threads.{FitsThread, IsNext}
+use Rattle.step_table.specs.GhostStates.{event_added}
 use Rattle.step_threads.proofs.Threads.{cells_on}
-use Rattle.step_table.proofs.contained.Others.{holds_quiet}
 use Rattle.step_threads.proofs.holding.Ends.{each_end, ends_gone}
 
 -- what is half done claims no block

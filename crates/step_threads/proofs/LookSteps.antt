@@ -1,29 +1,11 @@
 -- What the steps of threads are that look at cells, and of those that took a fund of one.
-use Rattle.std.proofs.Common.{◌≡◌, ℕ, ◌==◌, true, List, ap, ◌∙◌}
-use Rattle.std.proofs.lemmas.Bool.{cond-true}
-use Rattle.std.specs.Prelude.{Option, Some, None, option_map}
-use Rattle.control_word.specs.declared.packed.cell.CellWord.{CellWord}
-use Rattle.control_word.specs.declared.place.Block.{Block}
-use Rattle.control_word.specs.Packing.{cell_bits}
-use Rattle.step_threads.specs.declared.programs.act.Act.{Act}
-use Rattle.step_threads.specs.declared.programs.act.Task.{Task}
-use Rattle.control_word.specs.declared.site.Site.{Site}
-use Rattle.step_table.specs.declared.cell_steps.cell_step.CellStep.TheVariants.{Take}
-use Rattle.step_table.specs.declared.cell_steps.cell_step.Compared.{Compared}
-use Rattle.step_threads.specs.declared.pending_call.PendingCall.{PendingCall}
-use Rattle.step_threads.specs.declared.pending_call.PendingCall.TheVariants.{Rest, Refill}
-use Rattle.step_table.specs.declared.memory.ghost_history.AtomicStep.TheVariants.{OnCell}
-use Rattle.step_table.specs.declared.cell_steps.refill.Stage.{Stage}
-use Rattle.step_table.specs.declared.cell_steps.refill.Stage.TheVariants.{Turning}
-use Rattle.step_threads.specs.declared.said.Stepped.{Stepped}
-use Rattle.step_threads.specs.declared.thread.Thread.{Thread}
-use Rattle.step_table.specs.Cells.{word_of_cell}
-use Rattle.step_table.specs.Refills.{more_taken}
-use Rattle.step_threads.specs.Frames.{FrameView, frame_view}
-use Rattle.step_threads.specs.NextSteps.{step_at, stepped, ghost_after, waits}
-use Rattle.step_threads.specs.Steps.{step_of_act, refills_on, takes, within}
-use Rattle.step_table.specs.GhostStates.{GhostState}
-use Rattle.step_threads.specs.Threads.{HasStepped}
+use Rattle.std.proofs.Common.{◌≡◌, ℕ, true, List, ◌==◌, Some, None, Option, option_map, ap, ◌∙◌}
+use Rattle.step_threads.proofs.Prelude.{Act, Block, cell_bits, CellWord, Compared, cond-true}
+use Rattle.step_threads.proofs.Prelude.{frame_view, FrameView, ghost_after, GhostState, HasStepped}
+use Rattle.step_threads.proofs.Prelude.{more_taken, OnCell, PendingCall, Refill, Rest, Site, Stage}
+use Rattle.step_threads.proofs.Prelude.{step_at, step_of_act, Stepped, stepped, Take, takes, Task}
+use Rattle.step_threads.proofs.Prelude.{Thread, Turning, waits, within, word_of_cell}
+use Rattle.step_threads.specs.Steps.{refills_on}
 use Rattle.step_threads.proofs.Steps.{stepped_as}
 
 -- the next step of a thread that took a fund of a cell

@@ -1,16 +1,9 @@
 -- Looks at cells.
-use Rattle.std.proofs.Common.{◌≡◌, ℕ, ◌==◌, true, false, refl, ap, arith}
-use Rattle.std.proofs.lemmas.Bool.{eqb-false}
-use Rattle.std.specs.Prelude.{Option, Some, None, is_some}
-use Rattle.control_word.specs.declared.packed.cell.CellWord.{CellWord}
-use Rattle.control_word.specs.declared.place.Block.{Block}
-use Rattle.control_word.specs.Packing.{IsCellWord}
-use Rattle.control_word.specs.declared.site.Site.{Site}
-use Rattle.step_table.specs.declared.cell_steps.cell_step.CellStep.TheVariants.{Look}
-use Rattle.step_table.specs.declared.cell_steps.cell_step.Compared.{Compared}
-use Rattle.step_table.specs.declared.memory.ghost_history.AtomicStep.TheVariants.{OnCell}
-use Rattle.step_table.specs.GhostStates.{GhostState, ghost_after_step, model_state}
-use Rattle.step_threads.specs.Threads.{IsLoaded}
+use Rattle.std.proofs.Common.{◌≡◌, ℕ, true, false, is_some, ◌==◌, Some, None, Option, refl, ap}
+use Rattle.std.proofs.Common.{arith}
+use Rattle.step_threads.proofs.Prelude.{Block, CellWord, Compared, eqb-false, ghost_after_step}
+use Rattle.step_threads.proofs.Prelude.{GhostState, IsCellWord, IsLoaded, Look, model_state}
+use Rattle.step_threads.proofs.Prelude.{OnCell, Site}
 
 -- a look moves no block
 pub same_looked : (v : GhostState) (d : ℕ) (c : Site) (x : CellWord) (y : Option Compared)

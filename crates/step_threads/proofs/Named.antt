@@ -1,18 +1,11 @@
 -- The names of the cells of acts are slots, and an act on a cell that is there isn't refused.
-use Rattle.std.proofs.Common.{◌≡◌, ◌<◌, ℕ, Bool, true, List, length, refl, subst}
-use Rattle.std.proofs.lemmas.Bool.{cond-true}
-use Rattle.std.specs.Prelude.{Option, Some, None}
-use Rattle.step_threads.specs.declared.programs.act.Act.{Act}
-use Rattle.step_threads.specs.declared.programs.act.Act.TheVariants.{Compare, Load}
-use Rattle.step_threads.specs.declared.programs.act.Task.{Task}
-use Rattle.step_threads.specs.declared.programs.call.CellName.{CellName}
+use Rattle.std.proofs.Common.{◌≡◌, ℕ, ◌<◌, Bool, true, List, length, Some, None, Option, refl}
+use Rattle.std.proofs.Common.{subst}
+use Rattle.step_threads.proofs.Prelude.{Act, Answer, CellName, Compare, cond-true, Frame}
+use Rattle.step_threads.proofs.Prelude.{frame_settled, FrameReady, FrameView, Hands, is_there}
+use Rattle.step_threads.proofs.Prelude.{IsNamed, Load, MayComeNext, other, outside, place_in}
+use Rattle.step_threads.proofs.Prelude.{refusal, Said, Slots, Task, task_at}
 use Rattle.step_threads.specs.declared.programs.call.CellName.TheVariants.{Shared, Weak, Member}
-use Rattle.step_threads.specs.declared.frame.Frame.{Frame}
-use Rattle.step_threads.specs.declared.said.Answer.{Answer}
-use Rattle.step_threads.specs.declared.said.Said.{Said}
-use Rattle.step_table.specs.Registers.{Slots, place_in}
-use Rattle.step_threads.specs.Frames.{MayComeNext, FrameReady, IsNamed, FrameView, is_there, other, frame_settled, task_at}
-use Rattle.step_threads.specs.Rows.{Hands, outside, refusal}
 use Rattle.step_threads.proofs.CellNames.{cell_named}
 use Rattle.step_threads.proofs.Frames.{ready_head}
 

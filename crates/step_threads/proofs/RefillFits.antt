@@ -1,24 +1,16 @@
 -- A thread that refills a cell fits the table.
-use Rattle.std.proofs.Common.{◌≡◌, ℕ, Bool, true, false, cond, refl, sym, subst}
-use Rattle.std.specs.Prelude.{Some}
-use Rattle.control_word.specs.declared.packed.cell.CellWord.{CellWord}
-use Rattle.control_word.specs.declared.place.Block.{Block}
-use Rattle.control_word.specs.declared.site.Site.{Site}
-use Rattle.step_table.specs.declared.cell_steps.cell_step.CellStep.TheVariants.{Turn, Bring, GiveBack, Refill as Refills}
-use Rattle.step_threads.specs.declared.pending_call.PendingCall.{PendingCall}
-use Rattle.step_threads.specs.declared.pending_call.PendingCall.TheVariants.{Rest, Refill}
-use Rattle.step_table.specs.declared.memory.ghost_history.AtomicStep.TheVariants.{OnCell}
-use Rattle.step_table.specs.declared.cell_steps.refill.Stage.{Stage}
-use Rattle.step_table.specs.declared.cell_steps.refill.Stage.TheVariants.{Turning, Checking, Lacking, Refilling, Failing}
-use Rattle.step_threads.specs.declared.thread.Thread.{Thread}
-use Rattle.step_table.specs.CellAtomicSteps.{kind_in_state}
-use Rattle.step_table.specs.Refills.{RefillFits, is_low}
-use Rattle.step_table.specs.GhostStates.{TableInvariant, GhostState, ghost_after_step, model_state}
-use Rattle.step_threads.specs.Threads.{FitsThread}
+use Rattle.std.proofs.Common.{◌≡◌, ℕ, Bool, true, false, cond, Some, sym, refl, subst}
+use Rattle.step_threads.proofs.Prelude
+use Prelude.{Block, Bring, CellWord, Checking, Failing, FitsThread, ghost_after_step, GhostState}
+use Prelude.{GiveBack, is_low, kind_in_state, Lacking, model_state, OnCell, PendingCall, Refill}
+use Prelude.{Refilling, Rest, Site, Stage, TableInvariant, Thread, Turn, Turning}
+use Rattle.step_table.specs.declared.cell_steps.cell_step.CellStep.TheVariants.{Refill as Refills}
+use Rattle.step_table.specs.Refills.{RefillFits}
 use Rattle.step_threads.proofs.LookFits.{fits_pending_call, fits_quiet}
 use Rattle.step_threads.proofs.StoreFits.{pending_call_here}
 use Rattle.step_threads.proofs.Threads.{own_pending}
-use Rattle.step_table.proofs.contained.Refilling.{brings_funds, gives_back, misses_cell, turns_fund}
+use Rattle.step_table.proofs.contained.Refilling.{brings_funds, gives_back, misses_cell}
+use Rattle.step_table.proofs.contained.Refilling.{turns_fund}
 
 pub refill_here : (d : ℕ) (t : Thread) (v : GhostState) (stage : Stage) (c : Site) (x : CellWord) (k : ℕ) → FitsThread d t v → t.pending_call ≡ Refill stage c x
     k

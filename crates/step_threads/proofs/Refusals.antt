@@ -1,10 +1,9 @@
 -- A thread whose act is on a member of no object.
-use Rattle.std.proofs.Common.{◌≡◌, ◌⊎◌, ◌<◌, ℕ, Bool, true, false, length, refl, sym, subst, ⊎_elim, inl}
-use Rattle.step_threads.specs.declared.programs.act.Act.{Act}
-use Rattle.step_threads.specs.declared.programs.act.Act.TheVariants.{Offer, Exchange, Holds, Load}
-use Rattle.step_threads.specs.declared.programs.call.CellName.{CellName}
-use Rattle.step_threads.specs.declared.frame.Frame.{Frame}
-use Rattle.step_threads.specs.Frames.{MayComeNext, FrameReady, DropsInTime, IsReady, TasksMayCome, dropping, other, rest, taken_after, task_at}
+use Rattle.std.proofs.Common.{◌≡◌, ℕ, ◌<◌, Bool, true, false, ◌⊎◌, length, sym, refl, subst, inl}
+use Rattle.std.proofs.Common.{⊎_elim}
+use Rattle.step_threads.proofs.Prelude.{Act, CellName, dropping, DropsInTime, Exchange, Frame}
+use Rattle.step_threads.proofs.Prelude.{FrameReady, Holds, IsReady, Load, MayComeNext, Offer}
+use Rattle.step_threads.proofs.Prelude.{other, rest, taken_after, task_at, TasksMayCome}
 use Rattle.step_threads.proofs.Frames.{owed_by, ready_any, ready_head}
 
 -- the first act of a statement on a cell

@@ -1,34 +1,18 @@
 -- Acts on the shelf: what they do to the store, and to the thread.
-use Rattle.std.proofs.Common.{◌≡◌, ℕ, ◌<◌, ◌≤◌, ◌==◌, cond, List, [], ◌∷◌, length, refl, sym, ap}
-use Rattle.std.proofs.Common.{subst, ◌∙◌, inl, arith}
-use Rattle.std.proofs.lemmas.List.Sorted.{sum_by_popped, sum_by_pushed}
-use Rattle.std.proofs.lemmas.List.Sums.{sum_by-cons}
-use Rattle.std.specs.List.Sorted.{IsPermutation}
-use Rattle.std.specs.Prelude.{Option, Some, None, is_some}
-use Rattle.control_word.proofs.lists.Tallies.{num_cons, num_without, stored_self, stored_true}
-use Rattle.control_word.specs.State.{same_stored, stored}
-use Rattle.control_word.specs.declared.place.Block.{Block}
-use Rattle.step_table.specs.GhostStates.{TableInvariant, GhostState, ghost_after_step, model_state}
+use Rattle.std.proofs.Common.{◌≡◌, ℕ, ◌<◌, ◌≤◌, cond, List, [], ◌∷◌, length, is_some, ◌==◌, Some}
+use Rattle.std.proofs.Common.{None, Option, sym, refl, ap, ◌∙◌, subst, inl, arith}
+use Rattle.step_threads.proofs.Prelude
+use Prelude.{Act, atomic_step_is_event, Block, Event, first, FitsThread, Frame, frame_settled}
+use Prelude.{frame_view, FrameReady, ghost_after, ghost_after_step, GhostState, HasGoneOn}
+use Prelude.{HasStepped, IsPermutation, IsReady, model_state, num_cons, num_without, OnShelf}
+use Prelude.{other, Quiet, Rest, rest, same_stored, Shelve, silent, Stepped, Stocks, stored}
+use Prelude.{stored_self, stored_true, StoreView, sum_by-cons, sum_by_popped, sum_by_pushed}
+use Prelude.{TableInvariant, taken_after, task_at, TasksMayCome, Thread, Unshelve}
 use Rattle.step_table.specs.declared.memory.ghost_history.AtomicStep.TheVariants as atomic_step
 use Rattle.step_table.specs.declared.memory.shelf.ShelfStep.{ShelfStep}
 use Rattle.step_table.specs.declared.memory.shelf.ShelfStep.TheVariants as shelf
-use Rattle.step_threads.specs.Actors.{Stocks}
-use Rattle.step_threads.specs.Frames.{FrameReady, IsReady, TasksMayCome, other, rest, frame_settled, taken_after, task_at, frame_view}
-use Rattle.step_threads.specs.Passing.{HasGoneOn}
-use Rattle.step_threads.specs.NextSteps.{first, atomic_step_is_event, ghost_after}
 use Rattle.step_threads.specs.Shelving.{shelf_block, shelf_step}
-use Rattle.step_threads.specs.Steps.{silent}
-use Rattle.step_threads.specs.Stocks.{StoreView}
-use Rattle.step_threads.specs.Threads.{FitsThread, HasStepped}
-use Rattle.step_threads.specs.declared.programs.act.Act.{Act}
-use Rattle.step_threads.specs.declared.programs.act.Act.TheVariants.{OnShelf}
 use Rattle.step_threads.specs.declared.programs.act.ShelfAct.{ShelfAct}
-use Rattle.step_threads.specs.declared.programs.act.ShelfAct.TheVariants.{Shelve, Unshelve}
-use Rattle.step_threads.specs.declared.frame.Frame.{Frame}
-use Rattle.step_threads.specs.declared.pending_call.PendingCall.TheVariants.{Rest}
-use Rattle.step_threads.specs.declared.said.Stepped.{Stepped}
-use Rattle.step_threads.specs.declared.said.Stepped.TheVariants.{Event, Quiet}
-use Rattle.step_threads.specs.declared.thread.Thread.{Thread}
 use Rattle.step_threads.proofs.Frames.{owed_by, ready_head}
 use Rattle.step_threads.proofs.Steps.{at_act, stepped_as, waits_act}
 use Rattle.step_threads.proofs.Threads.{cells_on, own_pending, resting}

@@ -1,28 +1,14 @@
 -- What a step of a thread was, by what the thread had begun.
-use Rattle.std.proofs.Common.{◌≡◌, ℕ, ◌<◌, Bool, true, false, cond, List, [], ◌∷◌, length, refl, sym, ap, subst, ◌∙◌}
-use Rattle.std.proofs.lemmas.Bool.{cond-true}
-use Rattle.std.specs.Prelude.{Option, Some, None, is_some, option_map}
-use Rattle.step_threads.specs.declared.programs.act.Act.{Act}
-use Rattle.step_threads.specs.declared.programs.act.Act.TheVariants.{Leave}
-use Rattle.step_threads.specs.declared.programs.act.Task.{Task}
-use Rattle.step_threads.specs.declared.ending.Ending.{Ending}
-use Rattle.step_threads.specs.declared.pending_call.PendingCall.{PendingCall}
-use Rattle.step_threads.specs.declared.pending_call.PendingCall.TheVariants.{Rest, Clearing}
-use Rattle.control_word.specs.declared.handle.Handle.{Handle}
-use Rattle.step_table.specs.declared.memory.ghost_history.AtomicStep.{AtomicStep}
-use Rattle.step_threads.specs.declared.said.Said.{Said}
-use Rattle.step_threads.specs.declared.said.Stepped.{Stepped}
-use Rattle.step_threads.specs.declared.said.Stepped.TheVariants.{Event, Quiet, Waited}
-use Rattle.step_threads.specs.declared.thread.Thread.{Thread}
-use Rattle.step_threads.specs.Frames.{done_on, hand, rest, task_at, todo, frame_view}
-use Rattle.step_table.specs.Registers.{is_full, slot_pointer}
-use Rattle.step_threads.specs.NextSteps.{at_rest, begun, emptied, first, pending_call_by, atomic_step_is_event, step_at, stepped, ghost_after, ghost_by, waits}
-use Rattle.step_threads.specs.NextSteps.{waits_at}
-use Rattle.step_threads.specs.NextSteps.{waits_on}
-use Rattle.step_threads.specs.NextSteps.{frame_by}
-use Rattle.step_threads.specs.Steps.{Step, empties, ends_on}
-use Rattle.step_table.specs.GhostStates.{GhostState, event_of, model_state}
-use Rattle.step_threads.specs.Threads.{HasStepped}
+use Rattle.std.proofs.Common.{◌≡◌, ℕ, ◌<◌, Bool, true, false, cond, List, [], ◌∷◌, length, is_some}
+use Rattle.std.proofs.Common.{Some, None, Option, option_map, sym, refl, ap, ◌∙◌, subst}
+use Rattle.step_threads.proofs.Prelude
+use Prelude.{Act, atomic_step_is_event, AtomicStep, Clearing, cond-true, done_on, empties, Ending}
+use Prelude.{Event, event_of, first, frame_by, frame_view, ghost_after, ghost_by, GhostState, hand}
+use Prelude.{Handle, HasStepped, is_full, Leave, model_state, pending_call_by, PendingCall, Quiet}
+use Prelude.{Rest, rest, Said, slot_pointer, Step, step_at, Stepped, stepped, Task, task_at}
+use Prelude.{Thread, todo, Waited, waits, waits_on}
+use Rattle.step_threads.specs.NextSteps.{at_rest, begun, emptied, waits_at}
+use Rattle.step_threads.specs.Steps.{ends_on}
 use Rattle.step_threads.proofs.Frames.{todo_at}
 
 -- a step that is known, and doesn't wait

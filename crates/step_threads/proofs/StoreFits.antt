@@ -1,47 +1,22 @@
 -- A thread that puts values into cells fits the table, and its steps are as they are said.
-use Rattle.std.proofs.Common.{◌≡◌, ℕ, ◌-◌, ◌<◌, ◌⊎◌, Bool, true, false, cond, not, ◌&&◌, [], length, refl, sym, ap, subst, ◌∙◌}
-use Rattle.std.proofs.Common.{⊎_elim, arith, get_or}
+use Rattle.std.proofs.Common.{◌≡◌, ℕ, ◌-◌, ◌<◌, Bool, true, false, cond, not, ◌&&◌, ◌⊎◌, []}
+use Rattle.std.proofs.Common.{length, get_or, is_some, Some, None, Option, sym, refl, ap, ◌∙◌}
+use Rattle.std.proofs.Common.{subst, ⊎_elim, arith}
+use Rattle.step_threads.proofs.Prelude
+use Prelude.{Act, AtomicStep, Block, Brought, cell_of_name, CellName, CellWord, claimed, done_on}
+use Prelude.{Drop, Exchange, filter, FitsThread, Frame, FrameReady, Free, ghost_after_step}
+use Prelude.{GhostState, gives_back, Going, hand, Handle, HasCell, HasGoneOn, holds_quiet, Idle}
+use Prelude.{idle, in_store, is_of, is_there, IsIn, IsNext, Kind, kind_at, kind_stays, MayComeNext}
+use Prelude.{Member, model_state, no_task, on, OnCell, other, owes_after, owing_funds, Owner}
+use Prelude.{pending, pending_after, PendingCall, PendingCallFits, Rest, Returning, same_stored}
+use Prelude.{share_as, Site, slot_value, Slots, Stocks, stored, Swap, TableInvariant, Task}
+use Prelude.{task_at, Thread, Weak}
 use Rattle.std.proofs.lemmas.List.{get_or_default}
-use Rattle.step_threads.specs.declared.programs.act.Task.{Task}
-use Rattle.std.specs.Prelude.{Option, Some, None, is_some}
-use Rattle.control_word.specs.declared.packed.cell.CellWord.{CellWord}
-use Rattle.control_word.specs.declared.model.handle.Kind.{Kind}
-use Rattle.control_word.specs.declared.model.handle.Kind.TheVariants.{Owner, Weak}
-use Rattle.control_word.specs.declared.place.Block.{Block}
-use Rattle.control_word.specs.declared.model.view.Pending.TheVariants.{Idle}
-use Rattle.std.specs.List.{filter}
-use Rattle.control_word.specs.State.{same_stored, stored}
-use Rattle.step_threads.specs.declared.programs.act.Act.{Act}
-use Rattle.step_threads.specs.declared.programs.act.Act.TheVariants.{Swap, Exchange, Drop}
-use Rattle.step_threads.specs.declared.programs.call.CellName.{CellName}
-use Rattle.control_word.specs.declared.site.Site.{Site}
-use Rattle.control_word.specs.declared.site.Site.TheVariants.{Free, Member}
 use Rattle.step_table.specs.declared.cell_steps.cell_step.CellStep.TheVariants as cell_step
-use Rattle.step_threads.specs.declared.frame.Frame.{Frame}
-use Rattle.step_threads.specs.declared.pending_call.PendingCall.{PendingCall}
-use Rattle.step_threads.specs.declared.pending_call.PendingCall.TheVariants.{Rest, Brought, Returning}
-use Rattle.control_word.specs.declared.handle.Handle.{Handle}
-use Rattle.step_table.specs.declared.memory.ghost_history.AtomicStep.{AtomicStep}
-use Rattle.step_table.specs.declared.memory.ghost_history.AtomicStep.TheVariants.{OnCell}
-use Rattle.step_threads.specs.declared.thread.Thread.{Thread}
-use Rattle.step_threads.specs.Actors.{PendingCallFits, Stocks, claimed, in_store}
-use Rattle.step_table.specs.CellAtomicSteps.{owing_funds}
-use Rattle.step_table.specs.Contents.{is_of}
-use Rattle.step_threads.specs.Frames.{MayComeNext, FrameReady, Going, HasCell, cell_of_name, going_from, hand, idle, is_there, done_on, no_task, other}
-use Rattle.step_threads.specs.Passing.{HasGoneOn}
-use Rattle.step_threads.specs.Frames.{task_at}
-use Rattle.step_table.specs.AtomicSteps.{share_as, on}
-use Rattle.step_table.specs.Registers.{Slots, slot_value}
-use Rattle.step_threads.specs.Programs.{IsIn, kind_at}
-use Rattle.step_threads.specs.Steps.{gives_back}
-use Rattle.step_table.specs.GhostStates.{TableInvariant, GhostState, ghost_after_step, pending, pending_after, model_state}
-use Rattle.step_threads.specs.Threads.{FitsThread, IsNext}
+use Rattle.step_threads.specs.Frames.{going_from}
 use Rattle.step_threads.proofs.CellNames.{cell_kind}
 use Rattle.step_threads.proofs.Frames.{ready_head}
 use Rattle.step_threads.proofs.Threads.{cell_here, cells_on, own_pending, resting}
-use Rattle.step_table.proofs.contained.Others.{holds_quiet}
-use Rattle.step_table.proofs.contained.Refilling.{owes_after}
-use Rattle.step_table.proofs.contained.Told.{kind_stays}
 use Rattle.step_threads.proofs.holding.Ends.{each_end, ends_gone}
 
 -- what is half done of the next act

@@ -1,36 +1,19 @@
 -- What the steps of a thread are that puts values into cells.
-use Rattle.std.proofs.Common.{◌≡◌, ℕ, ◌<◌, Bool, true, false, cond, [], length, refl, sym, ap, ◌⊎◌, ⊎_elim, ◌∙◌}
-use Rattle.std.specs.Prelude.{Option, Some, None, is_some, option_map, slice_set}
-use Rattle.control_word.specs.declared.model.handle.Kind.{Kind}
-use Rattle.control_word.specs.declared.model.handle.Kind.TheVariants.{Owner, Weak}
-use Rattle.step_threads.specs.declared.programs.act.Act.TheVariants.{Offer}
-use Rattle.step_threads.specs.declared.said.Stepped.{Stepped}
-use Rattle.step_threads.specs.declared.said.Stepped.TheVariants.{Event, Quiet}
-use Rattle.step_threads.specs.declared.programs.act.Act.{Act}
-use Rattle.step_threads.specs.declared.programs.call.CellName.{CellName}
-use Rattle.step_threads.specs.declared.pending_call.PendingCall.TheVariants.{Rest, Brought}
-use Rattle.step_threads.specs.declared.pending_call.PendingCall.{PendingCall}
-use Rattle.step_threads.specs.declared.said.Said.{Said}
-use Rattle.control_word.specs.declared.packed.cell.CellWord.{CellWord}
-use Rattle.control_word.specs.declared.model.view.Pending.{Pending}
-use Rattle.control_word.specs.declared.model.view.Pending.TheVariants.{Idle}
+use Rattle.std.proofs.Common.{◌≡◌, ℕ, ◌<◌, Bool, true, false, cond, ◌⊎◌, [], length, is_some}
+use Rattle.std.proofs.Common.{slice_set, Some, None, Option, option_map, sym, refl, ap, ◌∙◌}
+use Rattle.std.proofs.Common.{⊎_elim}
+use Rattle.step_threads.proofs.Prelude
+use Prelude.{Act, as_word, brings, Brought, by_word, cell_of_name, CellName, CellWord, done_on}
+use Prelude.{Empty, Event, event_of, first, FitsThread, fitting, frame_settled, frame_view, Full}
+use Prelude.{ghost_after_step, GhostState, gives_back, Going, going, hand, Handle, HasStepped}
+use Prelude.{Idle, is_full, is_there, Kind, kind_at, model_state, Nothing, Offer, offered, on}
+use Prelude.{on_going, OnCell, owing_for, Owner, Pending, pending, PendingCall, pointer_of, Quiet}
+use Prelude.{refusal, Rest, rest, row_in, Said, said_by_row, seen, sends, share, share_as, silent}
+use Prelude.{Slot, slot_pointer, slot_value, Step, step_at, step_of_act, Stepped, task_at, Thread}
+use Prelude.{waits, waits_on, Weak, went}
 use Rattle.step_table.specs.declared.cell_steps.cell_step.CellStep.TheVariants.{Swap as Swaps}
-use Rattle.step_table.specs.declared.memory.ghost_history.AtomicStep.TheVariants.{OnCell}
-use Rattle.step_table.specs.declared.slots.slot.Slot.{Slot}
-use Rattle.step_table.specs.declared.slots.slot.Slot.TheVariants.{Empty, Full}
-use Rattle.step_table.specs.Contents.{as_word, owing_for, seen}
-use Rattle.control_word.specs.declared.handle.Handle.{Handle}
-use Rattle.step_threads.specs.declared.thread.Thread.{Thread}
-use Rattle.step_threads.specs.Programs.{kind_at}
-use Rattle.step_threads.specs.Frames.{Going, cell_of_name, done_on, fitting, going, hand, is_there, offered, on_going, rest, frame_settled, task_at, frame_view}
-use Rattle.step_table.specs.AtomicSteps.{by_word, on, share, share_as}
-use Rattle.step_table.specs.Registers.{is_full, pointer_of, slot_pointer, slot_value}
-use Rattle.step_threads.specs.Rows.{refusal, said_by_row}
-use Rattle.step_threads.specs.AbstractStates.{row_in, went}
-use Rattle.step_threads.specs.NextSteps.{first, sent, step_at, waits, waits_on}
-use Rattle.step_threads.specs.Steps.{Step, step_of_act, brings, gives_back, sends, silent, step_of_swap}
-use Rattle.step_table.specs.GhostStates.{Nothing, GhostState, event_of, pending, ghost_after_step, model_state}
-use Rattle.step_threads.specs.Threads.{FitsThread, HasStepped}
+use Rattle.step_threads.specs.NextSteps.{sent}
+use Rattle.step_threads.specs.Steps.{step_of_swap}
 use Rattle.step_threads.proofs.Frames.{todo_at}
 use Rattle.step_threads.proofs.StoreFits.{pending_call_here}
 use Rattle.step_threads.proofs.Named.{refusal_none, told_as, walked_by}

@@ -1,25 +1,15 @@
 -- What the steps of a thread are that takes a pointer from this.
-use Rattle.std.proofs.Common.{◌≡◌, ℕ, Bool, true, false, cond, List, refl, sym, ap, ◌∙◌}
-use Rattle.std.proofs.lemmas.Bool.{cond-true, cond-false}
-use Rattle.std.specs.Prelude.{Option, Some, None, is_some, option_map}
-use Rattle.control_word.specs.declared.model.handle.Kind.{Kind}
-use Rattle.control_word.specs.declared.model.handle.Kind.TheVariants.{Owner, Weak}
-use Rattle.control_word.specs.declared.model.view.Pending.TheVariants.{Idle}
+use Rattle.std.proofs.Common.{◌≡◌, ℕ, Bool, true, false, cond, List, is_some, Some, None, Option}
+use Rattle.std.proofs.Common.{option_map, sym, refl, ap, ◌∙◌}
+use Rattle.step_threads.proofs.Prelude
+use Prelude.{by_word, cond-false, cond-true, event_of, first, frame_settled, FrameView, FromThis}
+use Prelude.{ghost_after_step, GhostState, give, Giving, Handle, Idle, inside, is_enabled, is_full}
+use Prelude.{Kind, model_state, on, outside, Owner, pending_after, place_in, Rest, row_in, Said}
+use Prelude.{said_by_row, silent, slot_pointer, Step, step_of_act, taking, Task, this_as, Weak}
+use Prelude.{went}
 use Rattle.control_word.specs.declared.refusal.Refusal.TheVariants as refused
-use Rattle.control_word.specs.declared.handle.Handle.{Handle}
-use Rattle.step_table.specs.AtomicSteps.{by_word, give, is_enabled, on, this_as}
-use Rattle.step_table.specs.Registers.{inside, is_full, place_in, slot_pointer}
-use Rattle.step_table.specs.GhostStates.{GhostState, event_of, pending_after, ghost_after_step, model_state}
-use Rattle.step_threads.specs.declared.programs.act.Act.TheVariants.{FromThis}
-use Rattle.step_threads.specs.declared.programs.act.Task.{Task}
-use Rattle.step_threads.specs.declared.pending_call.PendingCall.TheVariants.{Rest, Giving}
 use Rattle.step_threads.specs.declared.said.Answer.TheVariants as answer
-use Rattle.step_threads.specs.declared.said.Said.{Said}
-use Rattle.step_threads.specs.Frames.{FrameView, frame_settled}
-use Rattle.step_threads.specs.NextSteps.{first}
-use Rattle.step_threads.specs.Rows.{outside, said_by_row, taking}
-use Rattle.step_threads.specs.AbstractStates.{row_in, went}
-use Rattle.step_threads.specs.Steps.{Step, asks, silent, step_of_act}
+use Rattle.step_threads.specs.Steps.{asks}
 
 module _ (v : GhostState) (d : ℕ) (w : FrameView) (n : ℕ) (ts : List Task) (k : ℕ) (kind : Kind) where
   -- what is said, and where the thread is, by what the name has inside its object, and whether that gave a pointer

@@ -1,36 +1,20 @@
 -- A thread's own atomic steps keep it fitting the table.
-use Rattle.std.proofs.Common.{◌≡◌, ◌≢◌, ℕ, ◌+◌, ◌<◌, ◌≤◌, ◌==◌, ◌⊎◌, Bool, true, false, cond, not, List, [], ◌∷◌}
-use Rattle.std.proofs.Common.{length, set, get_or, refl, sym}
-use Rattle.std.proofs.Common.{ap, subst, ◌∙◌}
-use Rattle.std.proofs.Common.{⊎_elim, inl, arith, eq-eqb, get_or-set_same, get_or-set_other, length-set}
-use Rattle.std.specs.List.{All}
-use Rattle.std.specs.Prelude.{Some, None}
-use Rattle.std.proofs.lemmas.List.Sorted.{sum_by_popped}
-use Rattle.std.proofs.lemmas.Bool.{cases_eq, cond-true}
-use Rattle.std.specs.List.Sorted.{IsPermutation}
-use Rattle.control_word.specs.declared.place.Block.{Block}
-use Rattle.control_word.specs.declared.model.view.Pending.{Pending}
-use Rattle.control_word.specs.declared.model.view.View.{View}
-use Rattle.control_word.specs.State.{Has, stored}
+use Rattle.std.proofs.Common.{◌≡◌, ℕ, ◌+◌, ◌<◌, ◌≤◌, Bool, true, false, cond, not, ◌≢◌, ◌⊎◌, List}
+use Rattle.std.proofs.Common.{[], ◌∷◌, length, get_or, set, ◌==◌, Some, None, sym, refl, ap, ◌∙◌}
+use Rattle.std.proofs.Common.{subst, inl, ⊎_elim, arith, length-set, get_or-set_other}
+use Rattle.std.proofs.Common.{get_or-set_same, eq-eqb}
+use Rattle.step_threads.proofs.Prelude
+use Prelude.{Act, All, AtomicStep, Block, cases_eq, Clear, cond-true, FitsThread, Form, Frame}
+use Prelude.{FrameReady, ghost_after_step, GhostState, Has, HasCell, HasGoneOn, in_list, IsNext}
+use Prelude.{IsPermutation, IsReady, known_words, least, Leave, Lock, Make, Making, MayComeNext}
+use Prelude.{model_state, no_task, Nothing, other, Pending, pending, pending_after, PendingCall}
+use Prelude.{PendingCallFits, Rest, rest, Stocks, stored, StoreView, sum_by_popped, TableInvariant}
+use Prelude.{taken_after, Task, task_at, TasksMayCome, Thread, used_up, View, wanted}
 use Rattle.control_word.specs.Steps.{known_of}
-use Rattle.control_word.specs.Views.{used_up}
-use Rattle.step_threads.specs.declared.programs.act.Act.{Act}
-use Rattle.step_table.specs.declared.memory.form.Form.{Form}
-use Rattle.step_threads.specs.declared.programs.act.Act.TheVariants.{Make, Lock, Leave, Clear}
-use Rattle.step_threads.specs.declared.programs.act.Task.{Task}
-use Rattle.step_threads.specs.declared.frame.Frame.{Frame}
-use Rattle.step_threads.specs.declared.pending_call.PendingCall.{PendingCall}
-use Rattle.step_threads.specs.declared.pending_call.PendingCall.TheVariants.{Rest, Making}
-use Rattle.step_table.specs.declared.memory.ghost_history.AtomicStep.{AtomicStep}
 use Rattle.step_table.specs.declared.memory.ghost_history.AtomicStep.TheVariants as atomic_step
-use Rattle.step_threads.specs.declared.thread.Thread.{Thread}
-use Rattle.step_threads.specs.Actors.{PendingCallFits, IsPreparedSoFar, Stocks, in_list, wanted}
-use Rattle.step_threads.specs.Frames.{MayComeNext, FrameReady, HasCell, IsReady, TasksMayCome, form_of, no_task, other, rest, taken_after, task_at}
-use Rattle.step_threads.specs.Passing.{HasGoneOn}
-use Rattle.step_threads.specs.Entries.{least}
-use Rattle.step_threads.specs.Stocks.{StoreView}
-use Rattle.step_table.specs.GhostStates.{TableInvariant, Nothing, GhostState, ghost_after_step, known_words, pending, pending_after, model_state}
-use Rattle.step_threads.specs.Threads.{FitsThread, IsNext, form_at}
+use Rattle.step_threads.specs.Actors.{IsPreparedSoFar}
+use Rattle.step_threads.specs.Frames.{form_of}
+use Rattle.step_threads.specs.Threads.{form_at}
 use Rattle.step_threads.proofs.Frames.{owed_by, ready_any, ready_head}
 use Rattle.step_threads.proofs.holding.Ends.{ends_gone, ends_none}
 use Rattle.step_threads.proofs.holding.Least.{least_stored, none_stored}

@@ -1,18 +1,12 @@
 -- Lists of endings.
-use Rattle.std.proofs.Common.{◌≡◌, ◌≢◌, ℕ, ◌+◌, ◌≤◌, ◌==◌, cond, List, [], ◌∷◌, drop, sym, ap, subst, ◌∙◌, arith}
-use Rattle.std.proofs.Common.{eq-eqb, inl, refl}
-use Rattle.std.specs.Prelude.{All, Some}
-use Rattle.std.proofs.lemmas.Bool.{cond_both, cond-true}
-use Rattle.std.proofs.lemmas.List.Elements.{All-nil, All-head, All-tail, All-cons}
-use Rattle.std.proofs.lemmas.List.Sums.{sum_by-cons}
-use Rattle.std.proofs.lemmas.Option.{same_Some}
-use Rattle.control_word.specs.declared.place.Block.{Block}
-use Rattle.step_threads.specs.declared.frame.Frame.{Frame}
-use Rattle.step_threads.specs.declared.ending.Ending.{Ending}
+use Rattle.std.proofs.Common.{◌≡◌, ℕ, ◌+◌, ◌≤◌, cond, ◌≢◌, List, [], ◌∷◌, drop, ◌==◌, Some, All}
+use Rattle.std.proofs.Common.{sym, refl, ap, ◌∙◌, subst, inl, arith, eq-eqb}
+use Rattle.step_threads.proofs.Prelude.{All-cons, All-head, All-tail, Block, cond-true, cond_both}
+use Rattle.step_threads.proofs.Prelude.{Ending, endings_in_block, EndsAll, EndsFit, first_of}
+use Rattle.step_threads.proofs.Prelude.{Frame, GhostState, IsEndingAtStage, same_Some, Stack}
+use Rattle.step_threads.proofs.Prelude.{sum_by-cons}
+use Rattle.std.proofs.lemmas.List.Elements.{All-nil}
 use Rattle.step_table.specs.declared.memory.extent.Extent.{Extent}
-use Rattle.step_threads.specs.Endings.{EndsAll, IsEndingAtStage, Stack, endings_in_block, first_of}
-use Rattle.step_table.specs.GhostStates.{GhostState}
-use Rattle.step_threads.specs.Threads.{EndsFit}
 
 -- what keeps each ending keeps them all
 pub each_end : (d : ℕ) (v w : GhostState) (es : List Ending) → ((e : Ending) → IsEndingAtStage d e v → IsEndingAtStage d e w)

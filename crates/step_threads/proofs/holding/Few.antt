@@ -1,23 +1,17 @@
 -- A desk's store and its endings name each block of the shape once at most, so there is room for all of them.
-use Rattle.std.proofs.Common.{◌≡◌, ◌≢◌, ℕ, zero, suc, ◌+◌, ◌<◌, ◌≤◌, ◌==◌, true, false, cond, not, List, [], ◌∷◌, length}
-use Rattle.std.proofs.Common.{refl, sym, ap, subst, ◌∙◌, ⊎_elim, arith, eq-eqb, ne_eqb}
-use Rattle.std.proofs.lemmas.Bool.{cases_eq, cond_both, cond-true, cond-false, eqb-true, and_parts}
-use Rattle.std.proofs.lemmas.List.Elements.{All-head, All-tail}
-use Rattle.std.proofs.lemmas.List.Sums.{sum_by-cons}
-use Rattle.std.specs.List.{filter}
-use Rattle.std.specs.Prelude.{All}
-use Rattle.control_word.proofs.history.Legal.{sound}
+use Rattle.std.proofs.Common.{◌≡◌, ℕ, zero, suc, ◌+◌, ◌<◌, ◌≤◌, true, false, cond, not, ◌≢◌, List}
+use Rattle.std.proofs.Common.{[], ◌∷◌, length, ◌==◌, All, sym, refl, ap, ◌∙◌, subst, ⊎_elim, arith}
+use Rattle.std.proofs.Common.{eq-eqb, ne_eqb, eqb-true}
+use Rattle.step_threads.proofs.Prelude
+use Prelude.{All-head, All-tail, and_parts, cases_eq, cond-false, cond-true, cond_both, Ending}
+use Prelude.{ending_busy, endings_in_block, EndsAll, filter, GhostState, in_list, in_store}
+use Prelude.{IsEndingAtStage, model_state, opening, same_stored, sound, State, stored, sum_by-cons}
+use Prelude.{TableInvariant, there}
 use Rattle.control_word.proofs.lists.Sums.{num_le}
 use Rattle.control_word.specs.Laws.{how_often}
-use Rattle.control_word.specs.State.{State, Stored as Kept_in, same_stored, stored}
-use Rattle.step_threads.specs.declared.ending.Ending.{Ending}
-use Rattle.step_threads.specs.Actors.{in_list, in_store}
-use Rattle.step_threads.specs.Endings.{EndsAll, IsEndingAtStage, endings_in_block}
-use Rattle.step_table.specs.Openings.{opening}
-use Rattle.step_table.specs.GhostStates.{TableInvariant, GhostState, model_state}
+use Rattle.control_word.specs.State.{Stored as Kept_in}
 use Rattle.step_threads.proofs.holding.Ends.{one_more}
 use Rattle.step_threads.proofs.holding.Storing.{counted_stored}
-use Rattle.step_table.proofs.tables.Places.{ending_busy, there}
 
 -- numbers from 1 to n, each once at most, are n or fewer
 without_number : (b c : ℕ) (l : List ℕ) → in_list c (filter (λ x. not (x == b)) l) ≤ in_list c l

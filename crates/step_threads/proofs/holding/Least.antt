@@ -1,17 +1,14 @@
 -- The least block of a desk's store.
-use Rattle.std.proofs.Common.{◌≡◌, ◌≢◌, ◌⊎◌, ℕ, ◌<◌, ◌≤◌, ◌==◌, cond, List, [], ◌∷◌, length, Option, Some, None, refl}
-use Rattle.std.proofs.Common.{sym}
-use Rattle.std.proofs.Common.{ap, subst, ◌∙◌, ⊎_elim, inl, inr, arith}
-use Rattle.std.proofs.Common.{eq-eqb, ne_eqb}
+use Rattle.std.proofs.Common.{◌≡◌, ℕ, ◌<◌, ◌≤◌, cond, ◌≢◌, ◌⊎◌, List, [], ◌∷◌, length, ◌==◌, Some}
+use Rattle.std.proofs.Common.{None, Option, sym, refl, ap, ◌∙◌, subst, inl, inr, ⊎_elim, arith}
+use Rattle.std.proofs.Common.{eq-eqb, ne_eqb, eqb-true}
+use Rattle.step_threads.proofs.Prelude.{All, AllByRecursion, and_parts, cases_eq, cases_lt}
+use Rattle.step_threads.proofs.Prelude.{cond-false, cond-true, cond_both, eqb-false, filter}
+use Rattle.step_threads.proofs.Prelude.{in_list, least, num, num_cons, same_stored, Stored, stored}
+use Rattle.step_threads.proofs.Prelude.{sum_by-cons}
 use Rattle.std.proofs.Math.Nat.{min-eq_left, min-eq_right}
-use Rattle.std.proofs.lemmas.Bool.{cases_eq, cases_lt, cond_both, cond-true, cond-false, eqb-true, eqb-false, and_parts}
 use Rattle.std.proofs.lemmas.List.Elements.{recursion_from_All}
-use Rattle.std.proofs.lemmas.List.Sums.{sum_by-cons}
-use Rattle.std.specs.List.{All, AllByRecursion, filter}
-use Rattle.control_word.proofs.lists.Tallies.{num, num_cons}
-use Rattle.control_word.specs.State.{Stored, same_stored, stored}
-use Rattle.step_threads.specs.Actors.{in_list}
-use Rattle.step_threads.specs.Entries.{least, lesser}
+use Rattle.step_threads.specs.Entries.{lesser}
 use Rattle.step_threads.proofs.holding.Storing.{one_stored}
 
 abbrev Least : ℕ → List Stored → Option ℕ → Type 0

@@ -1,22 +1,19 @@
 -- What the members of an object hold that ends in a desk's hands stays, whatever other desks do.
-use Rattle.std.proofs.Common.{◌≡◌, ◌≢◌, ℕ, suc, Some, None, refl, sym, ap, ◌∙◌, arith}
-use Rattle.std.proofs.lemmas.Bool.{cond_both}
+use Rattle.std.proofs.Common.{◌≡◌, ℕ, suc, ◌≢◌, Some, None, sym, refl, ap, ◌∙◌, arith}
+use Rattle.step_threads.proofs.Prelude
+use Prelude.{AtomicStep, Bring, Claim, CompareSwap, cond_both, ending, Finish, Free}
+use Prelude.{ghost_after_step, GhostState, GiveBack, live, Look, Member, model_state, moved_to}
+use Prelude.{Object, object_of_block, OnCell, opening, Prepare, put_cases, shelf_framed, sound}
+use Prelude.{State, TableInvariant, Take, TakeOut, Turn, unmade, WeakLeave, WeakShare, Write}
 use Rattle.control_word.proofs.history.Cells.{open_live}
-use Rattle.control_word.proofs.history.Legal.{sound}
-use Rattle.control_word.proofs.lists.Tallies.{put_cases}
-use Rattle.control_word.specs.Events.{moved_to}
-use Rattle.control_word.specs.State.{Object, Phase, State, ending, live, put, unmade}
-use Rattle.control_word.specs.declared.site.Site.TheVariants.{Free, Member}
+use Rattle.control_word.specs.State.{Phase, put}
 use Rattle.step_table.specs.declared.cell_steps.cell_step.CellStep.{CellStep}
-use Rattle.step_table.specs.declared.cell_steps.cell_step.CellStep.TheVariants.{Look, Holds, Bring, GiveBack, Take, Turn, Refill, Swap, CompareSwap, TakeOut}
-use Rattle.step_table.specs.declared.memory.ghost_history.AtomicStep.{AtomicStep}
-use Rattle.step_table.specs.declared.memory.ghost_history.AtomicStep.TheVariants.{Prepare, Write, Claim, Share, WeakShare, Leave, WeakLeave, Lock, Count}
+use Rattle.step_table.specs.declared.cell_steps.cell_step.CellStep.TheVariants.{Holds, Refill}
+use Rattle.step_table.specs.declared.cell_steps.cell_step.CellStep.TheVariants.{Swap}
+use Rattle.step_table.specs.declared.memory.ghost_history.AtomicStep.TheVariants.{Share, Leave}
+use Rattle.step_table.specs.declared.memory.ghost_history.AtomicStep.TheVariants.{Lock, Count}
 use Rattle.step_table.specs.declared.memory.ghost_history.AtomicStep.TheVariants.{Expired, Read}
-use Rattle.step_table.specs.declared.memory.ghost_history.AtomicStep.TheVariants.{Clear}
-use Rattle.step_table.specs.declared.memory.ghost_history.AtomicStep.TheVariants.{Finish, OnShelf, OnCell}
-use Rattle.step_table.specs.Openings.{opening}
-use Rattle.step_table.specs.GhostStates.{TableInvariant, GhostState, ghost_after_step, object_of_block, model_state}
-use Rattle.step_table.proofs.tables.ShelfAtomicSteps.{shelf_framed}
+use Rattle.step_table.specs.declared.memory.ghost_history.AtomicStep.TheVariants.{Clear, OnShelf}
 
 pub phase_differs : (d e : ℕ) (p : Phase) → p ≡ ending d → p ≡ ending e → e ≡ d
 phase_differs d e p a b = let k : ending e ≡ ending d = sym b ∙ a in cc

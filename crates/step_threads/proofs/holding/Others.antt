@@ -1,30 +1,23 @@
 -- What other desks do changes nothing of what a desk has.
-use Rattle.std.proofs.Common.{◌≡◌, ◌≢◌, ℕ, suc, ◌<◌, List, refl, sym, ap, subst, ◌∙◌, arith}
-use Rattle.std.proofs.lemmas.Bool.{eqb-true, and_parts}
+use Rattle.std.proofs.Common.{◌≡◌, ℕ, suc, ◌<◌, ◌≢◌, List, sym, refl, ap, ◌∙◌, subst, arith}
+use Rattle.std.proofs.Common.{eqb-true}
+use Rattle.step_threads.proofs.Prelude
+use Prelude.{and_parts, AtomicStep, Claim, counted_live, Ending, ending, ending_busy, EndsAll}
+use Prelude.{Finish, ghost_after_step, GhostState, in_store, kept_object, least, live, model_state}
+use Prelude.{num, Object, object_of_block, OnCell, opening, owner_counted, PendingCall, Prepare}
+use Prelude.{put_cases, same_atomic_step, same_stored, shelf_framed, sound, State, Stocks, Stored}
+use Prelude.{stored, TableInvariant, unmade, WeakLeave, WeakShare, Write}
 use Rattle.control_word.proofs.history.Kept.{Same}
-use Rattle.control_word.proofs.history.Legal.{sound}
-use Rattle.control_word.proofs.lists.Tallies.{num, put_cases}
-use Rattle.control_word.proofs.history.Moving.{counted_live, owner_counted}
-use Rattle.control_word.specs.State.{Object, State, Stored, common, ending, live, same_stored, stock, stored, unmade, weak_number}
-use Rattle.step_threads.specs.declared.ending.Ending.{Ending}
-use Rattle.step_threads.specs.declared.pending_call.PendingCall.{PendingCall}
-use Rattle.step_table.specs.declared.memory.ghost_history.AtomicStep.{AtomicStep}
-use Rattle.step_table.specs.declared.memory.ghost_history.AtomicStep.TheVariants.{Prepare, Write, Claim, Share, WeakShare, Leave, WeakLeave, Lock, Count}
+use Rattle.control_word.specs.State.{common, stock, weak_number}
+use Rattle.step_table.specs.declared.memory.ghost_history.AtomicStep.TheVariants.{Share, Leave}
+use Rattle.step_table.specs.declared.memory.ghost_history.AtomicStep.TheVariants.{Lock, Count}
 use Rattle.step_table.specs.declared.memory.ghost_history.AtomicStep.TheVariants.{Expired, Read}
-use Rattle.step_table.specs.declared.memory.ghost_history.AtomicStep.TheVariants.{Clear}
-use Rattle.step_table.specs.declared.memory.ghost_history.AtomicStep.TheVariants.{Finish, OnShelf, OnCell}
-use Rattle.step_threads.specs.Actors.{Stocks, in_store}
-use Rattle.step_threads.specs.Endings.{EndsAll}
-use Rattle.step_table.specs.Openings.{opening}
-use Rattle.step_threads.specs.Entries.{least}
-use Rattle.step_table.specs.GhostStates.{TableInvariant, GhostState, ghost_after_step, object_of_block, model_state}
+use Rattle.step_table.specs.declared.memory.ghost_history.AtomicStep.TheVariants.{Clear, OnShelf}
 use Rattle.step_threads.proofs.holding.Ends.{each_end}
 use Rattle.step_threads.proofs.holding.Least.{least_part}
 use Rattle.step_threads.proofs.holding.Members.{member_kept, phase_differs}
 use Rattle.step_table.proofs.tables.CellAtomicSteps.{framed}
-use Rattle.step_table.proofs.tables.ShelfAtomicSteps.{shelf_framed}
-use Rattle.step_table.proofs.tables.Places.{ending_busy}
-use Rattle.step_table.proofs.holding.Keeping.{num_part, same_atomic_step, kept_object}
+use Rattle.step_table.proofs.holding.Keeping.{num_part}
 
 stores_stock : (s : State) (d b : ℕ) → in_store s d b ≡ num (same_stored (stored d b)) (stock s d)
 stores_stock s d b = num_part (λ (x : Stored). x.desk) d (same_stored (stored d b)) s.stores (λ x t. sym (eqb-true _ _ (and_parts _ _ t).0))

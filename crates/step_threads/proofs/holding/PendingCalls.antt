@@ -1,40 +1,24 @@
 -- What other desks do leaves what a desk has half done.
-use Rattle.std.proofs.Common.{◌≡◌, ◌≢◌, ℕ, ◌<◌, ◌≤◌, ◌==◌, ◌⊎◌, get_or, Option, Some, inl, inr, refl, sym, eq-eqb, ap, subst}
-use Rattle.std.proofs.Common.{◌∙◌, ⊎_elim, arith}
+use Rattle.std.proofs.Common.{◌≡◌, ℕ, ◌<◌, ◌≤◌, ◌≢◌, ◌⊎◌, get_or, nat_lt, ◌==◌, Some, Option, sym}
+use Rattle.std.proofs.Common.{refl, ap, ◌∙◌, subst, inl, inr, ⊎_elim, arith, le-ltb, eq-eqb}
+use Rattle.step_threads.proofs.Prelude
+use Prelude.{Act, AtomicStep, Block, Brought, cases_lt, Clearing, cond-false, Empty, Full}
+use Prelude.{ghost_after_step, GhostState, Giving, handle_busy, Has, held, Idle, kept_object, Kind}
+use Prelude.{known_words, Locking, Making, Matched, model_state, new_of, Nothing, NumberedHandle}
+use Prelude.{object_of_block, opening, owing_for, owing_funds, Pending, pending, PendingCall}
+use Prelude.{PendingCallFits, Place, Refill, Rest, Returning, same_atomic_step, Saw, Slot, Slots}
+use Prelude.{sound, TableInvariant, used_up, View}
 use Rattle.std.proofs.lemmas.List.{get_or_past}
-use Rattle.std.proofs.lemmas.Bool.{cases_lt, cond-false, le-ltb}
-use Rattle.std.specs.Prelude.{nat_lt}
 use Rattle.control_word.proofs.history.Allowances.{allowed}
 use Rattle.control_word.proofs.history.Kept.{has_same}
-use Rattle.control_word.proofs.history.Legal.{held_busy, sound}
+use Rattle.control_word.proofs.history.Legal.{held_busy}
 use Rattle.control_word.proofs.lists.Tallies.{num_has}
-use Rattle.control_word.specs.declared.model.handle.NumberedHandle.{NumberedHandle}
-use Rattle.control_word.specs.declared.model.handle.Kind.{Kind}
-use Rattle.control_word.specs.declared.place.Block.{Block}
-use Rattle.control_word.specs.declared.place.Place.{Place}
-use Rattle.control_word.specs.declared.model.view.Pending.{Pending}
-use Rattle.control_word.specs.declared.model.view.Pending.TheVariants.{Idle}
-use Rattle.control_word.specs.declared.model.view.View.{View}
 use Rattle.control_word.specs.Handles.{handle}
-use Rattle.control_word.specs.State.{Has, Held, held}
-use Rattle.control_word.specs.Views.{used_up}
-use Rattle.step_threads.specs.declared.programs.act.Act.{Act}
-use Rattle.step_threads.specs.declared.pending_call.PendingCall.{PendingCall}
-use Rattle.step_threads.specs.declared.pending_call.PendingCall.TheVariants.{Rest, Making, Locking, Giving, Brought, Saw, Matched, Refill, Returning, Clearing}
-use Rattle.step_table.specs.declared.memory.ghost_history.AtomicStep.{AtomicStep}
-use Rattle.step_table.specs.declared.slots.slot.Slot.{Slot}
-use Rattle.step_table.specs.declared.slots.slot.Slot.TheVariants.{Empty, Full}
-use Rattle.step_threads.specs.Actors.{PendingCallFits}
-use Rattle.step_table.specs.CellAtomicSteps.{owing_funds}
-use Rattle.step_table.specs.Contents.{owing_for}
-use Rattle.step_threads.specs.Frames.{new_of}
-use Rattle.step_table.specs.Registers.{Slots}
-use Rattle.step_table.specs.Openings.{opening, share_of}
-use Rattle.step_table.specs.GhostStates.{TableInvariant, Nothing, GhostState, ghost_after_step, known_words, object_of_block, pending, model_state}
+use Rattle.control_word.specs.State.{Held}
+use Rattle.step_table.specs.Openings.{share_of}
 use Rattle.step_table.proofs.contained.Others.{brought_others, funds_others, refill_others}
 use Rattle.step_threads.proofs.holding.Others.{least_others}
-use Rattle.step_table.proofs.holding.Keeping.{enabled_stays, kept_object, same_atomic_step, same_pending}
-use Rattle.step_table.proofs.tables.Places.{handle_busy}
+use Rattle.step_table.proofs.holding.Keeping.{enabled_stays, same_pending}
 
 -- a desk that isn't there has nothing half done
 there_or_idle : (d : ℕ) (v : GhostState) → TableInvariant v → (d < v.extent.actors) ⊎ (pending v d ≡ Idle)

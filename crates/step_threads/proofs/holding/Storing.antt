@@ -1,18 +1,12 @@
 -- What a thread's own atomic steps do to its store.
-use Rattle.std.proofs.Common.{◌≡◌, ◌≢◌, ℕ, ◌<◌, ◌==◌, Bool, true, false, cond, List, [], ◌∷◌, length, refl, sym, ap, ◌∙◌, inl}
-use Rattle.std.proofs.Common.{inr, ⊎_elim, arith, eq-eqb, ne_eqb}
-use Rattle.std.proofs.lemmas.Bool.{cases_eq, cond_both, cond-true, cond-false, and_from}
-use Rattle.std.proofs.lemmas.List.Sorted.{sum_by_popped}
-use Rattle.std.specs.List.{filter}
-use Rattle.std.specs.List.Sorted.{IsPermutation}
-use Rattle.control_word.proofs.lists.Tallies.{num, num_without, stored_self, stored_true}
-use Rattle.control_word.specs.declared.place.Block.{Block}
-use Rattle.control_word.specs.State.{Has, Stored, same_stored, stored}
-use Rattle.step_table.specs.declared.memory.form.Form.{Form}
-use Rattle.step_threads.specs.declared.pending_call.PendingCall.TheVariants.{Rest, Making}
-use Rattle.step_table.specs.declared.memory.ghost_history.AtomicStep.TheVariants.{Claim}
-use Rattle.step_threads.specs.Actors.{Stocks}
-use Rattle.step_table.specs.GhostStates.{GhostState, ghost_after_step, model_state}
+use Rattle.std.proofs.Common.{◌≡◌, ℕ, ◌<◌, Bool, true, false, cond, ◌≢◌, List, [], ◌∷◌, length}
+use Rattle.std.proofs.Common.{◌==◌, sym, refl, ap, ◌∙◌, inl, inr, ⊎_elim, arith, eq-eqb, ne_eqb}
+use Rattle.step_threads.proofs.Prelude.{Block, cases_eq, Claim, cond-false, cond-true, cond_both}
+use Rattle.step_threads.proofs.Prelude.{filter, Form, ghost_after_step, GhostState, Has}
+use Rattle.step_threads.proofs.Prelude.{IsPermutation, Making, model_state, num, num_without, Rest}
+use Rattle.step_threads.proofs.Prelude.{same_stored, Stocks, Stored, stored, stored_self}
+use Rattle.step_threads.proofs.Prelude.{stored_true, sum_by_popped}
+use Rattle.std.proofs.lemmas.Bool.{and_from}
 
 -- what is counted of a store is there
 pub counted_stored : (x : Stored) (l : List Stored) → 0 < num (same_stored x) l → Has x l

@@ -1,6 +1,5 @@
-use Rattle.std.proofs.Common.{arith}
-use Rattle.std.specs.BinaryHeap.{heap_items}
-use Rattle.std.proofs.lemmas.Bool.{ltb-true}
+use Rattle.std.proofs.Common.{arith, ltb-true}
+use Rattle.step_threads.proofs.Prelude.{heap_items}
 use Rattle.step_threads.proofs.Stocks.{peeked_above}
 use Rattle.step_threads.proofs.stock.takes_next.Goals as goal
 

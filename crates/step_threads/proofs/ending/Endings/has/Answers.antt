@@ -1,8 +1,7 @@
-use Rattle.std.proofs.Common.{◌≡◌, ◌==◌, ℕ, Bool, List, reverse, ap, refl, sym, ◌∙◌}
+use Rattle.std.proofs.Common.{◌≡◌, ℕ, Bool, List, reverse, ◌==◌, sym, refl, ap, ◌∙◌}
+use Rattle.step_threads.proofs.Prelude.{Ending, IsPermutation-reverse, Stack}
 use Rattle.std.specs.List.{list_any}
-use Rattle.std.proofs.lemmas.List.Sorted.{IsPermutation-reverse, list_any-IsPermutation}
-use Rattle.step_threads.specs.declared.ending.Ending.{Ending}
-use Rattle.step_threads.specs.Endings.{Stack}
+use Rattle.std.proofs.lemmas.List.Sorted.{list_any-IsPermutation}
 use Rattle.step_threads.proofs.ending.Endings.has.Goals as goal
 
 abbrev any_in : ℕ → List Ending → Bool

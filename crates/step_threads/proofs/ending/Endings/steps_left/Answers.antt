@@ -1,8 +1,6 @@
-use Rattle.std.proofs.Common.{◌≡◌, List, reverse, ap, refl, sym, ◌∙◌, arith}
-use Rattle.std.specs.Prelude.{sum_by}
-use Rattle.step_threads.specs.declared.ending.Ending.{Ending}
-use Rattle.step_threads.specs.Endings.{ending_steps, Stack}
-use Rattle.std.proofs.lemmas.List.Sorted.{IsPermutation-reverse, sum_by-IsPermutation}
+use Rattle.std.proofs.Common.{◌≡◌, List, reverse, sum_by, sym, refl, ap, ◌∙◌, arith}
+use Rattle.step_threads.proofs.Prelude.{Ending, ending_steps, IsPermutation-reverse, Stack}
+use Rattle.std.proofs.lemmas.List.Sorted.{sum_by-IsPermutation}
 use Rattle.step_threads.proofs.ending.Endings.steps_left.Goals as goal
 
 -- the same endings, the other way round

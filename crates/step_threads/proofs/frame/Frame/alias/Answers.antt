@@ -1,14 +1,11 @@
-use Rattle.std.proofs.Common.{◌∙◌, ℕ, true, set, refl, sym, ap, subst}
-use Rattle.std.specs.Prelude.{None, Option, Some}
-use Rattle.control_word.specs.declared.place.Place.{Place}
-use Rattle.step_table.specs.AtomicSteps.{alias, aliased, at_place}
-use Rattle.step_table.specs.declared.slots.slot.Slot.TheVariants.{Empty, Full}
-use Rattle.step_table.specs.Registers.{Slots, is_full, place_in, slot_pointer}
-use Rattle.step_table.specs.GhostStates.{ghost_after_step}
-use Rattle.step_threads.specs.declared.programs.act.Act.TheVariants.{Alias}
+use Rattle.std.proofs.Common.{ℕ, true, set, Some, None, Option, sym, refl, ap, ◌∙◌, subst}
+use Rattle.step_threads.proofs.Prelude.{Alias, alias, aliased, done_on, Empty, frame_settled, Full}
+use Rattle.step_threads.proofs.Prelude.{ghost_after_step, hand, is_full, IsReady, Place, place_in}
+use Rattle.step_threads.proofs.Prelude.{rest, slot_pointer, Slots}
+use Rattle.step_table.specs.AtomicSteps.{at_place}
 use Rattle.step_threads.specs.Rows.{alias_of}
-use Rattle.step_threads.specs.Frames.{IsReady, done_on, hand, rest, frame_settled}
-use Rattle.step_threads.proofs.Going.{comes, hand_bare, hand_in, named_slot, owner_at, place_as, takes_ready}
+use Rattle.step_threads.proofs.Going.{comes, hand_bare, hand_in, named_slot, owner_at, place_as}
+use Rattle.step_threads.proofs.Going.{takes_ready}
 use Rattle.step_threads.proofs.frame.Frame.alias.Goals as goal
 
 pub place-requires : goal.place-requires

@@ -1,10 +1,7 @@
-use Rattle.std.proofs.Common.{◌∙◌, ℕ, true, set, refl, sym, ap, subst}
-use Rattle.control_word.specs.declared.model.handle.Kind.TheVariants.{Owner}
+use Rattle.std.proofs.Common.{ℕ, true, set, sym, refl, ap, ◌∙◌, subst}
+use Rattle.step_threads.proofs.Prelude.{frame_settled, Full, IsReady, Make, Owner, rest}
+use Rattle.step_threads.proofs.Prelude.{slot_pointer, Slots}
 use Rattle.control_word.specs.Events.{origin}
-use Rattle.step_table.specs.declared.slots.slot.Slot.TheVariants.{Full}
-use Rattle.step_table.specs.Registers.{Slots, slot_pointer}
-use Rattle.step_threads.specs.declared.programs.act.Act.TheVariants.{Make}
-use Rattle.step_threads.specs.Frames.{IsReady, rest, frame_settled}
 use Rattle.step_threads.proofs.Going.{comes, hand_bare, hand_in, takes_ready}
 use Rattle.step_threads.proofs.frame.Frame.claim.Goals as goal
 

@@ -1,22 +1,13 @@
-use Rattle.std.proofs.Common.{false, sym, ap, subst, ◌∙◌, ◌≡◌, true, ◌==◌, cond}
-use Rattle.std.proofs.lemmas.Bool.{cond-true, false≢true}
-use Rattle.control_word.specs.declared.site.Site.{Site}
-use Rattle.step_table.specs.declared.cell_steps.comparing.Comparing.{Comparing}
-use Rattle.step_table.specs.declared.slots.registers.Registers.{Registers}
-use Rattle.step_table.specs.CellAtomicSteps.{kind_in_state}
-use Rattle.step_table.specs.Cells.{IsOpenTo, word_of_cell}
-use Rattle.step_table.specs.Contents.{CanCompare, held_in, slot_of, slots_swapped, as_word, compared_in, same_value, owing_for}
-use Rattle.step_table.specs.Registers.{Slots, slot_value}
-use Rattle.step_table.specs.GhostStates.{model_state, ghost_after_step, pending}
-use Rattle.step_threads.specs.Frames.{HasCell, IsReady, cell_of_name, comparing, rest, hand, other, frame_settled}
-use Rattle.step_threads.specs.Programs.{IsIn}
+use Rattle.std.proofs.Common.{◌≡◌, true, false, cond, ◌==◌, sym, ap, ◌∙◌, subst}
+use Rattle.step_threads.proofs.Prelude
+use Prelude.{as_word, CanCompare, cell_bits, cell_of_name, Compare, compared_in, CompareSwap}
+use Prelude.{Comparing, comparing, cond-true, false≢true, frame_settled, ghost_after_step, hand}
+use Prelude.{HasCell, held_in, IsIn, IsOpenTo, IsReady, kind_in_state, model_state, OnCell, other}
+use Prelude.{owing_for, pending, Registers, rest, same_value, Site, slot_of, slot_value, Slots}
+use Prelude.{slots_swapped, word_of_cell}
 use Rattle.step_threads.proofs.CellNames.{cell_open, cell_named}
 use Rattle.step_threads.proofs.Compares.{can_compare, may_compare, swapped_ready}
-use Rattle.step_table.specs.declared.memory.ghost_history.AtomicStep.TheVariants.{OnCell}
-use Rattle.step_threads.specs.declared.programs.act.Act.TheVariants.{Compare}
 use Rattle.step_threads.proofs.Going.{comes}
-use Rattle.control_word.specs.Packing.{cell_bits}
-use Rattle.step_table.specs.declared.cell_steps.cell_step.CellStep.TheVariants.{CompareSwap}
 use Rattle.step_threads.proofs.frame.Frame.compare_and_swap.Goals as goal
 
 pub compare_and_swap-swapped-requires-clause-open : goal.compare_and_swap-swapped-requires-clause-open

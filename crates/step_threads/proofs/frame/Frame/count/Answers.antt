@@ -1,9 +1,5 @@
-use Rattle.std.proofs.Common.{◌∙◌, refl, sym, ap}
-use Rattle.std.specs.Prelude.{None, Some}
-use Rattle.step_table.specs.AtomicSteps.{by_word, on, tell}
-use Rattle.step_table.specs.GhostStates.{model_state}
-use Rattle.step_threads.specs.declared.programs.act.Act.TheVariants.{Count}
-use Rattle.step_threads.specs.Frames.{done_on}
+use Rattle.std.proofs.Common.{Some, None, sym, refl, ap, ◌∙◌}
+use Rattle.step_threads.proofs.Prelude.{by_word, Count, done_on, model_state, on, tell}
 use Rattle.step_threads.proofs.Going.{comes, found_at, named_slot, stays_ready}
 use Rattle.step_threads.proofs.frame.Frame.count.Goals as goal
 

@@ -1,11 +1,9 @@
-use Rattle.std.proofs.Common.{◌∙◌, true, set, refl, sym, ap, subst}
-use Rattle.std.specs.Prelude.{None, Option, option_map}
-use Rattle.control_word.specs.declared.handle.Handle.{Handle}
-use Rattle.step_table.specs.AtomicSteps.{as_weak, downgrade}
-use Rattle.step_table.specs.Registers.{Slots, filled, is_full, slot_pointer}
-use Rattle.step_threads.specs.declared.programs.act.Act.TheVariants.{Downgrade}
-use Rattle.step_threads.specs.Frames.{IsReady, done_on, hand, rest, frame_settled}
-use Rattle.step_threads.proofs.Going.{comes, found_at, hand_bare, hand_in, hand_stays, named_slot, plain_ready, takes_ready, weak_copy}
+use Rattle.std.proofs.Common.{true, set, None, Option, option_map, sym, refl, ap, ◌∙◌, subst}
+use Rattle.step_threads.proofs.Prelude.{as_weak, done_on, Downgrade, downgrade, filled}
+use Rattle.step_threads.proofs.Prelude.{frame_settled, hand, Handle, is_full, IsReady, rest}
+use Rattle.step_threads.proofs.Prelude.{slot_pointer, Slots}
+use Rattle.step_threads.proofs.Going.{comes, found_at, hand_bare, hand_in, hand_stays, named_slot}
+use Rattle.step_threads.proofs.Going.{plain_ready, takes_ready, weak_copy}
 use Rattle.step_threads.proofs.frame.Frame.downgrade.Goals as goal
 
 pub get-requires : goal.get-requires

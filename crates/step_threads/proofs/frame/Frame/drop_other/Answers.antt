@@ -1,8 +1,6 @@
-use Rattle.std.proofs.Common.{◌∙◌, ℕ, false, set, sym, ap, subst}
-use Rattle.step_table.specs.AtomicSteps.{is_last, leave, on}
-use Rattle.step_table.specs.Registers.{Slots, is_full, plain}
-use Rattle.step_table.specs.GhostStates.{model_state}
-use Rattle.step_threads.specs.Frames.{IsReady, done_on, other, rest, frame_settled}
+use Rattle.std.proofs.Common.{ℕ, false, set, sym, ap, ◌∙◌, subst}
+use Rattle.step_threads.proofs.Prelude.{done_on, frame_settled, is_full, is_last, IsReady, leave}
+use Rattle.step_threads.proofs.Prelude.{model_state, on, other, plain, rest, Slots}
 use Rattle.step_threads.proofs.Going.{drops_ready, found_at}
 use Rattle.step_threads.proofs.frame.Frame.drop_other.Goals as goal
 

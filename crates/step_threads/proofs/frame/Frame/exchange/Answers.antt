@@ -1,16 +1,10 @@
-use Rattle.std.proofs.Common.{◌≡◌, ℕ, true, sym, subst, ◌∙◌, set, refl, ap}
-use Rattle.control_word.specs.declared.site.Site.{Site}
-use Rattle.step_table.specs.CellAtomicSteps.{kind_in_state}
-use Rattle.step_table.specs.Cells.{IsOpenTo}
-use Rattle.step_table.specs.Contents.{is_of, as_word, held_in, seen, slot_of, owing_for}
-use Rattle.step_threads.specs.Frames.{HasCell, IsReady, cell_of_name, rest, frame_settled}
-use Rattle.step_table.specs.Registers.{slot_value, Slots}
-use Rattle.step_threads.specs.Programs.{IsIn, kind_at}
-use Rattle.step_table.specs.GhostStates.{model_state, ghost_after_step, pending}
+use Rattle.std.proofs.Common.{◌≡◌, ℕ, true, set, sym, refl, ap, ◌∙◌, subst}
+use Rattle.step_threads.proofs.Prelude
+use Prelude.{as_word, cell_of_name, Exchange, frame_settled, ghost_after_step, HasCell, held_in}
+use Prelude.{is_of, IsIn, IsOpenTo, IsReady, kind_at, kind_in_state, model_state, OnCell}
+use Prelude.{owing_for, pending, rest, seen, Site, slot_of, slot_value, Slots}
 use Rattle.step_threads.proofs.CellNames.{cell_open, goes_in, cell_named}
-use Rattle.step_table.specs.declared.memory.ghost_history.AtomicStep.TheVariants.{OnCell}
 use Rattle.step_table.specs.declared.cell_steps.cell_step.CellStep.TheVariants.{Swap as Swaps}
-use Rattle.step_threads.specs.declared.programs.act.Act.TheVariants.{Exchange}
 use Rattle.step_threads.proofs.Going.{comes, named_slot, sets_ready}
 use Rattle.step_threads.proofs.frame.Frame.exchange.Goals as goal
 

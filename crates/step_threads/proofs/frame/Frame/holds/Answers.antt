@@ -1,15 +1,9 @@
-use Rattle.std.proofs.Common.{◌≡◌, ℕ, true, sym, subst, ◌∙◌, refl, ap}
-use Rattle.control_word.specs.declared.site.Site.{Site}
-use Rattle.step_table.specs.CellAtomicSteps.{kind_in_state}
-use Rattle.step_table.specs.Cells.{IsOpenTo}
-use Rattle.step_table.specs.Contents.{as_word, is_held, is_of}
-use Rattle.step_table.specs.Registers.{slot_value}
-use Rattle.step_table.specs.GhostStates.{ghost_after_step, model_state}
+use Rattle.std.proofs.Common.{◌≡◌, ℕ, true, sym, refl, ap, ◌∙◌, subst}
+use Rattle.step_threads.proofs.Prelude.{as_word, cell_of_name, ghost_after_step, HasCell, Holds}
+use Rattle.step_threads.proofs.Prelude.{is_of, IsIn, IsOpenTo, kind_at, kind_in_state, model_state}
+use Rattle.step_threads.proofs.Prelude.{OnCell, Site, slot_value}
+use Rattle.step_table.specs.Contents.{is_held}
 use Rattle.step_table.specs.declared.cell_steps.cell_step.CellStep.TheVariants.{Holds as HoldsStep}
-use Rattle.step_table.specs.declared.memory.ghost_history.AtomicStep.TheVariants.{OnCell}
-use Rattle.step_threads.specs.declared.programs.act.Act.TheVariants.{Holds}
-use Rattle.step_threads.specs.Frames.{HasCell, cell_of_name}
-use Rattle.step_threads.specs.Programs.{IsIn, kind_at}
 use Rattle.step_threads.proofs.CellNames.{cell_open, goes_in, cell_named}
 use Rattle.step_threads.proofs.Going.{comes, named_slot, stays_ready}
 use Rattle.step_threads.proofs.frame.Frame.holds.Goals as goal

@@ -1,9 +1,6 @@
-use Rattle.std.proofs.Common.{◌∙◌, true, refl, sym, ap}
-use Rattle.std.specs.Prelude.{None, Some}
-use Rattle.step_table.specs.AtomicSteps.{is_expired, on, tell_expired}
-use Rattle.step_table.specs.GhostStates.{model_state}
-use Rattle.step_threads.specs.declared.programs.act.Act.TheVariants.{Expired}
-use Rattle.step_threads.specs.Frames.{done_on}
+use Rattle.std.proofs.Common.{true, Some, None, sym, refl, ap, ◌∙◌}
+use Rattle.step_threads.proofs.Prelude.{done_on, Expired, model_state, on, tell_expired}
+use Rattle.step_table.specs.AtomicSteps.{is_expired}
 use Rattle.step_threads.proofs.Going.{comes, found_at, named_slot, stays_ready}
 use Rattle.step_threads.proofs.frame.Frame.is_expired.Goals as goal
 

@@ -1,9 +1,6 @@
-use Rattle.std.proofs.Common.{◌∙◌, ℕ, false, set, sym, ap, subst}
-use Rattle.std.specs.Prelude.{None}
-use Rattle.step_table.specs.AtomicSteps.{is_last, leave, on}
-use Rattle.step_table.specs.Registers.{Slots, plain}
-use Rattle.step_table.specs.GhostStates.{model_state}
-use Rattle.step_threads.specs.Frames.{IsReady, done_on, rest, frame_settled}
+use Rattle.std.proofs.Common.{ℕ, false, set, None, sym, ap, ◌∙◌, subst}
+use Rattle.step_threads.proofs.Prelude.{done_on, frame_settled, is_last, IsReady, leave}
+use Rattle.step_threads.proofs.Prelude.{model_state, on, plain, rest, Slots}
 use Rattle.step_threads.proofs.Going.{found_at, leaves_ready, left_name, named_slot}
 use Rattle.step_threads.proofs.frame.Frame.leave.Goals as goal
 

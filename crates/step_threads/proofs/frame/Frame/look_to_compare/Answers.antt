@@ -1,23 +1,15 @@
-use Rattle.std.proofs.Common.{sym, ap, subst, ◌∙◌, ◌≡◌, true, false, refl, cond, Bool}
-use Rattle.std.specs.Prelude.{◌||◌, is_some, Some}
-use Rattle.control_word.specs.declared.site.Site.{Site}
-use Rattle.step_table.specs.declared.cell_steps.comparing.Comparing.{Comparing}
-use Rattle.step_table.specs.declared.slots.registers.Registers.{Registers}
-use Rattle.step_table.specs.CellAtomicSteps.{kind_in_state}
-use Rattle.step_table.specs.Cells.{IsOpenTo}
-use Rattle.step_table.specs.Contents.{CanCompare, as_word, same_value, held_in, seen, slot_of, compared_in, differed}
-use Rattle.step_table.specs.Registers.{slot_value, Slots}
-use Rattle.step_table.specs.GhostStates.{model_state, ghost_after_step}
-use Rattle.step_threads.specs.Frames.{HasCell, cell_of_name, IsReady, hand, other, rest, frame_settled}
-use Rattle.step_threads.specs.Programs.{IsIn}
+use Rattle.std.proofs.Common.{◌≡◌, Bool, true, false, cond, ◌||◌, is_some, Some, sym, refl, ap}
+use Rattle.std.proofs.Common.{◌∙◌, subst}
+use Rattle.step_threads.proofs.Prelude
+use Prelude.{as_word, CanCompare, cell_of_name, Compare, compared_in, Comparing, cond-false}
+use Prelude.{differed, false≢true, frame_settled, ghost_after_step, hand, HasCell, held_in, IsIn}
+use Prelude.{IsOpenTo, IsReady, kind_in_state, Look, model_state, OnCell, other, Registers, rest}
+use Prelude.{same_value, seen, Site, slot_of, slot_value, Slots}
 use Rattle.step_threads.proofs.CellNames.{cell_open, cell_named}
 use Rattle.step_threads.proofs.Compares.{can_compare, may_compare}
-use Rattle.step_table.specs.declared.memory.ghost_history.AtomicStep.TheVariants.{OnCell}
-use Rattle.std.proofs.lemmas.Bool.{cond-false, false≢true}
-use Rattle.step_threads.specs.declared.programs.act.Act.TheVariants.{Compare}
 use Rattle.step_threads.proofs.Going.{comes, differs_ready, named_slot, or_right}
-use Rattle.step_table.specs.declared.cell_steps.cell_step.CellStep.TheVariants.{Look}
-use Rattle.step_threads.proofs.frame.Frame.look_to_compare.Goals.{else-is_none-via-then-is_none+else-not-is_same_value, else-is_none-via-else-is_none}
+use Rattle.step_threads.proofs.frame.Frame.look_to_compare.Goals.{else-is_none-via-then-is_none+else-not-is_same_value}
+use Rattle.step_threads.proofs.frame.Frame.look_to_compare.Goals.{else-is_none-via-else-is_none}
 use Rattle.step_threads.proofs.frame.Frame.look_to_compare.Goals as goal
 
 pub look_to_compare-found-requires-clause-open : goal.look_to_compare-found-requires-clause-open

@@ -1,19 +1,11 @@
-use Rattle.std.proofs.Common.{sym, ap, subst, ◌≡◌, ◌∙◌, ℕ, true, false, set, refl, cond}
-use Rattle.control_word.specs.declared.site.Site.{Site}
-use Rattle.step_table.specs.declared.slots.registers.Registers.{Registers}
-use Rattle.step_table.specs.Cells.{IsOpenTo}
-use Rattle.step_threads.specs.Frames.{HasCell, IsReady, hand, rest, frame_settled}
-use Rattle.step_threads.specs.Programs.{IsIn}
+use Rattle.std.proofs.Common.{◌≡◌, ℕ, true, false, cond, set, is_some, None, sym, refl, ap, ◌∙◌}
+use Rattle.std.proofs.Common.{subst}
+use Rattle.step_threads.proofs.Prelude.{cond-false, false≢true, frame_settled, ghost_after_step}
+use Rattle.step_threads.proofs.Prelude.{hand, HasCell, held_in, IsIn, IsOpenTo, IsReady, Load}
+use Rattle.step_threads.proofs.Prelude.{Look, model_state, OnCell, Registers, rest, seen, Site}
+use Rattle.step_threads.proofs.Prelude.{slot_of, slot_pointer, Slots}
 use Rattle.step_threads.proofs.CellNames.{cell_open, cell_named}
-use Rattle.step_table.specs.declared.memory.ghost_history.AtomicStep.TheVariants.{OnCell}
-use Rattle.step_table.specs.Contents.{held_in, seen, slot_of}
-use Rattle.step_table.specs.Registers.{Slots, slot_pointer}
-use Rattle.step_table.specs.GhostStates.{ghost_after_step, model_state}
-use Rattle.step_threads.specs.declared.programs.act.Act.TheVariants.{Load}
 use Rattle.step_threads.proofs.Going.{comes, hand_bare, hand_in, takes_ready}
-use Rattle.std.proofs.lemmas.Bool.{cond-false, false≢true}
-use Rattle.std.specs.Prelude.{None, is_some}
-use Rattle.step_table.specs.declared.cell_steps.cell_step.CellStep.TheVariants.{Look}
 use Rattle.step_threads.proofs.frame.Frame.look_to_load.Goals as goal
 
 pub look_to_load-found-requires-clause-open : goal.look_to_load-found-requires-clause-open

@@ -1,13 +1,10 @@
-use Rattle.std.proofs.Common.{◌∙◌, true, set, refl, sym, ap, subst}
-use Rattle.std.specs.Prelude.{None}
-use Rattle.step_table.specs.AtomicSteps.{share}
-use Rattle.step_table.specs.declared.slots.slot.Slot.{Slot}
-use Rattle.step_table.specs.Registers.{Slots, is_full, slot_pointer, slot_value}
-use Rattle.step_threads.specs.declared.programs.act.Act.TheVariants.{Offer}
-use Rattle.step_threads.specs.Programs.{kind_at}
-use Rattle.step_threads.specs.Frames.{IsReady, done_on, hand, rest, frame_settled}
-use Rattle.step_threads.proofs.Going.{comes, empty_copy, fitting_is, fitting_not, found_at, full_copy, hand_bare, hand_in, hand_stays, may_go_at, named_slot}
-use Rattle.step_threads.proofs.Going.{offered_fits, offered_not, plain_ready, takes_ready}
+use Rattle.std.proofs.Common.{true, set, None, sym, refl, ap, ◌∙◌, subst}
+use Rattle.step_threads.proofs.Prelude.{done_on, frame_settled, hand, is_full, IsReady, kind_at}
+use Rattle.step_threads.proofs.Prelude.{Offer, rest, share, Slot, slot_pointer, slot_value, Slots}
+use Rattle.step_threads.proofs.Going.{comes, empty_copy, fitting_is, fitting_not, found_at}
+use Rattle.step_threads.proofs.Going.{full_copy, hand_bare, hand_in, hand_stays, may_go_at}
+use Rattle.step_threads.proofs.Going.{named_slot, offered_fits, offered_not, plain_ready}
+use Rattle.step_threads.proofs.Going.{takes_ready}
 use Rattle.step_threads.proofs.frame.Frame.offer.Goals as goal
 
 pub may_go_in-requires : goal.may_go_in-requires

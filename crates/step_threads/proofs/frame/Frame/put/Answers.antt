@@ -1,10 +1,8 @@
-use Rattle.std.proofs.Common.{◌∙◌, false, sym, ap, subst}
-use Rattle.step_table.specs.AtomicSteps.{is_last, leave, on}
-use Rattle.step_table.specs.Registers.{Slots, is_full}
-use Rattle.step_table.specs.GhostStates.{model_state}
-use Rattle.step_threads.specs.declared.programs.act.Act.TheVariants.{Put}
-use Rattle.step_threads.specs.Frames.{IsReady, done_on, rest, frame_settled}
-use Rattle.step_threads.proofs.Going.{apart_hand, comes, emptied_slot, found_at, hand_in, kept_slot, named_slot, placed_as, puts_ready}
+use Rattle.std.proofs.Common.{false, sym, ap, ◌∙◌, subst}
+use Rattle.step_threads.proofs.Prelude.{done_on, frame_settled, is_full, is_last, IsReady, leave}
+use Rattle.step_threads.proofs.Prelude.{model_state, on, Put, rest, Slots}
+use Rattle.step_threads.proofs.Going.{apart_hand, comes, emptied_slot, found_at, hand_in}
+use Rattle.step_threads.proofs.Going.{kept_slot, named_slot, placed_as, puts_ready}
 use Rattle.step_threads.proofs.frame.Frame.put.Goals as goal
 
 pub get-requires : goal.get-requires

@@ -1,5 +1,5 @@
-use Rattle.std.proofs.Common.{◌≡◌, ◌<◌, length, true, sym, ◌∙◌, arith}
-use Rattle.step_threads.specs.Frames.{idle, task_at}
+use Rattle.std.proofs.Common.{◌≡◌, ◌<◌, true, length, sym, ◌∙◌, arith}
+use Rattle.step_threads.proofs.Prelude.{idle, task_at}
 use Rattle.step_threads.proofs.Frames.{passed_ready, passed_same, passed_within}
 use Rattle.step_threads.proofs.frame.Frame.settle.Goals as goal
 

@@ -1,7 +1,5 @@
-use Rattle.std.proofs.Common.{◌≡◌, ◌≤◌, ◌-◌, ℕ, length, drop}
-use Rattle.step_threads.specs.Frames.{IsReady, frame_settled}
-use Rattle.step_table.specs.Registers.{HoldsBag}
-use Rattle.step_table.specs.GhostStates.{GhostState}
+use Rattle.std.proofs.Common.{◌≡◌, ℕ, ◌-◌, ◌≤◌, length, drop}
+use Rattle.step_threads.proofs.Prelude.{frame_settled, GhostState, HoldsBag, IsReady}
 use Rattle.step_threads.proofs.frame.Frame.settle.Given as goal
 
 abbrev pub invariant-loop-self : goal.invariant-loop-self

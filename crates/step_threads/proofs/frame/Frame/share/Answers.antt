@@ -1,10 +1,8 @@
-use Rattle.std.proofs.Common.{◌∙◌, true, refl, sym, ap, subst}
-use Rattle.std.specs.Prelude.{None}
-use Rattle.step_table.specs.AtomicSteps.{share}
-use Rattle.step_table.specs.Registers.{Slots, is_full, slot_pointer}
-use Rattle.step_threads.specs.declared.programs.act.Act.TheVariants.{Share}
-use Rattle.step_threads.specs.Frames.{IsReady, done_on, rest, frame_settled}
-use Rattle.step_threads.proofs.Going.{comes, empty_copy, found_at, full_copy, hand_bare, hand_in, named_slot, takes_ready}
+use Rattle.std.proofs.Common.{true, None, sym, refl, ap, ◌∙◌, subst}
+use Rattle.step_threads.proofs.Prelude.{done_on, frame_settled, is_full, IsReady, rest, Share}
+use Rattle.step_threads.proofs.Prelude.{share, slot_pointer, Slots}
+use Rattle.step_threads.proofs.Going.{comes, empty_copy, found_at, full_copy, hand_bare, hand_in}
+use Rattle.step_threads.proofs.Going.{named_slot, takes_ready}
 use Rattle.step_threads.proofs.frame.Frame.share.Goals as goal
 
 pub get-requires : goal.get-requires

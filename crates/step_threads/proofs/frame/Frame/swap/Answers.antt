@@ -1,17 +1,12 @@
-use Rattle.std.proofs.Common.{◌≡◌, ℕ, true, sym, subst, ◌∙◌, false, ap}
-use Rattle.control_word.specs.declared.site.Site.{Site}
-use Rattle.step_table.specs.CellAtomicSteps.{kind_in_state}
-use Rattle.step_table.specs.Cells.{IsOpenTo}
-use Rattle.step_table.specs.Contents.{is_of, as_word, held_in, seen, slot_of, owing_for, slots_swapped}
-use Rattle.step_threads.specs.Frames.{HasCell, IsReady, cell_of_name, hand, other, rest, frame_settled}
-use Rattle.step_table.specs.Registers.{slot_value, Slots}
-use Rattle.step_threads.specs.Programs.{IsIn, kind_at}
-use Rattle.step_table.specs.GhostStates.{model_state, ghost_after_step, pending}
+use Rattle.std.proofs.Common.{◌≡◌, ℕ, true, false, sym, ap, ◌∙◌, subst}
+use Rattle.step_threads.proofs.Prelude
+use Prelude.{as_word, cell_of_name, frame_settled, ghost_after_step, hand, HasCell, held_in, is_of}
+use Prelude.{IsIn, IsOpenTo, IsReady, kind_at, kind_in_state, model_state, OnCell, other}
+use Prelude.{owing_for, pending, rest, seen, Site, slot_of, slot_value, Slots, slots_swapped, Swap}
 use Rattle.step_threads.proofs.CellNames.{cell_open, goes_in, cell_named}
-use Rattle.step_table.specs.declared.memory.ghost_history.AtomicStep.TheVariants.{OnCell}
 use Rattle.step_table.specs.declared.cell_steps.cell_step.CellStep.TheVariants.{Swap as Swaps}
-use Rattle.step_threads.specs.declared.programs.act.Act.TheVariants.{Swap}
-use Rattle.step_threads.proofs.Going.{apart_other, comes, hand_in, other_bare, other_in, swaps_ready}
+use Rattle.step_threads.proofs.Going.{apart_other, comes, hand_in, other_bare, other_in}
+use Rattle.step_threads.proofs.Going.{swaps_ready}
 use Rattle.step_threads.proofs.frame.Frame.swap.Goals as goal
 
 pub swap-found-requires-clause-open : goal.swap-found-requires-clause-open

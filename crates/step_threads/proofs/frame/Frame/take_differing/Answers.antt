@@ -1,23 +1,12 @@
-use Rattle.std.proofs.Common.{sym, ap, subst, ◌≡◌, ◌∙◌, true, false, ◌==◌, cond}
-use Rattle.control_word.specs.declared.site.Site.{Site}
-use Rattle.step_table.specs.declared.cell_steps.comparing.Comparing.{Comparing}
-use Rattle.step_table.specs.declared.slots.registers.Registers.{Registers}
-use Rattle.step_table.specs.CellAtomicSteps.{kind_in_state}
-use Rattle.step_table.specs.Cells.{IsOpenTo, word_of_cell}
-use Rattle.step_table.specs.Contents.{CanCompare, as_word, held_in, slot_of, compared_in, same_value, differed}
-use Rattle.step_table.specs.GhostStates.{model_state, ghost_after_step}
-use Rattle.step_threads.specs.Frames.{HasCell, cell_of_name, IsReady, hand, other, rest, frame_settled}
-use Rattle.step_threads.specs.Programs.{IsIn}
+use Rattle.std.proofs.Common.{◌≡◌, true, false, cond, ◌==◌, Some, sym, ap, ◌∙◌, subst}
+use Rattle.step_threads.proofs.Prelude
+use Prelude.{as_word, CanCompare, cell_bits, cell_of_name, Compare, compared_in, Comparing}
+use Prelude.{cond-true, differed, false≢true, frame_settled, ghost_after_step, hand, HasCell}
+use Prelude.{held_in, IsIn, IsOpenTo, IsReady, kind_in_state, model_state, OnCell, other}
+use Prelude.{Registers, rest, same_value, Site, slot_of, slot_value, Slots, Take, word_of_cell}
 use Rattle.step_threads.proofs.CellNames.{cell_open, cell_named}
 use Rattle.step_threads.proofs.Compares.{can_compare, may_compare}
-use Rattle.step_table.specs.declared.memory.ghost_history.AtomicStep.TheVariants.{OnCell}
-use Rattle.step_table.specs.Registers.{Slots, slot_value}
-use Rattle.std.proofs.lemmas.Bool.{cond-true, false≢true}
-use Rattle.std.specs.Prelude.{Some}
-use Rattle.step_threads.specs.declared.programs.act.Act.TheVariants.{Compare}
 use Rattle.step_threads.proofs.Going.{comes, differs_ready}
-use Rattle.control_word.specs.Packing.{cell_bits}
-use Rattle.step_table.specs.declared.cell_steps.cell_step.CellStep.TheVariants.{Take}
 use Rattle.step_threads.proofs.frame.Frame.take_differing.Goals as goal
 
 pub take_differing-took-requires-clause-open : goal.take_differing-took-requires-clause-open

@@ -1,20 +1,10 @@
-use Rattle.std.proofs.Common.{sym, ap, subst, ◌∙◌, ℕ, true, set, refl, ◌==◌, cond}
-use Rattle.control_word.specs.declared.site.Site.{Site}
-use Rattle.step_table.specs.declared.slots.registers.Registers.{Registers}
-use Rattle.step_table.specs.Cells.{IsOpenTo, word_of_cell}
-use Rattle.step_threads.specs.Frames.{HasCell, IsReady, hand, rest, frame_settled}
-use Rattle.step_threads.specs.Programs.{IsIn}
+use Rattle.std.proofs.Common.{ℕ, true, cond, set, ◌==◌, None, sym, refl, ap, ◌∙◌, subst}
+use Rattle.step_threads.proofs.Prelude.{cell_bits, cond-true, false≢true, frame_settled}
+use Rattle.step_threads.proofs.Prelude.{ghost_after_step, hand, HasCell, held_in, IsIn, IsOpenTo}
+use Rattle.step_threads.proofs.Prelude.{IsReady, Load, model_state, OnCell, Registers, rest, Site}
+use Rattle.step_threads.proofs.Prelude.{slot_of, slot_pointer, Slots, Take, word_of_cell}
 use Rattle.step_threads.proofs.CellNames.{cell_open, cell_named}
-use Rattle.step_table.specs.declared.memory.ghost_history.AtomicStep.TheVariants.{OnCell}
-use Rattle.step_table.specs.Contents.{held_in, slot_of}
-use Rattle.step_table.specs.Registers.{Slots, slot_pointer}
-use Rattle.step_table.specs.GhostStates.{ghost_after_step, model_state}
-use Rattle.step_threads.specs.declared.programs.act.Act.TheVariants.{Load}
 use Rattle.step_threads.proofs.Going.{comes, hand_bare, hand_in, takes_ready}
-use Rattle.std.proofs.lemmas.Bool.{cond-true, false≢true}
-use Rattle.std.specs.Prelude.{None}
-use Rattle.control_word.specs.Packing.{cell_bits}
-use Rattle.step_table.specs.declared.cell_steps.cell_step.CellStep.TheVariants.{Take}
 use Rattle.step_threads.proofs.frame.Frame.take_fund.Goals as goal
 
 pub take_fund-took-requires-clause-open : goal.take_fund-took-requires-clause-open

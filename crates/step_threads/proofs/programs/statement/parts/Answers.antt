@@ -1,6 +1,7 @@
-use Rattle.std.proofs.Common.{◌∙◌, sym, ap}
-use Rattle.step_threads.specs.declared.programs.act.Act.{Act}
-use Rattle.step_threads.specs.declared.programs.statement.Tail.TheVariants.{Nothing, Named, Into, IntoAs, Times}
+use Rattle.std.proofs.Common.{sym, ap, ◌∙◌}
+use Rattle.step_threads.proofs.Prelude.{Act}
+use Rattle.step_threads.specs.declared.programs.statement.Tail.TheVariants.{Nothing, Named, Into}
+use Rattle.step_threads.specs.declared.programs.statement.Tail.TheVariants.{IntoAs, Times}
 use Rattle.step_threads.specs.Acts.{acts, with_tail}
 use Rattle.step_threads.proofs.programs.statement.parts.Goals as goal
 

@@ -1,7 +1,7 @@
-use Rattle.std.proofs.Common.{◌≡◌, ℕ, ◌-◌, ◌∙◌, ◌<◌, suc, zero, ap, sym, List, ◌∷◌, ◌++◌, append_assoc, arith}
+use Rattle.std.proofs.Common.{◌≡◌, ℕ, zero, suc, ◌-◌, ◌<◌, List, ◌∷◌, ◌++◌, sym, ap, ◌∙◌}
+use Rattle.std.proofs.Common.{append_assoc, arith}
+use Rattle.step_threads.proofs.Prelude.{clearing, Task}
 use Rattle.step_threads.specs.declared.programs.act.Act.TheVariants as act
-use Rattle.step_threads.specs.declared.programs.act.Task.{Task}
-use Rattle.step_threads.specs.Acts.{clearing}
 use Rattle.step_threads.proofs.programs.statement.tasks.Goals as goal
 
 clearing_step : (n : ℕ) → 0 < n → clearing n ≡ record { statement = 0; act = act.Clear (n - 1) } ∷ clearing (n - 1)

@@ -1,5 +1,6 @@
 use Rattle.std.proofs.Common.{◌≡◌, ◌+◌, ◌++◌, drop}
-use Rattle.step_threads.specs.Acts.{clearing, tasks_from}
+use Rattle.step_threads.proofs.Prelude.{clearing}
+use Rattle.step_threads.specs.Acts.{tasks_from}
 use Rattle.step_threads.proofs.programs.statement.tasks.Given as goal
 
 abbrev pub invariant-loop-i : goal.invariant-loop-i

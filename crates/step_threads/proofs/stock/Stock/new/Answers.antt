@@ -1,5 +1,5 @@
 use Rattle.std.proofs.Common.{arith}
-use Rattle.std.specs.BinaryHeap.{heap_items}
+use Rattle.step_threads.proofs.Prelude.{heap_items}
 use Rattle.step_threads.proofs.Stocks.{all_new}
 use Rattle.step_threads.proofs.stock.Stock.new.Goals as goal
 

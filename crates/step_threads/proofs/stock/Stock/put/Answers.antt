@@ -1,7 +1,5 @@
-use Rattle.std.proofs.Common.{◌-◌, ◌∙◌, ◌∷◌, ◌++◌, sym, subst}
-use Rattle.std.specs.List.Sorted.{IsPermutation}
-use Rattle.std.specs.BinaryHeap.{heap_items}
-use Rattle.step_threads.specs.Stocks.{StoreView, from, numbers}
+use Rattle.std.proofs.Common.{◌-◌, ◌∷◌, ◌++◌, sym, ◌∙◌, subst}
+use Rattle.step_threads.proofs.Prelude.{from, heap_items, IsPermutation, numbers, StoreView}
 use Rattle.step_threads.proofs.Stocks.{on_ok, pushed}
 use Rattle.step_threads.proofs.stock.Stock.put.Goals as goal
 

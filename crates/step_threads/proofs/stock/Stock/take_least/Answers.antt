@@ -1,10 +1,7 @@
-use Rattle.std.proofs.Common.{◌≡◌, ◌+◌, ◌-◌, ◌≤◌, ◌∷◌, ◌++◌, [], List, ℕ, sym, subst, arith}
-use Rattle.std.specs.List.{All}
-use Rattle.std.specs.List.Sorted.{IsPermutation}
-use Rattle.std.specs.Prelude.{MatchOption, Option}
-use Rattle.std.specs.BinaryHeap.{heap_items}
-use Rattle.control_word.specs.declared.place.Block.{Block}
-use Rattle.step_threads.specs.Stocks.{StoreView, from, numbers}
+use Rattle.std.proofs.Common.{◌≡◌, ℕ, ◌+◌, ◌-◌, ◌≤◌, List, [], ◌∷◌, ◌++◌, Option, MatchOption, sym}
+use Rattle.std.proofs.Common.{subst, arith}
+use Rattle.step_threads.proofs.Prelude.{All, Block, from, heap_items, IsPermutation, numbers}
+use Rattle.step_threads.proofs.Prelude.{StoreView}
 use Rattle.step_threads.proofs.Stocks.{next_out, none_out, returned_out, went_out}
 use Rattle.step_threads.proofs.stock.Stock.take_least.Goals as goal
 use Rattle.step_threads.proofs.stock.Stock.take_least.Goals.{in-None, in-Some}

@@ -1,5 +1,5 @@
-use Rattle.std.proofs.lemmas.Grind.{common_steps}
 use Rattle.std.proofs.Common.{arith}
+use Rattle.step_threads.proofs.Prelude.{common_steps}
 use Rattle.step_threads.proofs.thread.Thread.act.Goals as goal
 
 pub begin_act-requires : goal.begin_act-requires

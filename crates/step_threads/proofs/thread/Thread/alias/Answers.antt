@@ -1,15 +1,9 @@
-use Rattle.std.proofs.Common.{refl, sym, subst, ◌∙◌, ap, cond}
-use Rattle.step_table.specs.AtomicSteps.{alias, aliased}
-use Rattle.step_table.specs.Registers.{owner_slot, place_in, slot_pointer}
-use Rattle.step_threads.specs.Threads.{FitsThread}
-use Rattle.step_threads.specs.declared.pending_call.PendingCall.{PendingCall}
+use Rattle.std.proofs.Common.{cond, sym, refl, ap, ◌∙◌, subst}
+use Rattle.step_threads.proofs.Prelude.{Alias, alias, aliased, Event, FitsThread, owner_slot}
+use Rattle.step_threads.proofs.Prelude.{PendingCall, place_in, Quiet, Said, silent, slot_pointer}
+use Rattle.step_threads.proofs.Prelude.{Stepped}
 use Rattle.step_threads.proofs.StoreFits.{fits_done}
-use Rattle.step_threads.specs.declared.said.Said.{Said}
-use Rattle.step_threads.specs.declared.said.Stepped.TheVariants.{Event, Quiet}
-use Rattle.step_threads.specs.declared.said.Stepped.{Stepped}
-use Rattle.step_threads.specs.Steps.{silent}
 use Rattle.step_threads.proofs.Acting.{acts_on, can_act}
-use Rattle.step_threads.specs.declared.programs.act.Act.TheVariants.{Alias}
 use Rattle.step_threads.proofs.thread.Thread.alias.Goals as goal
 
 pub returns-clause-fits : goal.returns-clause-fits

@@ -1,19 +1,13 @@
-use Rattle.step_threads.specs.declared.pending_call.PendingCall.TheVariants.{Making}
-use Rattle.std.proofs.Common.{ℕ, Bool, false, refl, ap, ◌∙◌}
-use Rattle.std.proofs.Common.{sym, subst}
-use Rattle.std.specs.Prelude.{Option, Some, None}
-use Rattle.step_threads.specs.declared.programs.act.Act.TheVariants.{Make}
+use Rattle.std.proofs.Common.{ℕ, Bool, false, Some, None, Option, sym, refl, ap, ◌∙◌, subst}
+use Rattle.step_threads.proofs.Prelude.{FitsThread, frame_settled, frame_view, GhostState, Make}
+use Rattle.step_threads.proofs.Prelude.{Making, Quiet, rest, Said, silent, task_at}
 use Rattle.control_word.specs.declared.refusal.Refusal.TheVariants.{Full}
 use Rattle.step_threads.specs.declared.said.Answer.TheVariants.{Refused}
-use Rattle.step_threads.specs.declared.said.Said.{Said}
-use Rattle.step_threads.specs.declared.said.Stepped.TheVariants.{Quiet}
-use Rattle.step_threads.specs.Frames.{rest, frame_settled, task_at, frame_view}
-use Rattle.step_threads.specs.Steps.{begins, silent}
-use Rattle.step_table.specs.GhostStates.{GhostState}
-use Rattle.step_threads.specs.Threads.{FitsThread}
+use Rattle.step_threads.specs.Steps.{begins}
 use Rattle.step_threads.proofs.holding.Storing.{taken_stored}
 use Rattle.step_threads.proofs.Steps.{at_act, stepped_as, waits_act}
-use Rattle.step_threads.proofs.Threads.{fits_prepare, least_here, least_nowhere, make_empty, refused_ready, resting}
+use Rattle.step_threads.proofs.Threads.{fits_prepare, least_here, least_nowhere, make_empty}
+use Rattle.step_threads.proofs.Threads.{refused_ready, resting}
 use Rattle.step_threads.proofs.thread.Thread.begin.Goals as goal
 
 pub go_on-requires-clause-ready : goal.go_on-requires-clause-ready

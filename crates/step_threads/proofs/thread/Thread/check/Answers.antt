@@ -1,16 +1,10 @@
-use Rattle.std.proofs.Common.{◌≡◌, cond, refl, sym, ap, ◌∙◌}
-use Rattle.std.proofs.lemmas.Bool.{cond-true, cond-false}
-use Rattle.control_word.specs.declared.packed.cell.CellWord.{CellWord}
-use Rattle.step_threads.specs.declared.pending_call.PendingCall.{PendingCall}
-use Rattle.step_threads.specs.declared.pending_call.PendingCall.TheVariants.{Rest, Refill}
-use Rattle.step_table.specs.declared.cell_steps.refill.Stage.TheVariants.{Checking, Lacking}
-use Rattle.step_threads.specs.declared.said.Said.{Said}
-use Rattle.step_threads.specs.declared.said.Stepped.TheVariants.{Quiet}
+use Rattle.std.proofs.Common.{◌≡◌, cond, sym, refl, ap, ◌∙◌}
+use Rattle.step_threads.proofs.Prelude.{CellWord, Checking, cond-false, cond-true, Lacking}
+use Rattle.step_threads.proofs.Prelude.{PendingCall, Quiet, Refill, Rest, Said, shows_seen}
 use Rattle.step_table.specs.Refills.{is_drained}
 use Rattle.step_threads.proofs.LookSteps.{refilled}
 use Rattle.step_threads.proofs.RefillFits.{refill_here}
 use Rattle.step_table.proofs.contained.Coming.{open_shown}
-use Rattle.step_table.proofs.contained.Told.{shows_seen}
 use Rattle.step_threads.proofs.thread.Thread.check.Goals as goal
 use Rattle.step_threads.proofs.thread.Thread.check.Goals.{then-is_drained, else-is_drained}
 

@@ -1,9 +1,6 @@
-use Rattle.step_threads.specs.declared.pending_call.PendingCall.TheVariants.{Making, Rest}
 use Rattle.std.proofs.Common.{sym, subst}
-use Rattle.step_threads.specs.Passing.{HasGoneOn}
-use Rattle.step_table.specs.GhostStates.{GhostState}
-use Rattle.step_threads.specs.declared.pending_call.PendingCall.{PendingCall}
-use Rattle.step_threads.specs.Threads.{FitsThread, IsNext}
+use Rattle.step_threads.proofs.Prelude.{FitsThread, GhostState, HasGoneOn, IsNext, Making}
+use Rattle.step_threads.proofs.Prelude.{PendingCall, Rest}
 use Rattle.step_threads.proofs.Threads.{fits_claim}
 use Rattle.step_threads.proofs.thread.Thread.claim.Goals as goal
 

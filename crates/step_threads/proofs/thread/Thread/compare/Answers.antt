@@ -1,24 +1,19 @@
-use Rattle.std.proofs.Common.{◌≡◌, Bool, true, false, inl, inr, refl, sym, ap, subst, ◌∙◌, eq-eqb, ne_eqb}
-use Rattle.std.proofs.lemmas.Bool.{cond-true, cond-false}
-use Rattle.std.specs.Prelude.{◌||◌, None, Some, is_some}
-use Rattle.step_threads.specs.declared.programs.act.Act.{Act}
-use Rattle.step_threads.specs.declared.programs.act.Act.TheVariants.{Compare}
-use Rattle.step_threads.specs.declared.said.Said.{Said}
-use Rattle.step_threads.specs.declared.said.Stepped.TheVariants.{Event, Quiet}
-use Rattle.step_threads.specs.Frames.{cell_of_name, comparing, frame_view}
-use Rattle.step_threads.specs.Steps.{silent, within}
-use Rattle.step_threads.specs.declared.pending_call.PendingCall.TheVariants.{Saw}
-use Rattle.step_threads.specs.Threads.{IsSeenBy}
-use Rattle.step_table.specs.Contents.{as_word, compared_in, same_value}
-use Rattle.step_table.specs.Registers.{slot_value}
-use Rattle.step_table.specs.GhostStates.{model_state}
+use Rattle.std.proofs.Common.{◌≡◌, Bool, true, false, ◌||◌, is_some, Some, None, sym, refl, ap}
+use Rattle.std.proofs.Common.{◌∙◌, subst, inl, inr, eq-eqb, ne_eqb}
+use Rattle.step_threads.proofs.Prelude.{Act, as_word, cell_of_name, Compare, compared_in}
+use Rattle.step_threads.proofs.Prelude.{comparing, cond-false, cond-true, Event, frame_view}
+use Rattle.step_threads.proofs.Prelude.{IsSeenBy, model_state, Quiet, Said, same_value, Saw}
+use Rattle.step_threads.proofs.Prelude.{silent, slot_value, within}
 use Rattle.step_threads.proofs.Looks.{is_loaded}
-use Rattle.step_threads.proofs.Acting.{can_act, differ_looks, differ_says, differ_waits, differ_went, looked_on, looks_bare}
-use Rattle.step_threads.proofs.Acting.{compare_goes, compare_sees, looks_full, looks_spent, sees_cell, stays_here, steps_as}
+use Rattle.step_threads.proofs.Acting.{can_act, differ_looks, differ_says, differ_waits}
+use Rattle.step_threads.proofs.Acting.{differ_went, looked_on, looks_bare, compare_goes}
+use Rattle.step_threads.proofs.Acting.{compare_sees, looks_full, looks_spent, sees_cell}
+use Rattle.step_threads.proofs.Acting.{stays_here, steps_as}
 use Rattle.step_threads.proofs.CompareSteps.{answers}
 use Rattle.step_threads.proofs.Going.{or_right}
 use Rattle.step_threads.proofs.thread.Thread.compare.Goals as goal
-use Rattle.step_threads.proofs.thread.Thread.compare.Goals.{then-not-is_same_value+else-is_none+else-from-eq-CELL_FUNDS, else-not-is_same_value}
+use Rattle.step_threads.proofs.thread.Thread.compare.Goals.{then-not-is_same_value+else-is_none+else-from-eq-CELL_FUNDS}
+use Rattle.step_threads.proofs.thread.Thread.compare.Goals.{else-not-is_same_value}
 
 pub look_to_compare-found-requires-clause-can : goal.look_to_compare-found-requires-clause-can
 look_to_compare-found-requires-clause-can c =

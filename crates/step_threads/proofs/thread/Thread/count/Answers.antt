@@ -1,15 +1,9 @@
-use Rattle.std.proofs.Common.{◌∙◌, refl, sym, ap, subst, ℕ}
-use Rattle.step_table.specs.Registers.{slot_pointer, is_full}
-use Rattle.step_threads.specs.declared.said.Said.{Said}
+use Rattle.std.proofs.Common.{ℕ, Some, None, sym, refl, ap, ◌∙◌, subst}
+use Rattle.step_threads.proofs.Prelude.{Count, FitsThread, is_full, PendingCall, Said}
+use Rattle.step_threads.proofs.Prelude.{slot_pointer, task_at, tell}
 use Rattle.step_threads.proofs.Acting.{acts_on, can_act}
-use Rattle.step_threads.specs.Threads.{FitsThread}
-use Rattle.step_threads.specs.declared.pending_call.PendingCall.{PendingCall}
 use Rattle.step_threads.proofs.StoreFits.{fits_done}
-use Rattle.std.specs.Prelude.{None, Some}
 use Rattle.step_threads.specs.declared.said.Answer.TheVariants as answer
-use Rattle.step_threads.specs.Frames.{task_at}
-use Rattle.step_threads.specs.declared.programs.act.Act.TheVariants.{Count}
-use Rattle.step_table.specs.AtomicSteps.{tell}
 use Rattle.step_threads.proofs.thread.Thread.count.Goals as goal
 
 pub count-owners-requires-clause-can : goal.count-owners-requires-clause-can

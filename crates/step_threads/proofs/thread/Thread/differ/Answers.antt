@@ -1,19 +1,8 @@
-use Rattle.std.proofs.lemmas.Grind.{common_steps}
-use Rattle.std.proofs.Common.{arith}
-use Rattle.std.proofs.Common.{ℕ, false, sym, ap, subst, ◌∙◌}
-use Rattle.std.proofs.lemmas.Bool.{cond-true}
-use Rattle.control_word.specs.declared.site.Site.{Site}
-use Rattle.step_table.specs.Contents.{compared_in}
-use Rattle.step_table.specs.Refills.{more_taken}
-use Rattle.step_table.specs.GhostStates.{GhostState, model_state}
-use Rattle.step_table.specs.declared.cell_steps.refill.Stage.TheVariants.{Turning}
-use Rattle.step_threads.specs.declared.pending_call.PendingCall.{PendingCall}
-use Rattle.step_threads.specs.declared.pending_call.PendingCall.TheVariants.{Refill}
-use Rattle.step_threads.specs.declared.said.Said.{Said}
-use Rattle.step_threads.specs.declared.said.Stepped.TheVariants.{Event}
-use Rattle.step_threads.specs.Frames.{cell_of_name, comparing, task_at}
-use Rattle.step_threads.specs.Passing.{HasGoneOn}
-use Rattle.step_threads.specs.Threads.{FitsThread}
+use Rattle.std.proofs.Common.{ℕ, false, sym, ap, ◌∙◌, subst, arith}
+use Rattle.step_threads.proofs.Prelude.{cell_of_name, common_steps, compared_in, comparing}
+use Rattle.step_threads.proofs.Prelude.{cond-true, Event, FitsThread, GhostState, HasGoneOn}
+use Rattle.step_threads.proofs.Prelude.{model_state, more_taken, PendingCall, Refill, Said, Site}
+use Rattle.step_threads.proofs.Prelude.{task_at, Turning}
 use Rattle.step_threads.proofs.CompareFits.{compare_taken, saw_other}
 use Rattle.step_threads.proofs.CompareSteps.{answers, differs_taken}
 use Rattle.step_threads.proofs.CompareTells.{tells_still}

@@ -1,15 +1,8 @@
-use Rattle.std.proofs.Common.{◌∙◌, refl, sym, ap, subst, cond}
-use Rattle.step_table.specs.Registers.{slot_pointer}
-use Rattle.step_threads.specs.declared.said.Said.{Said}
-use Rattle.step_threads.specs.declared.said.Stepped.TheVariants.{Event, Quiet}
-use Rattle.step_threads.specs.declared.said.Stepped.{Stepped}
-use Rattle.step_threads.specs.Steps.{silent}
+use Rattle.std.proofs.Common.{cond, sym, refl, ap, ◌∙◌, subst}
+use Rattle.step_threads.proofs.Prelude.{Downgrade, downgrade, Event, FitsThread, PendingCall}
+use Rattle.step_threads.proofs.Prelude.{Quiet, Said, silent, slot_pointer, Stepped}
 use Rattle.step_threads.proofs.Acting.{acts_on, can_act}
-use Rattle.step_threads.specs.Threads.{FitsThread}
-use Rattle.step_threads.specs.declared.pending_call.PendingCall.{PendingCall}
 use Rattle.step_threads.proofs.StoreFits.{fits_done}
-use Rattle.step_threads.specs.declared.programs.act.Act.TheVariants.{Downgrade}
-use Rattle.step_table.specs.AtomicSteps.{downgrade}
 use Rattle.step_threads.proofs.thread.Thread.downgrade.Goals as goal
 
 pub downgrade-event-requires-clause-can : goal.downgrade-event-requires-clause-can

@@ -1,15 +1,9 @@
-use Rattle.std.proofs.Common.{◌∙◌, ℕ, arith, drop, set, cond, sym, ap, subst}
-use Rattle.std.specs.Prelude.{is_some}
-use Rattle.control_word.specs.declared.model.handle.Kind.{Kind}
-use Rattle.control_word.specs.declared.site.Site.TheVariants.{Member}
-use Rattle.step_table.specs.Contents.{held_in, slot_of}
-use Rattle.step_table.specs.Registers.{HoldsBag, slot_pointer}
-use Rattle.step_table.specs.GhostStates.{GhostState, model_state}
-use Rattle.step_threads.specs.declared.said.Said.{Said}
-use Rattle.step_threads.specs.declared.said.Stepped.TheVariants.{Event}
-use Rattle.step_threads.specs.Steps.{gives_back}
-use Rattle.step_threads.specs.Threads.{FitsThread, HasStepped}
-use Rattle.step_threads.proofs.Emptying.{clearing_here, fits_emptied, idle_clearing, is_clearing, none_full, stepped_emptied}
+use Rattle.std.proofs.Common.{ℕ, cond, drop, set, is_some, sym, ap, ◌∙◌, subst, arith}
+use Rattle.step_threads.proofs.Prelude.{Event, FitsThread, GhostState, gives_back, HasStepped}
+use Rattle.step_threads.proofs.Prelude.{held_in, HoldsBag, Kind, Member, model_state, Said}
+use Rattle.step_threads.proofs.Prelude.{slot_of, slot_pointer}
+use Rattle.step_threads.proofs.Emptying.{clearing_here, fits_emptied, idle_clearing, is_clearing}
+use Rattle.step_threads.proofs.Emptying.{none_full, stepped_emptied}
 use Rattle.step_threads.proofs.holding.Ends.{ending_here, first_is}
 use Rattle.step_threads.proofs.thread.Thread.empty_on.Goals as goal
 

@@ -1,16 +1,9 @@
-use Rattle.std.proofs.Common.{refl, sym, subst, ◌∙◌, ap, ℕ, Bool}
-use Rattle.step_table.specs.AtomicSteps.{tell_expired}
-use Rattle.step_table.specs.Registers.{slot_pointer, is_full}
-use Rattle.step_table.specs.GhostStates.{model_state}
-use Rattle.step_threads.specs.Threads.{FitsThread}
-use Rattle.step_threads.specs.declared.pending_call.PendingCall.{PendingCall}
+use Rattle.std.proofs.Common.{ℕ, Bool, Some, None, sym, refl, ap, ◌∙◌, subst}
+use Rattle.step_threads.proofs.Prelude.{Expired, FitsThread, is_full, model_state, PendingCall}
+use Rattle.step_threads.proofs.Prelude.{Said, slot_pointer, task_at, tell_expired}
 use Rattle.step_threads.proofs.StoreFits.{fits_done}
-use Rattle.step_threads.specs.declared.said.Said.{Said}
 use Rattle.step_threads.proofs.Acting.{acts_on, can_act}
-use Rattle.std.specs.Prelude.{None, Some}
 use Rattle.step_threads.specs.declared.said.Answer.TheVariants as answer
-use Rattle.step_threads.specs.Frames.{task_at}
-use Rattle.step_threads.specs.declared.programs.act.Act.TheVariants.{Expired}
 use Rattle.step_threads.proofs.thread.Thread.expired.Goals as goal
 
 pub returns-clause-fits : goal.returns-clause-fits

@@ -1,11 +1,6 @@
 use Rattle.std.proofs.Common.{ℕ, ap, ◌∙◌}
-use Rattle.control_word.specs.declared.model.handle.Kind.{Kind}
-use Rattle.step_table.specs.declared.cell_steps.cell_step.CellStep.TheVariants.{GiveBack}
-use Rattle.step_threads.specs.declared.pending_call.PendingCall.TheVariants.{Refill}
-use Rattle.step_table.specs.declared.memory.ghost_history.AtomicStep.TheVariants.{OnCell}
-use Rattle.step_table.specs.declared.cell_steps.refill.Stage.TheVariants.{Checking}
-use Rattle.step_table.specs.CellAtomicSteps.{kind_in_state}
-use Rattle.step_table.specs.GhostStates.{ghost_after_step, model_state}
+use Rattle.step_threads.proofs.Prelude.{Checking, ghost_after_step, GiveBack, Kind, kind_in_state}
+use Rattle.step_threads.proofs.Prelude.{model_state, OnCell, Refill}
 use Rattle.step_threads.proofs.RefillFits.{fits_as, fits_failed}
 use Rattle.step_threads.proofs.thread.Thread.fail.Goals as goal
 

@@ -1,15 +1,7 @@
-use Rattle.std.proofs.Common.{◌≡◌, ℕ, refl, sym, ap, subst, ◌∙◌}
-use Rattle.step_table.specs.Contents.{owing_for}
-use Rattle.step_table.specs.Registers.{slot_pointer, slot_value}
-use Rattle.step_table.specs.GhostStates.{GhostState, pending, model_state}
-use Rattle.step_threads.specs.declared.pending_call.PendingCall.{PendingCall}
-use Rattle.step_threads.specs.declared.pending_call.PendingCall.TheVariants.{Matched}
-use Rattle.step_threads.specs.declared.said.Said.{Said}
-use Rattle.step_threads.specs.declared.said.Stepped.TheVariants.{Quiet}
-use Rattle.step_threads.specs.Frames.{hand, task_at, frame_view}
-use Rattle.step_threads.specs.NextSteps.{waits}
-use Rattle.step_threads.specs.Steps.{fetches, silent}
-use Rattle.step_threads.specs.Threads.{FitsThread}
+use Rattle.std.proofs.Common.{◌≡◌, ℕ, sym, refl, ap, ◌∙◌, subst}
+use Rattle.step_threads.proofs.Prelude.{fetches, FitsThread, frame_view, GhostState, hand, Matched}
+use Rattle.step_threads.proofs.Prelude.{model_state, owing_for, pending, PendingCall, Quiet, Said}
+use Rattle.step_threads.proofs.Prelude.{silent, slot_pointer, slot_value, task_at, waits}
 use Rattle.step_threads.proofs.CompareFits.{compare_brought}
 use Rattle.step_threads.proofs.CompareSteps.{fetches_funds}
 use Rattle.step_threads.proofs.LoadFits.{saw_next}

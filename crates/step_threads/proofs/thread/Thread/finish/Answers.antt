@@ -1,7 +1,6 @@
-use Rattle.std.proofs.Common.{◌∙◌, ℕ, ◌<◌, Bool, sym, ap, subst}
+use Rattle.std.proofs.Common.{ℕ, ◌<◌, Bool, sym, ap, ◌∙◌, subst}
+use Rattle.step_threads.proofs.Prelude.{FitsThread, ghost_after_step, GhostState, TableInvariant}
 use Rattle.step_table.specs.declared.memory.ghost_history.AtomicStep.TheVariants as atomic_step
-use Rattle.step_table.specs.GhostStates.{TableInvariant, GhostState, ghost_after_step}
-use Rattle.step_threads.specs.Threads.{FitsThread}
 use Rattle.step_threads.proofs.Endings.{room_left}
 use Rattle.step_threads.proofs.EndSteps.{fits_finish, fits_finish_not, idle_here}
 use Rattle.step_threads.proofs.holding.Ends.{ending_here}

@@ -1,20 +1,13 @@
-use Rattle.std.proofs.Common.{ℕ, ap, sym, ◌∙◌, false, refl}
-use Rattle.step_table.specs.Registers.{inside, slot_pointer, place_in}
+use Rattle.std.proofs.Common.{ℕ, false, Some, None, sym, refl, ap, ◌∙◌}
+use Rattle.step_threads.proofs.Prelude.{Answer, frame_view, FromThis, inside, outside, place_in}
+use Rattle.step_threads.proofs.Prelude.{Quiet, Rest, rest, Said, silent, slot_pointer, task_at}
 use Rattle.step_threads.proofs.Giving.{fits_asked, refused_this}
-use Rattle.std.specs.Prelude.{None, Some}
 use Rattle.control_word.specs.declared.refusal.Refusal.TheVariants as refused
-use Rattle.step_threads.specs.declared.programs.act.Act.TheVariants.{FromThis}
-use Rattle.step_threads.specs.declared.pending_call.PendingCall.TheVariants.{Rest}
-use Rattle.step_threads.specs.declared.said.Answer.{Answer}
 use Rattle.step_threads.specs.declared.said.Answer.TheVariants as answer
-use Rattle.step_threads.specs.declared.said.Said.{Said}
-use Rattle.step_threads.specs.declared.said.Stepped.TheVariants.{Quiet}
-use Rattle.step_threads.specs.Frames.{rest, task_at, frame_view}
-use Rattle.step_threads.specs.Rows.{outside}
-use Rattle.step_threads.specs.Steps.{silent}
 use Rattle.step_threads.proofs.Acting.{acts_as, steps_as, went_quiet}
 use Rattle.step_threads.proofs.Going.{found_inside}
-use Rattle.step_threads.proofs.ThisSteps.{giving, this_gives, this_none, this_not, this_says, this_went}
+use Rattle.step_threads.proofs.ThisSteps.{giving, this_gives, this_none, this_not, this_says}
+use Rattle.step_threads.proofs.ThisSteps.{this_went}
 use Rattle.step_threads.proofs.thread.Thread.from_this.Goals as goal
 
 pub take-requires-clause-ready : goal.take-requires-clause-ready

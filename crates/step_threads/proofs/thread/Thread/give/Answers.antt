@@ -1,20 +1,10 @@
-use Rattle.std.proofs.Common.{◌∙◌, ℕ, true, set, refl, sym, ap, subst}
-use Rattle.std.proofs.lemmas.Bool.{cond-true}
-use Rattle.std.specs.Prelude.{Some, is_some}
-use Rattle.step_table.specs.Registers.{Slots, inside, slot_pointer}
-use Rattle.step_table.specs.GhostStates.{model_state, GhostState, event_of}
-use Rattle.step_threads.specs.declared.programs.act.Act.TheVariants.{FromThis}
-use Rattle.step_threads.specs.declared.pending_call.PendingCall.TheVariants.{Rest, Giving}
-use Rattle.step_threads.specs.declared.said.Said.{Said}
-use Rattle.step_threads.specs.declared.said.Stepped.TheVariants.{Event}
-use Rattle.step_threads.specs.Frames.{rest, task_at, frame_view, IsReady, frame_settled}
-use Rattle.step_threads.specs.Steps.{silent, step_of_act}
-use Rattle.step_table.specs.declared.slots.slot.Slot.TheVariants.{Full}
-use Rattle.step_table.specs.AtomicSteps.{give, this_as}
-use Rattle.step_threads.specs.declared.pending_call.PendingCall.{PendingCall}
-use Rattle.step_threads.specs.NextSteps.{given_step, step_at, waits}
-use Rattle.step_threads.specs.Passing.{HasGoneOn}
-use Rattle.step_threads.specs.Threads.{FitsThread, IsNext}
+use Rattle.std.proofs.Common.{ℕ, true, set, is_some, Some, sym, refl, ap, ◌∙◌, subst}
+use Rattle.step_threads.proofs.Prelude.{cond-true, Event, event_of, FitsThread, frame_settled}
+use Rattle.step_threads.proofs.Prelude.{frame_view, FromThis, Full, GhostState, give, Giving}
+use Rattle.step_threads.proofs.Prelude.{HasGoneOn, inside, IsNext, IsReady, model_state}
+use Rattle.step_threads.proofs.Prelude.{PendingCall, Rest, rest, Said, silent, slot_pointer, Slots}
+use Rattle.step_threads.proofs.Prelude.{step_at, step_of_act, task_at, this_as, waits}
+use Rattle.step_threads.specs.NextSteps.{given_step}
 use Rattle.step_threads.proofs.Frames.{todo_at}
 use Rattle.step_threads.proofs.Going.{comes, hand_bare, hand_in, takes_ready}
 use Rattle.step_threads.proofs.LookFits.{fits_gone}

@@ -1,7 +1,5 @@
 use Rattle.std.proofs.Common.{sym, subst}
-use Rattle.step_threads.specs.declared.pending_call.PendingCall.TheVariants.{Rest}
-use Rattle.step_table.specs.GhostStates.{GhostState}
-use Rattle.step_threads.specs.Threads.{FitsThread}
+use Rattle.step_threads.proofs.Prelude.{FitsThread, GhostState, Rest}
 use Rattle.step_threads.proofs.StoreFits.{fits_returned}
 use Rattle.step_threads.proofs.thread.Thread.give_back.Goals as goal
 

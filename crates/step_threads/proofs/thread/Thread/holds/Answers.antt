@@ -1,17 +1,9 @@
-use Rattle.std.proofs.Common.{ℕ, Bool, true, false, inr, refl, sym, ap, ◌∙◌}
-use Rattle.step_table.specs.Contents.{as_word}
-use Rattle.step_table.specs.Registers.{slot_value}
-use Rattle.step_table.specs.GhostStates.{ghost_after_step, model_state}
+use Rattle.std.proofs.Common.{ℕ, Bool, true, false, Some, sym, refl, ap, ◌∙◌, inr}
+use Rattle.step_threads.proofs.Prelude.{as_word, cell_of_name, Event, ghost_after_step, Holds}
+use Rattle.step_threads.proofs.Prelude.{is_expected, model_state, OnCell, Quiet, Rest, Said}
+use Rattle.step_threads.proofs.Prelude.{slot_value, task_at}
 use Rattle.step_table.specs.declared.cell_steps.cell_step.CellStep.TheVariants.{Holds as HoldsStep}
-use Rattle.step_table.specs.declared.memory.ghost_history.AtomicStep.TheVariants.{OnCell}
-use Rattle.step_threads.specs.declared.programs.act.Act.TheVariants.{Holds}
-use Rattle.step_threads.specs.declared.pending_call.PendingCall.TheVariants.{Rest}
 use Rattle.step_threads.specs.declared.said.Answer.TheVariants as answer
-use Rattle.step_threads.specs.declared.said.Said.{Said}
-use Rattle.step_threads.specs.declared.said.Stepped.TheVariants.{Event, Quiet}
-use Rattle.step_threads.specs.Entries.{is_expected}
-use Rattle.step_threads.specs.Frames.{cell_of_name, task_at}
-use Rattle.std.specs.Prelude.{Some}
 use Rattle.step_threads.proofs.Acting.{acts_as, can_act, went_quiet}
 use Rattle.step_threads.proofs.Going.{may_go_at, stays_ready}
 use Rattle.step_threads.proofs.HoldSteps.{answers_there, asks_so, goes_or_not, held_on, looked_at}

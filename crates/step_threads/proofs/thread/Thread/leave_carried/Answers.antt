@@ -1,11 +1,6 @@
-use Rattle.std.proofs.Common.{◌≡◌, ◌∙◌, ℕ, Some, None, drop, set, refl, sym, ap}
-use Rattle.std.proofs.lemmas.Option.{same_Some}
-use Rattle.control_word.specs.declared.handle.Handle.{Handle}
-use Rattle.step_table.specs.AtomicSteps.{is_last, leave}
-use Rattle.step_table.specs.Registers.{plain, slot_pointer}
-use Rattle.step_table.specs.GhostStates.{ghost_after_step, model_state}
-use Rattle.step_threads.specs.Frames.{hand}
-use Rattle.step_threads.specs.declared.said.Stepped.TheVariants.{Event}
+use Rattle.std.proofs.Common.{◌≡◌, ℕ, drop, set, Some, None, sym, refl, ap, ◌∙◌}
+use Rattle.step_threads.proofs.Prelude.{Event, ghost_after_step, hand, Handle, is_last, leave}
+use Rattle.step_threads.proofs.Prelude.{model_state, plain, same_Some, slot_pointer}
 use Rattle.step_threads.proofs.Carrying.{carried_room, fits_carried}
 use Rattle.step_threads.proofs.CarrySteps.{stepped_carried}
 use Rattle.step_threads.proofs.Endings.{room_weak}

@@ -1,17 +1,12 @@
-use Rattle.std.proofs.Common.{◌≡◌, true, false, inl, refl, sym, ap, subst, ◌∙◌, eq-eqb, ne_eqb}
-use Rattle.std.proofs.lemmas.Bool.{cond-true, cond-false}
-use Rattle.std.specs.Prelude.{None, is_some}
-use Rattle.step_threads.specs.declared.programs.act.Act.{Act}
-use Rattle.step_threads.specs.declared.programs.act.Act.TheVariants.{Load}
-use Rattle.step_threads.specs.declared.said.Said.{Said}
-use Rattle.step_threads.specs.declared.said.Stepped.TheVariants.{Event, Quiet}
-use Rattle.step_threads.specs.Frames.{cell_of_name, frame_view}
-use Rattle.step_threads.specs.Steps.{silent}
-use Rattle.step_threads.specs.Threads.{IsSeenBy}
-use Rattle.step_table.specs.GhostStates.{model_state}
+use Rattle.std.proofs.Common.{◌≡◌, true, false, is_some, None, sym, refl, ap, ◌∙◌, subst, inl}
+use Rattle.std.proofs.Common.{eq-eqb, ne_eqb}
+use Rattle.step_threads.proofs.Prelude.{Act, cell_of_name, cond-false, cond-true, Event}
+use Rattle.step_threads.proofs.Prelude.{frame_view, IsSeenBy, Load, model_state, Quiet, Said}
+use Rattle.step_threads.proofs.Prelude.{silent}
 use Rattle.step_threads.proofs.Looks.{is_loaded}
-use Rattle.step_threads.proofs.Acting.{can_act, load_looks, load_says, load_waits, load_went, looked_on, looks_bare, looks_full}
-use Rattle.step_threads.proofs.Acting.{looks_spent, sees_cell, stays_here}
+use Rattle.step_threads.proofs.Acting.{can_act, load_looks, load_says, load_waits, load_went}
+use Rattle.step_threads.proofs.Acting.{looked_on, looks_bare, looks_full, looks_spent, sees_cell}
+use Rattle.step_threads.proofs.Acting.{stays_here}
 use Rattle.step_threads.proofs.thread.Thread.load.Goals as goal
 
 pub refuse-requires-clause-act : goal.refuse-requires-clause-act

@@ -1,21 +1,13 @@
+use Rattle.std.proofs.Common.{◌≡◌, ℕ, true, false, not, ◌==◌, Some, None, sym, refl, ap, ◌∙◌}
+use Rattle.std.proofs.Common.{subst, arith, eq-eqb, ne_eqb}
+use Rattle.step_threads.proofs.Prelude.{Act, cond-false, cond-true, Event, FitsThread, frame_view}
+use Rattle.step_threads.proofs.Prelude.{GhostState, is_full, Lock, lock, locked_pointer, Locking}
+use Rattle.step_threads.proofs.Prelude.{model_state, owner_word, PendingCall, Quiet, Rest, rest}
+use Rattle.step_threads.proofs.Prelude.{Said, silent, task_at, trying}
 use Rattle.step_threads.proofs.Threads.{lost_ready}
-use Rattle.std.proofs.Common.{◌≡◌, ◌==◌, ◌∙◌, ℕ, true, false, not, refl, sym, ap, subst, eq-eqb, ne_eqb, arith}
-use Rattle.std.proofs.lemmas.Bool.{cond-true, cond-false}
-use Rattle.std.specs.Prelude.{None, Some}
-use Rattle.step_table.specs.AtomicSteps.{lock, owner_word}
-use Rattle.step_table.specs.Registers.{is_full}
-use Rattle.step_table.specs.GhostStates.{GhostState, model_state}
-use Rattle.step_threads.specs.declared.programs.act.Act.{Act}
-use Rattle.step_threads.specs.declared.programs.act.Act.TheVariants.{Lock}
-use Rattle.step_threads.specs.declared.pending_call.PendingCall.{PendingCall}
-use Rattle.step_threads.specs.declared.pending_call.PendingCall.TheVariants.{Rest, Locking}
-use Rattle.step_threads.specs.declared.said.Said.{Said}
-use Rattle.step_threads.specs.declared.said.Stepped.TheVariants.{Event, Quiet}
-use Rattle.step_threads.specs.Frames.{locked_pointer, rest, task_at, frame_view}
-use Rattle.step_threads.specs.Steps.{silent, trying}
-use Rattle.step_threads.specs.Threads.{FitsThread}
 use Rattle.step_threads.proofs.Going.{found_weak}
-use Rattle.step_threads.proofs.LockSteps.{lock_said, lock_says, lock_went, lock_found, lock_late, lock_none}
+use Rattle.step_threads.proofs.LockSteps.{lock_said, lock_says, lock_went, lock_found, lock_late}
+use Rattle.step_threads.proofs.LockSteps.{lock_none}
 use Rattle.step_threads.proofs.Acting.{acts_as, is_idle, steps_as, went_quiet}
 use Rattle.step_threads.proofs.LookFits.{fits_pending_call}
 use Rattle.step_threads.proofs.StoreFits.{fits_done}

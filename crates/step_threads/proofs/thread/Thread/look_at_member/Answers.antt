@@ -1,8 +1,6 @@
-use Rattle.std.proofs.Common.{◌≡◌, ◌∙◌, ◌==◌, true, drop, sym, subst, arith, eq-eqb}
-use Rattle.std.proofs.lemmas.Bool.{cond-true}
+use Rattle.std.proofs.Common.{◌≡◌, true, drop, ◌==◌, sym, ◌∙◌, subst, arith, eq-eqb}
+use Rattle.step_threads.proofs.Prelude.{cond-true, FitsThread, ghost_after_step, GhostState}
 use Rattle.step_table.specs.declared.memory.ghost_history.AtomicStep.TheVariants as atomic_step
-use Rattle.step_table.specs.GhostStates.{GhostState, ghost_after_step}
-use Rattle.step_threads.specs.Threads.{FitsThread}
 use Rattle.step_threads.proofs.EndSteps.{fits_clear, idle_here}
 use Rattle.step_threads.proofs.holding.Ends.{ending_here, first_is}
 use Rattle.step_threads.proofs.thread.Thread.look_at_member.Goals as goal

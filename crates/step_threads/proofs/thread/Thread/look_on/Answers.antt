@@ -1,8 +1,5 @@
 use Rattle.std.proofs.Common.{sym, subst}
-use Rattle.step_threads.specs.declared.programs.act.Act.TheVariants.{Compare, Load}
-use Rattle.step_threads.specs.declared.pending_call.PendingCall.{PendingCall}
-use Rattle.step_threads.specs.declared.pending_call.PendingCall.TheVariants.{Saw}
-use Rattle.step_threads.specs.Threads.{IsNext}
+use Rattle.step_threads.proofs.Prelude.{Compare, IsNext, Load, PendingCall, Saw}
 use Rattle.step_threads.proofs.StoreFits.{act_here}
 use Rattle.step_threads.proofs.thread.Thread.look_on.Goals as goal
 

@@ -1,21 +1,12 @@
-use Rattle.std.proofs.Common.{ℕ, true, sym, ap, subst, ◌∙◌}
-use Rattle.std.proofs.lemmas.Bool.{cond-false, cond-true}
-use Rattle.control_word.specs.declared.model.handle.Kind.{Kind}
-use Rattle.step_table.specs.CellAtomicSteps.{kind_in_state}
-use Rattle.step_table.specs.Contents.{compared_in}
-use Rattle.step_table.specs.Registers.{slot_pointer}
-use Rattle.step_table.specs.GhostStates.{GhostState, model_state}
-use Rattle.step_threads.specs.declared.frame.Frame.{Frame}
-use Rattle.step_threads.specs.declared.pending_call.PendingCall.{PendingCall}
-use Rattle.step_threads.specs.declared.said.Said.{Said}
-use Rattle.step_threads.specs.declared.said.Stepped.TheVariants.{Event, Quiet}
-use Rattle.step_threads.specs.Frames.{cell_of_name, comparing, hand, frame_view}
-use Rattle.step_threads.specs.Passing.{HasGoneOn}
-use Rattle.step_threads.specs.Steps.{gives_back, missed, silent}
-use Rattle.step_threads.specs.Threads.{FitsThread}
+use Rattle.std.proofs.Common.{ℕ, true, sym, ap, ◌∙◌, subst}
+use Rattle.step_threads.proofs.Prelude
+use Prelude.{cell_of_name, compared_in, comparing, cond-false, cond-true, Event, FitsThread, Frame}
+use Prelude.{frame_view, GhostState, gives_back, hand, HasGoneOn, Kind, kind_in_state, missed}
+use Prelude.{model_state, PendingCall, Quiet, Said, silent, slot_pointer}
 use Rattle.step_threads.proofs.CompareFits.{compare_missed, compare_swapped, looking_claims}
 use Rattle.step_threads.proofs.CompareSteps.{answers, swaps_it, swaps_none}
-use Rattle.step_threads.proofs.CompareTells.{match_at, match_goes, match_none, match_valid, match_within, tells_still}
+use Rattle.step_threads.proofs.CompareTells.{match_at, match_goes, match_none, match_valid}
+use Rattle.step_threads.proofs.CompareTells.{match_within, tells_still}
 use Rattle.step_threads.proofs.thread.Thread.match_cell.Goals as goal
 use Rattle.step_threads.proofs.Compares.{may_compare}
 use Rattle.step_threads.proofs.Named.{named_compare}

@@ -1,13 +1,7 @@
-use Rattle.std.proofs.Common.{cond, inl, inr, sym, ap, subst, ◌∙◌}
-use Rattle.step_threads.specs.Frames.{offered}
-use Rattle.step_table.specs.AtomicSteps.{share}
-use Rattle.step_threads.specs.Threads.{FitsThread}
-use Rattle.step_threads.specs.declared.pending_call.PendingCall.{PendingCall}
+use Rattle.std.proofs.Common.{cond, sym, ap, ◌∙◌, subst, inl, inr}
+use Rattle.step_threads.proofs.Prelude.{Event, FitsThread, offered, PendingCall, Quiet, Said}
+use Rattle.step_threads.proofs.Prelude.{share, silent, Stepped}
 use Rattle.step_threads.proofs.StoreFits.{fits_done, share_calm, share_stores}
-use Rattle.step_threads.specs.declared.said.Said.{Said}
-use Rattle.step_threads.specs.declared.said.Stepped.TheVariants.{Event, Quiet}
-use Rattle.step_threads.specs.declared.said.Stepped.{Stepped}
-use Rattle.step_threads.specs.Steps.{silent}
 use Rattle.step_threads.proofs.StoreSteps.{step_offers}
 use Rattle.step_threads.proofs.Acting.{can_act}
 use Rattle.step_threads.proofs.thread.Thread.offer.Goals as goal

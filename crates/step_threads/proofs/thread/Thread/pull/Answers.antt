@@ -1,11 +1,6 @@
-use Rattle.std.proofs.Common.{◌∙◌, refl, ap}
-use Rattle.std.specs.Prelude.{None}
-use Rattle.step_threads.specs.declared.pending_call.PendingCall.TheVariants.{Rest}
-use Rattle.step_threads.specs.declared.said.Said.{Said}
-use Rattle.step_threads.specs.declared.said.Stepped.TheVariants.{Quiet}
-use Rattle.step_threads.specs.Steps.{silent}
+use Rattle.std.proofs.Common.{None, refl, ap, ◌∙◌}
+use Rattle.step_threads.proofs.Prelude.{Move, Quiet, Rest, Said, silent}
 use Rattle.step_threads.proofs.Acting.{acts_as, went_quiet}
-use Rattle.step_threads.specs.declared.programs.act.Act.TheVariants.{Move}
 use Rattle.step_threads.proofs.thread.Thread.pull.Goals as goal
 
 pub returns-clause-stepped : goal.returns-clause-stepped

@@ -1,16 +1,9 @@
-use Rattle.std.proofs.Common.{◌≡◌, ◌∙◌, Bool, false, cond, refl, sym, ap}
-use Rattle.std.specs.Prelude.{Option, None, option_map, slice_set}
+use Rattle.std.proofs.Common.{◌≡◌, Bool, false, cond, slice_set, None, Option, option_map, sym}
+use Rattle.std.proofs.Common.{refl, ap, ◌∙◌}
+use Rattle.step_threads.proofs.Prelude.{done_on, ended_by, ending_by, Event, frame_view, FrameView}
+use Rattle.step_threads.proofs.Prelude.{Handle, is_last, leave, model_state, on, placed, plain}
+use Rattle.step_threads.proofs.Prelude.{Quiet, Rest, rest, slot_pointer, step_of_act, task_at}
 use Rattle.step_threads.specs.declared.programs.act.Act.TheVariants as act
-use Rattle.control_word.specs.declared.handle.Handle.{Handle}
-use Rattle.step_threads.specs.Frames.{FrameView, done_on, placed, rest, task_at, frame_view}
-use Rattle.step_threads.specs.declared.pending_call.PendingCall.TheVariants.{Rest}
-use Rattle.step_threads.specs.Steps.{step_of_act}
-use Rattle.step_threads.specs.declared.said.Stepped.TheVariants.{Event, Quiet}
-use Rattle.step_table.specs.AtomicSteps.{is_last, leave, on}
-use Rattle.step_table.specs.Registers.{plain, slot_pointer}
-use Rattle.step_threads.specs.Rows.{ending_by}
-use Rattle.step_threads.specs.AbstractStates.{ended_by}
-use Rattle.step_table.specs.GhostStates.{model_state}
 use Rattle.step_threads.proofs.Frames.{settled_taken}
 use Rattle.step_threads.proofs.Endings.{HasLeft, begins_room, ending_left, fits_left, room_weak}
 use Rattle.step_threads.proofs.LeaveSteps.{stepped_left, went_left}

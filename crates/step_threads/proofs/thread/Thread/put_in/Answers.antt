@@ -1,13 +1,6 @@
-use Rattle.std.proofs.Common.{◌≡◌, true, inr, subst}
-use Rattle.std.specs.Prelude.{is_some}
-use Rattle.step_table.specs.Contents.{owing_for}
-use Rattle.step_table.specs.GhostStates.{pending, model_state}
-use Rattle.step_threads.specs.declared.programs.act.Act.{Act}
-use Rattle.step_threads.specs.declared.programs.act.Act.TheVariants.{Swap, Exchange}
-use Rattle.step_threads.specs.declared.pending_call.PendingCall.{PendingCall}
-use Rattle.step_threads.specs.declared.pending_call.PendingCall.TheVariants.{Brought}
-use Rattle.step_threads.specs.Frames.{going, hand, new_of}
-use Rattle.step_threads.specs.Threads.{IsNext}
+use Rattle.std.proofs.Common.{◌≡◌, true, is_some, subst, inr}
+use Rattle.step_threads.proofs.Prelude.{Act, Brought, Exchange, going, hand, IsNext, model_state}
+use Rattle.step_threads.proofs.Prelude.{new_of, owing_for, pending, PendingCall, Swap}
 use Rattle.step_threads.proofs.StoreFits.{act_here, going_parts, pending_call_here}
 use Rattle.step_threads.proofs.thread.Thread.put_in.Goals as goal
 

@@ -1,20 +1,9 @@
-use Rattle.std.proofs.Common.{◌∙◌, ℕ, cond, refl, sym, ap, subst}
-use Rattle.std.specs.Prelude.{None, Option, Some, option_map}
-use Rattle.step_table.specs.Registers.{place_in, is_full}
-use Rattle.step_table.specs.GhostStates.{model_state}
-use Rattle.step_threads.specs.declared.programs.act.Act.TheVariants.{Read}
-use Rattle.step_threads.specs.declared.pending_call.PendingCall.TheVariants.{Rest}
-use Rattle.step_threads.specs.declared.said.Answer.{Answer}
+use Rattle.std.proofs.Common.{ℕ, cond, Some, None, Option, option_map, sym, refl, ap, ◌∙◌, subst}
+use Rattle.step_threads.proofs.Prelude.{Answer, Event, FitsThread, frame_view, Handle, is_full}
+use Rattle.step_threads.proofs.Prelude.{model_state, on, outside, PendingCall, place_in, Quiet}
+use Rattle.step_threads.proofs.Prelude.{Read, Rest, rest, Said, step_of_act, task_at}
 use Rattle.step_threads.specs.declared.said.Answer.TheVariants as answer
-use Rattle.step_threads.specs.declared.said.Said.{Said}
-use Rattle.step_threads.specs.declared.said.Stepped.TheVariants.{Event, Quiet}
-use Rattle.step_threads.specs.Frames.{rest, task_at, frame_view}
-use Rattle.step_threads.specs.Rows.{outside}
-use Rattle.step_threads.specs.Steps.{step_of_act}
-use Rattle.step_table.specs.AtomicSteps.{field_of, on, read_atomic_step}
-use Rattle.control_word.specs.declared.handle.Handle.{Handle}
-use Rattle.step_threads.specs.declared.pending_call.PendingCall.{PendingCall}
-use Rattle.step_threads.specs.Threads.{FitsThread}
+use Rattle.step_table.specs.AtomicSteps.{field_of, read_atomic_step}
 use Rattle.step_threads.proofs.Acting.{acts_as, went_quiet}
 use Rattle.step_threads.proofs.Going.{found_inside, stays_ready}
 use Rattle.step_threads.proofs.StoreFits.{fits_done}

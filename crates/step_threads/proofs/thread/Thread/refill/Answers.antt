@@ -1,12 +1,7 @@
-use Rattle.std.proofs.Common.{Bool, cond, sym, ap, ◌∙◌}
-use Rattle.control_word.specs.declared.place.Block.{Block}
-use Rattle.std.specs.Prelude.{Option}
+use Rattle.std.proofs.Common.{Bool, cond, Option, sym, ap, ◌∙◌}
+use Rattle.step_threads.proofs.Prelude.{Block, Failing, ghost_after_step, kind_in_state}
+use Rattle.step_threads.proofs.Prelude.{model_state, OnCell, owing_funds, Refill, Refilling, Rest}
 use Rattle.step_table.specs.declared.cell_steps.cell_step.CellStep.TheVariants.{Refill as Refills}
-use Rattle.step_threads.specs.declared.pending_call.PendingCall.TheVariants.{Rest, Refill}
-use Rattle.step_table.specs.declared.memory.ghost_history.AtomicStep.TheVariants.{OnCell}
-use Rattle.step_table.specs.declared.cell_steps.refill.Stage.TheVariants.{Refilling, Failing}
-use Rattle.step_table.specs.CellAtomicSteps.{kind_in_state, owing_funds}
-use Rattle.step_table.specs.GhostStates.{ghost_after_step, model_state}
 use Rattle.step_threads.proofs.RefillFits.{fits_as, fits_missed, fits_refilled, refill_here}
 use Rattle.step_threads.proofs.thread.Thread.refill.Goals as goal
 use Rattle.step_threads.proofs.thread.Thread.refill.Goals.{then-refill_cell, else-refill_cell}

@@ -1,11 +1,6 @@
 use Rattle.std.proofs.Common.{ℕ, ap, ◌∙◌}
-use Rattle.control_word.specs.declared.model.handle.Kind.{Kind}
-use Rattle.step_table.specs.declared.cell_steps.cell_step.CellStep.TheVariants.{Bring}
-use Rattle.step_threads.specs.declared.pending_call.PendingCall.TheVariants.{Refill}
-use Rattle.step_table.specs.declared.memory.ghost_history.AtomicStep.TheVariants.{OnCell}
-use Rattle.step_table.specs.declared.cell_steps.refill.Stage.TheVariants.{Refilling}
-use Rattle.step_table.specs.CellAtomicSteps.{kind_in_state}
-use Rattle.step_table.specs.GhostStates.{ghost_after_step, model_state}
+use Rattle.step_threads.proofs.Prelude.{Bring, ghost_after_step, Kind, kind_in_state, model_state}
+use Rattle.step_threads.proofs.Prelude.{OnCell, Refill, Refilling}
 use Rattle.step_threads.proofs.RefillFits.{fits_as, fits_refunded}
 use Rattle.step_threads.proofs.thread.Thread.refund.Goals as goal
 

@@ -1,12 +1,6 @@
-use Rattle.std.proofs.Common.{◌∙◌, ℕ, refl, ap}
-use Rattle.std.specs.Prelude.{None, Some}
-use Rattle.step_threads.specs.declared.pending_call.PendingCall.TheVariants.{Rest}
-use Rattle.step_threads.specs.declared.said.Said.{Said}
-use Rattle.step_threads.specs.declared.said.Stepped.TheVariants.{Quiet}
+use Rattle.std.proofs.Common.{ℕ, Some, None, refl, ap, ◌∙◌}
+use Rattle.step_threads.proofs.Prelude.{Answer, Ask, Quiet, Rest, Said, task_at}
 use Rattle.step_threads.proofs.Acting.{acts_as, can_act, went_quiet}
-use Rattle.step_threads.specs.declared.programs.act.Act.TheVariants.{Ask}
-use Rattle.step_threads.specs.declared.said.Answer.{Answer}
-use Rattle.step_threads.specs.Frames.{task_at}
 use Rattle.step_threads.proofs.thread.Thread.reply.Goals as goal
 
 pub reply-requires-clause-can : goal.reply-requires-clause-can

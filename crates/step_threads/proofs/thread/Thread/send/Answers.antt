@@ -1,21 +1,10 @@
-use Rattle.std.proofs.Common.{inl, inr, ◌≡◌, ◌&&◌, ◌∙◌, ℕ, Bool, true, false, cond, set, refl, sym, ap, subst}
-use Rattle.std.specs.Prelude.{None, Option, Some, is_some}
-use Rattle.step_table.specs.Contents.{is_of, owing_for}
-use Rattle.step_table.specs.declared.cell_steps.cell_step.CellStep.TheVariants.{Bring}
-use Rattle.step_table.specs.declared.memory.ghost_history.AtomicStep.TheVariants.{OnCell}
-use Rattle.step_table.specs.Registers.{is_full, pointer_of, slot_value}
-use Rattle.step_table.specs.GhostStates.{GhostState, pending, ghost_after_step, model_state}
-use Rattle.step_threads.specs.declared.programs.act.Act.{Act}
-use Rattle.step_threads.specs.declared.programs.act.Act.TheVariants.{Exchange}
-use Rattle.step_threads.specs.declared.pending_call.PendingCall.TheVariants.{Rest, Brought}
-use Rattle.step_threads.specs.declared.said.Said.{Said}
-use Rattle.step_threads.specs.declared.said.Stepped.TheVariants.{Quiet}
-use Rattle.step_threads.specs.Frames.{Going, going, new_of, on_going, rest, task_at, frame_view, frame_settled}
-use Rattle.step_threads.specs.Programs.{kind_at}
-use Rattle.step_threads.specs.Rows.{may_go}
-use Rattle.step_threads.specs.AbstractStates.{came}
-use Rattle.step_threads.specs.Steps.{brings, sends, silent, step_of_act}
-use Rattle.step_threads.specs.Threads.{FitsThread}
+use Rattle.std.proofs.Common.{◌≡◌, ℕ, Bool, true, false, cond, ◌&&◌, set, is_some, Some, None}
+use Rattle.std.proofs.Common.{Option, sym, refl, ap, ◌∙◌, subst, inl, inr}
+use Rattle.step_threads.proofs.Prelude
+use Prelude.{Act, Bring, brings, Brought, came, Exchange, FitsThread, frame_settled, frame_view}
+use Prelude.{ghost_after_step, GhostState, Going, going, is_full, is_of, kind_at, may_go}
+use Prelude.{model_state, new_of, on_going, OnCell, owing_for, pending, pointer_of, Quiet, Rest}
+use Prelude.{rest, Said, sends, silent, slot_value, step_of_act, task_at}
 use Rattle.step_threads.proofs.Acting.{acts_as, went_quiet}
 use Rattle.step_threads.proofs.Going.{found_at, may_go_at, stays_ready}
 use Rattle.step_threads.proofs.LookFits.{fits_quiet}

@@ -1,14 +1,8 @@
-use Rattle.std.proofs.Common.{ℕ, refl, sym, subst, ap}
-use Rattle.std.specs.Prelude.{Some, None}
+use Rattle.std.proofs.Common.{ℕ, Some, None, sym, refl, ap, subst}
+use Rattle.step_threads.proofs.Prelude.{Event, FitsThread, ghost_after_step, GhostState}
+use Rattle.step_threads.proofs.Prelude.{PendingCall, Quiet, Rest, Shelve, Stocks}
 use Rattle.step_table.specs.declared.memory.ghost_history.AtomicStep.TheVariants as atomic_step
 use Rattle.step_table.specs.declared.memory.shelf.ShelfStep.TheVariants as shelf
-use Rattle.step_table.specs.GhostStates.{GhostState, ghost_after_step}
-use Rattle.step_threads.specs.Actors.{Stocks}
-use Rattle.step_threads.specs.Threads.{FitsThread}
-use Rattle.step_threads.specs.declared.programs.act.ShelfAct.TheVariants.{Shelve}
-use Rattle.step_threads.specs.declared.pending_call.PendingCall.{PendingCall}
-use Rattle.step_threads.specs.declared.pending_call.PendingCall.TheVariants.{Rest}
-use Rattle.step_threads.specs.declared.said.Stepped.TheVariants.{Event, Quiet}
 use Rattle.step_threads.proofs.ShelfSteps.{fits_moved, stepped_shelf, stocks_shelve}
 use Rattle.step_threads.proofs.Threads.{least_here, least_nowhere, resting}
 use Rattle.step_threads.proofs.holding.Storing.{taken_stored}

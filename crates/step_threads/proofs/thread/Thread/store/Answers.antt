@@ -1,10 +1,6 @@
-use Rattle.std.proofs.Common.{refl, sym, ap, ◌∙◌}
-use Rattle.step_threads.specs.declared.programs.act.Act.TheVariants.{Swap}
-use Rattle.step_threads.specs.declared.said.Said.{Said}
-use Rattle.step_threads.specs.declared.said.Stepped.TheVariants.{Quiet}
-use Rattle.step_threads.specs.Frames.{hand, task_at, frame_view}
-use Rattle.step_table.specs.Registers.{slot_pointer}
-use Rattle.step_threads.specs.Steps.{brings, silent}
+use Rattle.std.proofs.Common.{sym, refl, ap, ◌∙◌}
+use Rattle.step_threads.proofs.Prelude.{brings, frame_view, hand, Quiet, Said, silent}
+use Rattle.step_threads.proofs.Prelude.{slot_pointer, Swap, task_at}
 use Rattle.step_threads.proofs.Steps.{stepped_as, waits_act}
 use Rattle.step_threads.proofs.StoreFits.{going_is, swap_goes}
 use Rattle.step_threads.proofs.StoreSteps.{step_brings}

@@ -1,20 +1,10 @@
-use Rattle.std.proofs.Common.{sym, subst, ap, ◌∙◌, ◌≡◌, ◌&&◌, Bool, true, false, cond, refl}
-use Rattle.control_word.specs.declared.model.handle.Kind.{Kind}
-use Rattle.step_table.specs.Contents.{as_word, is_of, slots_swapped}
-use Rattle.step_threads.specs.Frames.{hand, other, rest, task_at, frame_settled}
-use Rattle.step_threads.specs.Passing.{HasGoneOn}
-use Rattle.step_table.specs.Registers.{slot_value}
-use Rattle.step_threads.specs.Steps.{gives_back, silent}
-use Rattle.step_table.specs.GhostStates.{GhostState, model_state}
-use Rattle.step_threads.specs.Threads.{FitsThread}
+use Rattle.std.proofs.Common.{◌≡◌, Bool, true, false, cond, ◌&&◌, sym, refl, ap, ◌∙◌, subst}
+use Rattle.step_threads.proofs.Prelude.{as_word, came, Event, FitsThread, frame_settled}
+use Rattle.step_threads.proofs.Prelude.{GhostState, gives_back, hand, HasGoneOn, is_of, Kind}
+use Rattle.step_threads.proofs.Prelude.{kind_at, may_go, model_state, other, rest, Said, silent}
+use Rattle.step_threads.proofs.Prelude.{slot_value, slots_swapped, Swap, task_at}
 use Rattle.step_threads.proofs.StoreFits.{cell_of_swap, fits_swapped, going_is}
-use Rattle.step_threads.specs.declared.said.Said.{Said}
-use Rattle.step_threads.specs.declared.said.Stepped.TheVariants.{Event}
-use Rattle.step_threads.specs.Programs.{kind_at}
-use Rattle.step_threads.specs.Rows.{may_go}
-use Rattle.step_threads.specs.AbstractStates.{came}
 use Rattle.step_threads.proofs.StoreSteps.{swapped_here}
-use Rattle.step_threads.specs.declared.programs.act.Act.TheVariants.{Swap}
 use Rattle.step_threads.proofs.thread.Thread.swap.Goals as goal
 
 pub returns-clause-fits : goal.returns-clause-fits

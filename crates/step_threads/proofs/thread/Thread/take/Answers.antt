@@ -1,18 +1,7 @@
-use Rattle.std.proofs.lemmas.Grind.{common_steps}
-use Rattle.std.proofs.Common.{arith}
-use Rattle.std.proofs.Common.{◌≡◌, Bool, cond, sym, ap, subst, ◌∙◌}
-use Rattle.step_threads.specs.declared.pending_call.PendingCall.{PendingCall}
-use Rattle.step_threads.specs.declared.pending_call.PendingCall.TheVariants.{Refill}
-use Rattle.control_word.specs.declared.site.Site.{Site}
-use Rattle.step_table.specs.declared.cell_steps.cell_step.CellStep.TheVariants.{Take}
-use Rattle.std.specs.Prelude.{None}
-use Rattle.step_table.specs.declared.memory.ghost_history.AtomicStep.TheVariants.{OnCell}
-use Rattle.step_table.specs.declared.cell_steps.refill.Stage.TheVariants.{Turning}
-use Rattle.step_table.specs.Refills.{more_taken}
-use Rattle.step_threads.specs.Frames.{cell_of_name}
-use Rattle.step_threads.specs.Passing.{HasGoneOn}
-use Rattle.step_table.specs.GhostStates.{GhostState, ghost_after_step, model_state}
-use Rattle.step_threads.specs.Threads.{FitsThread}
+use Rattle.std.proofs.Common.{◌≡◌, Bool, cond, None, sym, ap, ◌∙◌, subst, arith}
+use Rattle.step_threads.proofs.Prelude.{cell_of_name, common_steps, FitsThread, ghost_after_step}
+use Rattle.step_threads.proofs.Prelude.{GhostState, HasGoneOn, model_state, more_taken, OnCell}
+use Rattle.step_threads.proofs.Prelude.{PendingCall, Refill, Site, Take, Turning}
 use Rattle.step_threads.proofs.LoadFits.{fits_taken, saw_next, saw_there}
 use Rattle.step_threads.proofs.thread.Thread.take.Goals as goal
 use Rattle.step_threads.proofs.Named.{named_load}

@@ -1,26 +1,15 @@
-use Rattle.std.proofs.Common.{◌≡◌, ◌==◌, ℕ, true, eq-eqb, set, sym, ap, subst, ◌∙◌, arith, false, not, cond, refl, ne_eqb}
-use Rattle.std.proofs.lemmas.Bool.{cond-true, cond-false}
-use Rattle.step_table.specs.declared.slots.slot.Slot.{Slot}
-use Rattle.step_table.specs.declared.slots.slot.Slot.TheVariants.{Full}
-use Rattle.step_table.specs.AtomicSteps.{as_owner, lock, owner_word}
-use Rattle.step_table.specs.Registers.{Slots}
-use Rattle.step_threads.specs.declared.pending_call.PendingCall.{PendingCall}
-use Rattle.step_threads.specs.declared.pending_call.PendingCall.TheVariants.{Locking, Rest}
-use Rattle.step_threads.specs.Frames.{IsReady, hand, rest, todo, task_at, frame_view, frame_settled}
-use Rattle.step_threads.specs.Threads.{IsNext, FitsThread}
+use Rattle.std.proofs.Common.{◌≡◌, ℕ, true, false, cond, not, set, ◌==◌, Some, sym, refl, ap, ◌∙◌}
+use Rattle.std.proofs.Common.{subst, arith, eq-eqb, ne_eqb}
+use Rattle.step_threads.proofs.Prelude
+use Prelude.{as_owner, cond-false, cond-true, Event, FitsThread, frame_settled, frame_view, Full}
+use Prelude.{GhostState, hand, HasGoneOn, IsNext, IsReady, Lock, lock, Locking, model_state}
+use Prelude.{owner_word, PendingCall, Quiet, Rest, rest, Said, silent, Slot, Slots, step_of_act}
+use Prelude.{task_at, todo, trying, waits}
 use Rattle.step_threads.proofs.Hands.{locked_ready}
-use Rattle.std.specs.Prelude.{Some}
-use Rattle.step_table.specs.GhostStates.{GhostState, model_state}
-use Rattle.step_threads.specs.declared.programs.act.Act.TheVariants.{Lock}
-use Rattle.step_threads.specs.declared.said.Said.{Said}
-use Rattle.step_threads.specs.declared.said.Stepped.TheVariants.{Event, Quiet}
-use Rattle.step_threads.specs.Steps.{silent, trying, step_of_act}
 use Rattle.step_threads.proofs.Going.{found_weak}
 use Rattle.step_threads.proofs.LockSteps.{lock_said, lock_says, lock_went, locks_it, locks_on}
 use Rattle.step_threads.proofs.StoreFits.{pending_call_here}
 use Rattle.step_threads.proofs.Steps.{stepped_as}
-use Rattle.step_threads.specs.NextSteps.{waits}
-use Rattle.step_threads.specs.Passing.{HasGoneOn}
 use Rattle.step_threads.proofs.LookFits.{fits_gone}
 use Rattle.step_threads.proofs.Threads.{own_pending}
 use Rattle.step_threads.proofs.thread.Thread.try_lock.Goals as goal

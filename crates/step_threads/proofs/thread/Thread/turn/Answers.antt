@@ -1,12 +1,6 @@
 use Rattle.std.proofs.Common.{◌≡◌, cond, sym, ap, ◌∙◌}
-use Rattle.std.proofs.lemmas.Bool.{cond-true, cond-false}
-use Rattle.control_word.specs.declared.model.handle.Kind.{Kind}
-use Rattle.step_table.specs.declared.cell_steps.cell_step.CellStep.TheVariants.{Turn}
-use Rattle.step_threads.specs.declared.pending_call.PendingCall.TheVariants.{Rest, Refill}
-use Rattle.step_table.specs.declared.memory.ghost_history.AtomicStep.TheVariants.{OnCell}
-use Rattle.step_table.specs.declared.cell_steps.refill.Stage.TheVariants.{Checking}
-use Rattle.step_table.specs.Refills.{is_low}
-use Rattle.step_table.specs.GhostStates.{ghost_after_step}
+use Rattle.step_threads.proofs.Prelude.{Checking, cond-false, cond-true, ghost_after_step, is_low}
+use Rattle.step_threads.proofs.Prelude.{Kind, OnCell, Refill, Rest, Turn}
 use Rattle.step_threads.proofs.RefillFits.{fits_as, fits_turned}
 use Rattle.step_threads.proofs.thread.Thread.turn.Goals as goal
 use Rattle.step_threads.proofs.thread.Thread.turn.Goals.{then-is_low, else-is_low}

@@ -1,16 +1,12 @@
-use Rattle.std.proofs.Common.{sym, subst, ap}
+use Rattle.std.proofs.Common.{Some, None, sym, ap, subst}
+use Rattle.step_threads.proofs.Prelude.{cond-false, cond-true, Event, FitsThread, ghost_after_step}
+use Rattle.step_threads.proofs.Prelude.{GhostState, model_state, PendingCall, Quiet, Rest}
+use Rattle.step_threads.proofs.Prelude.{Unshelve}
 use Rattle.step_table.specs.declared.memory.ghost_history.AtomicStep.TheVariants as atomic_step
 use Rattle.step_table.specs.declared.memory.shelf.ShelfStep.TheVariants as shelf
-use Rattle.step_table.specs.GhostStates.{GhostState, ghost_after_step, model_state}
-use Rattle.step_threads.specs.Threads.{FitsThread}
-use Rattle.step_threads.specs.declared.pending_call.PendingCall.{PendingCall}
-use Rattle.step_threads.specs.declared.pending_call.PendingCall.TheVariants.{Rest}
-use Rattle.step_threads.proofs.ShelfSteps.{fits_moved, room_unshelve, stocks_missed, stocks_unshelve, shelf_ready, stepped_shelf}
+use Rattle.step_threads.proofs.ShelfSteps.{fits_moved, room_unshelve, stocks_missed}
+use Rattle.step_threads.proofs.ShelfSteps.{stocks_unshelve, shelf_ready, stepped_shelf}
 use Rattle.step_threads.proofs.Threads.{resting}
-use Rattle.std.proofs.lemmas.Bool.{cond-true, cond-false}
-use Rattle.std.specs.Prelude.{None, Some}
-use Rattle.step_threads.specs.declared.programs.act.ShelfAct.TheVariants.{Unshelve}
-use Rattle.step_threads.specs.declared.said.Stepped.TheVariants.{Event, Quiet}
 use Rattle.step_threads.proofs.thread.Thread.unshelve.Goals as goal
 
 pub put-requires : goal.put-requires

@@ -1,12 +1,7 @@
-use Rattle.step_table.specs.declared.memory.form.Form.{Form}
-use Rattle.step_threads.specs.declared.pending_call.PendingCall.TheVariants.{Making}
-use Rattle.std.proofs.Common.{◌+◌, false}
-use Rattle.step_threads.specs.declared.thread.Thread.{Thread}
-use Rattle.std.proofs.Common.{ℕ, sym, ap, subst, get_or, ◌∙◌}
-use Rattle.step_threads.specs.Actors.{wanted}
+use Rattle.std.proofs.Common.{ℕ, ◌+◌, false, get_or, sym, ap, ◌∙◌, subst}
+use Rattle.step_threads.proofs.Prelude.{FitsThread, Form, ghost_after_step, GhostState, Making}
+use Rattle.step_threads.proofs.Prelude.{Thread, wanted}
 use Rattle.step_table.specs.declared.memory.ghost_history.AtomicStep.TheVariants as atomic_step
-use Rattle.step_table.specs.GhostStates.{GhostState, ghost_after_step}
-use Rattle.step_threads.specs.Threads.{FitsThread}
 use Rattle.step_threads.proofs.Threads.{form_here, fits_write}
 use Rattle.step_threads.proofs.thread.Thread.write.Goals as goal
 
