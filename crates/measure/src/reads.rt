@@ -72,11 +72,11 @@ pub(crate) struct Publish;
 
 impl<'t, D: Domain<Value = ()>> Row<Own<'t, D>> for Publish {
     fn once<R: Clock + Wait>(&self, _rt: &R, own: &mut Own<'t, D>) -> bool {
-        publish(own).is_ok()
+        store_new(own).is_ok()
     }
 }
 
-fn publish<D: Domain<Value = ()>>(own: &Own<'_, D>) -> Result<(), Fault> {
+fn store_new<D: Domain<Value = ()>>(own: &Own<'_, D>) -> Result<(), Fault> {
     own.desk.make(FIELDS, ())?.store(own.cell)
 }
 
@@ -89,7 +89,7 @@ impl<'t, D: Domain<Value = ()>> Row<Own<'t, D>> for PublishSeldom {
         let Ok(start) = Instant::now(rt) else {
             return false;
         };
-        let whole = publish(own).is_ok();
+        let whole = store_new(own).is_ok();
         for _ in rt.forever() {
             match start.elapsed(rt) {
                 Ok(since) => {
@@ -112,11 +112,11 @@ pub(crate) struct Update;
 impl<'t, D: Domain<Value = ()>> Row<Own<'t, D>> for Update {
     #[inline]
     fn once<R: Clock + Wait>(&self, rt: &R, own: &mut Own<'t, D>) -> bool {
-        update(rt, own).is_ok()
+        count_up(rt, own).is_ok()
     }
 }
 
-fn update<R: Wait, D: Domain<Value = ()>>(rt: &R, own: &Own<'_, D>) -> Result<(), Fault> {
+fn count_up<R: Wait, D: Domain<Value = ()>>(rt: &R, own: &Own<'_, D>) -> Result<(), Fault> {
     let cell = own.desk.cell(own.cell);
     let mut expected = cell.load(rt)?;
     for _ in rt.forever() {
