@@ -1,16 +1,14 @@
 -- A desk's calls leave it the allowance that it has.
 use Rattle.std.proofs.Common.{◌≡◌, ℕ, true, false, ◌++◌, refl, ap, ◌∙◌}
-use Rattle.control_word.proofs.history.Kept.{same_kept}
-use Rattle.control_word.specs.Events.{after}
-use Rattle.control_word.specs.Histories.{leads}
-use Rattle.control_word.specs.State.{State}
+use Rattle.pointers.proofs.Prelude.{AddsEvent, after, allowance_of, ClearMember, DeskNow, Event}
+use Rattle.pointers.proofs.Prelude.{Join, KeepsDesks, leads, Make, opening_of, Read, same_kept}
+use Rattle.pointers.proofs.Prelude.{Split, State}
 use Rattle.control_word.specs.declared.model.event.Cell.TheVariants.{Free, Member}
-use Rattle.control_word.specs.declared.model.event.Event.{Event}
-use Rattle.control_word.specs.declared.model.event.Event.TheVariants.{ClearMember, Compare, Count, Expired, Finish, Join, Leave, Load, Lock, Make, Read}
-use Rattle.control_word.specs.declared.model.event.Event.TheVariants.{Same, Share, Shelve, Split, Swap, Unshelve, Visit, WeakLeave, WeakShare}
-use Rattle.control_block.specs.Desks.{AddsEvent, DeskNow, allowance_of}
-use Rattle.control_block.specs.Own.{KeepsDesks}
-use Rattle.control_block.specs.Rule.{opening_of}
+use Rattle.control_word.specs.declared.model.event.Event.TheVariants.{Compare, Count, Expired}
+use Rattle.control_word.specs.declared.model.event.Event.TheVariants.{Finish, Leave, Load, Lock}
+use Rattle.control_word.specs.declared.model.event.Event.TheVariants.{Same, Share, Shelve, Swap}
+use Rattle.control_word.specs.declared.model.event.Event.TheVariants.{Unshelve, Visit, WeakLeave}
+use Rattle.control_word.specs.declared.model.event.Event.TheVariants.{WeakShare}
 
 module _ {V : Type 0} where
   kept_after : (s : State) (d : ℕ) (x : Event V) → KeepsDesks x → (after s d x).allowance ≡ s.allowance

@@ -1,15 +1,10 @@
 -- Vacant blocks of a desk, and what is left to end with it.
-use Rattle.std.proofs.Common.{◌≡◌, ℕ, ◌-◌, ◌≤◌, ◌⊎◌, inl, inr, min, length, List, [], Option, None, Some, arith, ap, sym, subst, ◌∙◌, refl}
-use Rattle.std.specs.Prelude.{IfNone}
-use Rattle.control_block.specs.Desks.{Belongs, DeskNow, DomainNow, endings_of, stock_of}
-use Rattle.control_block.specs.Own.{IsSole}
+use Rattle.std.proofs.Common.{◌≡◌, ℕ, ◌-◌, ◌≤◌, min, ◌⊎◌, List, [], length, IfNone, Some, None}
+use Rattle.std.proofs.Common.{Option, sym, ap, ◌∙◌, subst, inl, inr, arith}
+use Rattle.pointers.proofs.Prelude.{Bears, Belongs, DeskNow, domain_of, DomainNow, Fills, IsSole}
+use Rattle.pointers.proofs.Prelude.{IsWhole, Known, Later, Pile, ShelvesAll, stock_of}
 use Rattle.control_block.specs.Shelf.{Shelved, Unshelved, shelved_of}
-use Rattle.shared_handle.specs.Piles.{Bears}
-use Rattle.shared_handle.specs.declared.pile.Pile.{Pile}
-use Rattle.pointers.specs.Blocks.{Fills, Settles, ShelvesAll, SinceOpened}
-use Rattle.pointers.specs.Known.{Later}
-use Rattle.pointers.specs.Whole.{IsWhole, domain_of}
-use Rattle.pointers.specs.declared.known.Known.{Known}
+use Rattle.pointers.specs.Blocks.{Settles, SinceOpened}
 
 module _ {V : Type 0} where
   -- since the desk was opened it did what it does now

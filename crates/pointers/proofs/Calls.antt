@@ -1,30 +1,17 @@
 -- What the records of calls say of a desk's history: it goes on.
-use Rattle.std.proofs.Common.{◌≡◌, ◌+◌, ◌-◌, Bool, Option, None, Some, refl, sym, ap, subst, ◌⊎◌, inl, inr}
-use Rattle.control_word.specs.declared.place.Block.{Block}
-use Rattle.control_word.specs.declared.place.Place.{Place}
-use Rattle.control_word.specs.declared.model.handle.NumberedHandle.{NumberedHandle}
-use Rattle.control_word.specs.declared.model.handle.Kind.TheVariants.{Weak}
-use Rattle.control_block.specs.CellCalls.{with_handle}
-use Rattle.control_word.specs.declared.model.event.Event.{Event}
-use Rattle.control_block.specs.Own.{Goes, KeepsLatest}
-use Rattle.control_block.specs.Desks.{DeskNow, allowance_of}
-use Rattle.shared_handle.specs.Calls.{IsExpiry, IsUseCount, LeavesWeakly, Makes, SharesOwner, SharesWeakly, counting, weak_place}
-use Rattle.control_block.specs.declared.handles.Shared.{Shared}
-use Rattle.control_word.specs.declared.refusal.Refusal.{Refusal}
-use Rattle.control_word.specs.declared.refusal.Refusal.TheVariants.{BadWeak, Limit, Null, Outside}
-use Rattle.shared_handle.specs.Locks.{IsUpgrade}
-use Rattle.shared_handle.specs.Endings.{IsLeft, IsRead}
-use Rattle.shared_handle.specs.Visits.{IsVisit}
-use Rattle.control_word.specs.declared.refusal.Refused.{Refused}
-use Rattle.control_word.specs.declared.model.handle.Kind.{Kind}
-use Rattle.shared_handle.specs.Piles.{Drops}
-use Rattle.shared_handle.specs.declared.endings.Ending.{Ending}
-use Rattle.shared_handle.specs.declared.endings.Left.{Left}
+use Rattle.std.proofs.Common.{◌≡◌, ℕ, ◌+◌, ◌-◌, Bool, ◌⊎◌, List, Some, None, Ok, Err, Option}
+use Rattle.std.proofs.Common.{Result, sym, refl, ap, subst, inl, inr}
+use Rattle.pointers.proofs.Prelude
+use Prelude.{allowance_of, BadWeak, Block, counting, DeskNow, Drops, Ending, Event, Goes, Gone}
+use Prelude.{IsExpiry, IsRead, IsUpgrade, IsUseCount, IsVisit, Kind, Later, LeavesWeakly, Left}
+use Prelude.{Limit, Null, NumberedHandle, Place, Refusal, Refused, Shared, Weak, with_handle}
+use Rattle.control_block.specs.Own.{KeepsLatest}
+use Rattle.shared_handle.specs.Calls.{Makes, SharesOwner, SharesWeakly, weak_place}
+use Rattle.control_word.specs.declared.refusal.Refusal.TheVariants.{Outside}
+use Rattle.shared_handle.specs.Endings.{IsLeft}
 use Rattle.shared_handle.specs.declared.endings.Left.TheVariants.{Empty, Last, Others}
-use Rattle.shared_handle.specs.declared.pile.Gone.{Gone}
-use Rattle.std.proofs.Common.{List, Result, Ok, Err, ℕ}
 use Rattle.pointers.proofs.Later.{by_count, by_event, by_none, goes_by}
-use Rattle.pointers.specs.Known.{IsAtAllowance, Later}
+use Rattle.pointers.specs.Known.{IsAtAllowance}
 use Rattle.pointers.specs.Objects.{FindsNoOwner}
 
 -- a weak handle's place counts only with a block

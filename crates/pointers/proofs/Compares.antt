@@ -1,31 +1,21 @@
 -- What compares of cells say, by what is known of handles.
-use Rattle.std.proofs.Common.{◌≡◌, ◌⊎◌, ℕ, ◌+◌, Bool, cond, true, false, List, [], ◌∷◌, slice_get, slice_set, Option, None, Some, sym, subst, ◌∙◌, arith}
+use Rattle.std.proofs.Common.{◌≡◌, ℕ, ◌+◌, Bool, true, false, cond, ◌⊎◌, List, [], ◌∷◌, slice_get}
+use Rattle.std.proofs.Common.{slice_set, Some, None, Option, sym, ◌∙◌, subst, arith}
+use Rattle.pointers.proofs.Prelude.{AddsEvent, Arrives, bag_of, Block, block_of, Cell, DeskNow}
+use Rattle.pointers.proofs.Prelude.{Entry, GoesOn, handle_in, Held, IsHandleOf, IsLegal, IsWhole}
+use Rattle.pointers.proofs.Prelude.{IsWholeBeside, Keeps, Kind, Known, Later, NumberedHandle}
+use Rattle.pointers.proofs.Prelude.{opening_of, Pile, Place, place_of, Standing, Stays, with_held}
+use Rattle.pointers.proofs.Prelude.{without_held}
 use Rattle.control_word.specs.Handles.{equivalent}
-use Rattle.control_word.specs.Histories.{IsLegal}
-use Rattle.control_word.specs.declared.model.event.Cell.{Cell}
-use Rattle.control_word.specs.declared.model.event.Entry.{Entry}
 use Rattle.control_word.specs.declared.model.event.Event.TheVariants as event
-use Rattle.control_word.specs.declared.model.handle.Kind.{Kind}
-use Rattle.control_word.specs.declared.model.handle.NumberedHandle.{NumberedHandle}
-use Rattle.control_word.specs.declared.place.Block.{Block}
-use Rattle.control_word.specs.declared.place.Place.{Place}
-use Rattle.control_block.specs.CellCalls.{handle_in}
-use Rattle.control_block.specs.Desks.{AddsEvent, DeskNow, Keeps, bag_of}
-use Rattle.control_block.specs.HandleLists.{with_held, without_held}
-use Rattle.control_block.specs.Standing.{Standing}
-use Rattle.control_block.specs.Rule.{opening_of}
-use Rattle.control_block.specs.declared.handles.Held.{Held}
 use Rattle.atomic_cells.specs.Compares.{Compares, bag_compared, came_out, has_swapped}
 use Rattle.atomic_cells.specs.declared.compared.Compared.{Compared}
-use Rattle.shared_handle.specs.declared.pile.Pile.{Pile}
-use Rattle.pointers.proofs.CellCalls.{block_arrived, block_given, came_to, place_arrived, place_given}
+use Rattle.pointers.proofs.CellCalls.{block_arrived, block_given, came_to, place_arrived}
+use Rattle.pointers.proofs.CellCalls.{place_given}
 use Rattle.pointers.proofs.InHand.{bears_on, claim_ends, comes, nothing_beside, swaps}
-use Rattle.pointers.specs.Beside.{Arrives, IsEmptyHandle, IsHandleOf, IsWholeBeside, Stays}
+use Rattle.pointers.specs.Beside.{IsEmptyHandle}
 use Rattle.pointers.specs.Cells.{block_by, place_by}
 use Rattle.pointers.specs.Compares.{Finds, IsCompared}
-use Rattle.pointers.specs.Known.{GoesOn, Later, block_of, place_of}
-use Rattle.pointers.specs.Whole.{IsWhole}
-use Rattle.pointers.specs.declared.known.Known.{Known}
 
 module _ {V : Type 0} where
   -- a compare in a legal history tells whether the pointers were equivalent

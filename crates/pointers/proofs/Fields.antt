@@ -1,23 +1,14 @@
 -- The field that a handle points at is the one that its object was made with.
-use Rattle.std.proofs.Common.{◌≡◌, ℕ, List, ◌++◌, append_assoc, Option, None, Some, Result, Ok, Err, IfOk, refl, sym, ap, subst, ◌∙◌, slice_index}
-use Rattle.control_word.proofs.history.Given.{legal_seen}
+use Rattle.std.proofs.Common.{◌≡◌, ℕ, List, ◌++◌, IfOk, slice_index, Some, None, Ok, Err, Option}
+use Rattle.std.proofs.Common.{Result, sym, refl, ap, ◌∙◌, subst, append_assoc}
+use Rattle.pointers.proofs.Prelude.{AddsEvent, Block, desk_at, DeskNow, Entry, fields_in, IsField}
+use Rattle.pointers.proofs.Prelude.{IsLegal, IsRead, KeepsObject, Known, leads, legal_seen, Lives}
+use Rattle.pointers.proofs.Prelude.{object_in, Opening, opening_of, owned, Owner, Place, pointed}
+use Rattle.pointers.proofs.Prelude.{Read, Refusal, Shape}
 use Rattle.control_word.proofs.history.Kept.{stays_as_made}
 use Rattle.control_word.proofs.history.Legal.{sound}
-use Rattle.control_word.specs.Histories.{IsLegal, leads}
-use Rattle.control_word.specs.State.{Opening}
-use Rattle.control_word.specs.declared.model.event.Entry.{Entry}
-use Rattle.control_word.specs.declared.model.event.Event.TheVariants.{Read}
-use Rattle.control_word.specs.declared.model.handle.Kind.TheVariants.{Owner}
-use Rattle.control_word.specs.declared.place.Block.{Block}
-use Rattle.control_word.specs.declared.place.Place.{Place}
-use Rattle.control_word.specs.declared.refusal.Refusal.{Refusal}
-use Rattle.control_word.specs.declared.shape.Shape.{Shape}
-use Rattle.control_block.specs.Desks.{AddsEvent, DeskNow, object_in, on_latest}
-use Rattle.control_block.specs.Rule.{opening_of}
-use Rattle.shared_handle.specs.Endings.{IsRead}
-use Rattle.pointers.specs.Known.{KeepsObject, Lives, desk_at, fields, fields_in, owned, pointed}
-use Rattle.pointers.specs.Objects.{IsField}
-use Rattle.pointers.specs.declared.known.Known.{Known}
+use Rattle.control_block.specs.Desks.{on_latest}
+use Rattle.pointers.specs.Known.{fields}
 
 abbrev IsPlace : Place → Option Place → Type 0
 IsPlace p None = ⊥

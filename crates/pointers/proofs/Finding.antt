@@ -1,12 +1,7 @@
 -- What a look tells of the pointer that was found last.
-use Rattle.std.proofs.Common.{◌≡◌, Bool, true, Option, Some, Result, Ok, Err, subst, sym}
-use Rattle.std.specs.Prelude.{IfOk}
-use Rattle.control_word.specs.declared.model.event.Cell.{Cell}
-use Rattle.control_word.specs.declared.model.handle.Kind.TheVariants.{Owner}
-use Rattle.control_block.specs.Desks.{DeskNow}
+use Rattle.std.proofs.Common.{◌≡◌, Bool, true, IfOk, Some, Ok, Err, Option, Result, sym, subst}
+use Rattle.pointers.proofs.Prelude.{Cell, DeskNow, Fault, Known, Owner}
 use Rattle.pointers.specs.Cells.{Found, LookedFor}
-use Rattle.pointers.specs.declared.fault.Fault.{Fault}
-use Rattle.pointers.specs.declared.known.Known.{Known}
 
 pub told_still : {V : Type 0} (o : DeskNow V) (of : Option (Known V)) (x : Cell) (c : Known V) (found : Option (Known V)) (r : Result Bool Fault)
     → found ≡ Some c → IfOk r (LookedFor o of x Owner c)

@@ -1,23 +1,18 @@
 -- What a desk has it has still after what a member held came into its hands.
-use Rattle.std.proofs.Common.{◌≡◌, ℕ, List, [], ◌∷◌, ◌++◌, map, Option, Some, refl, sym, ap, subst, ◌∙◌, inl, inr, ⊎_elim}
+use Rattle.std.proofs.Common.{◌≡◌, ℕ, List, [], ◌∷◌, ◌++◌, map, Some, Option, sym, refl, ap, ◌∙◌}
+use Rattle.std.proofs.Common.{subst, inl, inr, ⊎_elim}
+use Rattle.pointers.proofs.Prelude.{AddsEvent, after, DeskNow, Entry, entry, Event, handle, Has}
+use Rattle.pointers.proofs.Prelude.{has_object, HasHandle, IsLegal, Kind, leads, legal_seen}
+use Rattle.pointers.proofs.Prelude.{NumberedHandle, Opening, opening_of, Place, same_kept, Shape}
+use Rattle.pointers.proofs.Prelude.{State}
 use Rattle.std.proofs.lemmas.Bool.{cond_both}
-use Rattle.control_word.proofs.history.Given.{legal_seen, names_an_object}
-use Rattle.control_word.proofs.history.Kept.{block_kept, has_same, same_kept}
+use Rattle.control_word.proofs.history.Given.{names_an_object}
+use Rattle.control_word.proofs.history.Kept.{block_kept, has_same}
 use Rattle.control_word.proofs.lists.Parts.{has_part}
-use Rattle.control_word.specs.Events.{after, clears}
-use Rattle.control_word.specs.Handles.{handle, has_object}
-use Rattle.control_word.specs.Histories.{IsLegal, entry, leads}
-use Rattle.control_word.specs.State.{Has, Held, Opening, State, bag, held}
+use Rattle.control_word.specs.Events.{clears}
+use Rattle.control_word.specs.State.{Held, bag, held}
 use Rattle.control_word.specs.Views.{NoneBy}
-use Rattle.control_word.specs.declared.model.event.Entry.{Entry}
-use Rattle.control_word.specs.declared.model.event.Event.{Event}
-use Rattle.control_word.specs.declared.model.handle.NumberedHandle.{NumberedHandle}
-use Rattle.control_word.specs.declared.model.handle.Kind.{Kind}
-use Rattle.control_word.specs.declared.place.Place.{Place}
-use Rattle.control_word.specs.declared.shape.Shape.{Shape}
 use Rattle.control_block.proofs.Bags.{seen_as, shown, shown_held}
-use Rattle.control_block.specs.Desks.{AddsEvent, DeskNow, HasHandle}
-use Rattle.control_block.specs.Rule.{opening_of}
 
 map_has : {A B : Type 0} (f : A → B) (x : A) (l : List A) → Has x l → Has (f x) (map f l)
 map_has f x [] has = absurd has

@@ -1,36 +1,24 @@
 -- Handles that come to a desk and leave it, by what is known of them.
-use Rattle.std.proofs.Common.{◌≡◌, ◌⊎◌, inl, inr, Result, Ok, Err, IfErr, IsErrAnd, ℕ, ◌+◌, List}
-use Rattle.std.proofs.Common.{[], ◌∷◌, ◌++◌, slice_get, slice_set, Option, None, Some, refl, sym, ap, subst, ◌∙◌}
-use Rattle.control_word.specs.declared.model.handle.NumberedHandle.{NumberedHandle}
-use Rattle.control_word.specs.declared.model.handle.Kind.{Kind}
-use Rattle.control_word.specs.declared.model.handle.Kind.TheVariants.{Owner, Weak}
-use Rattle.control_word.specs.declared.place.Block.{Block}
-use Rattle.control_word.specs.declared.place.Place.{Place}
-use Rattle.control_word.specs.declared.shape.Shape.{Shape}
-use Rattle.control_block.specs.CellCalls.{HoldsHandle, object_by, with_handle}
-use Rattle.control_block.specs.Desks.{Belongs, DeskNow, DomainNow, Keeps, bag_of, latest_of}
-use Rattle.control_block.specs.HandleLists.{IsHeldByDesk, with_held, without_held}
-use Rattle.control_block.specs.Standing.{Standing}
-use Rattle.control_block.specs.declared.handles.Held.{Held}
+use Rattle.std.proofs.Common.{◌≡◌, ℕ, ◌+◌, ◌⊎◌, List, [], ◌∷◌, ◌++◌, IsErrAnd, IfErr, slice_get}
+use Rattle.std.proofs.Common.{slice_set, Some, None, Ok, Err, Option, Result, sym, refl, ap, ◌∙◌}
+use Rattle.std.proofs.Common.{subst, inl, inr}
+use Rattle.pointers.proofs.Prelude
+use Prelude.{AreOfOne, BadWeak, bag_of, Bears, bears_after, bears_kept, Belongs, Block, block_of}
+use Prelude.{Carries, desk_at, DeskNow, domain_of, DomainNow, fields_in, GoesOn, Held, HoldsHandle}
+use Prelude.{IsClaimed, IsHeldByDesk, IsUpgrade, IsWhole, Keeps, KeepsElsewhere, KeepsObject, Kind}
+use Prelude.{Known, known_now, Later, latest_of, Limit, NumberedHandle, owned, Owner, Pile, Place}
+use Prelude.{place_of, pointed, Refusal, Shape, Shared, Since, Standing, Weak, with_handle}
+use Prelude.{with_held, without_held}
+use Rattle.control_block.specs.CellCalls.{object_by}
 use Rattle.control_block.specs.declared.handles.Held.TheVariants as held
-use Rattle.control_block.specs.declared.handles.Shared.{Shared}
 use Rattle.control_block.specs.declared.handles.Weak.{Weak as WeakHandle}
-use Rattle.shared_handle.proofs.Piles.{bears_after, bears_kept}
-use Rattle.shared_handle.specs.Piles.{Bears, Carries, KeepsElsewhere}
-use Rattle.shared_handle.specs.declared.pile.Pile.{Pile}
 use Rattle.pointers.proofs.Fields.{fields_kept}
 use Rattle.pointers.proofs.Later.{goes_then, legal_on, lives_on}
 use Rattle.pointers.proofs.Wholes.{has, whole_less, whole_more, whole_still}
-use Rattle.pointers.specs.Beside.{IsClaimed}
-use Rattle.control_word.specs.declared.refusal.Refusal.{Refusal}
-use Rattle.control_word.specs.declared.refusal.Refusal.TheVariants.{BadWeak, Limit}
 use Rattle.shared_handle.specs.Endings.{WhyNotThis}
-use Rattle.shared_handle.specs.Locks.{IsUpgrade}
 use Rattle.pointers.proofs.Calls.{found_limit, found_none, why_no_owner}
 use Rattle.pointers.specs.Faults.{Was, WhyNoOwner, WhyNoThis}
-use Rattle.pointers.specs.Known.{AreOfOne, GoesOn, Since, KeepsObject, Later, block_of, desk_at, fields_in, known_now, object, owned, place_of, pointed}
-use Rattle.pointers.specs.Whole.{IsWhole, domain_of}
-use Rattle.pointers.specs.declared.known.Known.{Known}
+use Rattle.pointers.specs.Known.{object}
 
 -- the bag with a handle that has these parts
 pub bag_by : (k : Kind) (a b : Option Block) (p q : Option Place) (l bag : List NumberedHandle) → a ≡ b → p ≡ q → bag ≡ with_handle k b q l

@@ -1,29 +1,18 @@
 -- What is true between calls is so within a call of cells, beside what is in hand.
-use Rattle.std.proofs.Common.{◌≡◌, ℕ, ◌+◌, List, [], ◌∷◌, ◌++◌, slice_get, slice_set, Option, None, Some}
-use Rattle.std.proofs.Common.{refl, sym, ap, subst, ◌∙◌, ◌⊎◌, inl, inr}
-use Rattle.control_word.specs.State.{Has}
-use Rattle.control_word.specs.declared.model.handle.NumberedHandle.{NumberedHandle}
-use Rattle.control_word.specs.declared.model.handle.Kind.TheVariants.{Owner, Weak}
-use Rattle.control_word.specs.declared.place.Block.{Block}
-use Rattle.control_block.specs.CellCalls.{with_handle}
+use Rattle.std.proofs.Common.{◌≡◌, ℕ, ◌+◌, ◌⊎◌, List, [], ◌∷◌, ◌++◌, slice_get, slice_set, Some}
+use Rattle.std.proofs.Common.{None, Option, sym, refl, ap, ◌∙◌, subst, inl, inr}
+use Rattle.pointers.proofs.Prelude
+use Prelude.{AllLive, bag_of, Bears, bears_after, bears_kept, Belongs, Block, block_of, Carries}
+use Prelude.{counting, DeskNow, domain_of, DomainNow, endings_of, Has, Held, holds_each}
+use Prelude.{holds_in_order, holds_less, holds_more, IsHeldByDesk, IsWhole, IsWholeBeside, Keeps}
+use Prelude.{KeepsElsewhere, Known, known_now, Later, Lives, living, NumberedHandle, Owner, Pile}
+use Prelude.{Standing, Weak, with_handle, with_held, without_held}
 use Rattle.control_block.specs.declared.handles.Held.TheVariants as held
-use Rattle.shared_handle.specs.Calls.{counting}
-use Rattle.control_block.proofs.HandleLists.{holds_each, holds_in_order, holds_less, holds_more}
-use Rattle.control_block.specs.Desks.{Belongs, DeskNow, DomainNow, IsSameDesk, Keeps, KeepsEndings, bag_of, endings_of}
-use Rattle.control_block.specs.HandleLists.{IsHeldByDesk, with_held, without_held}
-use Rattle.control_block.specs.Standing.{Standing}
-use Rattle.control_block.specs.declared.handles.Held.{Held}
-use Rattle.shared_handle.proofs.Piles.{bears_after, bears_kept}
-use Rattle.shared_handle.specs.Piles.{Bears, Carries, KeepsElsewhere}
-use Rattle.shared_handle.specs.declared.pile.Pile.{Pile}
+use Rattle.control_block.specs.Desks.{IsSameDesk, KeepsEndings}
 use Rattle.pointers.proofs.Later.{by_count, goes_then, legal_on, lives_on}
 use Rattle.pointers.proofs.Living.{held_of, lived, one_less, one_more, same_some, stands_behind}
 use Rattle.pointers.proofs.Swaps.{holds_swapped}
 use Rattle.pointers.proofs.Wholes.{came}
-use Rattle.pointers.specs.Beside.{IsWholeBeside}
-use Rattle.pointers.specs.Known.{AllLive, Later, Lives, block_of, known_now, living}
-use Rattle.pointers.specs.Whole.{IsWhole, domain_of}
-use Rattle.pointers.specs.declared.known.Known.{Known}
 
 has_behind : (x : Held) (hs ks : List Held) → Has x ks → Has x (hs ++ ks)
 has_behind x [] ks has = has

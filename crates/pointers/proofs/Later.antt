@@ -1,25 +1,13 @@
 -- A desk goes on by its calls.
-use Rattle.std.proofs.Common.{ℕ, List, [], ◌∷◌, ◌++◌, append_assoc, refl, sym, ap, ◌∙◌, Option, None, Some, subst}
-use Rattle.control_word.specs.declared.model.event.Entry.{Entry}
-use Rattle.control_word.specs.declared.model.event.Event.{Event}
-use Rattle.control_word.specs.declared.model.event.Event.TheVariants.{Join, Split}
-use Rattle.control_word.specs.declared.model.handle.Kind.{Kind}
-use Rattle.control_word.specs.declared.model.handle.Kind.TheVariants.{Owner, Weak}
-use Rattle.control_word.specs.declared.place.Block.{Block}
-use Rattle.control_word.specs.declared.place.Place.{Place}
-use Rattle.control_word.specs.declared.shape.Shape.{Shape}
-use Rattle.control_word.specs.Histories.{IsLegal, entry}
-use Rattle.control_block.specs.Rule.{opening_of}
+use Rattle.std.proofs.Common.{ℕ, List, [], ◌∷◌, ◌++◌, Some, None, Option, sym, refl, ap, ◌∙◌}
+use Rattle.std.proofs.Common.{subst, append_assoc}
+use Rattle.pointers.proofs.Prelude
+use Prelude.{AddsEvent, Block, block_of, desk_at, DeskNow, Entry, entry, Event, Goes, GoesOn}
+use Prelude.{HasHandle, Held, HoldsHandle, IsHeldByDesk, IsLegal, Join, KeepsDesks, KeepsObject}
+use Prelude.{Kind, Known, Later, Lives, opening_of, Owner, Place, Shape, Split, Weak}
 use Rattle.control_block.proofs.Latest.{calls_keep_latest}
-use Rattle.control_block.specs.CellCalls.{HoldsHandle}
-use Rattle.control_block.specs.Desks.{AddsEvent, DeskNow, HasHandle}
-use Rattle.control_block.specs.HandleLists.{IsHeldByDesk}
-use Rattle.control_block.specs.Own.{Goes, KeepsDesks}
-use Rattle.control_block.specs.declared.handles.Held.{Held}
 use Rattle.control_block.specs.declared.handles.Held.TheVariants as held
 use Rattle.pointers.proofs.Allowances.{allowance_kept}
-use Rattle.pointers.specs.Known.{GoesOn, KeepsObject, Later, Lives, block_of, desk_at}
-use Rattle.pointers.specs.declared.known.Known.{Known}
 
 module _ {V : Type 0} where
   pub goes_nowhere : (d : DeskNow V) → GoesOn d d

@@ -1,21 +1,15 @@
 -- Leaders, and the teams that they start.
-use Rattle.std.proofs.Common.{◌≡◌, ℕ, zero, suc, ◌+◌, ◌-◌, ◌*◌, ◌<◌, ◌≤◌, ◌^◌, max, length, List, [], ◌∷◌, ◌++◌, Option, None, Some}
-use Rattle.std.proofs.Common.{Result, Ok, Err, inl, inr, ap, refl, subst, sym, ◌∙◌, arith}
-use Rattle.std.proofs.Math.Nat.{suc-mul}
-use Rattle.control_block.specs.Desks.{DeskNow, DomainNow, allowance_of, held_of}
-use Rattle.control_block.specs.Parting.{IsTooMuch}
+use Rattle.std.proofs.Common.{◌≡◌, ℕ, zero, suc, ◌+◌, ◌-◌, ◌*◌, ◌^◌, ◌<◌, ◌≤◌, max, List, [], ◌∷◌}
+use Rattle.std.proofs.Common.{length, IfErr, OnOk, Some, None, Ok, Err, Option, Result, sym, refl}
+use Rattle.std.proofs.Common.{ap, ◌∙◌, subst, inr, arith}
+use Rattle.pointers.proofs.Prelude.{allowance_of, Answer, AreTeams, DeskNow, DomainNow, EachWorked}
+use Rattle.pointers.proofs.Prelude.{Failed, Fault, faults_from, Fits, HasShares, held_of, IsOpened}
+use Rattle.pointers.proofs.Prelude.{IsTooMuch, Led, led_by, Lends, Shape, Stay, suc-mul, Team}
 use Rattle.pointers.proofs.Runs.{fits_few, opened_shares}
 use Rattle.pointers.proofs.Staffs.{has_room}
-use Rattle.std.specs.Prelude.{IfErr, OnOk}
-use Rattle.pointers.specs.Leading.{AreTeams, Ends, Follows, IsAsBefore, IsOver, Lead, Led, LeadsOn, Starts, Stay, led_by}
-use Rattle.pointers.specs.Programs.{Answer, EachWorked, IsOpened, Lends, faults_from}
-use Rattle.pointers.specs.Shares.{HasShares}
-use Rattle.pointers.specs.Teams.{Fits, handles_of}
-use Rattle.pointers.specs.declared.fault.Fault.{Fault}
-use Rattle.pointers.specs.declared.program.Failed.{Failed}
-use Rattle.pointers.specs.declared.program.team.Team.{Team}
+use Rattle.pointers.specs.Leading.{Ends, Follows, IsAsBefore, IsOver, Lead, LeadsOn, Starts}
+use Rattle.pointers.specs.Teams.{handles_of}
 use Rattle.pointers.specs.declared.program.teams.Teams.{Teams}
-use Rattle.control_word.specs.declared.shape.Shape.{Shape}
 
 -- of each worker one fault at most is told
 faults_few : (n : ℕ) (rs : List (Result (Unit {0}) Fault)) → length (faults_from n rs) ≤ length rs

@@ -1,17 +1,15 @@
 -- What workers had of a desk, and what came back to it.
-use Rattle.std.proofs.Common.{◌≡◌, ℕ, zero, suc, ◌+◌, ◌<◌, ◌≤◌, Bool, true, false, All, List, [], ◌∷◌, length, ap, refl, subst, sym, ◌∙◌, arith}
-use Rattle.std.proofs.lemmas.List.{length-map}
+use Rattle.std.proofs.Common.{◌≡◌, ℕ, zero, suc, ◌+◌, ◌<◌, ◌≤◌, Bool, true, false, List, [], ◌∷◌}
+use Rattle.std.proofs.Common.{length, All, sym, refl, ap, ◌∙◌, subst, arith}
+use Rattle.pointers.proofs.Prelude.{allowance_of, Answer, AreHired, Bears, Belongs, DeskNow}
+use Rattle.pointers.proofs.Prelude.{DomainNow, EachWorked, endings_of, Failed, faults_from}
+use Rattle.pointers.proofs.Prelude.{HasShares, IsPartedInto, JoinsAll, Lends, length-map, Team}
+use Rattle.pointers.proofs.Prelude.{Worked, Worker}
 use Rattle.std.proofs.lemmas.List.Elements.{All-cons, All-nil, length_all_zip}
 use Rattle.std.specs.List.{AllZip}
-use Rattle.control_block.specs.Desks.{Belongs, DeskNow, DomainNow, allowance_of, endings_of}
-use Rattle.shared_handle.specs.Piles.{Bears}
 use Rattle.pointers.proofs.Staffs.{desks_of, dones_of}
-use Rattle.pointers.specs.Programs.{Answer, EachWorked, HasWorked, Lends, faults_from}
-use Rattle.pointers.specs.Shares.{GivesBack, HasShares, IsPartedInto, JoinsAll}
-use Rattle.pointers.specs.Staffs.{AreHired, Worked}
-use Rattle.pointers.specs.declared.program.Failed.{Failed}
-use Rattle.pointers.specs.declared.program.team.Team.{Team}
-use Rattle.pointers.specs.declared.program.worker.Worker.{Worker}
+use Rattle.pointers.specs.Programs.{HasWorked}
+use Rattle.pointers.specs.Shares.{GivesBack}
 
 -- by whether it is so
 pub either : {X : Type 0} (b : Bool) → (b ≡ true → X) → (b ≡ false → X) → X

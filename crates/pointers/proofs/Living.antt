@@ -1,12 +1,10 @@
 -- Claims that live, as one comes and one ends.
-use Rattle.std.proofs.Common.{◌≡◌, ℕ, zero, suc, List, [], ◌∷◌, ◌++◌, slice_get, slice_set, Option, None, Some}
-use Rattle.std.proofs.Common.{refl, sym, ap, subst, ◌⊎◌, inl, inr}
-use Rattle.std.proofs.lemmas.List.Sorted.{IsPermutation-cons, IsPermutation-middle, IsPermutation-refl, IsPermutation-trans}
+use Rattle.std.proofs.Common.{◌≡◌, ℕ, zero, suc, ◌⊎◌, List, [], ◌∷◌, ◌++◌, slice_get, slice_set}
+use Rattle.std.proofs.Common.{Some, None, Option, sym, refl, ap, subst, inl, inr}
+use Rattle.pointers.proofs.Prelude.{Has, Held, Known, living}
+use Rattle.std.proofs.lemmas.List.Sorted.{IsPermutation-cons, IsPermutation-middle}
+use Rattle.std.proofs.lemmas.List.Sorted.{IsPermutation-refl, IsPermutation-trans}
 use Rattle.std.specs.List.Sorted.{IsPermutation}
-use Rattle.control_word.specs.State.{Has}
-use Rattle.control_block.specs.declared.handles.Held.{Held}
-use Rattle.pointers.specs.Known.{living}
-use Rattle.pointers.specs.declared.known.Known.{Known}
 
 module _ {A : Type 0} where
   abbrev Is : A → Option A → Type 0

@@ -1,23 +1,16 @@
 -- Objects by what is known of their handles.
-use Rattle.std.proofs.Common.{◌≡◌, ℕ, suc, [], ◌∷◌, ◌++◌, List, Bool, false, true, Option, None, Some, refl, sym, ap, subst, ◌∙◌, slice_index}
+use Rattle.std.proofs.Common.{◌≡◌, ℕ, suc, Bool, true, false, List, [], ◌∷◌, ◌++◌, slice_index}
+use Rattle.std.proofs.Common.{Some, None, Option, sym, refl, ap, ◌∙◌, subst}
+use Rattle.pointers.proofs.Prelude.{AddsEvent, AreOfOne, Block, DeskNow, Entry, entry, fields_in}
+use Rattle.pointers.proofs.Prelude.{GoesOn, IsField, Known, known_now, leads, Make, object_in}
+use Rattle.pointers.proofs.Prelude.{opening_of, Place, pointed, Shape, Shared}
 use Rattle.control_word.proofs.lists.Tallies.{put_same}
 use Rattle.control_word.specs.Events.{new_object, origin}
-use Rattle.control_word.specs.Histories.{entry, leads}
 use Rattle.control_word.specs.State.{Object}
-use Rattle.control_word.specs.declared.model.event.Entry.{Entry}
-use Rattle.control_word.specs.declared.model.event.Event.TheVariants.{Make}
-use Rattle.control_word.specs.declared.place.Block.{Block}
-use Rattle.control_word.specs.declared.place.Place.{Place}
-use Rattle.control_word.specs.declared.shape.Shape.{Shape}
-use Rattle.control_block.specs.Desks.{AddsEvent, DeskNow, object_in}
-use Rattle.control_block.specs.Rule.{opening_of}
 use Rattle.control_block.specs.declared.handles.Held.TheVariants as held
-use Rattle.control_block.specs.declared.handles.Shared.{Shared}
 use Rattle.shared_handle.specs.Calls as calls
 use Rattle.pointers.proofs.Fields.{some_field}
-use Rattle.pointers.specs.Known.{AreOfOne, GoesOn, fields_in, known_now, pointed}
-use Rattle.pointers.specs.Objects.{IsField, Makes, MakesNull}
-use Rattle.pointers.specs.declared.known.Known.{Known}
+use Rattle.pointers.specs.Objects.{Makes, MakesNull}
 
 module _ {V : Type 0} where
   -- the object in a block that was made by the newest event

@@ -1,19 +1,10 @@
 -- A desk goes on by rounds of its pile.
-use Rattle.std.proofs.Common.{◌≡◌, ℕ, List, [], ◌∷◌, Option, Some, sym, ap, subst, ◌∙◌}
-use Rattle.control_word.specs.declared.model.event.Event.TheVariants.{ClearMember}
-use Rattle.control_word.specs.declared.model.handle.Kind.{Kind}
-use Rattle.control_word.specs.declared.model.handle.Kind.TheVariants.{Owner, Weak}
-use Rattle.control_word.specs.declared.place.Block.{Block}
-use Rattle.control_word.specs.declared.place.Place.{Place}
-use Rattle.control_word.specs.Handles.{handle}
-use Rattle.control_word.specs.State.{Has}
-use Rattle.control_block.specs.CellCalls.{handle_in}
+use Rattle.std.proofs.Common.{◌≡◌, ℕ, List, [], ◌∷◌, Some, Option, sym, ap, ◌∙◌, subst}
+use Rattle.pointers.proofs.Prelude.{bag_of, Block, ClearMember, DeskNow, Ending, handle, handle_in}
+use Rattle.pointers.proofs.Prelude.{Has, Kind, Later, latest_of, Left, Owner, Place, Weak}
 use Rattle.control_block.specs.Clearing.{TakesOut}
-use Rattle.control_block.specs.Desks.{DeskNow, bag_of, latest_of}
 use Rattle.shared_handle.specs.Endings.{IsClearing}
 use Rattle.shared_handle.specs.Piles.{AreRounds, IsRound, Past}
-use Rattle.shared_handle.specs.declared.endings.Ending.{Ending}
-use Rattle.shared_handle.specs.declared.endings.Left.{Left}
 use Rattle.shared_handle.specs.declared.endings.Member.{Member}
 use Rattle.shared_handle.specs.declared.endings.Member.TheVariants.{First, Next, Up}
 use Rattle.shared_handle.specs.declared.pile.Round.{Round}
@@ -21,7 +12,6 @@ use Rattle.shared_handle.specs.declared.pile.Round.TheVariants.{Cleared, Ended, 
 use Rattle.pointers.proofs.Calls.{by_left, by_weak_leave}
 use Rattle.pointers.proofs.Gains.{handle_on, has_cleared}
 use Rattle.pointers.proofs.Later.{by_event, by_none, later_then}
-use Rattle.pointers.specs.Known.{Later}
 
 module _ {V : Type 0} where
   -- what a member held came out, and left

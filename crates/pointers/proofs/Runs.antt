@@ -1,16 +1,10 @@
 -- A domain's first desk, from where it is opened to where it closes its domain.
-use Rattle.std.proofs.Common.{◌≡◌, ℕ, zero, suc, ◌+◌, ◌*◌, ◌<◌, ◌≤◌, ◌^◌, min, List, [], ap, refl, sym, ◌∙◌, arith}
-use Rattle.std.proofs.Math.Nat.{suc-mul}
-use Rattle.control_word.specs.Histories.{leads}
-use Rattle.control_word.specs.declared.model.event.Entry.{Entry}
-use Rattle.control_word.specs.declared.shape.Shape.{Shape}
-use Rattle.control_block.specs.Desks.{Belongs, DeskNow, DomainNow, IsFirstDesk, allowance_of, endings_of, ends_with, held_of, many_ending, state_of}
-use Rattle.control_block.specs.Own.{IsSole}
-use Rattle.control_block.specs.Rule.{opening_of}
-use Rattle.pointers.specs.Programs.{IsOpened}
-use Rattle.pointers.specs.Shares.{HasShares}
-use Rattle.pointers.specs.Teams.{Fits}
-use Rattle.pointers.specs.declared.program.team.Team.{Team}
+use Rattle.std.proofs.Common.{◌≡◌, ℕ, zero, suc, ◌+◌, ◌*◌, ◌^◌, ◌<◌, ◌≤◌, min, List, [], sym, refl}
+use Rattle.std.proofs.Common.{ap, ◌∙◌, arith}
+use Rattle.pointers.proofs.Prelude.{allowance_of, Belongs, DeskNow, DomainNow, endings_of, Entry}
+use Rattle.pointers.proofs.Prelude.{Fits, HasShares, held_of, IsOpened, IsSole, leads, opening_of}
+use Rattle.pointers.proofs.Prelude.{Shape, suc-mul, Team}
+use Rattle.control_block.specs.Desks.{IsFirstDesk, ends_with, many_ending, state_of}
 
 module _ {V : Type 0} where
   none_ends : (d : DeskNow V) → d.seen ≡ [] → endings_of d ≡ 0

@@ -1,14 +1,13 @@
 -- Workers that get parts of a desk one after the other, and give them back, the last one first.
-use Rattle.std.proofs.Common.{◌≡◌, ℕ, suc, ◌+◌, ◌-◌, ◌*◌, ◌<◌, ◌≤◌, max, min, List, [], ◌∷◌, ◌++◌, length, map, append_assoc, ap, refl, subst, sym, ◌∙◌, arith}
-use Rattle.std.proofs.Common.{inl, inr, Result}
-use Rattle.std.proofs.Math.Nat.{suc-mul}
-use Rattle.std.proofs.lemmas.List.{append-nil, map-append}
-use Rattle.control_block.specs.Desks.{Belongs, DeskNow, DomainNow, allowance_of, held_of}
-use Rattle.control_block.specs.Parting.{IsTooMuch, SplitsOff}
-use Rattle.pointers.specs.Shares.{IsPartedInto, Joins, JoinsAll}
-use Rattle.pointers.specs.Staffs.{AreHired, IsHired}
-use Rattle.pointers.specs.declared.fault.Fault.{Fault}
-use Rattle.pointers.specs.declared.program.worker.Worker.{Worker}
+use Rattle.std.proofs.Common.{◌≡◌, ℕ, suc, ◌+◌, ◌-◌, ◌*◌, ◌<◌, ◌≤◌, min, max, List, [], ◌∷◌, ◌++◌}
+use Rattle.std.proofs.Common.{map, length, Result, sym, refl, ap, ◌∙◌, subst, inl, inr}
+use Rattle.std.proofs.Common.{append_assoc, append-nil, arith}
+use Rattle.pointers.proofs.Prelude.{allowance_of, AreHired, Belongs, DeskNow, DomainNow, Fault}
+use Rattle.pointers.proofs.Prelude.{held_of, IsPartedInto, IsTooMuch, JoinsAll, map-append}
+use Rattle.pointers.proofs.Prelude.{suc-mul, Worker}
+use Rattle.control_block.specs.Parting.{SplitsOff}
+use Rattle.pointers.specs.Shares.{Joins}
+use Rattle.pointers.specs.Staffs.{IsHired}
 
 module _ {V : Type 0} where
   more_parts : (d m e x : DeskNow V) (a : ℕ) (xs : List (DeskNow V)) → IsPartedInto d a xs m → SplitsOff m a 0 [] e x → IsPartedInto d a (xs ++ x ∷ []) e

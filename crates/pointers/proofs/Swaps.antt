@@ -1,23 +1,17 @@
 -- A desk that holds all of a list does so after a call that takes one handle and gives another.
-use Rattle.std.proofs.Common.{◌≡◌, ℕ, suc, ◌+◌, ◌-◌, ◌≤◌, List, ◌∷◌, length, map, Option, None, Some}
-use Rattle.std.proofs.Common.{refl, sym, subst, inl, arith}
+use Rattle.std.proofs.Common.{◌≡◌, ℕ, suc, ◌+◌, ◌-◌, ◌≤◌, List, ◌∷◌, map, length, Some, None}
+use Rattle.std.proofs.Common.{Option, sym, refl, subst, inl, arith}
+use Rattle.pointers.proofs.Prelude.{AreIn, bag_of, Block, DeskNow, handle, has_object, Held}
+use Rattle.pointers.proofs.Prelude.{HoldsAll, Kind, listed, NumberedHandle, Owner, Place, Standing}
+use Rattle.pointers.proofs.Prelude.{Weak, with_handle, with_held, without_held}
 use Rattle.std.specs.List.{filter}
 use Rattle.control_word.proofs.lists.Tallies.{handle_self, same_handle_true}
-use Rattle.control_word.specs.Handles.{handle, has_object, same_handle}
-use Rattle.control_word.specs.declared.model.handle.NumberedHandle.{NumberedHandle}
-use Rattle.control_word.specs.declared.model.handle.Kind.{Kind}
-use Rattle.control_word.specs.declared.model.handle.Kind.TheVariants.{Owner, Weak}
-use Rattle.control_word.specs.declared.place.Block.{Block}
-use Rattle.control_word.specs.declared.place.Place.{Place}
+use Rattle.control_word.specs.Handles.{same_handle}
 use Rattle.control_block.proofs.Bags.{taken_out}
 use Rattle.control_block.proofs.PartingLists.{length_without}
 use Rattle.control_block.proofs.PartingSplit.{few_listed}
-use Rattle.control_block.specs.CellCalls.{with_handle, without_handle}
-use Rattle.control_block.specs.Desks.{DeskNow, bag_of}
-use Rattle.control_block.specs.HandleLists.{with_held, without_held}
-use Rattle.control_block.specs.Parting.{AreIn, HoldsAll, as_listed, listed, number_of_block}
-use Rattle.control_block.specs.Standing.{Standing}
-use Rattle.control_block.specs.declared.handles.Held.{Held}
+use Rattle.control_block.specs.CellCalls.{without_handle}
+use Rattle.control_block.specs.Parting.{as_listed, number_of_block}
 use Rattle.control_block.specs.declared.handles.Held.TheVariants as held
 
 -- the handles that are listed, of so many, are among those of a bag and as many more as are counted

@@ -1,12 +1,10 @@
 -- A walk goes on by one node.
-use Rattle.std.proofs.Common.{◌≡◌, refl, sym, subst, inl, inr}
-use Rattle.std.specs.Prelude.{ℕ, List, [], ◌∷◌, ◌++◌, ◌+◌, Option, None, Some, Result, Ok, Err}
-use Rattle.std.specs.Fn.{CalledAt, Mut}
-use denote.Ref.{Bor}
-use Rattle.control_block.specs.Desks.{DeskNow}
-use Rattle.pointers.specs.Lists.{Answers, Breaks, Ends, Leads, Site, Stops, Walks, WhyEnded, WhyNotLed, behind, next_of}
-use Rattle.pointers.specs.declared.fault.Fault.{Fault}
-use Rattle.pointers.specs.declared.known.Known.{Known}
+use Rattle.std.proofs.Common.{◌≡◌, ◌+◌, List, [], ◌∷◌, ◌++◌, Some, None, Ok, Err, Option, Result}
+use Rattle.std.proofs.Common.{sym, refl, subst, inl, inr, Bor}
+use Rattle.pointers.proofs.Prelude.{CalledAt, DeskNow, Fault, Known, WhyEnded}
+use Rattle.std.specs.Fn.{Mut}
+use Rattle.pointers.specs.Lists.{Answers, Ends, Leads, Site, Stops, Walks, WhyNotLed, behind}
+use Rattle.pointers.specs.Lists.{next_of}
 
 module _ {V E : Type 0} (o : DeskNow V) (Copied : Known V → Option E → Type 0) where
   pub walks_on : (s t : Site V) (xs : List (Option E)) (x : Option E) (c : Known V)

@@ -1,21 +1,13 @@
 -- What is true between calls stays so, as handles come and leave.
-use Rattle.std.proofs.Common.{◌≡◌, ℕ, ◌+◌, List, [], ◌∷◌, ◌++◌, length, slice_get, slice_set, Option, None, Some}
-use Rattle.std.proofs.Common.{refl, sym, ap, subst, ◌∙◌, arith, ◌⊎◌, inl, inr}
-use Rattle.control_word.specs.declared.place.Block.{Block}
-use Rattle.control_word.specs.declared.shape.Shape.{Shape}
-use Rattle.control_block.proofs.HandleLists.{holds_each, holds_in_order, holds_less, holds_more}
-use Rattle.control_block.specs.Desks.{DeskNow, bag_of, latest_of}
-use Rattle.control_block.specs.HandleLists.{IsHeldByDesk, with_held, without_held}
-use Rattle.control_block.specs.Parting.{AreIn, HoldsAll, listed}
-use Rattle.control_block.specs.Standing.{Standing}
-use Rattle.control_block.specs.declared.handles.Held.{Held}
-use Rattle.shared_handle.specs.Piles.{Bears}
-use Rattle.shared_handle.specs.declared.pile.Pile.{Pile}
+use Rattle.std.proofs.Common.{◌≡◌, ℕ, ◌+◌, ◌⊎◌, List, [], ◌∷◌, ◌++◌, length, slice_get, slice_set}
+use Rattle.std.proofs.Common.{Some, None, Option, sym, refl, ap, ◌∙◌, subst, inl, inr, arith}
+use Rattle.pointers.proofs.Prelude.{AllLive, AreIn, bag_of, Bears, Block, block_of, DeskNow}
+use Rattle.pointers.proofs.Prelude.{domain_of, GoesOn, Held, holds_each, holds_in_order}
+use Rattle.pointers.proofs.Prelude.{holds_less, holds_more, HoldsAll, IsHeldByDesk, IsWhole}
+use Rattle.pointers.proofs.Prelude.{KeepsObject, Known, known_now, Later, latest_of, listed, Lives}
+use Rattle.pointers.proofs.Prelude.{living, Pile, Shape, Standing, with_held, without_held}
 use Rattle.pointers.proofs.Later.{goes_then, legal_on, lives_on}
 use Rattle.pointers.proofs.Living.{held_of, lived, one_less, one_more, same_some, stands_behind}
-use Rattle.pointers.specs.Known.{AllLive, GoesOn, KeepsObject, Later, Lives, block_of, known_now, living}
-use Rattle.pointers.specs.Whole.{IsWhole, domain_of}
-use Rattle.pointers.specs.declared.known.Known.{Known}
 
 module _ {V : Type 0} where
   -- the handle of a claim that lives is the desk's

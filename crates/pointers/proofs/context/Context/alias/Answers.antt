@@ -1,10 +1,8 @@
-use Rattle.std.proofs.Common.{ap, sym, ◌∙◌, refl}
-use Rattle.control_word.specs.declared.model.handle.Kind.TheVariants.{Owner}
-use Rattle.control_block.specs.Desks.{bag_of}
+use Rattle.std.proofs.Common.{sym, refl, ap, ◌∙◌}
+use Rattle.pointers.proofs.Prelude.{bag_of, block_of, Owner}
 use Rattle.control_block.specs.declared.handles.Held.TheVariants as held
 use Rattle.pointers.proofs.Calls.{by_share}
 use Rattle.pointers.proofs.Handles.{bag_by, more_kept, of_one, owner_held, passed_on, was}
-use Rattle.pointers.specs.Known.{block_of}
 use Rattle.pointers.proofs.context.Context.alias.Goals as goal
 
 pub alias-requires-clause-holds : goal.alias-requires-clause-holds

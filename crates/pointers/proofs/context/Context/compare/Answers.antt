@@ -1,14 +1,12 @@
 use Rattle.std.proofs.Common.{[], ◌∷◌, refl, ◌∙◌}
-use Rattle.control_word.specs.declared.model.handle.Kind.TheVariants.{Owner}
+use Rattle.pointers.proofs.Prelude.{Differs, Owner, Shared, shared_cell, Swapped}
 use Rattle.control_block.specs.declared.handles.Held.TheVariants as held
-use Rattle.control_block.specs.declared.handles.Shared.{Shared}
-use Rattle.atomic_cells.specs.Sites.{shared_cell}
-use Rattle.atomic_cells.specs.declared.compared.Compared.TheVariants.{Differs, Swapped}
 use Rattle.pointers.proofs.Calls.{by_drop}
 use Rattle.pointers.proofs.CellCalls.{open_shared, stays, shared_alike}
 use Rattle.pointers.proofs.Compares.{at_same, differed, hand_more, hand_swapped, says_by, swapped}
 use Rattle.pointers.proofs.Handles.{owner_held, was_at}
-use Rattle.pointers.proofs.InHand.{bears_more, carries_here, in_hand, leaves, nothing_beside, whole_again}
+use Rattle.pointers.proofs.InHand.{bears_more, carries_here, in_hand, leaves, nothing_beside}
+use Rattle.pointers.proofs.InHand.{whole_again}
 use Rattle.pointers.proofs.Later.{by_event}
 use Rattle.pointers.proofs.context.Context.compare.Goals as goal
 

@@ -1,9 +1,7 @@
 use Rattle.std.proofs.Common.{[], ◌∷◌, refl, ◌∙◌}
-use Rattle.control_word.specs.declared.model.handle.Kind.TheVariants.{Weak}
+use Rattle.pointers.proofs.Prelude.{Differs, Swapped, Weak, weak_cell}
 use Rattle.control_block.specs.declared.handles.Held.TheVariants as held
 use Rattle.control_block.specs.declared.handles.Weak.{Weak as WeakHandle}
-use Rattle.atomic_cells.specs.Sites.{weak_cell}
-use Rattle.atomic_cells.specs.declared.compared.Compared.TheVariants.{Differs, Swapped}
 use Rattle.pointers.proofs.Calls.{by_weak_leave}
 use Rattle.pointers.proofs.CellCalls.{open_weak, stays, weak_alike}
 use Rattle.pointers.proofs.Compares.{at_same, differed, hand_more, hand_swapped, says_by, swapped}

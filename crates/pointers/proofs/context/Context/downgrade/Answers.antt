@@ -1,9 +1,8 @@
-use Rattle.std.proofs.Common.{ap, sym, ◌∙◌, refl}
-use Rattle.control_block.specs.Desks.{bag_of}
+use Rattle.std.proofs.Common.{sym, refl, ap, ◌∙◌}
+use Rattle.pointers.proofs.Prelude.{bag_of, block_of}
 use Rattle.control_block.specs.declared.handles.Held.TheVariants as held
 use Rattle.pointers.proofs.Calls.{by_weak_share, weak_bag}
 use Rattle.pointers.proofs.Handles.{more_kept, of_one, owner_held, passed_on, was}
-use Rattle.pointers.specs.Known.{block_of}
 use Rattle.pointers.proofs.context.Context.downgrade.Goals as goal
 
 pub downgrade-requires-clause-holds : goal.downgrade-requires-clause-holds

@@ -1,8 +1,8 @@
-use Rattle.std.proofs.Common.{List, [], ◌∷◌, ◌++◌, Option, Some, refl, ap, ◌∙◌}
+use Rattle.std.proofs.Common.{List, [], ◌∷◌, ◌++◌, Some, Option, refl, ap, ◌∙◌}
+use Rattle.pointers.proofs.Prelude.{Known}
 use Rattle.control_block.specs.declared.handles.Held.TheVariants as held
 use Rattle.pointers.proofs.Handles.{passed_on, was_at}
 use Rattle.pointers.proofs.InHand.{claim_begins, comes_empty, nothing_beside}
-use Rattle.pointers.specs.declared.known.Known.{Known}
 use Rattle.pointers.proofs.context.Context.empty_weak.Goals as goal
 
 pub invariant_of-self-2 : goal.invariant_of-self-2

@@ -1,9 +1,7 @@
 use Rattle.std.proofs.Common.{sym, subst}
-use Rattle.control_block.specs.declared.handles.Held.{Held}
+use Rattle.pointers.proofs.Prelude.{block_of, Held, IsExpiry, place_of}
 use Rattle.pointers.proofs.Calls.{by_expiry}
-use Rattle.shared_handle.specs.Calls.{IsExpiry}
 use Rattle.pointers.proofs.Handles.{alike, bears_by, weak_held, since}
-use Rattle.pointers.specs.Known.{block_of, place_of}
 use Rattle.pointers.proofs.context.Context.expired.Goals as goal
 
 pub expired-requires-clause-holds : goal.expired-requires-clause-holds

@@ -1,11 +1,8 @@
-use Rattle.std.proofs.Common.{◌≡◌, ◌-◌, length, arith, refl}
-use Rattle.control_block.specs.Desks.{stock_of}
-use Rattle.shared_handle.proofs.Piles.{bears_kept}
+use Rattle.std.proofs.Common.{◌≡◌, ◌-◌, length, refl, arith}
+use Rattle.pointers.proofs.Prelude.{bears_kept, domain_of, Fills, stock_of}
 use Rattle.pointers.proofs.Blocks.{fills, since_opened}
 use Rattle.pointers.proofs.Calls.{by_passing}
 use Rattle.pointers.proofs.Handles.{alike}
-use Rattle.pointers.specs.Blocks.{Fills}
-use Rattle.pointers.specs.Whole.{domain_of}
 use Rattle.pointers.proofs.context.Context.fill.Goals as goal
 
 pub invariant_of-self : goal.invariant_of-self

@@ -1,15 +1,11 @@
-use Rattle.std.proofs.Common.{[], sym, subst, ◌∙◌}
-use Rattle.atomic_cells.specs.Cells.{TellsHeld}
-use Rattle.atomic_cells.specs.Sites.{shared_cell}
-use Rattle.control_block.specs.declared.handles.Held.{Held}
-use Rattle.control_word.specs.declared.model.event.Cell.{Cell}
-use Rattle.control_word.specs.declared.model.handle.Kind.TheVariants.{Owner}
+use Rattle.std.proofs.Common.{[], sym, ◌∙◌, subst}
+use Rattle.pointers.proofs.Prelude.{block_of, Cell, Held, owned, Owner, place_of, pointed}
+use Rattle.pointers.proofs.Prelude.{shared_cell, TellsHeld}
 use Rattle.pointers.proofs.CellCalls.{open_shared, shared_alike, stays}
 use Rattle.pointers.proofs.Compares.{at_same}
 use Rattle.pointers.proofs.Handles.{alike, bears_by, owner_held, since}
 use Rattle.pointers.proofs.InHand.{nothing_beside}
 use Rattle.pointers.proofs.Later.{by_event}
-use Rattle.pointers.specs.Known.{block_of, owned, place_of, pointed}
 use Rattle.pointers.proofs.context.Context.holds.Goals as goal
 
 pub holds-requires-clause-cell : goal.holds-requires-clause-cell

@@ -1,5 +1,5 @@
-use Rattle.std.proofs.Common.{◌∙◌, arith}
-use Rattle.shared_handle.proofs.Piles.{bears_after, bears_kept}
+use Rattle.std.proofs.Common.{◌∙◌}
+use Rattle.pointers.proofs.Prelude.{bears_after, bears_kept}
 use Rattle.pointers.proofs.Blocks.{bears_here}
 use Rattle.pointers.proofs.Later.{goes_by, goes_then}
 use Rattle.pointers.proofs.context.Context.into_part.Goals as goal

@@ -1,8 +1,7 @@
+use Rattle.pointers.proofs.Prelude.{bears_kept, domain_of}
 use Rattle.control_block.specs.declared.handles.Held.TheVariants as held
 use Rattle.pointers.proofs.Calls.{by_weak_leave}
 use Rattle.pointers.proofs.Handles.{less, weak_held}
-use Rattle.shared_handle.proofs.Piles.{bears_kept}
-use Rattle.pointers.specs.Whole.{domain_of}
 use Rattle.pointers.proofs.context.Context.leave_weak.Goals as goal
 
 pub release_weak-requires-clause-holds : goal.release_weak-requires-clause-holds

@@ -1,12 +1,10 @@
-use Rattle.std.proofs.Common.{List, [], ◌∷◌, Option, sym, subst, refl}
+use Rattle.std.proofs.Common.{List, [], ◌∷◌, Option, sym, refl, subst}
+use Rattle.pointers.proofs.Prelude.{IsWholeBeside, Known, Weak}
 use Rattle.control_block.specs.declared.handles.Held.TheVariants as held
-use Rattle.control_word.specs.declared.model.handle.Kind.TheVariants.{Weak}
 use Rattle.pointers.proofs.CellCalls.{loaded, open_weak, weak_alike, stays}
 use Rattle.pointers.proofs.Handles.{passed_on, was_at}
 use Rattle.pointers.proofs.InHand.{bears_on, comes, nothing_beside}
 use Rattle.pointers.proofs.Later.{by_event}
-use Rattle.pointers.specs.Beside.{IsWholeBeside}
-use Rattle.pointers.specs.declared.known.Known.{Known}
 use Rattle.pointers.proofs.context.Context.load_weak.Goals as goal
 
 pub load-requires-clause-cell : goal.load-requires-clause-cell

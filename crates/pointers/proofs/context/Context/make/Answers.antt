@@ -1,11 +1,10 @@
-use Rattle.control_block.specs.declared.handles.Held.TheVariants as held
 use Rattle.std.proofs.Common.{false, refl}
-use Rattle.shared_handle.proofs.Piles.{bears_kept}
+use Rattle.pointers.proofs.Prelude.{bears_kept, domain_of}
+use Rattle.control_block.specs.declared.handles.Held.TheVariants as held
 use Rattle.pointers.proofs.Calls.{by_make}
 use Rattle.pointers.proofs.Later.{goes_then}
 use Rattle.pointers.proofs.Objects.{makes}
 use Rattle.pointers.proofs.Handles.{more}
-use Rattle.pointers.specs.Whole.{domain_of}
 use Rattle.pointers.proofs.context.Context.make.Goals as goal
 
 pub invariant_of-self-2 : goal.invariant_of-self-2

@@ -1,10 +1,9 @@
+use Rattle.std.proofs.Common.{true, false, [], ◌∷◌, refl}
+use Rattle.pointers.proofs.Prelude.{bears_kept, domain_of}
 use Rattle.control_block.specs.declared.handles.Held.TheVariants as held
-use Rattle.std.proofs.Common.{[], ◌∷◌, false, true, refl}
-use Rattle.shared_handle.proofs.Piles.{bears_kept}
 use Rattle.pointers.proofs.Calls.{by_make}
 use Rattle.pointers.proofs.Handles.{more}
 use Rattle.pointers.proofs.Objects.{makes_null}
-use Rattle.pointers.specs.Whole.{domain_of}
 use Rattle.pointers.proofs.context.Context.make_null.Goals as goal
 
 pub invariant_of-self-2 : goal.invariant_of-self-2

@@ -1,7 +1,7 @@
+use Rattle.std.proofs.Common.{refl}
 use Rattle.pointers.proofs.Blocks.{none_left}
 use Rattle.pointers.proofs.Handles.{alike, bears_pile}
 use Rattle.pointers.proofs.Rounds.{by_rounds}
-use Rattle.std.proofs.Common.{refl}
 use Rattle.pointers.proofs.context.Context.next_value.Goals as goal
 
 pub invariant_of-self : goal.invariant_of-self

@@ -1,10 +1,8 @@
 use Rattle.std.proofs.Common.{sym, subst}
+use Rattle.pointers.proofs.Prelude.{block_of, Held, IsRead, place_of}
 use Rattle.pointers.proofs.Calls.{by_read}
-use Rattle.control_block.specs.declared.handles.Held.{Held}
-use Rattle.shared_handle.specs.Endings.{IsRead}
 use Rattle.pointers.proofs.Fields.{field_read}
 use Rattle.pointers.proofs.Handles.{alike, bears_by, owner_held}
-use Rattle.pointers.specs.Known.{block_of, place_of}
 use Rattle.pointers.proofs.context.Context.read.Goals as goal
 
 pub read-requires-clause-holds : goal.read-requires-clause-holds

@@ -1,9 +1,8 @@
-use Rattle.std.proofs.Common.{ap, sym, ◌∙◌, refl}
-use Rattle.control_block.specs.Desks.{bag_of}
+use Rattle.std.proofs.Common.{sym, refl, ap, ◌∙◌}
+use Rattle.pointers.proofs.Prelude.{bag_of, block_of}
 use Rattle.control_block.specs.declared.handles.Held.TheVariants as held
 use Rattle.pointers.proofs.Calls.{by_weak_share, weak_bag}
 use Rattle.pointers.proofs.Handles.{more_kept, of_one, passed_on, was, weak_held}
-use Rattle.pointers.specs.Known.{block_of}
 use Rattle.pointers.proofs.context.Context.share_weak.Goals as goal
 
 pub share_weak-requires-clause-holds : goal.share_weak-requires-clause-holds

@@ -1,8 +1,7 @@
 use Rattle.std.proofs.Common.{refl}
-use Rattle.shared_handle.proofs.Piles.{bears_kept}
+use Rattle.pointers.proofs.Prelude.{bears_kept, domain_of}
 use Rattle.pointers.proofs.Calls.{by_passing}
 use Rattle.pointers.proofs.Handles.{alike}
-use Rattle.pointers.specs.Whole.{domain_of}
 use Rattle.pointers.proofs.context.Context.shelve.Goals as goal
 
 pub invariant_of-self : goal.invariant_of-self

@@ -1,10 +1,8 @@
 use Rattle.std.proofs.Common.{refl}
-use Rattle.shared_handle.proofs.Piles.{bears_kept}
+use Rattle.pointers.proofs.Prelude.{bears_kept, domain_of, ShelvesAll}
 use Rattle.pointers.proofs.Blocks.{shelves_all, since_opened}
 use Rattle.pointers.proofs.Calls.{by_passing}
 use Rattle.pointers.proofs.Handles.{alike}
-use Rattle.pointers.specs.Blocks.{ShelvesAll}
-use Rattle.pointers.specs.Whole.{domain_of}
 use Rattle.pointers.proofs.context.Context.shelve_all.Goals as goal
 
 pub invariant_of-self : goal.invariant_of-self

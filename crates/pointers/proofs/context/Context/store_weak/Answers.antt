@@ -1,12 +1,11 @@
-use Rattle.std.proofs.Common.{List, [], ◌∷◌, Option, sym, subst, refl}
+use Rattle.std.proofs.Common.{List, [], ◌∷◌, Option, sym, refl, subst}
+use Rattle.pointers.proofs.Prelude.{IsWhole, Known}
 use Rattle.control_block.specs.declared.handles.Held.TheVariants as held
 use Rattle.pointers.proofs.Calls.{by_weak_leave}
 use Rattle.pointers.proofs.CellCalls.{open_weak, weak_alike, stays, stored_weakly}
 use Rattle.pointers.proofs.Handles.{passed_on, was_at}
 use Rattle.pointers.proofs.InHand.{bears_on, bears_same, in_hand, leaves, swaps, whole_again}
 use Rattle.pointers.proofs.Later.{by_event}
-use Rattle.pointers.specs.Whole.{IsWhole}
-use Rattle.pointers.specs.declared.known.Known.{Known}
 use Rattle.pointers.proofs.context.Context.store_weak.Goals as goal
 
 pub exchange-found-requires-clause-cell : goal.exchange-found-requires-clause-cell

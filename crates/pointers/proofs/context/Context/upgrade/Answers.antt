@@ -1,8 +1,8 @@
-use Rattle.std.proofs.Common.{Err, Ok, ap, sym, ◌∙◌}
+use Rattle.std.proofs.Common.{Ok, Err, sym, ap, ◌∙◌}
+use Rattle.pointers.proofs.Prelude.{block_of}
 use Rattle.control_block.specs.declared.handles.Held.TheVariants as held
 use Rattle.pointers.proofs.Calls.{by_upgrade, upgraded}
 use Rattle.pointers.proofs.Handles.{alike, bears_by, more_kept, no_owner, of_one, weak_held}
-use Rattle.pointers.specs.Known.{block_of}
 use Rattle.pointers.proofs.context.Context.upgrade.Goals as goal
 
 pub upgrade-requires-clause-holds : goal.upgrade-requires-clause-holds

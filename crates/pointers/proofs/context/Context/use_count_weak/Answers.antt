@@ -1,10 +1,7 @@
 use Rattle.std.proofs.Common.{sym, subst}
-use Rattle.control_word.specs.declared.model.handle.Kind.TheVariants.{Weak}
-use Rattle.control_block.specs.declared.handles.Held.{Held}
+use Rattle.pointers.proofs.Prelude.{block_of, Held, IsUseCount, place_of, Weak}
 use Rattle.pointers.proofs.Calls.{by_count_of}
-use Rattle.shared_handle.specs.Calls.{IsUseCount}
 use Rattle.pointers.proofs.Handles.{alike, bears_by, weak_held, since}
-use Rattle.pointers.specs.Known.{block_of, place_of}
 use Rattle.pointers.proofs.context.Context.use_count_weak.Goals as goal
 
 pub use_count_weak-requires-clause-holds : goal.use_count_weak-requires-clause-holds

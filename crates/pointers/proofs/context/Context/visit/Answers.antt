@@ -1,17 +1,9 @@
-use Rattle.std.proofs.Common.{◌≡◌, ℕ, List, slice_get, Option, None, Some, Result, Ok, Err, IfErr, IfOk, sym, subst, refl}
-use Rattle.control_word.specs.declared.place.Block.{Block}
-use Rattle.control_word.specs.declared.place.Place.{Place}
-use Rattle.control_word.specs.declared.refusal.Refusal.TheVariants.{Null}
-use Rattle.control_word.specs.declared.refusal.Refused.{Refused}
-use Rattle.control_block.specs.Desks.{DeskNow}
-use Rattle.control_block.specs.declared.handles.Held.{Held}
-use Rattle.shared_handle.specs.Visits.{IsVisit}
+use Rattle.std.proofs.Common.{◌≡◌, ℕ, List, IfOk, IfErr, slice_get, Some, None, Ok, Err, Option}
+use Rattle.std.proofs.Common.{Result, sym, refl, subst}
+use Rattle.pointers.proofs.Prelude.{Block, block_of, DeskNow, Held, IsVisit, IsWhole, Known, Null}
+use Rattle.pointers.proofs.Prelude.{Pile, Place, place_of, Refused, Since}
 use Rattle.pointers.proofs.Calls.{by_visit}
 use Rattle.pointers.proofs.Handles.{alike, bears_by, owner_held, since}
-use Rattle.shared_handle.specs.declared.pile.Pile.{Pile}
-use Rattle.pointers.specs.Known.{Since, block_of, place_of}
-use Rattle.pointers.specs.Whole.{IsWhole}
-use Rattle.pointers.specs.declared.known.Known.{Known}
 use Rattle.pointers.proofs.context.Context.visit.Goals as goal
 
 pub visit-requires-clause-holds : goal.visit-requires-clause-holds

@@ -1,8 +1,8 @@
-use Rattle.std.proofs.Common.{ap, sym, ◌∙◌}
+use Rattle.std.proofs.Common.{sym, ap, ◌∙◌}
+use Rattle.pointers.proofs.Prelude.{block_of}
 use Rattle.control_block.specs.declared.handles.Held.TheVariants as held
 use Rattle.pointers.proofs.Calls.{by_weak_share}
 use Rattle.pointers.proofs.Handles.{more_kept, no_this, of_one, owner_held, passed_on}
-use Rattle.pointers.specs.Known.{block_of}
 use Rattle.pointers.proofs.context.Context.weak_from_this.Goals as goal
 
 pub weak_from_this-requires-clause-holds : goal.weak_from_this-requires-clause-holds

@@ -1,8 +1,7 @@
 use Rattle.std.proofs.Common.{[], ◌∷◌, subst}
-use Rattle.control_block.specs.declared.handles.Held.{Held}
+use Rattle.pointers.proofs.Prelude.{Held, IsWholeBeside}
 use Rattle.control_block.specs.declared.handles.Held.TheVariants as held
 use Rattle.pointers.proofs.InHand.{claim_ends, comes_empty, nothing_beside}
-use Rattle.pointers.specs.Beside.{IsWholeBeside}
 use Rattle.pointers.proofs.context.passing.given.Goals as goal
 
 pub returns-in-Some-clause-hand : goal.returns-in-Some-clause-hand

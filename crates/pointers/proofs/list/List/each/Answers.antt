@@ -1,10 +1,7 @@
-use Rattle.std.proofs.Common.{of_calls, rules, refl, sym, subst, ◌≡◌, ◌∙◌, Some, Ok, Err, None, IfErr, Result}
-use Rattle.std.specs.Fn.{CalledAt}
-use Rattle.pointers.specs.declared.fault.Fault.{Fault}
-use Rattle.pointers.specs.Lists.{WhyEnded, behind}
-use Rattle.pointers.specs.Beside.{seen_by}
-use Rattle.pointers.specs.Lists.{site}
-use Rattle.pointers.proofs.Walks.{Reached, reached_ends, reached_fails, reached_none, reached_on, reached_past, reached_refused, reached_unled}
+use Rattle.std.proofs.Common.{◌≡◌, IfErr, Some, Ok, Err, Result, sym, refl, subst, rules, of_calls}
+use Rattle.pointers.proofs.Prelude.{CalledAt, Fault, seen_by, site, WhyEnded}
+use Rattle.pointers.proofs.Walks.{Reached, reached_ends, reached_fails, reached_none, reached_on}
+use Rattle.pointers.proofs.Walks.{reached_past, reached_refused, reached_unled}
 use Rattle.pointers.proofs.list.List.each.Goals.{in-Some-3+in_ok-f, in_default-2}
 use Rattle.pointers.proofs.list.List.each.Goals as goal
 

@@ -1,6 +1,5 @@
+use Rattle.pointers.proofs.Prelude.{seen_by, site}
 use denote.Param.Always.{always_mut}
-use Rattle.pointers.specs.Beside.{seen_by}
-use Rattle.pointers.specs.Lists.{site}
 use Rattle.pointers.proofs.Walks.{Reached}
 use Rattle.pointers.proofs.list.List.each.Given as goal
 

@@ -1,11 +1,9 @@
-use Rattle.std.proofs.Common.{ℕ, ◌+◌, List, None, refl, rules, subst, ◌∙◌}
-use Rattle.control_word.specs.declared.shape.Shape.{Shape}
+use Rattle.std.proofs.Common.{ℕ, ◌+◌, List, None, refl, ◌∙◌, subst, rules}
+use Rattle.pointers.proofs.Prelude.{Failed, Fits, led_by, Shape}
 use Rattle.pointers.proofs.Leading.{few_handles}
 use Rattle.pointers.proofs.Runs.{opened_none}
-use Rattle.pointers.specs.Leading.{LedAt, led_by}
+use Rattle.pointers.specs.Leading.{LedAt}
 use Rattle.pointers.specs.Programs.{IsClosed}
-use Rattle.pointers.specs.Teams.{Fits}
-use Rattle.pointers.specs.declared.program.Failed.{Failed}
 use Rattle.pointers.proofs.program.leader.run_leader.Goals as goal
 
 pub close_whole-census-requires-clause-none : goal.close_whole-census-requires-clause-none

@@ -1,6 +1,6 @@
 use Rattle.std.proofs.Common.{[], ◌∷◌, refl}
+use Rattle.pointers.proofs.Prelude.{led_by}
 use Rattle.pointers.proofs.Leading.{leads_on, stay_still, stay_then}
-use Rattle.pointers.specs.Leading.{led_by}
 use Rattle.pointers.proofs.program.leading.lead_on.Goals as goal
 
 pub loop-init : goal.loop-init

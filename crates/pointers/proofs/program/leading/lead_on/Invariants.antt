@@ -1,5 +1,6 @@
 use Rattle.std.proofs.Common.{List}
-use Rattle.pointers.specs.Leading.{AreSet, AreTeams, Led, Stay, led_by}
+use Rattle.pointers.proofs.Prelude.{AreTeams, Led, led_by, Stay}
+use Rattle.pointers.specs.Leading.{AreSet}
 use Rattle.pointers.proofs.program.leading.lead_on.Given as goal
 
 abbrev pub invariant-loop : goal.invariant-loop

@@ -1,7 +1,6 @@
-use Rattle.std.proofs.Common.{inl, subst, Result, Option}
+use Rattle.std.proofs.Common.{Option, Result, subst, inl}
+use Rattle.pointers.proofs.Prelude.{Fault, Team}
 use Rattle.pointers.proofs.Leading.{ended, started}
-use Rattle.pointers.specs.declared.fault.Fault.{Fault}
-use Rattle.pointers.specs.declared.program.team.Team.{Team}
 use Rattle.pointers.proofs.program.leading.lead_once.Goals as goal
 
 pub returns-in-Ok-clause-started : goal.returns-in-Ok-clause-started

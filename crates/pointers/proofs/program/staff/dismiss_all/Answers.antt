@@ -1,6 +1,6 @@
-use Rattle.std.proofs.Common.{◌∙◌, Some, arith}
+use Rattle.std.proofs.Common.{Some, ◌∙◌, arith}
+use Rattle.pointers.proofs.Prelude.{Belongs}
 use Rattle.std.proofs.lemmas.List.Elements.{All-pop}
-use Rattle.control_block.specs.Desks.{Belongs}
 use Rattle.pointers.proofs.Faults.{one_more, room_for}
 use Rattle.pointers.proofs.Staffs.{goes}
 use Rattle.pointers.proofs.program.staff.dismiss_all.Goals as goal

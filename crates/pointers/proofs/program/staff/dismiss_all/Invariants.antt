@@ -1,7 +1,6 @@
-use Rattle.std.proofs.Common.{◌≡◌, ◌≤◌, ◌+◌, ◌++◌, All, length, reverse, vec_capacity}
-use Rattle.control_block.specs.Desks.{Belongs}
+use Rattle.std.proofs.Common.{◌≡◌, ◌+◌, ◌≤◌, ◌++◌, reverse, length, vec_capacity, All}
+use Rattle.pointers.proofs.Prelude.{Belongs, faults_from}
 use Rattle.pointers.proofs.Staffs.{Joining, dones_of}
-use Rattle.pointers.specs.Programs.{faults_from}
 use Rattle.pointers.proofs.program.staff.dismiss_all.Given as goal
 
 abbrev pub invariant-loop-worker : goal.invariant-loop-worker

@@ -1,6 +1,7 @@
-use Rattle.std.proofs.Common.{◌≡◌, ◌<◌, ◌≤◌, arith, length, max, subst, ◌+◌, ◌-◌, ◌*◌, ℕ}
-use Rattle.control_block.specs.Desks.{allowance_of, held_of}
-use Rattle.pointers.proofs.Staffs.{has_room, hired_more, parted_more, room_left, split_here, split_held}
+use Rattle.std.proofs.Common.{◌≡◌, ℕ, ◌+◌, ◌-◌, ◌*◌, ◌<◌, ◌≤◌, max, length, subst, arith}
+use Rattle.pointers.proofs.Prelude.{allowance_of, held_of}
+use Rattle.pointers.proofs.Staffs.{has_room, hired_more, parted_more, room_left, split_here}
+use Rattle.pointers.proofs.Staffs.{split_held}
 use Rattle.pointers.proofs.program.staff.hire_all.Goals as goal
 
 pub hire-requires-clause-fits : goal.hire-requires-clause-fits

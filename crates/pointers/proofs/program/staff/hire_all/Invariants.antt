@@ -1,8 +1,6 @@
-use Rattle.std.proofs.Common.{◌≡◌, ◌≤◌, ◌+◌, ◌-◌, ◌*◌, length, max, vec_capacity}
-use Rattle.control_block.specs.Desks.{Belongs, allowance_of, held_of}
+use Rattle.std.proofs.Common.{◌≡◌, ◌+◌, ◌-◌, ◌*◌, ◌≤◌, max, length, vec_capacity}
+use Rattle.pointers.proofs.Prelude.{allowance_of, AreHired, Belongs, held_of, IsPartedInto}
 use Rattle.pointers.proofs.Staffs.{desks_of}
-use Rattle.pointers.specs.Shares.{IsPartedInto}
-use Rattle.pointers.specs.Staffs.{AreHired}
 use Rattle.pointers.proofs.program.staff.hire_all.Given as goal
 
 abbrev pub invariant-loop-domain : goal.invariant-loop-domain

@@ -1,5 +1,6 @@
 use Rattle.std.proofs.Common.{◌+◌, arith}
-use Rattle.pointers.proofs.Lends.{back_here, back_many, back_whole, hired_bears, lends, parts_each, shares_each}
+use Rattle.pointers.proofs.Lends.{back_here, back_many, back_whole, hired_bears, lends, parts_each}
+use Rattle.pointers.proofs.Lends.{shares_each}
 use Rattle.pointers.proofs.program.staff.lend.Goals as goal
 
 pub hire_all-hired-requires-clause-fits : goal.hire_all-hired-requires-clause-fits

@@ -1,4 +1,4 @@
-use Rattle.pointers.specs.Staffs.{Worked}
+use Rattle.pointers.proofs.Prelude.{Worked}
 use Rattle.thread_jobs.proofs.Starting.{all_ran, none_ran}
 use Rattle.pointers.proofs.program.staff.work_all.Goals as goal
 

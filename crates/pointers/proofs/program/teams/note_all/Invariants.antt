@@ -1,4 +1,4 @@
-use Rattle.std.proofs.Common.{◌≡◌, ◌++◌, take, vec_capacity, vec_len, ◌+◌}
+use Rattle.std.proofs.Common.{◌≡◌, ◌+◌, ◌++◌, take, vec_len, vec_capacity}
 use Rattle.pointers.proofs.program.teams.note_all.Given as goal
 
 abbrev pub invariant-loop-failed : goal.invariant-loop-failed

@@ -1,7 +1,7 @@
 use Rattle.std.proofs.Common.{IfErr, Option, subst}
+use Rattle.pointers.proofs.Prelude.{Known}
 use Rattle.pointers.specs.Cells.{WhyNotLocked, weak_spot}
 use Rattle.pointers.specs.declared.fault.call.Call.TheVariants.{Load}
-use Rattle.pointers.specs.declared.known.Known.{Known}
 use Rattle.pointers.proofs.shared.Shared.parent.Goals as goal
 
 pub returns-clause-refused : goal.returns-clause-refused

@@ -1,8 +1,5 @@
-use Rattle.std.proofs.Common.{rules, ◌≡◌, Option, None, Some, Ok}
-use Rattle.control_word.specs.declared.place.Block.{Block}
-use Rattle.control_word.specs.declared.place.Place.{Place}
-use Rattle.control_block.specs.Desks.{DeskNow}
-use Rattle.shared_handle.specs.Visits.{IsVisit}
+use Rattle.std.proofs.Common.{Some, None, Ok, Option, rules}
+use Rattle.pointers.proofs.Prelude.{Block, DeskNow, IsVisit, Place}
 use Rattle.pointers.proofs.shared.Shared.snapshot.Goals as goal
 
 -- a visit that answered so much, where this follows of its answer

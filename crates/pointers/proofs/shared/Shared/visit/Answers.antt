@@ -1,7 +1,6 @@
 use Rattle.std.proofs.Common.{◌≡◌, IfOk, Ok, Result, subst}
+use Rattle.pointers.proofs.Prelude.{IsVisit, owned, pointed, Since}
 use Rattle.std.specs.Fn.{FnOnceReturnsAtMut}
-use Rattle.shared_handle.specs.Visits.{IsVisit}
-use Rattle.pointers.specs.Known.{Since, owned, pointed}
 use Rattle.pointers.proofs.shared.Shared.visit.Goals as goal
 
 -- what is said of a result's value, of the value that it has, and of what is seen

@@ -1,4 +1,4 @@
-use Rattle.pointers.specs.Beside.{seen_by}
+use Rattle.pointers.proofs.Prelude.{seen_by}
 use Rattle.pointers.specs.Cells.{shared_cell_at}
 use Rattle.pointers.proofs.Finding.{found_as}
 use Rattle.pointers.proofs.cells.cached.Cached.get.Goals as goal

@@ -1,5 +1,5 @@
 use Rattle.std.proofs.Common.{◌≡◌}
-use Rattle.pointers.specs.Pools.{cells_from}
+use Rattle.pointers.proofs.Prelude.{cells_from}
 use Rattle.pointers.proofs.cells.pool.FreeCells+WeakCell.weak.Given as goal
 
 abbrev pub invariant-loop-number : goal.invariant-loop-number

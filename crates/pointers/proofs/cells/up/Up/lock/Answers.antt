@@ -1,4 +1,4 @@
-use Rattle.std.proofs.Common.{inr, subst}
+use Rattle.std.proofs.Common.{subst, inr}
 use Rattle.pointers.proofs.Handles.{errs_map}
 use Rattle.pointers.specs.Cells.{Loaded}
 use Rattle.pointers.proofs.cells.up.Up.lock.Goals as goal

@@ -1,4 +1,4 @@
-use Rattle.std.proofs.Common.{arith, ◌∙◌}
+use Rattle.std.proofs.Common.{◌∙◌, arith}
 use Rattle.pointers.proofs.Staffs.{split_here}
 use Rattle.pointers.proofs.program.teams.Teams.led_at.Goals as goal
 

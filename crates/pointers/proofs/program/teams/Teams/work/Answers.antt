@@ -1,5 +1,5 @@
-use Rattle.std.proofs.Common.{[], ◌++◌, inl, inr, ap, length, length-append, refl, sym, ◌∙◌, arith}
-use Rattle.std.proofs.lemmas.List.{append-nil}
+use Rattle.std.proofs.Common.{[], ◌++◌, length, sym, refl, ap, ◌∙◌, inl, inr, append-nil, arith}
+use Rattle.std.proofs.Common.{length-append}
 use Rattle.pointers.proofs.Leading.{lends_few}
 use Rattle.pointers.proofs.program.teams.Teams.work.Goals as goal
 
