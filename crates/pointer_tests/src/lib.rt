@@ -30,6 +30,8 @@ mod snapshots;
 mod texts;
 pub mod trees;
 #[cfg(test)]
+mod values;
+#[cfg(test)]
 mod visits;
 #[cfg(test)]
 mod weaks;

@@ -6,6 +6,7 @@ pub mod Blocks
 pub mod Beside
 pub mod Cells
 pub mod Compares
+pub mod Values
 pub mod Faults
 pub mod Shares
 pub mod Programs

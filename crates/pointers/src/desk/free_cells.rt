@@ -5,11 +5,13 @@ ghost use Rattle.control_word.specs.declared.model.handle.Kind.TheVariants as ki
 ghost use Rattle.shared_handle.specs.declared.pile.Gone.{Gone};
 ghost use Rattle.pointers.specs.Cells.{Exchanged, IsOwnerOf, Loaded, Stored};
 ghost use Rattle.pointers.specs.Cells.{LookedFor, StoredWeakly, WhyNotDone, WhyNotLocked, WhyNotLooked, weak_cell_at};
+ghost use Rattle.pointers.specs.Values.{IsUpdated, WhyNotUpdated};
 ghost use Rattle.pointers.specs.declared.fault.call.Spot.TheVariants as spot;
 ghost use Rattle.pointers.specs.declared.known.Known.{Known};
 ghost use Rattle.pointers.specs.Beside.{seen_by};
 
 use crate::cells::cached::Cached;
+use crate::cells::cached_value::CachedValue;
 use crate::cells::member::Member;
 use crate::cells::up::Up;
 use crate::cells::{SharedCell, WeakCell};
@@ -98,6 +100,37 @@ impl<'d, D: Domain> Desk<'d, D> {
         ensures none { result.found ≡ None }
     {
         self.cell(cell).cached()
+    }
+
+    /// A free cell for owners, whose value is to be read again and again.
+    #[inline(always)]
+    pub fn cached_value(&self, cell: SharedCell) -> CachedValue<'_, '_, D>
+    where
+        D::Value: Clone,
+        ensures cell { (seen_by (λ x. x.now.known) result.place.of ≡ None) × (result.place.number ≡ cell.0) }
+        ensures none { result.kept ≡ None }
+    {
+        self.cell(cell).cached_value()
+    }
+
+    /// What the cell holds is replaced by a new object with what `f` makes of a copy of its value, in arc-swap `rcu`
+    /// (waits). `f` may run more than once, and what was made in vain ends. None is an empty cell.
+    #[inline(always)]
+    pub fn update<F: FnMut(Option<D::Value>) -> Result<Option<D::Value>, Fault>, R: Wait>(
+        &self,
+        rt: &R,
+        cell: SharedCell,
+        f: F,
+    ) -> Result<(), Fault>
+    where
+        D::Value: Clone,
+        requires { F.IsAlwaysCallable f }
+        ensures updated { OnOk result (IsUpdated D.opened D.Value.is_clone None (Free cell.0)
+            (λ old r. (s : F) × (t : F) × F.step s old r t)) }
+        ensures refused { IfErr result (WhyNotUpdated D.opened D.opened.shape.shared_cells None cell.0
+            (spot.Shared cell.0) (λ old r. (s : F) × (t : F) × F.step s old r t)) }
+    {
+        self.cell(cell).update(rt, f)
     }
 
     /// Returns once a look tells that the cell no longer holds what this pointer is, in C++ `wait(p)` (waits). Nobody
