@@ -7,26 +7,35 @@ use std::sync::Wait;
 use std::sync::atomic::{AtomicU32, Ordering};
 use std::thread::Threads;
 
+#[derive(Clone, Copy, Drop)]
+struct Configuration {
+    version: u64,
+}
+
 /// The cell with the current configuration.
 const CURRENT: SharedCell = SharedCell(0);
 
 /// Publishes so many versions, from 1 on.
-fn publish<D: Domain<Value = ()>>(desk: &Desk<D>, versions: u64) -> Result<(), Fault> {
+fn publish<D: Domain<Value = Configuration>>(desk: &Desk<D>, versions: u64) -> Result<(), Fault> {
     for version in 1..=versions {
-        desk.make([version, 0, 0, 0], ())?.store(CURRENT)?;
+        desk.new(Configuration { version })?.store(CURRENT)?;
     }
     Ok(())
 }
 
 /// Reads the current version so often: how often it was older than the one before.
-fn observe<D: Domain, R: Wait>(rt: &R, desk: &Desk<D>, times: u32) -> Result<u32, Fault> {
+fn observe<D: Domain<Value = Configuration>, R: Wait>(
+    rt: &R,
+    desk: &Desk<D>,
+    times: u32,
+) -> Result<u32, Fault> {
+    let mut current = desk.cached_value(CURRENT);
     let mut older = 0u32;
     let mut seen = 0;
     for _ in 0..times {
-        if let Some(now) = desk.load(rt, CURRENT)? {
-            let version = now.read()?;
-            older = older.saturating_add(u32::from(version < seen));
-            seen = version;
+        if let Some(now) = current.get(rt)? {
+            older = older.saturating_add(u32::from(now.version < seen));
+            seen = now.version;
         }
     }
     Ok(older)
@@ -38,8 +47,8 @@ struct Crowd {
     older: AtomicU32,
 }
 
-impl<R: Threads + Wait + Sync> Program<(), R> for Crowd {
-    fn work<D: Domain<Value = ()>>(
+impl<R: Threads + Wait + Sync> Program<Configuration, R> for Crowd {
+    fn work<D: Domain<Value = Configuration>>(
         &self,
         rt: &R,
         number: usize,
