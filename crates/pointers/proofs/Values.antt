@@ -1,0 +1,22 @@
+-- What is made of the values of what places hold.
+use Rattle.std.proofs.Common.{◌≡◌, ◌⊎◌, inr, ℕ, Option, Some, Result, Err, IfErr, subst, sym}
+use Rattle.control_word.specs.declared.model.event.Cell.{Cell}
+use Rattle.control_word.specs.declared.model.handle.Kind.TheVariants.{Owner}
+use Rattle.control_block.specs.Desks.{DeskNow}
+use Rattle.pointers.specs.Cells.{Loaded}
+use Rattle.pointers.specs.Faults.{WhyNotVisited}
+use Rattle.pointers.specs.Values.{WhyNoValue}
+use Rattle.pointers.specs.declared.fault.Fault.{Fault}
+use Rattle.pointers.specs.declared.fault.call.Spot.{Spot}
+use Rattle.pointers.specs.declared.known.Known.{Known}
+
+-- what is said of a fault is said of a result that is that fault
+pub fault_as : {A : Type 0} (r : Result A Fault) (why : Fault) (Why : Fault → Type 0) → r ≡ Err why → Why why → IfErr r Why
+fault_as r why Why same is = subst (λ (s : Result _ Fault). IfErr s Why) (sym same) is
+
+-- the value of what was loaded wasn't copied
+pub why_not_copied : {V : Type 0} (o : DeskNow V) (many : ℕ) (of : Option (Known V)) (x : Cell) (n : ℕ) (at : Spot)
+    (got : Option (Known V)) (c : Known V) (why : Fault)
+    → Loaded o of x Owner got → got ≡ Some c → WhyNotVisited c why → WhyNoValue o many of x n at why
+why_not_copied o many of x n at got c why loaded is refused =
+    inr (c, subst (λ (y : Option (Known _)). Loaded o of x Owner y) is loaded, refused)
