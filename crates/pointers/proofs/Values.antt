@@ -1,5 +1,5 @@
 -- What is made of the values of what places hold.
-use Rattle.std.proofs.Common.{◌≡◌, ◌⊎◌, inr, ℕ, Option, Some, Result, Err, IfErr, subst, sym}
+use Rattle.std.proofs.Common.{◌≡◌, inr, ℕ, Option, Some, Result, Err, IfErr, subst, sym}
 use Rattle.control_word.specs.declared.model.event.Cell.{Cell}
 use Rattle.control_word.specs.declared.model.handle.Kind.TheVariants.{Owner}
 use Rattle.control_block.specs.Desks.{DeskNow}

@@ -1,5 +1,5 @@
 -- What the calls on the values of what places hold say.
-use Rattle.std.specs.Prelude.{◌≡◌, ◌⊎◌, ℕ, false, [], ◌∷◌, Result, Ok, Err, Option, None, Some}
+use Rattle.std.specs.Prelude.{◌⊎◌, ℕ, false, [], ◌∷◌, Result, Ok, Err, Option, None, Some}
 use Rattle.control_word.specs.declared.model.event.Cell.{Cell}
 use Rattle.control_word.specs.declared.model.handle.Kind.TheVariants.{Owner}
 use Rattle.control_block.specs.Desks.{DeskNow}
