@@ -3,6 +3,7 @@ ghost use Rattle.std.specs.Prelude.{◌≡◌, ◌+◌};
 ghost use Rattle.control_word.specs.declared.model.handle.Kind.TheVariants.{Owner};
 ghost use Rattle.control_block.specs.Desks.{Belongs, KeepsStock, bag_of, endings_of};
 ghost use Rattle.control_block.specs.CellCalls.{HoldsHandle, without_handle};
+ghost use Rattle.control_block.specs.Own.{KeepsHeld};
 ghost use Rattle.shared_handle.specs.Endings.{IsApart, more_ending};
 ghost use Rattle.atomic_cells.specs.Cells.{Stores};
 ghost use Rattle.atomic_cells.specs.Sites.{IsMember, IsOpenSite, shared_cell};
@@ -88,7 +89,7 @@ impl<'a> SharedAt<'a> {
     /// The pointer goes into the cell, and what the cell held leaves ([util.smartptr.atomic.shared]); where that was an
     /// object's last owner, the object ends in the desk's hands, in another block than all that ended there before. It
     /// waits for nobody, and refuses nothing.
-    #[inline]
+    #[inline(always)]
     pub fn store<V: Drop>(&self, domain: &Domain<V>, desk: &mut Desk<V>, handle: Shared) -> Left<V>
         requires domain { Belongs desk.old domain.now }
         requires cell { IsOpenSite desk.old self.now.site }
@@ -98,6 +99,7 @@ impl<'a> SharedAt<'a> {
         ensures bag { bag_of desk.new ≡ without_handle Owner handle.block handle.place (bag_of desk.old) }
         ensures held { desk.new.held + 1 ≡ desk.old.held }
         ensures keeps { KeepsStock desk.old desk.new }
+        ensures latest { KeepsHeld desk.old desk.new }
         ensures count { endings_of desk.new ≡ endings_of desk.old + more_ending result }
         ensures apart { IsApart desk.old result }
     {

@@ -3,6 +3,7 @@ ghost use Rattle.std.specs.Prelude.{◌≡◌, ◌+◌};
 ghost use Rattle.control_word.specs.declared.model.handle.Kind.TheVariants.{Weak};
 ghost use Rattle.control_block.specs.Desks.{Belongs, IsSameDesk, KeepsEndings, bag_of, endings_of};
 ghost use Rattle.control_block.specs.CellCalls.{HoldsHandle, without_handle};
+ghost use Rattle.control_block.specs.Own.{KeepsHeld};
 ghost use Rattle.atomic_cells.specs.Cells.{StoresWeakly};
 ghost use Rattle.atomic_cells.specs.Sites.{IsMember, IsOpenWeakly, weak_cell};
 ghost use Rattle.atomic_cells.specs.declared.at.At.{At};
@@ -87,7 +88,7 @@ impl<'a> WeakAt<'a> {
     /// The pointer goes into the cell, and what the cell held leaves ([util.smartptr.atomic.weak]): it answers `Empty`
     /// where that was an empty one, and else `Others` (own). Where that was the last handle of an object that is gone,
     /// its block is vacant, and in the desk's store. It waits for nobody, and refuses nothing.
-    #[inline]
+    #[inline(always)]
     pub fn store<V: Drop>(
         &self,
         domain: &Domain<V>,
@@ -103,6 +104,7 @@ impl<'a> WeakAt<'a> {
         ensures held { desk.new.held + 1 ≡ desk.old.held }
         ensures desk { IsSameDesk desk.old desk.new }
         ensures endings { KeepsEndings desk.old desk.new }
+        ensures latest { KeepsHeld desk.old desk.new }
         ensures count { endings_of desk.new ≡ endings_of desk.old }
     {
         let new = WeakSite::content(&handle);

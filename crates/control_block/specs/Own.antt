@@ -46,3 +46,7 @@ module _ {V : Type 0} where
   -- the object last made in a block is the same, wherever the desk had a handle
   abbrev pub KeepsLatest : DeskNow V → DeskNow V → Type 0
   KeepsLatest d e = (k : Kind) (p : Option Place) (b : ℕ) → HasHandle d k p b → latest_of e b ≡ latest_of d b
+
+  -- what the desk has still is on the object that it was on
+  abbrev pub KeepsHeld : DeskNow V → DeskNow V → Type 0
+  KeepsHeld d e = (k : Kind) (p : Option Place) (b : ℕ) → HasHandle e k p b → latest_of e b ≡ latest_of d b

@@ -65,7 +65,7 @@ impl<V: Drop> Desk<V> {
     }
 
     /// What is true of every desk (own): for the proof of a caller that needs it.
-    pub fn stands(&self)
+    pub fn assert_invariant(&self)
         ensures { Standing self.now }
     {
         let _held = self.held;

@@ -17,9 +17,9 @@ pub mod clears;
 pub mod doors;
 pub mod funds;
 pub mod in_hand;
-pub mod leaving;
+pub mod leaves;
 pub mod locks;
-pub mod making;
+pub mod makes;
 pub mod observation;
 pub mod seats;
 pub mod shelf;
@@ -33,7 +33,7 @@ use crate::table::{Seat, Table};
 use control_word::packed::counts::use_count_of;
 use control_word::packed::layout::{FIELDS, FLAGS, OWNERS, WEAKS, block_word};
 use control_word::{Block, Handle, Place};
-pub use making::make;
+pub use makes::make;
 
 /// Share: one owner more, under an owner that the desk holds ([util.smartptr.shared.const]).
 pub fn share<V, M: StepArgs>(

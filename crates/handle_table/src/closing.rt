@@ -31,7 +31,7 @@ pub(crate) fn keep_sole<V: Drop>(
     ensures sole { IfOk result (λ _. CanClose desk domain.shape) }
     ensures refused { IfErr result (λ why. (why ≡ Refusal.NotSole) × (IsSole desk → ⊥)) }
 {
-    desk.stands();
+    desk.assert_invariant();
     if !desk.is_sole(&domain) {
         desk.give_up();
         drop(domain);

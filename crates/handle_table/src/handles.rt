@@ -1,8 +1,8 @@
 //! Handles that come into slots, and those that leave them.
-mod copying;
+mod copies;
 mod empties;
-mod leaving;
-mod locking;
-mod making;
+mod locks;
+mod makes;
+mod resets;
 mod this;
-mod upgrading;
+mod upgrades;

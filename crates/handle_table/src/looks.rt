@@ -1,7 +1,7 @@
 //! What handles in slots tell, and work on the values that they own.
+mod counts;
 mod pairs;
-mod peeking;
-mod telling;
-mod visiting;
+mod peeks;
+mod visits;
 
-pub use peeking::Peeked;
+pub use peeks::Peeked;

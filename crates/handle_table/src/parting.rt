@@ -10,7 +10,7 @@ ghost use Rattle.handle_table.specs.Tables.{AllVacant, FitsSlots, on_pile};
 
 use crate::fault::Fault;
 use crate::parting::parts::{Part, part_of};
-use crate::slots::assigning::let_go;
+use crate::slots::assignments::let_go;
 use crate::slots::slot::Slot;
 use crate::table::{HandleTable, Home};
 use control_block::desk::Desk;
@@ -21,7 +21,7 @@ use std::alloc::Global;
 use std::marker::PhantomData;
 use std::sync::Wait;
 
-mod joining;
+mod joins;
 pub(crate) mod parts;
 
 /// All handles leave their slots, the last one first.

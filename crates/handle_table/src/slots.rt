@@ -14,7 +14,7 @@ use control_block::handles::Weak;
 use control_word::Place;
 use shared_handle::{Held, Shared};
 
-pub(crate) mod assigning;
+pub(crate) mod assignments;
 pub(crate) mod kinds;
 pub(crate) mod seen;
 pub(crate) mod slot;

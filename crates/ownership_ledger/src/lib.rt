@@ -6,11 +6,11 @@
 #![tactic(auto)]
 
 mod book;
-mod gathering;
 mod opening;
 mod plays;
 mod share;
 mod steps;
+mod totals;
 
 pub use book::Book;
 pub use share::{Share, Totals};

@@ -15,7 +15,7 @@ pub use Rattle.control_block.specs.CellCalls.{handle_in, HoldsHandle, with_handl
 pub use Rattle.control_block.specs.Desks.{AddsEvent, allowance_of, bag_of, Belongs, DeskNow}
 pub use Rattle.control_block.specs.Desks.{DomainNow, endings_of, IsSameDesk, Keeps, KeepsEndings}
 pub use Rattle.control_block.specs.Desks.{latest_of, on_latest, state_of}
-pub use Rattle.control_block.specs.Own.{Does, Goes, IsSole, KeepsDesks, KeepsLatest}
+pub use Rattle.control_block.specs.Own.{Does, Goes, IsSole, KeepsDesks, KeepsHeld, KeepsLatest}
 pub use Rattle.control_block.specs.Rule.{opening_of}
 pub use Rattle.control_block.specs.declared.handles.Shared.{Shared}
 pub use Rattle.control_word.proofs.history.Cells.{InState, one_of, open_live}
@@ -81,7 +81,7 @@ pub use Rattle.scene_structures.specs.Chains.{Chain, IsList, OwnsObject}
 pub use Rattle.scene_structures.specs.Detaches.{CutsOut, Detaches, HeldSought, IsEnd, IsSought}
 pub use Rattle.scene_structures.specs.Detaches.{LeavesParent, Meets, ReachesNode, Seeks, Unlinks}
 pub use Rattle.scene_structures.specs.Detaches.{UnlinksIf}
-pub use Rattle.scene_structures.specs.Hands.{HasHands, IsOpenBy, KeepsHeld, KeepsThese, Lists}
+pub use Rattle.scene_structures.specs.Hands.{HasHands, IsOpenBy, KeepsThese, Lists}
 pub use Rattle.scene_structures.specs.Hands.{node_in, SameNode, stacked}
 pub use Rattle.scene_structures.specs.Leaves.{after_all, KeepsBut}
 pub use Rattle.scene_structures.specs.Observers.{Attaches, ups}
@@ -104,5 +104,5 @@ pub use Rattle.scene_structures.specs.Trees.{bare, IsTree, node, objects_in_orde
 pub use Rattle.scene_structures.specs.Walks.{HasLooked, is_look, IsAsked, IsLooking, SeenNode}
 pub use Rattle.scene_structures.specs.Walks.{TellsField, told_of, told_onto, Walks, WalksOver}
 pub use Rattle.scene_structures.specs.Watches.{Watches, weak_of_owner}
-pub use Rattle.scene_structures.specs.declared.lists.cutting.Sought.{Sought}
-pub use Rattle.scene_structures.specs.declared.lists.cutting.Sought.TheVariants.{Cut, End, Other}
+pub use Rattle.scene_structures.specs.declared.lists.removals.Sought.{Sought}
+pub use Rattle.scene_structures.specs.declared.lists.removals.Sought.TheVariants.{Cut, End, Other}

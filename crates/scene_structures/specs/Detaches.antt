@@ -18,8 +18,8 @@ use Rattle.scene_structures.specs.Parents.{LocksUp}
 use Rattle.scene_structures.specs.Puts.{PutsOnly, in_no_cell}
 use Rattle.scene_structures.specs.Stacks.{Fills, FindsNone}
 use Rattle.scene_structures.specs.Watches.{Watches}
-use Rattle.scene_structures.specs.declared.lists.cutting.Sought.{Sought}
-use Rattle.scene_structures.specs.declared.lists.cutting.Sought.TheVariants.{Cut, End, Other}
+use Rattle.scene_structures.specs.declared.lists.removals.Sought.{Sought}
+use Rattle.scene_structures.specs.declared.lists.removals.Sought.TheVariants.{Cut, End, Other}
 
 module _ {V : Type 0} where
   -- what was found in a cell: no node, or this

@@ -44,10 +44,6 @@ module _ {V : Type 0} where
   abbrev pub SameNode : DeskNow V → Shared → DeskNow V → Type 0
   SameNode d h e = node_in e h ≡ node_in d h
 
-  -- what the desk has still is on the object that it was on
-  abbrev pub KeepsHeld : DeskNow V → DeskNow V → Type 0
-  KeepsHeld d e = (k : Kind) (p : Option Place) (b : ℕ) → HasHandle e k p b → latest_of e b ≡ latest_of d b
-
   -- what the list has still is on the object that it was on
   abbrev pub KeepsThese : List NumberedHandle → DeskNow V → DeskNow V → Type 0
   KeepsThese l d e = (k : Kind) (p : Option Place) (b : ℕ) → Has (handle k (Some b) p) l

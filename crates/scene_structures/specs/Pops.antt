@@ -8,8 +8,8 @@ use Rattle.control_block.specs.Desks.{DeskNow}
 use Rattle.control_block.specs.declared.handles.Shared.{Shared}
 use Rattle.scene_structures.specs.Hands.{HasHands, node_in}
 use Rattle.scene_structures.specs.Stacks.{FindsNone, Looks, PopsNode}
-use Rattle.scene_structures.specs.declared.lists.popping.Tried.{Tried}
-use Rattle.scene_structures.specs.declared.lists.popping.Tried.TheVariants.{Again, Found, Took}
+use Rattle.scene_structures.specs.declared.lists.pops.Tried.{Tried}
+use Rattle.scene_structures.specs.declared.lists.pops.Tried.TheVariants.{Again, Found, Took}
 
 module _ {V : Type 0} where
   -- the handle that came out is the node that went out of the cell

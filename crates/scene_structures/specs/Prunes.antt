@@ -22,8 +22,8 @@ use Rattle.atomic_cells.specs.Cells.{Loads}
 use Rattle.scene_structures.specs.Chains.{IsList}
 use Rattle.scene_structures.specs.Hands.{HasHands, SameNode, node_in}
 use Rattle.scene_structures.specs.Stacks.{FindsNone}
-use Rattle.scene_structures.specs.declared.lists.pruning.Front.{Front}
-use Rattle.scene_structures.specs.declared.lists.pruning.Front.TheVariants.{End, Gone, Stays}
+use Rattle.scene_structures.specs.declared.lists.prunes.Front.{Front}
+use Rattle.scene_structures.specs.declared.lists.prunes.Front.TheVariants.{End, Gone, Stays}
 
 -- what the handle is on has an owner
 abbrev pub is_owned : State → NumberedHandle → Bool

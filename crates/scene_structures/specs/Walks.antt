@@ -18,8 +18,8 @@ use Rattle.control_block.specs.declared.handles.Shared.{Shared}
 use Rattle.shared_handle.specs.Piles.{IsParting}
 use Rattle.scene_structures.specs.Chains.{IsList, OwnsObject}
 use Rattle.scene_structures.specs.Hands.{HasHands, node_in}
-use Rattle.scene_structures.specs.declared.lists.walking.Visited.{Visited}
-use Rattle.scene_structures.specs.declared.lists.walking.Visited.TheVariants.{End, Passed, Told}
+use Rattle.scene_structures.specs.declared.lists.walks.Visited.{Visited}
+use Rattle.scene_structures.specs.declared.lists.walks.Visited.TheVariants.{End, Passed, Told}
 
 -- what a visit to a node saw: what its `up` held, field 0 of the subject, if that has an owner, and what its `next`
 -- held

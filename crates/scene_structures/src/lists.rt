@@ -1,7 +1,7 @@
 //! The nodes of a cell's list: they come in front, go out and are walked over.
-pub(crate) mod attaching;
-pub(crate) mod cutting;
-pub(crate) mod popping;
-pub(crate) mod pruning;
-pub(crate) mod pushing;
-pub(crate) mod walking;
+pub(crate) mod pops;
+pub(crate) mod prunes;
+pub(crate) mod pushes;
+pub(crate) mod removals;
+pub(crate) mod subjects;
+pub(crate) mod walks;

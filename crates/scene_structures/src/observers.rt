@@ -15,10 +15,10 @@ ghost use Rattle.scene_structures.specs.Stacks.{StandsIn};
 ghost use Rattle.scene_structures.specs.Walks.{IsToldList, WalksOver};
 ghost use Rattle.scene_structures.specs.Orders.{EndsInOrder};
 
-use crate::lists::attaching::watch;
-use crate::lists::pruning::clear_list;
-use crate::lists::pushing::{Attempt, raise};
-use crate::lists::walking::walk;
+use crate::lists::prunes::clear_list;
+use crate::lists::pushes::{Attempt, raise};
+use crate::lists::subjects::watch;
+use crate::lists::walks::walk;
 use crate::stack::is_near_limit;
 use atomic_cells::SharedAt;
 use control_block::desk::Desk;
@@ -94,7 +94,7 @@ impl<V: Drop> Observers<V> {
                 back: value,
             });
         }
-        desk.stands();
+        desk.assert_invariant();
         let node = make(domain, desk, [0; 4], false, value)?;
         watch(domain, desk, &node, subject);
         let at = SharedAt::free(self.cell);
@@ -135,7 +135,7 @@ impl<V: Drop> Observers<V> {
         if is_near_limit(desk) {
             return Err(Refusal::Limit);
         }
-        desk.stands();
+        desk.assert_invariant();
         let Ok(top) = SharedAt::free(self.cell).load(rt, domain, desk) else {
             unreachable!()
         };
@@ -172,7 +172,7 @@ impl<V: Drop> Observers<V> {
         if is_near_limit(desk) {
             return Err(Refusal::Limit);
         }
-        desk.stands();
+        desk.assert_invariant();
         Ok(clear_list(rt, domain, desk, self.cell, &mut self.pile))
     }
 

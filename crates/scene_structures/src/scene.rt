@@ -11,8 +11,8 @@ ghost use Rattle.scene_structures.specs.Stacks.{ServesDomain};
 ghost use Rattle.scene_structures.specs.Others.{KeepsOthers};
 ghost use Rattle.scene_structures.specs.Orders.{EndsInOrder};
 
-use crate::lists::attaching::watch;
-use crate::lists::pushing::{Attempt, raise};
+use crate::lists::pushes::{Attempt, raise};
+use crate::lists::subjects::watch;
 use crate::stack::is_near_limit;
 use atomic_cells::{SharedAt, SharedMember};
 use control_block::desk::Desk;
@@ -99,7 +99,7 @@ impl<V: Drop> Scene<V> {
             Ok(first) => first,
             Err(why) => return Err(Refused { why, back: value }),
         };
-        desk.stands();
+        desk.assert_invariant();
         let Ok(node) = make(domain, desk, fields, false, value) else {
             unreachable!()
         };

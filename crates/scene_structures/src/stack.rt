@@ -12,8 +12,8 @@ ghost use Rattle.scene_structures.specs.Pops.{TakesNode};
 ghost use Rattle.scene_structures.specs.Stacks.{FindsNone, IsEmptyList, IsPopped, IsPushed, Pushes, StandsIn};
 ghost use Rattle.scene_structures.specs.Orders.{EndsInOrder};
 
-use crate::lists::popping::take;
-use crate::lists::pushing::{Attempt, raise};
+use crate::lists::pops::take;
+use crate::lists::pushes::{Attempt, raise};
 use atomic_cells::SharedAt;
 use control_block::desk::Desk;
 use control_block::domain::Domain;
@@ -30,7 +30,7 @@ const HANDLES: u32 = 6;
 pub(crate) fn is_near_limit<V: Drop>(desk: &Desk<V>) -> bool
     ensures { IsTrue result ↔ (allowance_of desk.now < held_of desk.now + 6) }
 {
-    desk.stands();
+    desk.assert_invariant();
     desk.allowance() - desk.held() < HANDLES
 }
 
@@ -98,7 +98,7 @@ impl<V: Drop> Stack<V> {
                 back: value,
             });
         }
-        desk.stands();
+        desk.assert_invariant();
         let node = make(domain, desk, fields, false, value)?;
         let at = SharedAt::free(self.cell);
         let Ok(top) = at.load(rt, domain, desk) else {
@@ -140,7 +140,7 @@ impl<V: Drop> Stack<V> {
         if is_near_limit(desk) {
             return Err(Refusal::Limit);
         }
-        desk.stands();
+        desk.assert_invariant();
         let Ok(top) = SharedAt::free(self.cell).load(rt, domain, desk) else {
             unreachable!()
         };

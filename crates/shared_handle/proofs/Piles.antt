@@ -10,8 +10,8 @@ use Prelude.{Stacked, Standing, Up, with_clear}
 use Rattle.control_word.specs.declared.shape.Shape.{Shape}
 use Rattle.control_block.specs.Desks.{KeepsStock}
 use Rattle.shared_handle.proofs.Few.{few_listed}
-use Rattle.shared_handle.proofs.PiledEndings.{all_beside, all_kept, all_last, below_left, cleared}
-use Rattle.shared_handle.proofs.PiledEndings.{cleared_top, left_comes, piled_all, piled_cons}
+use Rattle.shared_handle.proofs.PiledEndings.{Comes, all_beside, all_kept, all_last, below_left}
+use Rattle.shared_handle.proofs.PiledEndings.{cleared, cleared_top, left_comes, piled_all, piled_cons}
 use Rattle.shared_handle.proofs.PiledEndings.{piled_many, swapped}
 use Rattle.shared_handle.specs.Piles.{Bears, is_cleared}
 
@@ -127,35 +127,40 @@ module _ {V : Type 0} where
   bears_after domain d e p q w carries keeps =
       record { carries = carries; many = let a = w.many in let b = keeps.count in omega arith }
 
-  -- what left may have been an object's last owner
-  left_all : (d e : DeskNow V) (b : Option Block) (at : Option Place) (left : Left V) (xs : List (Ending V)) → AllEnd d xs → KeepsEndings d e
-      → IsLeft d b at left e → AllEnd e (piled xs left)
-  left_all d e b at left xs all keeps is = piled_all e xs left (all_kept d e xs keeps all) (left_comes d e b at left xs all is)
+  -- what ends for it, if an object does, ends in the desk's hands, and is none of what ended there before
+  abbrev pub EndsApart : DeskNow V → Left V → DeskNow V → Type 0
+  EndsApart d left e = (xs : List (Ending V)) → AllEnd d xs → Comes e xs left
 
-  pub carries_left : (domain : DomainNow) (d e : DeskNow V) (p q : Pile V) (b : Option Block) (at : Option Place) (left : Left V)
-      → Carries domain d p → KeepsStock d e → IsLeft d b at left e
+  pub left_ends : (d e : DeskNow V) (b : Option Block) (at : Option Place) (left : Left V) → IsLeft d b at left e → EndsApart d left e
+  left_ends d e b at left is xs all = left_comes d e b at left xs all is
+
+  -- what left may have been an object's last owner
+  left_all : (d e : DeskNow V) (left : Left V) (xs : List (Ending V)) → AllEnd d xs → KeepsEndings d e → EndsApart d left e → AllEnd e (piled xs left)
+  left_all d e left xs all keeps ends = piled_all e xs left (all_kept d e xs keeps all) (ends xs all)
+
+  pub carries_left : (domain : DomainNow) (d e : DeskNow V) (p q : Pile V) (left : Left V) → Carries domain d p → KeepsStock d e → EndsApart d left e
       → q.endings.items ≡ piled p.endings.items left → vec_capacity q.endings ≡ vec_capacity p.endings → Carries domain e q
-  carries_left domain d e p q b at left w keeps is are same =
+  carries_left domain d e p q left w keeps ends are same =
       record {
         belongs = record { table = keeps.domain ∙ w.belongs.table; shape = keeps.shape ∙ w.belongs.shape };
-        ends = subst (AllEnd e) (sym are) (left_all d e b at left p.endings.items w.ends keeps.endings is);
+        ends = subst (AllEnd e) (sym are) (left_all d e left p.endings.items w.ends keeps.endings ends);
         room = subst (λ k. domain.shape.blocks ≤ k) (sym same) w.room;
       }
 
-  pub left_elsewhere : (d e : DeskNow V) (b : Option Block) (at : Option Place) (left : Left V) (xs ys : List (Ending V)) → KeepsStock d e
-      → IsLeft d b at left e → endings_of e ≡ endings_of d + more_ending left → ys ≡ piled xs left → KeepsElsewhere d xs e ys
-  left_elsewhere d e b at left xs ys keeps is count are =
+  pub left_elsewhere : (d e : DeskNow V) (left : Left V) (xs ys : List (Ending V)) → KeepsStock d e → EndsApart d left e
+      → endings_of e ≡ endings_of d + more_ending left → ys ≡ piled xs left → KeepsElsewhere d xs e ys
+  left_elsewhere d e left xs ys keeps ends count are =
       record {
         count = let p = piled_many xs left in let q = ap length are in omega arith;
         beside = λ w all.
             subst (λ l. AllEnd e (w ∷ l)) (sym are)
-            (subst (AllEnd e) (piled_cons w xs left) (left_all d e b at left (w ∷ xs) all keeps.endings is));
+            (subst (AllEnd e) (piled_cons w xs left) (left_all d e left (w ∷ xs) all keeps.endings ends));
       }
 
-  pub room_piled : (domain : DomainNow) (d e : DeskNow V) (p : Pile V) (b : Option Block) (at : Option Place) (left : Left V) → Carries domain d p
-      → KeepsStock d e → IsLeft d b at left e → Standing e → length p.endings.items + more_ending left ≤ vec_capacity p.endings
-  room_piled domain d e p b at left w keeps is stands =
-      let t = left_all d e b at left p.endings.items w.ends keeps.endings is in
+  pub room_piled : (domain : DomainNow) (d e : DeskNow V) (p : Pile V) (left : Left V) → Carries domain d p → KeepsStock d e → EndsApart d left e
+      → Standing e → length p.endings.items + more_ending left ≤ vec_capacity p.endings
+  room_piled domain d e p left w keeps ends stands =
+      let t = left_all d e left p.endings.items w.ends keeps.endings ends in
       let a = fits domain e (piled p.endings.items left) (vec_capacity p.endings) stands (keeps.shape ∙ w.belongs.shape) w.room t in
       let b = piled_many p.endings.items left in omega arith
 

@@ -4,8 +4,8 @@ ghost use Rattle.shared_handle.specs.Endings.{IsLeftOf};
 use control_block::in_place::InPlace;
 use control_word::Block;
 
-mod clearing;
-mod finishing;
+mod clears;
+mod finish;
 
 /// An object whose last owner has left: its deleter runs with whoever has this. Its members must be cleared, and it
 /// must be finished.

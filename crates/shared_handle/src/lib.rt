@@ -2,32 +2,32 @@
 //! values that must be spent.
 #![tactic(auto)]
 
-mod downgrading;
-mod dropping;
+mod downgrades;
+mod drops;
 mod endings;
-mod locking;
+mod locks;
 mod looks;
-mod making;
-mod ordering;
+mod makes;
+mod owner_order;
 mod pile;
 mod pointers;
-mod sharing;
+mod shares;
 mod this;
-mod visiting;
+mod visits;
 mod weak_looks;
 mod weaks;
 
 pub use control_block::handles::{Held, Shared, Weak};
-pub use downgrading::downgrade;
-pub use dropping::{drop_shared, reset};
+pub use downgrades::downgrade;
+pub use drops::{drop_shared, reset};
 pub use endings::{Ending, Left, Member};
-pub use locking::{lock, upgrade};
+pub use locks::{lock, upgrade};
 pub use looks::{place, read, same_place, use_count};
-pub use making::{empty, empty_weak, make, make_null};
-pub use ordering::{HasOwner, owner_before};
+pub use makes::{empty, empty_weak, make, make_null};
+pub use owner_order::{HasOwner, owner_before};
 pub use pile::{Gone, Pile, Round};
-pub use sharing::{alias, release, share};
+pub use shares::{alias, release, share};
 pub use this::{shared_from_this, weak_from_this};
-pub use visiting::visit;
+pub use visits::visit;
 pub use weak_looks::{expired, use_count_weak};
 pub use weaks::{release_weak, share_weak};

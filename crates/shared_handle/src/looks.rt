@@ -71,7 +71,7 @@ pub fn place<V: Drop>(_domain: &Domain<V>, _desk: &mut Desk<V>, handle: &Shared)
     ensures proper { HoldsHandle _desk.old Owner handle.now.block handle.now.place → IsPointer result }
     ensures same { _desk.new ≡ _desk.old }
 {
-    _desk.stands();
+    _desk.assert_invariant();
     handle.place()
 }
 

@@ -12,7 +12,7 @@ use control_word::Refusal;
 use std::alloc::Global;
 
 mod rounds;
-mod settling;
+mod settlement;
 
 /// What is told of an owner that left ([util.smartptr.shared.dest]).
 #[derive(Clone, Copy, Drop)]
@@ -39,20 +39,6 @@ pub enum Round<V> {
 /// Objects that end in one desk's hands, one upon the other.
 pub struct Pile<V> {
     pub(crate) endings: Vec<Ending<V>, Global>,
-}
-
-impl Gone {
-    /// What is told of an owner that left (own).
-    #[inline(always)]
-    pub(crate) fn of<V>(left: &Left<V>) -> Gone
-        ensures { result ≡ gone_of left.now }
-    {
-        match left {
-            Left::Empty => Gone::Empty,
-            Left::Others => Gone::Others,
-            Left::Last(_) => Gone::Last,
-        }
-    }
 }
 
 impl<V: Drop> Pile<V> {
@@ -90,17 +76,23 @@ impl<V: Drop> Pile<V> {
         Some(top)
     }
 
-    /// What came of an owner that left goes onto the pile, where an object ends for it (own). Condition: there is room,
-    /// as there is for what ends with the pile's own desk.
+    /// What came of an owner that left goes onto the pile, where an object ends for it (own): what is told of it. It is
+    /// for the crates whose calls end handles. Condition: there is room, as there is for what ends with the pile's own
+    /// desk.
     #[inline(always)]
-    pub(crate) fn put(&mut self, left: Left<V>)
+    pub fn put(&mut self, left: Left<V>) -> Gone
         requires room { length self.old.endings.items + more_ending left ≤ vec_capacity self.old.endings }
+        ensures told { result ≡ gone_of left }
         ensures endings { self.new.endings.items ≡ piled self.old.endings.items left }
         ensures room { vec_capacity self.new.endings ≡ vec_capacity self.old.endings }
     {
         match left {
-            Left::Empty | Left::Others => {}
-            Left::Last(ending) => self.endings.push_reserved(ending),
+            Left::Empty => Gone::Empty,
+            Left::Others => Gone::Others,
+            Left::Last(ending) => {
+                self.endings.push_reserved(ending);
+                Gone::Last
+            }
         }
     }
 

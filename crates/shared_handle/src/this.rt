@@ -7,7 +7,7 @@ ghost use Rattle.control_block.specs.CellCalls.{HoldsHandle, with_handle};
 ghost use Rattle.shared_handle.specs.Endings.{IsThis, MayGiveThis, WhyNotThis};
 
 use crate::looks::place_within;
-use crate::sharing::share_to;
+use crate::shares::share_to;
 use control_block::desk::Desk;
 use control_block::domain::Domain;
 use control_block::handles::Shared;

@@ -5,7 +5,7 @@ ghost use Rattle.control_block.specs.Desks.{Belongs, Keeps, bag_of};
 ghost use Rattle.shared_handle.specs.Calls.{IsUseCount, IsExpiry};
 ghost use Rattle.control_block.specs.CellCalls.{HoldsHandle};
 
-use crate::ordering::HasOwner;
+use crate::owner_order::HasOwner;
 use crate::pointers::weak_pointer;
 use control_block::desk::Desk;
 use control_block::domain::Domain;

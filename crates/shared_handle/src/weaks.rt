@@ -6,7 +6,7 @@ ghost use Rattle.control_block.specs.Desks.{held_of, stock_of};
 ghost use Rattle.shared_handle.specs.Calls.{LeavesWeakly, SharesWeakly, weak_place};
 ghost use Rattle.control_block.specs.CellCalls.{HoldsHandle, with_handle, without_handle};
 
-use crate::making::no_object;
+use crate::makes::no_object;
 use control_block::desk::Desk;
 use control_block::domain::Domain;
 use control_block::{calls, handles};

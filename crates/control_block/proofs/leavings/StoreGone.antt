@@ -1,14 +1,27 @@
 -- What a desk has when a handle was stored into a cell, and what the cell held has left, of either kind.
-use Rattle.std.proofs.Common.{◌≡◌, ℕ, ◌+◌, ◌≤◌, [], length, IfSome, Option, refl, ap, ◌∙◌, arith}
+use Rattle.std.proofs.Common.{◌≡◌, ℕ, ◌+◌, ◌≤◌, List, [], length, IfSome, Some, None, Option, sym, refl}
+use Rattle.std.proofs.Common.{ap, ◌∙◌, subst, inr, arith}
 use Rattle.control_block.proofs.Prelude
 use Prelude.{AddsEvent, bag_of, bag_size, Block, CameOut, Cell, CellWord, desk_now, DeskNow}
-use Prelude.{endings_of, handle_in, HoldingInBlock, HoldsHandle, Inside, IsDesk, IsDeskWith}
-use Prelude.{IsProper, IsSameDesk, Keeps, KeepsEndings, Kind, known, LetGo, NumberedHandle, Place}
-use Prelude.{Released, SeatView, stock_of, Swap, without_handle}
+use Prelude.{endings_of, handle, handle_in, handle_self, Has, has_before, HoldingInBlock, HoldsHandle}
+use Prelude.{Inside, IsDesk, IsDeskWith, IsProper, IsSameDesk, Keeps, KeepsEndings, Kind, known}
+use Prelude.{latest_of, LetGo, Lets, NumberedHandle, Place, Released, same_handle, same_handle_true}
+use Prelude.{SeatView, stock_of, Swap, with_handle, without_handle}
+use Rattle.control_block.proofs.Latest.{calls_keep_latest}
 use Rattle.control_block.proofs.cells.CellDesks.{fits, got_holding, in_seat, one, one_few}
 use Rattle.control_block.proofs.cells.CellOutcomes.{Came, bag_then, desk_then, event_of, is_proper}
 use Rattle.control_block.proofs.cells.CellOutcomes.{keeps_else, size_now, swapped}
 use Rattle.control_block.proofs.leavings.GoneDesks.{Going, HasGone, front_out, on_its_way}
+use Rattle.control_block.specs.Own.{KeepsHeld, KeepsLatest}
+
+-- what is left of a bag was in it, and is in it with a handle more
+has_all : (k : Kind) (b : Option Block) (p : Option Place) (x : NumberedHandle) (l : List NumberedHandle) → Has x (without_handle k b p l) → Has x l
+has_all k None p x l has = has
+has_all k (Some b) p x l has = has_before same_handle same_handle_true handle_self x (handle k (Some b.0) p) l has
+
+has_over : (k : Kind) (b : Option Block) (p : Option Place) (x : NumberedHandle) (l : List NumberedHandle) → Has x l → Has x (with_handle k b p l)
+has_over k None p x l has = has
+has_over k (Some b) p x l has = inr has
 
 module _ {V : Type 0} where
   -- what is so once the handle (b, p) is in the cell: s blocks more are vacant, and n objects more end with the desk
@@ -18,6 +31,10 @@ module _ {V : Type 0} where
     pub desk : IsSameDesk d e
     pub stock : length (stock_of e) ≡ length (stock_of d) + s
     pub count : endings_of e ≡ endings_of d + n
+
+  lets_latest : (k : Kind) (d : DeskNow V) (b : Option Block) (p : Option Place) (r : Released V) (e : DeskNow V) → Lets k d b p r e → KeepsLatest d e
+  lets_latest k d None p r e lets = λ i q a has. ap (λ (u : DeskNow V). latest_of u a) lets.1
+  lets_latest k d (Some c) p r e lets = calls_keep_latest d _ e lets.0
 
 module _ {V : Type 0} (k : Kind) (d f : Inside V) (h : IsDesk d) (cell : Cell) (lost : NumberedHandle) (b : Option Block) (p : Option Place) (x : CellWord)
     (is : lost ≡ in_seat d.seat.me.0 k b p) (has : HoldsHandle (desk_now d) k b p)
@@ -71,3 +88,13 @@ module _ {V : Type 0} (k : Kind) (d f : Inside V) (h : IsDesk d) (cell : Cell) (
         stock = gone.stock ∙ ap (λ z. z + s) a.stock;
         count = gone.count ∙ ap (λ z. z + n) a.count;
       }
+
+  -- what the desk has still is on the object that it was on
+  pub keeps_held : (r : Released V) → Lets k (desk_now t) x.owned x.place r (desk_now f)
+      → bag_of (desk_now f) ≡ without_handle k b p (bag_of (desk_now d)) → KeepsHeld (desk_now d) (desk_now f)
+  keeps_held r lets bag i q a has =
+      let y = handle i (Some a) q in let left = subst (Has y) bag has in
+      let there : Has y (bag_of (desk_now t)) =
+      subst (Has y) (sym (bag_then h came (desk_now d) refl)) (has_over k x.owned x.place y (without_handle k b p (bag_of (desk_now d))) left) in
+      lets_latest k (desk_now t) x.owned x.place r (desk_now f) lets i q a there
+      ∙ calls_keep_latest (desk_now d) _ (desk_now t) swaps i q a (has_all k b p y (bag_of (desk_now d)) left)

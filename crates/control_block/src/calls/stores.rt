@@ -5,6 +5,7 @@ ghost use Rattle.control_block.specs.Desks.{Belongs};
 ghost use Rattle.control_block.specs.CellCalls.{HoldsHandle, IsOpenAt, cell_of_site, handle_in, without_handle};
 ghost use Rattle.control_block.specs.Desks.{IsSameDesk, KeepsEndings, bag_of, endings_of, stock_of};
 ghost use Rattle.control_block.specs.Leaving.{IsReleasedBy};
+ghost use Rattle.control_block.specs.Own.{KeepsHeld};
 ghost use Rattle.control_block.specs.Storing.{Replaces};
 
 use crate::calls::put_by_out;
@@ -20,7 +21,7 @@ use control_word::{CellWord, Site};
 /// A handle that the desk has goes into a cell, and what the cell held leaves ([util.smartptr.atomic.shared],
 /// [util.smartptr.atomic.weak]). Where that was an object's last owner, its value is released, and it ends in the
 /// desk's hands; a block that is vacant now is in the desk's store. It waits for nobody.
-#[inline]
+#[inline(always)]
 pub fn store<V: Drop, A: CellArgs>(
     domain: &Domain<V>,
     desk: &mut Desk<V>,
@@ -38,6 +39,7 @@ pub fn store<V: Drop, A: CellArgs>(
     ensures desk { IsSameDesk desk.old desk.new }
     ensures stock { length (stock_of desk.new) ≡ length (stock_of desk.old) + cond result.1.vacant 1 0 }
     ensures endings { KeepsEndings desk.old desk.new }
+    ensures latest { KeepsHeld desk.old desk.new }
     ensures count { endings_of desk.new ≡ endings_of desk.old + cond (is_some result.1.value) 1 0 }
 {
     desk.held -= 1; // here, since each locked instruction that follows waits for what was stored before it

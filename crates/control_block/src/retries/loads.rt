@@ -108,63 +108,6 @@ pub(crate) fn top_up<V, A: CellArgs, R: Wait>(
     refill::<V, A, Brand, R>(rt, table, seat, word, kind, block, seen.place);
 }
 
-/// What a cell with an object shows comes out, by a load: a fund is taken and turned into a handle, where the cell
-/// still shows what was seen. Else nothing changes, and what the cell shows by then is told.
-#[inline(always)]
-fn take_handle<V, A: CellArgs>(
-    table: &Table<V>,
-    seat: &mut Seat<V>,
-    word: usize,
-    kind: Kind,
-    block: Block,
-    seen: CellWord,
-) -> Result<(), CellWord>
-    requires aim { IsAim A.cell kind word table.now.table_id seat.old.table_id seat.old.me }
-    requires seen { IsCellWord seen × (seen.owned ≡ Some block) × (seen.taken < 256) }
-    requires room { HasRoomFor seat.old.me.0 }
-    ensures table { seat.new.table_id ≡ seat.old.table_id }
-    ensures loaded { OnOk result (IsOut (λ h. Load A.cell h) kind seat.old.me.0 seen seat.new.me) }
-    ensures missed { IfErr result (λ x. IsCellWord x × (seat.new.me ≡ seat.old.me)) }
-    ensures count { OnOk result (IsCounted kind block table.now.table_id) }
-{
-    match cells::take::<V, A>(table, seat, word, seen) {
-        Ok(()) => {
-            funds::turn(table, seat, kind, block);
-            Ok(())
-        }
-        Err(found) => Err(found),
-    }
-}
-
-/// The first try at a load, which waits for nobody: a cell's object comes out as a handle more. Else nothing changes,
-/// and what the cell shows is told: it has no object, or others change it meanwhile, or the load would leave many of
-/// its funds taken.
-#[inline(always)]
-fn load_at_once<V, A: CellArgs>(
-    table: &Table<V>,
-    seat: &mut Seat<V>,
-    word: usize,
-    kind: Kind,
-) -> Result<CellWord, CellWord>
-    requires aim { IsAim A.cell kind word table.now.table_id seat.old.table_id seat.old.me }
-    requires room { HasRoomFor seat.old.me.0 }
-    ensures table { seat.new.table_id ≡ seat.old.table_id }
-    ensures loaded { IfOk result (λ x. IsOut (λ h. Load A.cell h) kind seat.old.me.0 x seat.new.me) }
-    ensures missed { IfErr result (λ x. IsCellWord x × (seat.new.me ≡ seat.old.me)) }
-{
-    let seen = cells::peek::<V, A>(table, seat, word);
-    let Some(block) = seen.owned else {
-        return Err(seen);
-    };
-    if seen.taken + 1 >= MANY_TAKEN {
-        return Err(seen);
-    }
-    match take_handle::<V, A>(table, seat, word, kind, block, seen) {
-        Ok(()) => Ok(seen),
-        Err(found) => Err(found),
-    }
-}
-
 /// The block of a cell that shows an object and has a fund of its left.
 fn with_fund(seen: CellWord) -> Option<Block>
     ensures { IfSome result (λ b. (seen.owned ≡ Some b) × (seen.taken < 256)) }
@@ -201,8 +144,9 @@ fn try_load<V, A: CellArgs, R: Wait>(
             Some(_) => Err(now),
         };
     };
-    match take_handle::<V, A>(table, seat, word, kind, block, seen) {
+    match cells::take::<V, A>(table, seat, word, seen) {
         Ok(()) => {
+            funds::turn(table, seat, kind, block);
             top_up::<V, A, R>(rt, table, seat, word, kind, block, seen);
             Ok(seen)
         }
@@ -242,8 +186,9 @@ fn load_with_retries<V, A: CellArgs, R: Wait>(
     unreachable!()
 }
 
-/// Load: what a cell holds comes out as a handle more ([util.smartptr.atomic.shared], [util.smartptr.atomic.weak]). It
-/// tries again while others change the cell, and while all its funds are taken.
+/// Load: what a cell holds comes out as a handle more ([util.smartptr.atomic.shared], [util.smartptr.atomic.weak]): an
+/// empty one by the look alone, else by a fund that is taken and turned into a handle. Where others change the cell
+/// meanwhile, or many of its funds would be left taken, it goes on by tries that may wait.
 #[inline(always)]
 pub fn load<V, A: CellArgs, R: Wait>(
     rt: &R,
@@ -257,8 +202,26 @@ pub fn load<V, A: CellArgs, R: Wait>(
     ensures table { seat.new.table_id ≡ seat.old.table_id }
     ensures loaded { IsOut (λ h. Load A.cell h) kind seat.old.me.0 result seat.new.me }
 {
-    match load_at_once::<V, A>(table, seat, word, kind) {
-        Ok(seen) => seen,
-        Err(seen) => load_with_retries::<V, A, R>(rt, table, seat, word, kind, seen),
+    let shown = cells::look::<V, A>(table, seat, word);
+    let Some(block) = shown.owned else {
+        return shown;
+    };
+    let found = if shown.taken + 1 < MANY_TAKEN {
+        match cells::take::<V, A>(table, seat, word, shown) {
+            Ok(()) => {
+                funds::turn(table, seat, kind, block);
+                return shown;
+            }
+            Err(found) => found,
+        }
+    } else {
+        shown
+    };
+    // in hand, since what a call that isn't inlined answers is kept in memory
+    let loaded = load_with_retries::<V, A, R>(rt, table, seat, word, kind, found);
+    CellWord {
+        owned: loaded.owned,
+        place: loaded.place,
+        taken: loaded.taken,
     }
 }

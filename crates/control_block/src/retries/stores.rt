@@ -13,7 +13,7 @@ ghost use Rattle.control_block.specs.StepKinds.{HasRoomFor, HoldingInBlock, Rest
 use crate::released::Released;
 use crate::retries::cells::swap_in;
 use crate::step_kinds::cells::CellArgs;
-use crate::steps::leaving;
+use crate::steps::leaves;
 use crate::table::{Seat, Table};
 use control_word::CellWord;
 use control_word::model::handle::Kind;
@@ -21,7 +21,7 @@ use std::marker::Brand;
 
 /// Store: a handle that the desk holds goes into a cell, and what the cell held leaves ([util.smartptr.atomic.shared],
 /// [util.smartptr.atomic.weak]).
-#[inline]
+#[inline(always)]
 pub fn store<V: Drop, A: CellArgs>(
     table: &Table<V>,
     seat: &mut Seat<V>,
@@ -44,6 +44,6 @@ pub fn store<V: Drop, A: CellArgs>(
     ensures stored { OutAndGone (λ h. Swap A.cell A.new h) kind seat.old.me.0 result.0 result.1 seat.new.me.0 }
 {
     let old = swap_in::<V, A>(table, seat, word, kind, new);
-    let released = leaving::let_go::<V, Brand>(table, seat, kind, old);
+    let released = leaves::let_go::<V, Brand>(table, seat, kind, old);
     (old, released)
 }

@@ -14,7 +14,7 @@ ghost use Rattle.control_block.specs.StepKinds.{Ends, HasRoomFor, Rests, tells};
 use crate::released::Released;
 use crate::step_kinds::StepArgs;
 use crate::step_kinds::clears::{Clears, LooksClear};
-use crate::steps::{leaving, words};
+use crate::steps::{leaves, words};
 use crate::table::{Seat, Table};
 use control_word::model::handle::Kind;
 use control_word::packed::cell::unpack;
@@ -99,6 +99,6 @@ pub fn clear<V: Drop, M: StepArgs>(
         return (EMPTY, Released::nothing());
     }
     let out = swap_out::<V, M>(table, seat, block, member);
-    let released = leaving::let_go::<V, Brand>(table, seat, kind, out);
+    let released = leaves::let_go::<V, Brand>(table, seat, kind, out);
     (out, released)
 }

@@ -10,7 +10,7 @@ ghost use Rattle.handle_table.specs.Tables.{FitsSlots};
 use crate::cells::held::{exchange_held, load_held};
 use crate::cells::{Cell, find};
 use crate::fault::Fault;
-use crate::slots::assigning::{arrive, assign, let_go};
+use crate::slots::assignments::{arrive, assign, let_go};
 use crate::slots::kinds::take_kind;
 use crate::slots::slot::Slot;
 use crate::slots::{fill, is_vacant};

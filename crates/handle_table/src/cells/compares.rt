@@ -10,7 +10,7 @@ ghost use Rattle.handle_table.specs.Tables.{FitsSlots, on_pile};
 use crate::cells::held::{Form, Spurious, Strong, compare_held};
 use crate::cells::{Cell, find};
 use crate::fault::Fault;
-use crate::slots::assigning::{assign, let_go};
+use crate::slots::assignments::{assign, let_go};
 use crate::slots::empty_out;
 use crate::slots::kinds::{content_at, into_content};
 use crate::slots::slot::Slot;

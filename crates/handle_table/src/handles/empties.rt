@@ -7,7 +7,7 @@ ghost use Rattle.handle_table.specs.Handles.{EmptiesSlot, EmptiesSlotWeakly, Why
 ghost use Rattle.handle_table.specs.Tables.{FitsSlots};
 
 use crate::fault::Fault;
-use crate::slots::assigning::arrive;
+use crate::slots::assignments::arrive;
 use crate::slots::slot::Slot;
 use crate::table::{HandleTable, Home};
 use control_block::desk::Desk;

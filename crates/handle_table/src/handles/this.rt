@@ -8,7 +8,7 @@ ghost use Rattle.handle_table.specs.Tables.{FitsSlots};
 ghost use Rattle.handle_table.specs.This.{Aliases, SharesThis, SharesThisWeakly, WhyNoAlias, WhyNoThis};
 
 use crate::fault::Fault;
-use crate::slots::assigning::arrive;
+use crate::slots::assignments::arrive;
 use crate::slots::owner_at;
 use crate::slots::slot::Slot;
 use crate::table::{HandleTable, Home};

@@ -111,8 +111,8 @@ fn work_and_join<R: Abort + Threads + Wait + Sync>(
     let mut two = two;
     let (kept, given) = (numbers(one), numbers(&two));
     work_in_thread(rt, domain, &mut two, slots, calls);
-    one.stands();
-    two.stands();
+    one.assert_invariant();
+    two.assert_invariant();
     one.join(domain, two);
     [kept, given, numbers(one)]
 }

@@ -74,7 +74,7 @@ fn refusals(alloc: Global) -> Option<([u8; 4], (u32, u32, u32))> {
     let none = refusal(&domain, &mut desk, alloc, 0, 1);
     let more = refusal(&domain, &mut desk, alloc, u32::MAX, 0);
     let after = numbers(&desk);
-    desk.stands();
+    desk.assert_invariant();
     abandon(domain, desk);
     Some(([most, all, none, more], after))
 }

@@ -134,7 +134,7 @@ pub(crate) fn load<R: Wait>(
     ensures desk { IsSameDesk desk.old desk.new }
     ensures came { HoldsCame desk.new result slots.now }
 {
-    desk.stands();
+    desk.assert_invariant();
     match cell {
         Cell::Up(of) => load_weak(rt, domain, desk, slots, of),
         _ => load_shared(rt, domain, desk, slots, cell),

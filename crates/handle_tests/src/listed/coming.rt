@@ -103,7 +103,7 @@ pub(crate) fn come<R: Wait>(
     ensures came { HoldsCame desk.new result slots.now }
 {
     let (of, way) = from;
-    desk.stands();
+    desk.assert_invariant();
     match held_at(desk, slots, of) {
         Some(handle) => of_held(rt, domain, desk, handle, way),
         None => Err(Answer::NoSuch),
@@ -160,6 +160,6 @@ pub(crate) fn made(
     ensures desk { IsSameDesk desk.old desk.new }
     ensures came { HoldsCame desk.new result _slots.now }
 {
-    desk.stands();
+    desk.assert_invariant();
     come_new(domain, desk, what)
 }

@@ -44,7 +44,7 @@ fn try_shared<R: Wait>(
         (λ r. HoldsBeside desk.new (held.Owner r.back) _slots.now) }
 {
     let (at, expected) = how;
-    desk.stands();
+    desk.assert_invariant();
     at.compare_exchange_strong(rt, domain, desk, expected, desired)
 }
 

@@ -97,7 +97,7 @@ fn trade(
     ensures desk { IsSameDesk desk.old desk.new }
     ensures holds { HoldsBeside desk.new result.1 slots.now }
 {
-    desk.stands();
+    desk.assert_invariant();
     match handle {
         Held::Owner(owner) => match shared_at(domain, desk, slots, cell) {
             Ok(at) => (Answer::Done, Held::Owner(at.exchange(domain, desk, owner))),

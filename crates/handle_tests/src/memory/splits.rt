@@ -53,7 +53,7 @@ fn two_handles(
     ensures desk { IsSameDesk desk.old desk.new }
     ensures holds { IfOk result (λ v. HoldsAll desk.new v.items) }
 {
-    desk.stands();
+    desk.assert_invariant();
     let Ok(mut handles) = Vec::with_capacity(alloc, 2) else {
         return Err(Refusal::Memory);
     };
@@ -61,7 +61,7 @@ fn two_handles(
         handles.destroy_empty();
         return Err(Refusal::Full);
     };
-    desk.stands();
+    desk.assert_invariant();
     match downgrade(domain, desk, &owner) {
         Ok(weak) => {
             handles.push_reserved(Held::Weak(weak));

@@ -2,10 +2,9 @@
 ghost use Rattle.std.specs.Prelude.{◌≡◌, ◌+◌, List, []};
 ghost use Rattle.control_word.specs.declared.model.handle.Kind.TheVariants.{Owner};
 ghost use Rattle.control_block.specs.Desks.{IsSameDesk, bag_of};
-ghost use Rattle.control_block.specs.Own.{Does};
+ghost use Rattle.control_block.specs.Own.{Does, KeepsHeld};
 ghost use Rattle.control_block.specs.CellCalls.{HoldsHandle, without_handle};
 ghost use Rattle.shared_handle.specs.Piles.{AreRounds, Carries, IsParting, Past};
-ghost use Rattle.scene_structures.specs.Hands.{KeepsHeld};
 ghost use Rattle.scene_structures.specs.Others.{KeepsOthers};
 ghost use Rattle.scene_structures.specs.Orders.{EndsInOrder};
 

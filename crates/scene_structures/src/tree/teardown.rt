@@ -53,7 +53,7 @@ pub fn tear_down<V: Drop>(
             back: root,
         });
     };
-    desk.stands();
+    desk.assert_invariant();
     match drop_shared(domain, desk, pile, root) {
         Gone::Last => ended.begin(),
         Gone::Empty => {}

@@ -7,7 +7,7 @@ ghost use Rattle.shared_handle.specs.Piles.{AreRounds, CameLast, Carries, Clears
 ghost use Rattle.shared_handle.specs.Piles.{KeepsElsewhere, Past, Stacked, is_cleared, next_member, piled, values_of};
 
 use crate::endings::{Ending, Left, Member};
-use crate::pile::{Gone, Pile, Round};
+use crate::pile::{Pile, Round};
 use control_block::desk::Desk;
 use control_block::domain::Domain;
 
@@ -65,10 +65,8 @@ impl<V: Drop> Pile<V> {
             return Round::Ended(top.finish(domain, desk));
         };
         let left = top.clear_member(domain, desk, member);
-        desk.stands();
-        let gone = Gone::of(&left);
-        self.put(left);
-        Round::Cleared(member, gone)
+        desk.assert_invariant();
+        Round::Cleared(member, self.put(left))
     }
 
     /// A member of the one in hand is emptied, unless it is clear already.
@@ -95,7 +93,7 @@ impl<V: Drop> Pile<V> {
             return;
         }
         let left = ending.clear_member(domain, desk, member);
-        desk.stands();
+        desk.assert_invariant();
         self.put(left);
     }
 
@@ -129,7 +127,7 @@ impl<V: Drop> Pile<V> {
                 return Some(top.finish(domain, desk));
             };
             let left = top.clear_member(domain, desk, member);
-            desk.stands();
+            desk.assert_invariant();
             match left {
                 Left::Empty => {}
                 Left::Others => {}
@@ -139,7 +137,7 @@ impl<V: Drop> Pile<V> {
                 }
             }
         }
-        desk.stands();
+        desk.assert_invariant();
         self.endings.push_reserved(top);
         None
     }

@@ -151,7 +151,7 @@ struct Peeper {
 
 impl<R: Threads + Wait + Sync> Work<u64, R> for Peeper {
     fn work<H: Home>(&mut self, _rt: &R, table: &mut HandleTable<'_, u64, H>) {
-        table.stands();
+        table.assert_invariant();
         let vacant = table.peek(0).err() == Some(Fault::Vacant);
         let made = table.make(0, [0; 4], false, 1).is_ok();
         let there = match table.peek(0) {

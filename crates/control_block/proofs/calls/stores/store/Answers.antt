@@ -4,6 +4,7 @@ use Rattle.control_block.proofs.Prelude.{bag_size, Block, bool_byte, CellWord, d
 use Rattle.control_block.proofs.Prelude.{handle_in, HoldingInBlock, HoldsHandle, InHand, Inside}
 use Rattle.control_block.proofs.Prelude.{IsWordOf, Kind, known, NumberedHandle, object_of}
 use Rattle.control_block.proofs.Prelude.{OutAndGone, Place, Released, site_place, Swap}
+use Rattle.control_block.specs.Own.{KeepsHeld}
 use Rattle.control_block.specs.Storing.{Replaces}
 use Rattle.control_block.proofs.cells.CellDesks.{in_seat, lost_counted, lost_hand, lost_holding}
 use Rattle.control_block.proofs.cells.CellDesks.{lost_room, lost_shows, lost_some, lost_word, one}
@@ -161,11 +162,14 @@ module _ (g : _) (c : goal.After-content-1 g) where
   going : Going k t f x.owned x.place q
   going = store.going k d f c.desk.invariant g.A.CellArgs.cell g.A.CellArgs.new b p x is has o.between o.out table q o.gone held
 
+  inside : IsStored k b p (desk_now d) (cond q.vacant 1 0) (cond (is_some q.value) 1 0) (desk_now f)
+  inside =
+      store.stored k d f c.desk.invariant g.A.CellArgs.cell g.A.CellArgs.new b p x is has o.between o.out table
+      (gone.has_gone going)
+
   stored : IsStored k b p c.args.desk.now (cond q.vacant 1 0) (cond (is_some q.value) 1 0) (desk_now f)
   stored =
-      subst (λ (z : DeskNow g.row.V.Denot). IsStored k b p z (cond q.vacant 1 0) (cond (is_some q.value) 1 0) (desk_now f)) c.desk.view_is
-      (store.stored k d f c.desk.invariant g.A.CellArgs.cell g.A.CellArgs.new b p x is has o.between o.out table
-      (gone.has_gone going))
+      subst (λ (z : DeskNow g.row.V.Denot). IsStored k b p z (cond q.vacant 1 0) (cond (is_some q.value) 1 0) (desk_now f)) c.desk.view_is inside
 
   room : bag_size (known o.between) o.between.view.name + 1 ≤ t.held + one x.owned
   room = store.room k d f c.desk.invariant g.A.CellArgs.cell g.A.CellArgs.new b p x is has o.between o.out table
@@ -204,6 +208,12 @@ returns-clause-stock g c = (stored g c).stock
 
 pub returns-clause-endings : goal.returns-clause-endings
 returns-clause-endings g c = (stored g c).endings
+
+pub returns-clause-latest : goal.returns-clause-latest
+returns-clause-latest g c =
+    subst (λ (z : DeskNow g.row.V.Denot). KeepsHeld z (desk_now (f g c))) c.desk.view_is
+    (store.keeps_held (k g c) (d g c) (f g c) c.desk.invariant g.A.CellArgs.cell g.A.CellArgs.new (b g c) (p g c) (x g c) (is g c) (has g c) (o g c).between
+    (o g c).out (table g c) (q g c) (gone.lets_go (going g c)) (inside g c).bag)
 
 pub returns-clause-count : goal.returns-clause-count
 returns-clause-count g c = (stored g c).count

@@ -10,4 +10,4 @@ pub returns-in-Ok-clause-holds : goal.returns-in-Ok-clause-holds
 returns-in-Ok-clause-holds c =
     let e = c.exchange.ensures in
     all_other c.args.desk.now c.exchange.new.desk (held.Owner c.in-Owner.owner) (held.Owner c.exchange.result) (handles_in c.args.slots.now)
-    c.stands.ensures (subst (λ (h : Held). HoldsBeside c.args.desk.now h c.args.slots.now) c.in-Owner.is c.requires.holds) e.bag e.held
+    c.assert_invariant.ensures (subst (λ (h : Held). HoldsBeside c.args.desk.now h c.args.slots.now) c.in-Owner.is c.requires.holds) e.bag e.held

@@ -29,13 +29,13 @@ returns-clause-list g c sole =
     let shape : d.shape.shared_cells ≡ c.args.domain.now.shape.shared_cells = ap (λ (k : Shape). k.shared_cells) c.requires.domain.shape in
     let cell = c.requires.stands.cell in
     let lt : c.args.self.now.cell < (opening_of d.shape).cells = omega arith in
-    attached_list d c.raise.new.desk c.args.self.now.cell c.args.subject.now c.args.value (returns-clause-own g c) c.stands.ensures.legal sole lt
+    attached_list d c.raise.new.desk c.args.self.now.cell c.args.subject.now c.args.value (returns-clause-own g c) c.assert_invariant.ensures.legal sole lt
 
 pub raise-requires-clause-bag : goal.raise-requires-clause-bag
 raise-requires-clause-bag g c =
     let d = c.args.desk.now in let w = c.watch in let l = c.load.new.desk in let e = c.in_ok-node.ensures in let node = c.in_ok-node.node in
     let top = c.in-Ok.top in let t = c.in-Ok.ensures in
-    let h = hands_one d w.new.desk node c.stands.ensures.bag (w.ensures.bag ∙ e.bag) (w.ensures.held ∙ e.held) in
+    let h = hands_one d w.new.desk node c.assert_invariant.ensures.bag (w.ensures.bag ∙ e.bag) (w.ensures.held ∙ e.held) in
     let same : c.self.inside.cell ≡ c.args.self.now.cell = ap (λ (s : StackNow). s.cell) c.self.view_is in
     let shape : l.shape.shared_cells ≡ c.args.domain.now.shape.shared_cells =
     ap (λ (k : Shape). k.shared_cells) (t.keeps.shape ∙ (w.ensures.desk.shape ∙ (e.desk.shape ∙ c.requires.domain.shape))) in
@@ -74,7 +74,7 @@ pub returns-clause-bag : goal.returns-clause-bag
 returns-clause-bag g c =
     let d = c.args.desk.now in let w = c.watch in let l = c.load.new.desk in let e = c.in_ok-node.ensures in let node = c.in_ok-node.node in
     let t = c.in-Ok.ensures in
-    let h = hands_one d w.new.desk node c.stands.ensures.bag (w.ensures.bag ∙ e.bag) (w.ensures.held ∙ e.held) in
+    let h = hands_one d w.new.desk node c.assert_invariant.ensures.bag (w.ensures.bag ∙ e.bag) (w.ensures.held ∙ e.held) in
     (c.raise.ensures.bag (bag_of d) (hands_got w.new.desk l (bag_of d) c.in-Ok.top (node ∷ []) h t.bag t.held)).bag
 
 pub returns-clause-desk : goal.returns-clause-desk

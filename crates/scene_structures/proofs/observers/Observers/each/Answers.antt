@@ -14,7 +14,7 @@ use Rattle.scene_structures.proofs.observers.Observers.each.Goals as goal
 pub walk-requires-clause-bag : goal.walk-requires-clause-bag
 walk-requires-clause-bag g c =
     let d = c.args.desk.now in let e = c.in-Ok.ensures in
-    (bag_of d, hands_one d c.load.new.desk c.in-Ok.top c.stands.ensures.bag e.bag e.held)
+    (bag_of d, hands_one d c.load.new.desk c.in-Ok.top c.assert_invariant.ensures.bag e.bag e.held)
 
 others : (g : Over) (c : goal.After-walk g) → KeepsEndings c.args.desk.now c.walk.new.desk × (endings_of c.walk.new.desk ≡ endings_of c.args.desk.now)
 others g c =
@@ -30,11 +30,11 @@ returns-clause-own g c =
     let shape : d.shape.shared_cells ≡ c.args.domain.now.shape.shared_cells = ap (λ (k : Shape). k.shared_cells) c.requires.domain.shape in
     let cell = c.requires.stands.cell in
     let lt : c.args.self.now.cell < (opening_of d.shape).cells = omega arith in
-    let bag = (w.bag (bag_of d) (hands_one d m top c.stands.ensures.bag e.bag e.held)).bag in (
+    let bag = (w.bag (bag_of d) (hands_one d m top c.assert_invariant.ensures.bag e.bag e.held)).bag in (
       w.own.0,
       over,
       w.own.2,
-      λ sole. told_list d c.walk.new.desk c.args.self.now.cell w.own.0 over c.stands.ensures.legal sole lt (others g c).0 bag,
+      λ sole. told_list d c.walk.new.desk c.args.self.now.cell w.own.0 over c.assert_invariant.ensures.legal sole lt (others g c).0 bag,
     )
 
 pub returns-clause-endings : goal.returns-clause-endings
@@ -52,7 +52,7 @@ returns-clause-stands g c =
 pub returns-clause-bag : goal.returns-clause-bag
 returns-clause-bag g c =
     let d = c.args.desk.now in let e = c.in-Ok.ensures in
-    (c.walk.ensures.bag (bag_of d) (hands_one d c.load.new.desk c.in-Ok.top c.stands.ensures.bag e.bag e.held)).bag
+    (c.walk.ensures.bag (bag_of d) (hands_one d c.load.new.desk c.in-Ok.top c.assert_invariant.ensures.bag e.bag e.held)).bag
 
 pub returns-clause-held : goal.returns-clause-held
 returns-clause-held g c = let one = c.in-Ok.ensures.held in let two = c.walk.ensures.held in omega arith

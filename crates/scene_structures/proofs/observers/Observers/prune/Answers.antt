@@ -18,9 +18,9 @@ returns-clause-own g c =
     let shape : d.shape.shared_cells ≡ c.args.domain.now.shape.shared_cells = ap (λ (k : Shape). k.shared_cells) c.requires.domain.shape in
     let cell = c.requires.stands.cell in
     let lt : m < (opening_of d.shape).cells = omega arith in
-    let limit = c.stands.ensures.limits.blocks in
-    let pruned = pruned_list d e m w.2.0 w.0 prunes c.stands.ensures.legal c.requires.sole lt in
-    (w.0, w.1, (w.2.0, prunes), exactly d e m w.0 c.clear_list.result c.stands.ensures.legal lt limit w.1 pruned)
+    let limit = c.assert_invariant.ensures.limits.blocks in
+    let pruned = pruned_list d e m w.2.0 w.0 prunes c.assert_invariant.ensures.legal c.requires.sole lt in
+    (w.0, w.1, (w.2.0, prunes), exactly d e m w.0 c.clear_list.result c.assert_invariant.ensures.legal lt limit w.1 pruned)
 
 others : (g : Over) (c : goal.After-clear_list g)
     → KeepsEndings c.args.desk.now c.clear_list.new.desk × (endings_of c.clear_list.new.desk ≡ endings_of c.args.desk.now)
@@ -52,7 +52,7 @@ clear_list-requires-clause-room g c =
 
 pub clear_list-requires-clause-bag : goal.clear_list-requires-clause-bag
 clear_list-requires-clause-bag g c =
-    let d = c.args.desk.now in (bag_of d, let few = c.stands.ensures.bag in record { bag = refl; few = omega arith })
+    let d = c.args.desk.now in (bag_of d, let few = c.assert_invariant.ensures.bag in record { bag = refl; few = omega arith })
 
 pub returns-clause-stands : goal.returns-clause-stands
 returns-clause-stands g c =

@@ -50,11 +50,11 @@ returns-clause-tree g c sole =
     let keeps_l = calls_keep_latest s _ l t.event in
     let parent_l = parent_on d m n s l e p node copy keeps_m a.bag h.latest h.bag shared.1 k.bag keeps_l lists in
     let node_l = node_on d m n s l e p node copy a.bag h.latest h.bag shared.1 k.bag keeps_l in
-    let has = hands_over d m n s l node copy top c.stands.ensures.bag a.bag a.held h.bag h.held k.handle.0 k.handle.1 k.bag k.held t.bag t.held in
+    let has = hands_over d m n s l node copy top c.assert_invariant.ensures.bag a.bag a.held h.bag h.held k.handle.0 k.handle.1 k.bag k.held t.bag t.held in
     let these = c.raise.ensures.latest (bag_of n) has in
     let a' = both g c in
     let bag = (c.raise.ensures.bag (bag_of n) has).bag in
-    adopted d e p node c.args.fields c.args.value a'.0 c.stands.ensures.legal sole (i.0, i.1, i.2) lists
+    adopted d e p node c.args.fields c.args.value a'.0 c.assert_invariant.ensures.legal sole (i.0, i.1, i.2) lists
     (subst (Lists p.block p.place) (sym bag) parent_l.1) (subst (Lists node.block node.place) (sym bag) node_l.1)
     (these_node l e (bag_of n) p these parent_l.1 ∙ parent_l.0)
     (these_node l e (bag_of n) node these node_l.1 ∙ (node_l.0 ∙ ap (λ x. node_in x node) (sym a'.1)))
@@ -88,7 +88,7 @@ returns-clause-bag g c =
     let d = c.args.desk.now in let m = c.make.new.desk in let n = c.watch.new.desk in let a = c.in-Ok-make.ensures in let node = c.in-Ok-make.node in
     let p = c.args.parent.now in let i = c.in-Ok.ensures in
     let s = c.share.new.desk in let l = c.load.new.desk in let h = c.watch.ensures in let k = c.in-Ok-share.ensures in let t = c.in-Ok-load.ensures in
-    let has = hands_over d m n s l node c.in-Ok-share.copy c.in-Ok-load.top c.stands.ensures.bag a.bag a.held h.bag h.held k.handle.0 k.handle.1 k.bag k.held
+    let has = hands_over d m n s l node c.in-Ok-share.copy c.in-Ok-load.top c.assert_invariant.ensures.bag a.bag a.held h.bag h.held k.handle.0 k.handle.1 k.bag k.held
     t.bag t.held in
     (c.raise.ensures.bag (bag_of n) has).bag ∙ (h.bag ∙ a.bag)
 
@@ -97,7 +97,7 @@ returns-clause-holds g c =
     let d = c.args.desk.now in let m = c.make.new.desk in let n = c.watch.new.desk in let a = c.in-Ok-make.ensures in let node = c.in-Ok-make.node in
     let p = c.args.parent.now in let i = c.in-Ok.ensures in
     let s = c.share.new.desk in let l = c.load.new.desk in let h = c.watch.ensures in let k = c.in-Ok-share.ensures in let t = c.in-Ok-load.ensures in
-    let has = hands_over d m n s l node c.in-Ok-share.copy c.in-Ok-load.top c.stands.ensures.bag a.bag a.held h.bag h.held k.handle.0 k.handle.1 k.bag k.held
+    let has = hands_over d m n s l node c.in-Ok-share.copy c.in-Ok-load.top c.assert_invariant.ensures.bag a.bag a.held h.bag h.held k.handle.0 k.handle.1 k.bag k.held
     t.bag t.held in
     let bag = (c.raise.ensures.bag (bag_of n) has).bag ∙ (h.bag ∙ a.bag) in
     let within = made_within d m c.args.fields c.args.value node.block node.place a.event in
@@ -166,7 +166,7 @@ raise-requires-clause-bag g c =
     let d = c.args.desk.now in let m = c.make.new.desk in let n = c.watch.new.desk in let a = c.in-Ok-make.ensures in let node = c.in-Ok-make.node in
     let p = c.args.parent.now in let i = c.in-Ok.ensures in
     let s = c.share.new.desk in let l = c.load.new.desk in let h = c.watch.ensures in let k = c.in-Ok-share.ensures in let t = c.in-Ok-load.ensures in
-    let has = hands_over d m n s l node c.in-Ok-share.copy c.in-Ok-load.top c.stands.ensures.bag a.bag a.held h.bag h.held k.handle.0 k.handle.1 k.bag k.held
+    let has = hands_over d m n s l node c.in-Ok-share.copy c.in-Ok-load.top c.assert_invariant.ensures.bag a.bag a.held h.bag h.held k.handle.0 k.handle.1 k.bag k.held
     t.bag t.held in
     let in_m = subst (Lists p.block p.place) (sym a.bag)
     (lists_under p.block node.block p.place node.place (bag_of d) (lists_of d p.block p.place c.requires.holds)) in

@@ -44,7 +44,7 @@ returns-in_default-clause-tree g c sole =
     let bag : bag_of e.new.desk ≡ bag_of d =
     e.ensures.bag ∙ (ap (without_handle Owner owner.block owner.place) p.bag ∙ first_out Owner owner.block owner.place (bag_of d)) in
     let lists_e = subst (Lists node.block node.place) (sym bag) lists_d in
-    detached d e.new.desk node a.0 (a.1 sole) c.stands.ensures.legal sole p.may.1 lists_d lists_e
+    detached d e.new.desk node a.0 (a.1 sole) c.assert_invariant.ensures.legal sole p.may.1 lists_d lists_e
     (same_left m e.new.desk node e.ensures.latest lists_e ∙ same_node d m node p.latest lists_d)
 
 pub let_go-requires-2-clause-carries : goal.let_go-requires-2-clause-carries
@@ -58,14 +58,14 @@ hands : (g : Over) (c : goal.After-leave g) → HasHands (bag_of c.args.desk.now
 hands g c =
     let d = c.args.desk.now in let m = c.parent.new.desk in let s = c.alias.new.desk in let f = c.let_go-2 in
     let p = c.in_ok-owner.ensures in let a = c.in-Ok.ensures in
-    parent_in_hand d m s f.new.desk c.in_ok-owner.owner c.in-Ok.parent _ c.stands.ensures.bag p.bag p.held a.handle.0 a.handle.1 a.bag a.held
+    parent_in_hand d m s f.new.desk c.in_ok-owner.owner c.in-Ok.parent _ c.assert_invariant.ensures.bag p.bag p.held a.handle.0 a.handle.1 a.bag a.held
     f.ensures.bag f.ensures.held
 
 pub leave-requires-clause-bag : goal.leave-requires-clause-bag
 leave-requires-clause-bag g c =
     let d = c.args.desk.now in let m = c.parent.new.desk in let s = c.alias.new.desk in let f = c.let_go-2 in
     let p = c.in_ok-owner.ensures in let a = c.in-Ok.ensures in let node = c.args.node.now in
-    let has = parent_in_hand d m s f.new.desk c.in_ok-owner.owner c.in-Ok.parent _ c.stands.ensures.bag p.bag p.held a.handle.0 a.handle.1 a.bag
+    let has = parent_in_hand d m s f.new.desk c.in_ok-owner.owner c.in-Ok.parent _ c.assert_invariant.ensures.bag p.bag p.held a.handle.0 a.handle.1 a.bag
     a.held f.ensures.bag f.ensures.held in
     (bag_of d, has, lists_of d node.block node.place c.requires.holds)
 
@@ -114,7 +114,7 @@ returns-clause-tree g c sole =
     let p = c.in_ok-owner.ensures in let a = some_both g c in let has = hands g c in
     let lists_d = lists_of d node.block node.place c.requires.holds in
     let lists_e = subst (Lists node.block node.place) (sym (e.ensures.bag (bag_of d) has).bag) lists_d in
-    detached d e.new.desk node a.0 (a.1 sole) c.stands.ensures.legal sole p.may.1 lists_d lists_e
+    detached d e.new.desk node a.0 (a.1 sole) c.assert_invariant.ensures.legal sole p.may.1 lists_d lists_e
     (these_node f e.new.desk (bag_of d) node (e.ensures.latest (bag_of d) has) lists_d ∙ node_same g c)
 
 pub returns-in_default-clause-others : goal.returns-in_default-clause-others

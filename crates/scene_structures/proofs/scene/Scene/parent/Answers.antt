@@ -30,7 +30,7 @@ pub returns-clause-parent : goal.returns-clause-parent
 returns-clause-parent g c sole =
     let w = c.in-Ok.ensures in let l = c.in-Ok-lock.ensures in let r = c.release_weak.ensures.event in
     parent_found c.args.desk.now c.load.new.desk c.lock.new.desk c.release_weak.new.desk c.args.node.now c.in-Ok-lock.owner c.in_ok-up.up _ _ r.0
-    c.in_ok-up.ensures w.event l.lock l.handle l.bag r.1 c.stands.ensures.legal sole w.holds
+    c.in_ok-up.ensures w.event l.lock l.handle l.bag r.1 c.assert_invariant.ensures.legal sole w.holds
 
 pub load-requires-clause-cell : goal.load-requires-clause-cell
 load-requires-clause-cell g c = open_up c.args.desk.now c.args.node.now c.in_ok-up.up c.in_ok-up.ensures c.requires.holds
@@ -64,7 +64,7 @@ returns-clause-holds g c =
     ∙ under_out Weak w.block w.place Owner o.block o.place (bag_of d)) in
     let one = c.in-Ok.ensures.held in let two = c.in-Ok-lock.ensures.held in let three = c.release_weak.ensures.held in
     let e = c.release_weak.new.desk in
-    holds_first e (bag_of d) o [] (hands_one d e o c.stands.ensures.bag bag (omega arith))
+    holds_first e (bag_of d) o [] (hands_one d e o c.assert_invariant.ensures.bag bag (omega arith))
 
 pub returns-clause-desk : goal.returns-clause-desk
 returns-clause-desk g c =

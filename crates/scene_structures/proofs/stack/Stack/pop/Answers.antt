@@ -22,7 +22,7 @@ returns-clause-own g c =
 
 pub returns-clause-list : goal.returns-clause-list
 returns-clause-list g c sole =
-    let d = c.args.desk.now in let m = c.load.new.desk in let top = c.in-Ok.top in let e = c.in-Ok.ensures in let s = c.stands.ensures in
+    let d = c.args.desk.now in let m = c.load.new.desk in let top = c.in-Ok.top in let e = c.in-Ok.ensures in let s = c.assert_invariant.ensures in
     let few = s.bag in
     let shape : d.shape.shared_cells ≡ c.args.domain.now.shape.shared_cells = ap (λ (k : Shape). k.shared_cells) c.requires.domain.shape in
     let cell = c.requires.stands.cell in
@@ -50,13 +50,13 @@ returns-clause-stands g c =
 pub returns-clause-bag : goal.returns-clause-bag
 returns-clause-bag g c =
     let d = c.args.desk.now in let e = c.in-Ok.ensures in
-    let has = c.take.ensures.bag (bag_of d) (hands_one d c.load.new.desk c.in-Ok.top c.stands.ensures.bag e.bag e.held) in
+    let has = c.take.ensures.bag (bag_of d) (hands_one d c.load.new.desk c.in-Ok.top c.assert_invariant.ensures.bag e.bag e.held) in
     bag_taken c.take.new.desk (bag_of d) c.take.result has
 
 pub returns-clause-holds : goal.returns-clause-holds
 returns-clause-holds g c =
     let d = c.args.desk.now in let e = c.in-Ok.ensures in
-    let has = c.take.ensures.bag (bag_of d) (hands_one d c.load.new.desk c.in-Ok.top c.stands.ensures.bag e.bag e.held) in
+    let has = c.take.ensures.bag (bag_of d) (hands_one d c.load.new.desk c.in-Ok.top c.assert_invariant.ensures.bag e.bag e.held) in
     holds_taken c.take.new.desk (bag_of d) c.take.result has
 
 pub returns-clause-held : goal.returns-clause-held
@@ -82,7 +82,7 @@ take-requires-clause-cell g c =
 pub take-requires-clause-bag : goal.take-requires-clause-bag
 take-requires-clause-bag g c =
     let d = c.args.desk.now in let e = c.in-Ok.ensures in
-    (bag_of d, hands_one d c.load.new.desk c.in-Ok.top c.stands.ensures.bag e.bag e.held)
+    (bag_of d, hands_one d c.load.new.desk c.in-Ok.top c.assert_invariant.ensures.bag e.bag e.held)
 
 pub take-requires-clause-empty : goal.take-requires-clause-empty
 take-requires-clause-empty g c = c.self.invariant

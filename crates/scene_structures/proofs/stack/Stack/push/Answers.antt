@@ -25,13 +25,13 @@ returns-clause-list g c sole =
     let shape : d.shape.shared_cells ≡ c.args.domain.now.shape.shared_cells = ap (λ (k : Shape). k.shared_cells) c.requires.domain.shape in
     let cell = c.requires.stands.cell in
     let lt : c.args.self.now.cell < (opening_of d.shape).cells = omega arith in
-    pushed_list d c.raise.new.desk c.args.self.now.cell c.args.fields c.args.value (returns-clause-own g c) c.stands.ensures.legal sole lt
+    pushed_list d c.raise.new.desk c.args.self.now.cell c.args.fields c.args.value (returns-clause-own g c) c.assert_invariant.ensures.legal sole lt
 
 pub raise-requires-clause-bag : goal.raise-requires-clause-bag
 raise-requires-clause-bag g c =
     let d = c.args.desk.now in let m = c.make.new.desk in let l = c.load.new.desk in let e = c.in_ok-node.ensures in let node = c.in_ok-node.node in
     let top = c.in-Ok.top in let t = c.in-Ok.ensures in
-    let h = hands_one d m node c.stands.ensures.bag e.bag e.held in
+    let h = hands_one d m node c.assert_invariant.ensures.bag e.bag e.held in
     let same : c.self.inside.cell ≡ c.args.self.now.cell = ap (λ (s : StackNow). s.cell) c.self.view_is in
     let shape : l.shape.shared_cells ≡ c.args.domain.now.shape.shared_cells =
     ap (λ (k : Shape). k.shared_cells) (t.keeps.shape ∙ (e.desk.shape ∙ c.requires.domain.shape)) in
@@ -69,7 +69,7 @@ returns-clause-bag g c =
     let d = c.args.desk.now in let m = c.make.new.desk in let l = c.load.new.desk in let e = c.in_ok-node.ensures in let node = c.in_ok-node.node in
     let t = c.in-Ok.ensures in
     (c.raise.ensures.bag (bag_of d)
-    (hands_got m l (bag_of d) c.in-Ok.top (node ∷ []) (hands_one d m node c.stands.ensures.bag e.bag e.held) t.bag t.held)).bag
+    (hands_got m l (bag_of d) c.in-Ok.top (node ∷ []) (hands_one d m node c.assert_invariant.ensures.bag e.bag e.held) t.bag t.held)).bag
 
 pub returns-clause-desk : goal.returns-clause-desk
 returns-clause-desk g c = same_then c.in_ok-node.ensures.desk (same_then (same_call c.in-Ok.ensures.keeps) c.raise.ensures.desk)

@@ -55,7 +55,7 @@ whole g c = returns-clause-ends g c
 none : (g : Over) (c : goal.After-into_values g) → IsSole c.args.desk.now → (whole g c).rest ≡ []
 none g c sole =
     none_left c.args.domain.now c.args.desk.now c.run_down.new.desk c.args.pile.now.endings.items c.run_down.new.pile.endings.items c.run_down.new.pile
-    c.args.root c.into_values.result.items (whole g c) c.stands.ensures.legal sole c.run_down.ensures.carries refl
+    c.args.root c.into_values.result.items (whole g c) c.assert_invariant.ensures.legal sole c.run_down.ensures.carries refl
 
 pub returns-clause-settled : goal.returns-clause-settled
 returns-clause-settled g c sole =
@@ -64,7 +64,7 @@ returns-clause-settled g c sole =
 pub returns-clause-whole : goal.returns-clause-whole
 returns-clause-whole g c sole =
     torn_down c.args.domain.now.shape.blocks c.args.desk.now c.run_down.new.desk c.args.pile.now.endings.items c.run_down.new.pile.endings.items c.args.root
-    c.into_values.result.items (whole g c) c.stands.ensures.legal sole (none g c sole)
+    c.into_values.result.items (whole g c) c.assert_invariant.ensures.legal sole (none g c sole)
 
 pub returns-clause-others : goal.returns-clause-others
 returns-clause-others g c =

@@ -7,7 +7,7 @@ pub put-requires : goal.put-requires
 put-requires g c = record {
   room = (let t = c.clear_member-left in let e = t.ensures in
       room_left c.args.domain.now c.args.desk.now t.new.desk c.args.self.now c.args.ending.now t.new.self c.args.member t.result c.requires.stacked
-      e.clears e.endings e.beside e.object.0 e.ends e.desk.shape c.stands.ensures);
+      e.clears e.endings e.beside e.object.0 e.ends e.desk.shape c.assert_invariant.ensures);
 }
 
 pub returns-clause-stacked : goal.returns-clause-stacked

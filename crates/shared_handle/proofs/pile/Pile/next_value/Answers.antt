@@ -78,7 +78,7 @@ push_reserved-requires g c =
     let t = c.clear_member-left in let e = c.in-Last.ensures in let l = c.loop-rounds in let xs = l.self.endings.items in
     let room : length (xs ++ t.new.self ∷ []) + 1 ≤ vec_capacity l.self.endings =
     room_above c.args.domain.now l.desk t.new.desk l.self (xs ++ t.new.self ∷ []) l.top t.new.self c.in-Some.member (Last c.in-Last.next)
-    (vec_capacity l.self.endings) l.invariant.0 e.clears e.endings e.beside e.object.0 e.ends e.desk.shape c.stands.ensures refl refl in
+    (vec_capacity l.self.endings) l.invariant.0 e.clears e.endings e.beside e.object.0 e.ends e.desk.shape c.assert_invariant.ensures refl refl in
     let many = length-append xs (t.new.self ∷ []) in omega arith
 
 pub loop-rounds-preserved : goal.loop-rounds-preserved
@@ -163,7 +163,7 @@ pub push_reserved-requires-2 : goal.push_reserved-requires-2
 push_reserved-requires-2 g c =
     let l = c.loop-rounds in let s = l.invariant.0 in let xs = l.self.endings.items in
     let room : length (xs ++ l.top ∷ []) ≤ vec_capacity l.self.endings =
-    fits c.args.domain.now l.desk (xs ++ l.top ∷ []) (vec_capacity l.self.endings) c.stands-2.ensures s.belongs.shape s.room
+    fits c.args.domain.now l.desk (xs ++ l.top ∷ []) (vec_capacity l.self.endings) c.assert_invariant-2.ensures s.belongs.shape s.room
     (all_append l.desk xs l.top s.others s.ends s.apart) in
     let many = length-append xs (l.top ∷ []) in omega arith
 

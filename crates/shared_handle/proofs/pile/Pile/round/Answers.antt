@@ -63,7 +63,7 @@ put-requires g c = record {
       let t = c.clear_member-left in let e = t.ensures in
       top_room c.args.domain.now c.args.desk.now t.new.desk o.below _ c.in-Some.top.now t.new.self c.in-Some-next_member.member t.result _
       c.requires.carries.belongs (subst (AllEnd c.args.desk.now) o.are c.requires.carries.ends) c.requires.carries.room
-      e.clears e.endings e.beside e.object.0 e.ends e.desk.shape c.stands.ensures (o.set t.new.self));
+      e.clears e.endings e.beside e.object.0 e.ends e.desk.shape c.assert_invariant.ensures (o.set t.new.self));
 }
 
 pub returns-clause-carries : goal.returns-clause-carries
@@ -96,7 +96,7 @@ returns-clause-round g c =
       next = sym c.in-Some-next_member.ensures;
       left = t.result;
       clears = t.ensures.clears;
-      told = c.of-gone.ensures;
+      told = c.put.ensures.told;
       are = c.put.ensures.endings ∙ (ap (λ l. piled l t.result) (o.set t.new.self)
           ∙ ap (λ (y : Ending g.row.V.Denot). piled (o.below ++ y ∷ []) t.result) t.ensures.noted);
       bag = t.ensures.bag;
