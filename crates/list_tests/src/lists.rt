@@ -2,7 +2,7 @@
 
 use crate::plays::plays;
 use pointer_calls::row;
-use pointers::{Call, Desk, Domain, Fault, List, Program, Shared, SharedCell, Spot};
+use pointers::{Call, Desk, Domain, Fault, List, Program, Shared, SharedCell, Spot, Weak};
 use std::sync::Wait;
 use std::thread::Threads;
 
@@ -139,6 +139,22 @@ fn a_list_has_owners(rt: HostRuntime) {
 /// A list of weak pointers, in a free cell.
 struct Weaks;
 
+impl Weaks {
+    /// An element is removed where it is there, and no other one with it.
+    fn removed<'t, R: Wait, D: Domain<Value = u64>>(
+        rt: &R,
+        desk: &'t Desk<'t, D>,
+        list: &List<'_, 't, D, Weak<'t, D>>,
+        left: &Weak<'t, D>,
+    ) -> Result<(), Fault> {
+        let other = numbered(desk, 3)?.downgrade()?;
+        row(6, !list.remove(rt, &other)? && list.count(rt)? == 1)?;
+        list.push(rt, other.share()?)?;
+        row(7, list.remove(rt, &other)? && list.count(rt)? == 1)?;
+        row(8, list.remove(rt, left)? && !list.remove(rt, left)?)
+    }
+}
+
 impl<R: Threads + Wait> Program<u64, R> for Weaks {
     fn work<D: Domain<Value = u64>>(
         &self,
@@ -159,12 +175,12 @@ impl<R: Threads + Wait> Program<u64, R> for Weaks {
         row(3, left.is(&two.downgrade()?))?;
         row(4, list.retain(rt, |it| Ok(!it.expired()?))? == 1)?;
         row(5, list.count(rt)? == 1)?;
-        row(6, list.remove(rt, &left)? && !list.remove(rt, &left)?)?;
+        Weaks::removed(rt, desk, &list, &left)?;
         list.push_front(rt, two.downgrade()?)?;
         let Some(first) = list.pop_front(rt)? else {
-            return row(7, false);
+            return row(9, false);
         };
-        row(8, first.lock(rt)?.is_some() && list.count(rt)? == 0)?;
+        row(10, first.lock(rt)?.is_some() && list.count(rt)? == 0)?;
         list.push(rt, first)?;
         drop(left);
         list.clear()

@@ -1,27 +1,23 @@
 -- What calls on cells say, by what is known of handles.
-use Rattle.std.proofs.Common.{◌≡◌, ℕ, ◌+◌, ◌<◌, Bool, cond, length, List, Option, None, Some, refl, sym, ap, subst, ◌∙◌}
+use Rattle.std.proofs.Common.{◌≡◌, ℕ, ◌+◌, ◌<◌, List, Option, None, Some, refl, sym, ap, subst}
 use Rattle.control_word.specs.declared.model.event.Cell.{Cell}
 use Rattle.control_word.specs.declared.model.event.Cell.TheVariants as cell
 use Rattle.control_word.specs.declared.model.handle.Kind.{Kind}
 use Rattle.control_word.specs.declared.place.Block.{Block}
 use Rattle.control_word.specs.declared.place.Place.{Place}
 use Rattle.control_word.specs.declared.shape.Shape.{Shape}
-use Rattle.control_block.specs.Desks.{DeskNow, latest_of, stock_of}
+use Rattle.control_block.specs.Desks.{DeskNow, latest_of}
 use Rattle.control_block.specs.CellCalls.{HoldsHandle}
 use Rattle.control_block.specs.HandleLists.{IsHeldByDesk}
 use Rattle.control_word.specs.declared.model.handle.Kind.TheVariants.{Owner, Weak}
 use Rattle.control_block.specs.declared.handles.Held.{Held}
 use Rattle.control_block.specs.declared.handles.Held.TheVariants as held
 use Rattle.shared_handle.specs.Locks.{HasOwner}
-use Rattle.shared_handle.specs.Piles.{Drops}
-use Rattle.shared_handle.specs.Calls.{LeavesWeakly}
-use Rattle.shared_handle.specs.Endings.{IsGone}
-use Rattle.shared_handle.specs.declared.endings.Ending.{Ending}
+use Rattle.shared_handle.specs.Piles.{gone_of}
 use Rattle.shared_handle.specs.declared.endings.Left.{Left}
-use Rattle.shared_handle.specs.declared.endings.Left.TheVariants as left
 use Rattle.shared_handle.specs.declared.pile.Gone.{Gone}
 use Rattle.shared_handle.specs.declared.pile.Pile.{Pile}
-use Rattle.atomic_cells.specs.Cells.{Exchanges, Loads}
+use Rattle.atomic_cells.specs.Cells.{Exchanges, Loads, Stores, StoresWeakly}
 use Rattle.atomic_cells.specs.Sites.{IsOpenSite, IsOpenWeakly, number_of_member, shared_cell, weak_cell}
 use Rattle.atomic_cells.specs.declared.sites.SharedSite.{SharedSite}
 use Rattle.atomic_cells.specs.declared.sites.SharedSite.TheVariants as shared
@@ -147,44 +143,43 @@ module _ {V : Type 0} where
         came = came_to f e got is;
       }
 
-  pub stored : (o d m e : DeskNow V) (of : Option (Known V)) (x y : Cell) (h : Held) (new : Option (Known V)) (a : Option Block) (q : Option Place)
-      (gone : Gone) (xs ys : List (Ending V)) → Stays o of d → Stays o new d → y ≡ x → IsHandleOf new h
-      → Exchanges d y Owner (block_of h) (place_of h) a q m → Drops m xs a q gone e ys → Stored o of x new gone
-  stored o d m e of x y h new a q gone xs ys stays pointer same given ex drops =
+  pub stored : (o d e : DeskNow V) (of : Option (Known V)) (x y : Cell) (h : Held) (new : Option (Known V)) (left : Left V) (gone : Gone)
+      → Stays o of d → Stays o new d → y ≡ x → IsHandleOf new h → Stores d y (block_of h) (place_of h) left e → gone ≡ gone_of left
+      → Stored o of x new gone
+  stored o d e of x y h new left gone stays pointer same given s told =
       record {
         before = d;
         after = e;
-        left = drops.left;
-        member = stays;
-        pointer = pointer;
-        stores = record { block = a; place = q; between = m; exchanges = exchanges_by d m x y Owner h new a q same given ex; leaves = drops.leaves };
-        told = drops.told;
-      }
-
-  -- a weak handle that left was an empty one, or others are left of the object
-  told_of : (b : Option Block) → (x : Left V) × IsGone b x
-  told_of None = (left.Empty, refl)
-  told_of (Some b) = (left.Others, (b, refl))
-
-  pub stored_weakly : (o d m e : DeskNow V) (of : Option (Known V)) (x y : Cell) (h : Held) (new : Option (Known V)) (a : Option Block) (q : Option Place)
-      (vacant : Bool) → Stays o of d → Stays o new d → y ≡ x → IsHandleOf new h
-      → Exchanges d y Weak (block_of h) (place_of h) a q m → length (stock_of m) ≡ length (stock_of d) → LeavesWeakly m a q vacant e
-      → length (stock_of e) ≡ length (stock_of m) + cond vacant 1 0 → StoredWeakly o of x new
-  stored_weakly o d m e of x y h new a q vacant stays pointer same given ex stock leaves more =
-      record {
-        before = d;
-        after = e;
-        left = (told_of a).0;
+        left = left;
         member = stays;
         pointer = pointer;
         stores = record {
-          block = a;
-          place = q;
-          between = m;
-          exchanges = exchanges_by d m x y Weak h new a q same given ex;
-          vacant = vacant;
-          leaves = leaves;
-          told = (told_of a).1;
-          stock = more ∙ ap (λ (n : ℕ). n + cond vacant 1 0) stock;
+          block = s.block;
+          place = s.place;
+          between = s.between;
+          exchanges = exchanges_by d s.between x y Owner h new s.block s.place same given s.exchanges;
+          leaves = s.leaves;
+        };
+        told = told;
+      }
+
+  pub stored_weakly : (o d e : DeskNow V) (of : Option (Known V)) (x y : Cell) (h : Held) (new : Option (Known V)) (left : Left V)
+      → Stays o of d → Stays o new d → y ≡ x → IsHandleOf new h → StoresWeakly d y (block_of h) (place_of h) left e → StoredWeakly o of x new
+  stored_weakly o d e of x y h new left stays pointer same given s =
+      record {
+        before = d;
+        after = e;
+        left = left;
+        member = stays;
+        pointer = pointer;
+        stores = record {
+          block = s.block;
+          place = s.place;
+          between = s.between;
+          exchanges = exchanges_by d s.between x y Weak h new s.block s.place same given s.exchanges;
+          vacant = s.vacant;
+          leaves = s.leaves;
+          told = s.told;
+          stock = s.stock;
         };
       }

@@ -1,6 +1,6 @@
 -- What is true between calls is so within a call of cells, beside what is in hand.
-use Rattle.std.proofs.Common.{◌≡◌, ℕ, ◌+◌, ◌⊎◌, List, [], ◌∷◌, ◌++◌, slice_get, slice_set, Some}
-use Rattle.std.proofs.Common.{None, Option, sym, refl, ap, ◌∙◌, subst, inl, inr}
+use Rattle.std.proofs.Common.{◌≡◌, ℕ, ◌+◌, ◌≤◌, ◌⊎◌, List, [], ◌∷◌, ◌++◌, length, slice_get, slice_set}
+use Rattle.std.proofs.Common.{Some, None, Option, vec_capacity, sym, refl, ap, ◌∙◌, subst, inl, inr}
 use Rattle.pointers.proofs.Prelude
 use Prelude.{AllLive, bag_of, Bears, bears_after, bears_kept, Belongs, Block, block_of, Carries}
 use Prelude.{counting, DeskNow, domain_of, DomainNow, endings_of, Has, Held, holds_each}
@@ -9,10 +9,13 @@ use Prelude.{KeepsElsewhere, Known, known_now, Later, Lives, living, NumberedHan
 use Prelude.{Standing, Weak, with_handle, with_held, without_held}
 use Rattle.control_block.specs.declared.handles.Held.TheVariants as held
 use Rattle.control_block.specs.Desks.{IsSameDesk, KeepsEndings}
-use Rattle.pointers.proofs.Later.{by_count, goes_then, legal_on, lives_on}
+use Rattle.control_block.specs.Own.{KeepsHeld}
+use Rattle.pointers.proofs.Later.{by_count, goes_then, legal_on, lives_on, lives_still}
 use Rattle.pointers.proofs.Living.{held_of, lived, one_less, one_more, same_some, stands_behind}
 use Rattle.pointers.proofs.Swaps.{holds_swapped}
 use Rattle.pointers.proofs.Wholes.{came}
+use Rattle.shared_handle.proofs.Piles.{fits}
+use Rattle.shared_handle.specs.Piles.{AllEnd}
 
 has_behind : (x : Held) (hs ks : List Held) → Has x ks → Has x (hs ++ ks)
 has_behind x [] ks has = has
@@ -118,6 +121,23 @@ module _ {V : Type 0} where
         lives = live_on o d e p (h ∷ hs) cs w later;
       }
 
+  -- one leaves the hand by two calls, and what else is held is of the object that it was of
+  pub leaves_then : (o d m e : DeskNow V) (p q : Pile V) (h : Held) (hs : List Held) (cs : List (Option (Known V))) → IsWholeBeside o d p (h ∷ hs) cs
+      → Later d m → Later m e → KeepsHeld d e → Bears (domain_of o) e q → bag_of e ≡ without_held h (bag_of d) → e.held + 1 ≡ d.held
+      → IsWholeBeside o e q hs cs
+  leaves_then o d m e p q h hs cs w one two still bears bag held =
+      let goes = goes_then d m e one.goes two.goes in let holds = holds_less d e h (hs ++ living cs) w.holds bag held in
+      record {
+        opened = goes_then o d e w.opened goes;
+        legal = legal_on o m e (goes_then o d m w.opened one.goes) (legal_on o d m w.opened w.legal one) two;
+        allowance = two.allowance ∙ (one.allowance ∙ w.allowance);
+        bears = bears;
+        holds = holds;
+        lives = λ i c at.
+            lives_still o c d e (w.lives i c at) goes still
+            (holds_each e c.handle (hs ++ living cs) holds (has_behind c.handle hs (living cs) (held_of cs i c at)));
+      }
+
   -- what ends is on the pile
   pub bears_on : (o d e : DeskNow V) (p : Pile V) (hs : List Held) (cs : List (Option (Known V))) → IsWholeBeside o d p hs cs → Keeps d e
       → Bears (domain_of o) e p
@@ -153,3 +173,23 @@ module _ {V : Type 0} where
   pub bears_same : (o d e : DeskNow V) (p : Pile V) (hs : List Held) (cs : List (Option (Known V))) → IsWholeBeside o d p hs cs
       → IsSameDesk d e → KeepsEndings d e → endings_of e ≡ endings_of d → Bears (domain_of o) e p
   bears_same o d e p hs cs w same keeps count = bears_kept (domain_of o) d e p w.bears same.domain same.shape keeps count
+
+  -- a pile that is as it was
+  pub bears_pile : (y : DomainNow) (d : DeskNow V) (p q : Pile V) → Bears y d p → q.endings.items ≡ p.endings.items
+      → vec_capacity q.endings ≡ vec_capacity p.endings → Bears y d q
+  bears_pile y d p q bears are room =
+      record {
+        carries = record {
+          belongs = bears.carries.belongs;
+          ends = subst (AllEnd d) (sym are) bears.carries.ends;
+          room = subst (λ k. y.shape.blocks ≤ k) (sym room) bears.carries.room;
+        };
+        many = ap length are ∙ bears.many;
+      }
+
+  -- it has room for all that is on it
+  pub room_there : (o d : DeskNow V) (p : Pile V) (hs : List Held) (cs : List (Option (Known V))) → IsWholeBeside o d p hs cs → Standing d
+      → length p.endings.items ≤ vec_capacity p.endings
+  room_there o d p hs cs w stands =
+      let carries = w.bears.carries in
+      fits (domain_of o) d p.endings.items (vec_capacity p.endings) stands carries.belongs.shape carries.room carries.ends

@@ -6,6 +6,7 @@ use Prelude.{AddsEvent, Block, block_of, desk_at, DeskNow, Entry, entry, Event, 
 use Prelude.{HasHandle, Held, HoldsHandle, IsHeldByDesk, IsLegal, Join, KeepsDesks, KeepsObject}
 use Prelude.{Kind, Known, Later, Lives, opening_of, Owner, Place, Shape, Split, Weak}
 use Rattle.control_block.proofs.Latest.{calls_keep_latest}
+use Rattle.control_block.specs.Own.{KeepsHeld}
 use Rattle.control_block.specs.declared.handles.Held.TheVariants as held
 use Rattle.pointers.proofs.Allowances.{allowance_kept}
 
@@ -76,6 +77,15 @@ module _ {V : Type 0} where
   object_kept d e (held.Owner h) later has = kept_of d e Owner h.block h.place later has
   object_kept d e (held.Weak w) later has = kept_of d e Weak w.block w.place later has
 
+  -- what is held still is of the object that it was of
+  still_of : (d e : DeskNow V) (k : Kind) (b : Option Block) (p : Option Place) → KeepsHeld d e → HoldsHandle e k b p → KeepsObject b d e
+  still_of d e k None p keeps has = tt
+  still_of d e k (Some b) p keeps has = keeps k p b.0 has
+
+  object_still : (d e : DeskNow V) (h : Held) → KeepsHeld d e → IsHeldByDesk e h → KeepsObject (block_of h) d e
+  object_still d e (held.Owner h) keeps has = still_of d e Owner h.block h.place keeps has
+  object_still d e (held.Weak w) keeps has = still_of d e Weak w.block w.place keeps has
+
   -- told of another desk of that shape
   pub legal_on : (o d e : DeskNow V) → GoesOn o d → IsLegal (opening_of o.shape) d.seen → Later d e → IsLegal (opening_of o.shape) e.seen
   legal_on o d e opened legal later =
@@ -88,4 +98,12 @@ module _ {V : Type 0} where
       record {
         goes = goes_then (desk_at o c) d e lives.goes later.goes;
         object = keeps_object (desk_at o c) d e (block_of c.handle) lives.object (object_kept d e c.handle later has);
+      }
+
+  -- and where its handle is held still
+  pub lives_still : (o : DeskNow V) (c : Known V) (d e : DeskNow V) → Lives o c d → GoesOn d e → KeepsHeld d e → IsHeldByDesk e c.handle → Lives o c e
+  lives_still o c d e lives goes keeps has =
+      record {
+        goes = goes_then (desk_at o c) d e lives.goes goes;
+        object = keeps_object (desk_at o c) d e (block_of c.handle) lives.object (object_still d e c.handle keeps has);
       }

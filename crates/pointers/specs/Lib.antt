@@ -14,4 +14,5 @@ pub mod Teams
 pub mod Staffs
 pub mod Leading
 pub mod Lists
+pub mod ListChanges
 pub mod Pools

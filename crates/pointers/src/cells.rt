@@ -3,14 +3,14 @@ ghost use Rattle.std.specs.Prelude.{◌≡◌, ◌<◌, ◌≤◌, ◌^◌};
 
 pub mod cached;
 pub mod cached_value;
-mod comparing;
-mod comparing_weak;
+mod compares;
+mod compares_weak;
 pub mod link;
 pub mod member;
 pub mod pool;
 pub mod up;
-mod updating;
-mod waiting;
+mod updates;
+mod waits;
 
 /// A free cell of the domain for owners, by its number from 0, in C++ `atomic<shared_ptr>`
 /// ([util.smartptr.atomic.shared]).

@@ -13,9 +13,9 @@ use std::alloc::Global;
 use std::cell::{RefCell, RefMut};
 
 pub(crate) mod blocks;
-mod ending;
+mod ends;
 mod free_cells;
-mod making;
+mod makes;
 mod opening;
 
 /// A pointer that was dropped within a visit.

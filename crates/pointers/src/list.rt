@@ -4,14 +4,17 @@ ghost use Rattle.pointers.specs.Beside.{seen_by};
 ghost use Rattle.pointers.specs.Lists.{site};
 
 use crate::cells::member::Member;
+use crate::claim::shared_claim::SharedClaim;
+use crate::desk::Desk;
 use crate::domain::Domain;
 use crate::shared::Shared;
 use crate::weak::Weak;
-use std::marker::PhantomData;
+use atomic_cells::SharedMember;
+use std::marker::{Model, PhantomData};
 
-mod coming;
 pub mod element;
-mod going;
+mod insertions;
+mod removals;
 mod walks;
 
 /// A list of owners or of weak pointers in a place, in C++ a member `std::vector<std::shared_ptr<T>>` or
@@ -23,15 +26,70 @@ mod walks;
 /// time; but where no thread makes another of them, each may take elements from the front. A walk needs two pointers at
 /// a time more than its caller has, a removal four.
 pub struct List<'p, 't, D: Domain, E> {
-    pub(crate) head: Member<'p, 't, D>,
-    pub(crate) element: PhantomData<E>,
+    pub(crate) desk: &'t Desk<'t, D>,
+    /// The owner whose object's member has the first node.
+    of: Option<&'p SharedClaim<D>>,
+    /// Which member.
+    which: SharedMember,
+    /// The number of a free cell that has it.
+    number: u32,
+    element: PhantomData<E>,
+}
+
+impl<'p, 't, D: Domain, E> Model for List<'p, 't, D, E> {
+    ghost use Rattle.control_block.specs.contracts.handles.Shared as shared_handle;
+    ghost use Rattle.control_block.specs.contracts.handles.Weak as weak_handle;
+    ghost use Rattle.std.specs.Coded.{codes};
+    ghost use Rattle.pointers.specs.Beside.{seen_by};
+    ghost use Rattle.pointers.specs.Lists.{Site, site};
+
+    ghost Value = { Site D.Value };
+
+    ghost coded = { Prim.hlevel (codes, shared_handle.the_row.coded, weak_handle.the_row.coded) };
+
+    ghost view = { λ l. site (seen_by (λ x. x.now.known) l.of) l.which l.number };
 }
 
 impl<'p, 't, D: Domain, E> Drop for List<'p, 't, D, E> {
     #[inline(always)]
     fn drop(self) {
-        let Self { head, element: _ } = self;
-        drop(head);
+        let Self {
+            desk: _,
+            of: _,
+            which: _,
+            number: _,
+            element: _,
+        } = self;
+    }
+}
+
+impl<'p, 't, D: Domain, E> List<'p, 't, D, E> {
+    /// The list in a place.
+    #[inline(always)]
+    fn at(place: Member<'p, 't, D>) -> List<'p, 't, D, E>
+        ensures of { result.of ≡ seen_by (λ x. x.now.known) place.entry.of }
+        ensures place { (result.which ≡ place.entry.which) × (result.number ≡ place.entry.number) }
+    {
+        List {
+            desk: place.desk,
+            of: place.of,
+            which: place.which,
+            number: place.number,
+            element: PhantomData,
+        }
+    }
+
+    /// The place that owns its first node.
+    #[inline(always)]
+    pub(crate) fn head(&self) -> Member<'p, 't, D>
+        ensures { site (seen_by (λ x. x.now.known) result.of) result.which result.number ≡ self.now }
+    {
+        Member {
+            desk: self.desk,
+            of: self.of,
+            which: self.which,
+            number: self.number,
+        }
     }
 }
 
@@ -39,24 +97,18 @@ impl<'p, 't, D: Domain> Member<'p, 't, D> {
     /// The list of owners whose first node it owns.
     #[inline(always)]
     pub fn list(self) -> List<'p, 't, D, Shared<'t, D>>
-        ensures { site (seen_by (λ x. x.now.known) result.head.of) result.head.which result.head.number
-            ≡ site (seen_by (λ x. x.now.known) self.entry.of) self.entry.which self.entry.number }
+        ensures of { result.of ≡ seen_by (λ x. x.now.known) self.entry.of }
+        ensures place { (result.which ≡ self.entry.which) × (result.number ≡ self.entry.number) }
     {
-        List {
-            head: self,
-            element: PhantomData,
-        }
+        List::at(self)
     }
 
     /// The list of weak pointers whose first node it owns.
     #[inline(always)]
     pub fn weak_list(self) -> List<'p, 't, D, Weak<'t, D>>
-        ensures { site (seen_by (λ x. x.now.known) result.head.of) result.head.which result.head.number
-            ≡ site (seen_by (λ x. x.now.known) self.entry.of) self.entry.which self.entry.number }
+        ensures of { result.of ≡ seen_by (λ x. x.now.known) self.entry.of }
+        ensures place { (result.which ≡ self.entry.which) × (result.number ≡ self.entry.number) }
     {
-        List {
-            head: self,
-            element: PhantomData,
-        }
+        List::at(self)
     }
 }

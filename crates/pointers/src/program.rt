@@ -10,9 +10,9 @@ use crate::fault::Fault;
 use crate::program::closing::close_whole;
 use crate::program::not_run::NotRun;
 use crate::program::opening::open_domain;
-use crate::program::sitting::Post;
 use crate::program::staff::lend;
 use crate::program::team::Team;
+use crate::program::work::Post;
 use control_block::census::Census;
 use control_word::{Refusal, Shape};
 use std::alloc::Global;
@@ -22,14 +22,14 @@ use std::thread::Threads;
 pub(crate) mod brand;
 mod closing;
 pub mod leader;
-mod leading;
+mod leads;
 pub mod not_run;
 mod opening;
 pub(crate) mod part;
-pub(crate) mod sitting;
 pub(crate) mod staff;
 pub mod team;
 pub(crate) mod teams;
+pub(crate) mod work;
 pub(crate) mod worker;
 
 /// What each worker of a team does, in a thread with a desk of its own. What it answers is told by `run`. `answers`

@@ -10,4 +10,4 @@ mod opening;
 
 pub use crate::key::hash_of;
 pub use crate::map::SharedMap;
-pub use crate::map::sweeping::Keep;
+pub use crate::map::sweeps::Keep;

@@ -10,7 +10,7 @@ use std::alloc::Global;
 use std::sync::Wait;
 
 mod owners;
-pub mod sweeping;
+pub mod sweeps;
 mod weaks;
 
 /// A map of pointers by keys of 64 bits, as one worker has it: `open` gives it. What one worker puts into

@@ -14,7 +14,7 @@ use crate::domain::Domain;
 use atomic_cells::SharedAt;
 use control_block::domain;
 use control_word::Refusal;
-use shared_handle::{Gone, drop_shared};
+use shared_handle::Gone;
 use std::sync::Wait;
 
 impl<D: Domain> Context<D> {
@@ -36,7 +36,7 @@ impl<D: Domain> Context<D> {
         ensures refused { IfErr result
             (λ why. (why ≡ Refusal.Limit) × Was D.opened (seen_by (λ x. x.now.known) of.entry) IsAtAllowance) }
     {
-        self.desk.stands();
+        self.desk.assert_invariant();
         look_at(of, &mut self.claims);
         let found = at.load(rt, domain, &mut self.desk)?;
         Ok(arrived(
@@ -88,7 +88,7 @@ impl<D: Domain> Context<D> {
     {
         look_at(of, &mut self.claims);
         let handle = given(domain, &mut self.desk, &self.pile, &mut self.claims, new)?;
-        self.desk.stands();
+        self.desk.assert_invariant();
         look_at(of, &mut self.claims);
         let found = at.exchange(domain, &mut self.desk, handle);
         Ok(arrived(
@@ -120,9 +120,10 @@ impl<D: Domain> Context<D> {
     {
         look_at(of, &mut self.claims);
         let handle = given(domain, &mut self.desk, &self.pile, &mut self.claims, new)?;
-        self.desk.stands();
+        self.desk.assert_invariant();
         look_at(of, &mut self.claims);
-        let found = at.exchange(domain, &mut self.desk, handle);
-        Ok(drop_shared(domain, &mut self.desk, &mut self.pile, found))
+        let left = at.store(domain, &mut self.desk, handle);
+        self.desk.assert_invariant();
+        Ok(self.pile.put(left))
     }
 }

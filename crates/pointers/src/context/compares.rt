@@ -99,7 +99,7 @@ impl<D: Domain> Context<D> {
         ensures refused { IfErr result
             (λ why. (why ≡ Refusal.Limit) × Was D.opened (seen_by (λ x. x.now.known) of.entry) IsAtAllowance) }
     {
-        self.desk.stands();
+        self.desk.assert_invariant();
         look_at(of, &mut self.claims);
         let handle = empty(domain, &mut self.desk)?;
         Ok(SharedClaim::came(handle, &self.desk, &mut self.claims))
@@ -127,7 +127,7 @@ impl<D: Domain> Context<D> {
         ensures refused { IfErr result (λ r. (r.why ≡ Refusal.Limit)
             × Was D.opened (seen_by (λ x. x.now.known) how.now.of) IsAtAllowance) }
     {
-        self.desk.stands();
+        self.desk.assert_invariant();
         look_at(how.of, &mut self.claims);
         let hoped = expected.look(&mut self.claims);
         let (new, entry) = desired.split(&mut self.claims);

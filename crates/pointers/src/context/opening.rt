@@ -24,7 +24,7 @@ impl<D: Domain> Context<D> {
     {
         let _ = domain;
         let Part { desk, pile } = part;
-        desk.stands();
+        desk.assert_invariant();
         Context {
             desk,
             pile,

@@ -79,7 +79,7 @@ pub(crate) fn given<D: Domain>(
     ensures refused { IfErr result (λ why. (why ≡ Refusal.Limit)
         × (desk.new ≡ desk.old) × (claims.new.entries ≡ claims.old.entries)) }
 {
-    desk.stands();
+    desk.assert_invariant();
     match new {
         Some(new) => Ok(new.leave(claims)),
         None => {

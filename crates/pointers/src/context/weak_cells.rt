@@ -16,7 +16,6 @@ use crate::domain::Domain;
 use atomic_cells::WeakAt;
 use control_block::domain;
 use control_word::Refusal;
-use shared_handle::release_weak;
 use std::sync::Wait;
 
 impl<D: Domain> Context<D> {
@@ -38,7 +37,7 @@ impl<D: Domain> Context<D> {
         ensures refused { IfErr result
             (λ why. (why ≡ Refusal.Limit) × Was D.opened (seen_by (λ x. x.now.known) of.entry) IsAtAllowance) }
     {
-        self.desk.stands();
+        self.desk.assert_invariant();
         look_at(of, &mut self.claims);
         let found = at.load(rt, domain, &mut self.desk)?;
         Ok(arrived_weak(domain, &mut self.desk, &self.pile, &mut self.claims, found))
@@ -84,7 +83,7 @@ impl<D: Domain> Context<D> {
     {
         look_at(of, &mut self.claims);
         let handle = given_weak(domain, &mut self.desk, &self.pile, &mut self.claims, new)?;
-        self.desk.stands();
+        self.desk.assert_invariant();
         look_at(of, &mut self.claims);
         let found = at.exchange(domain, &mut self.desk, handle);
         Ok(arrived_weak(domain, &mut self.desk, &self.pile, &mut self.claims, found))
@@ -110,10 +109,10 @@ impl<D: Domain> Context<D> {
     {
         look_at(of, &mut self.claims);
         let handle = given_weak(domain, &mut self.desk, &self.pile, &mut self.claims, new)?;
-        self.desk.stands();
+        self.desk.assert_invariant();
         look_at(of, &mut self.claims);
-        let found = at.exchange(domain, &mut self.desk, handle);
-        release_weak(domain, &mut self.desk, found);
+        let left = at.store(domain, &mut self.desk, handle);
+        self.pile.put(left); // never an object's last owner
         Ok(())
     }
 }

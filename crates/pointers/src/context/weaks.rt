@@ -31,7 +31,7 @@ impl<D: Domain> Context<D> {
         ensures refused { IfErr result
             (λ why. (why ≡ Refusal.Limit) × Was D.opened (Some of.now.known) IsAtAllowance) }
     {
-        self.desk.stands();
+        self.desk.assert_invariant();
         let of = of.look(&mut self.claims);
         let handle = downgrade(domain, &mut self.desk, of)?;
         Ok(WeakClaim::came(handle, &self.desk, &mut self.claims))
@@ -52,7 +52,7 @@ impl<D: Domain> Context<D> {
         ensures refused { IfErr result
             (λ why. (why ≡ Refusal.Limit) × Was D.opened (Some of.now.known) IsAtAllowance) }
     {
-        self.desk.stands();
+        self.desk.assert_invariant();
         let of = of.look(&mut self.claims);
         let handle = share_weak(domain, &mut self.desk, of)?;
         Ok(WeakClaim::came(handle, &self.desk, &mut self.claims))
@@ -70,7 +70,7 @@ impl<D: Domain> Context<D> {
         ensures place { IfOk result (λ r. calls.IsOfThis (owned of.now.known) (pointed r.known)) }
         ensures refused { IfErr result (WhyNoThis D.opened of.now.known) }
     {
-        self.desk.stands();
+        self.desk.assert_invariant();
         let of = of.look(&mut self.claims);
         let handle = weak_from_this(domain, &mut self.desk, of)?;
         Ok(WeakClaim::came(handle, &self.desk, &mut self.claims))
@@ -90,7 +90,7 @@ impl<D: Domain> Context<D> {
         ensures limit { result ≡ Err Refusal.Limit ↔ IsAtAllowance self.old.desk }
         ensures refused { IfErr result (WhyNoOwner D.opened of.now.known) }
     {
-        self.desk.stands();
+        self.desk.assert_invariant();
         let of = of.look(&mut self.claims);
         match upgrade(rt, domain, &mut self.desk, of) {
             Ok(handle) => Ok(SharedClaim::came(handle, &self.desk, &mut self.claims)),

@@ -1,7 +1,6 @@
 //! Walks over a list.
-ghost use Rattle.std.specs.Prelude.{IfErr, IfOk, OnOk};
-ghost use Rattle.pointers.specs.Beside.{seen_by};
-ghost use Rattle.pointers.specs.Lists.{Ends, Leads, WhyEnded, WhyNotLed, behind, site};
+ghost use Rattle.std.specs.Prelude.{IfErr, IfNone, IfOk, IfSome, None, Ok, OnOk, Some, false, true};
+ghost use Rattle.pointers.specs.Lists.{Ends, IsBrokenOff, IsCount, Leads, Stops, WhyEnded, WhyNotLed, behind};
 
 use crate::domain::Domain;
 use crate::fault::Fault;
@@ -18,14 +17,12 @@ impl<'p, 't, D: Domain, E: Element<Shared<'t, D>>> List<'p, 't, D, E> {
         rt: &R,
         before: &Option<Shared<'t, D>>,
     ) -> Result<Option<Shared<'t, D>>, Fault>
-        ensures led { IfOk result (Leads D.opened (behind before.now
-            (site (seen_by (λ x. x.now.known) self.now.head.of) self.now.head.which self.now.head.number))) }
-        ensures refused { IfErr result (WhyNotLed D.opened (behind before.now
-            (site (seen_by (λ x. x.now.known) self.now.head.of) self.now.head.which self.now.head.number))) }
+        ensures led { IfOk result (Leads D.opened (behind before.now self.now)) }
+        ensures refused { IfErr result (WhyNotLed D.opened (behind before.now self.now)) }
     {
         match before {
             Some(node) => node.next().load(rt),
-            None => self.head.load(rt),
+            None => self.head().load(rt),
         }
     }
 
@@ -36,10 +33,8 @@ impl<'p, 't, D: Domain, E: Element<Shared<'t, D>>> List<'p, 't, D, E> {
         f: F,
     ) -> Result<(), Fault>
         requires { F.IsAlwaysCallable f }
-        ensures told { OnOk result (Ends D.opened E.copied E.refused F.FnMut
-            (site (seen_by (λ x. x.now.known) self.now.head.of) self.now.head.which self.now.head.number) tt f) }
-        ensures fault { IfErr result (WhyEnded D.opened E.copied E.refused F.FnMut
-            (site (seen_by (λ x. x.now.known) self.now.head.of) self.now.head.which self.now.head.number) tt f) }
+        ensures told { OnOk result (Ends D.opened E.copied E.refused F.FnMut self.now tt f) }
+        ensures fault { IfErr result (WhyEnded D.opened E.copied E.refused F.FnMut self.now tt f) }
     {
         let mut f = f;
         let mut before = None;
@@ -63,6 +58,10 @@ impl<'p, 't, D: Domain, E: Element<Shared<'t, D>>> List<'p, 't, D, E> {
         f: F,
     ) -> Result<Option<E>, Fault>
         requires { F.IsAlwaysCallable f }
+        ensures none { IfOk result (λ r. IfNone r (Ends D.opened E.copied E.refused F.FnMut self.now false f)) }
+        ensures found { IfOk result
+            (λ r. IfSome r (Stops D.opened E.copied E.refused F.FnMut self.now false f (Ok true))) }
+        ensures fault { IfErr result (WhyEnded D.opened E.copied E.refused F.FnMut self.now false f) }
     {
         let mut f = f;
         let mut before = None;
@@ -88,6 +87,10 @@ impl<'p, 't, D: Domain, E: Element<Shared<'t, D>>> List<'p, 't, D, E> {
         f: F,
     ) -> Result<Option<A>, Fault>
         requires { F.IsAlwaysCallable f }
+        ensures none { IfOk result (λ r. IfNone r (Ends D.opened E.copied E.refused F.FnMut self.now None f)) }
+        ensures found { IfOk result (λ r. IfSome r (λ a. (e : E)
+            × Stops D.opened E.copied E.refused F.FnMut self.now None f (Ok (Some a)) e)) }
+        ensures fault { IfErr result (WhyEnded D.opened E.copied E.refused F.FnMut self.now None f) }
     {
         let mut f = f;
         let mut before = None;
@@ -106,7 +109,10 @@ impl<'p, 't, D: Domain, E: Element<Shared<'t, D>>> List<'p, 't, D, E> {
     }
 
     /// How many elements there are (waits).
-    pub fn count<R: Wait>(&self, rt: &R) -> Result<usize, Fault> {
+    pub fn count<R: Wait>(&self, rt: &R) -> Result<usize, Fault>
+        ensures counted { IfOk result (IsCount D.opened E.copied self.now) }
+        ensures fault { IfErr result (IsBrokenOff D.opened E.copied E.refused self.now) }
+    {
         let mut count = 0usize;
         let mut before = None;
         for _ in rt.forever() {

@@ -11,8 +11,8 @@ ghost use Rattle.pointers.specs.Staffs.{AreHired, IsHired, Worked};
 
 use crate::fault::Fault;
 use crate::program::part::{Part, cut};
-use crate::program::sitting::Post;
 use crate::program::team::Team;
+use crate::program::work::Post;
 use crate::program::worker::Worker;
 use crate::program::{Failed, Program};
 use control_block::desk::Desk;

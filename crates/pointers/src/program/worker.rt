@@ -3,7 +3,7 @@
 use crate::fault::Fault;
 use crate::program::Program;
 use crate::program::part::Part;
-use crate::program::sitting::{Post, work_alone};
+use crate::program::work::{Post, work_alone};
 use std::sync::Wait;
 use std::thread::Threads;
 use thread_jobs::Job;

@@ -34,7 +34,7 @@ release_weak-requires-clause-holds g c =
     (λ (h : WeakHandle). h.block) (λ (h : WeakHandle). h.place) _ (Swapped c.in-Ok-Swapped.found)
     c.in-Ok-Swapped.field-0-is raw.compared raw.bag raw.held in
     let f = held.Weak c.in-Ok-Swapped.found in
-    let v = hand_swapped o d e p cs _ _ _ _ _ (held.Weak new) f w c.stands.ensures (at_same cs _ _ _ (first.claims ∙ same) second.has) second.handle
+    let v = hand_swapped o d e p cs _ _ _ _ _ (held.Weak new) f w c.assert_invariant.ensures (at_same cs _ _ _ (first.claims ∙ same) second.has) second.handle
     (second.claims ∙ (first.claims ∙ same)) second.entry.0 c.remove.ensures.entries (by_event d _ e says.compared) raw.keeps says.bag says.held in
     in_hand o e p f [] _ v
 
@@ -49,7 +49,7 @@ invariant_of-self g c =
     (λ (h : WeakHandle). h.block) (λ (h : WeakHandle). h.place) _ (Swapped c.in-Ok-Swapped.found)
     c.in-Ok-Swapped.field-0-is raw.compared raw.bag raw.held in
     let f = held.Weak c.in-Ok-Swapped.found in
-    let v = hand_swapped o d e p cs _ _ _ _ _ (held.Weak new) f w c.stands.ensures (at_same cs _ _ _ (first.claims ∙ same) second.has) second.handle
+    let v = hand_swapped o d e p cs _ _ _ _ _ (held.Weak new) f w c.assert_invariant.ensures (at_same cs _ _ _ (first.claims ∙ same) second.has) second.handle
     (second.claims ∙ (first.claims ∙ same)) second.entry.0 c.remove.ensures.entries (by_event d _ e says.compared) raw.keeps says.bag says.held in
     let y = c.in-Ok-Swapped.found in let m = c.release_weak.new.desk in let left = c.release_weak.ensures in
     whole_again o m p _
@@ -66,7 +66,7 @@ arrived_weak-held-requires-clause-hand g c =
     let says = says_by d x Weak hoped.block hoped.place new.block new.place c.args.how.now.weak e
     (λ (h : WeakHandle). h.block) (λ (h : WeakHandle). h.place) _ (Differs c.in-Ok-Differs.held c.in-Ok-Differs.desired)
     c.in-Ok-Differs.field-0-is raw.compared raw.bag raw.held in
-    hand_more o d e p cs _ (held.Weak c.in-Ok-Differs.held) w c.stands.ensures (second.claims ∙ (first.claims ∙ same)) (by_event d _ e says.compared)
+    hand_more o d e p cs _ (held.Weak c.in-Ok-Differs.held) w c.assert_invariant.ensures (second.claims ∙ (first.claims ∙ same)) (by_event d _ e says.compared)
     raw.keeps says.bag says.held
 
 pub returns-in-Ok-Swapped-clause-compared : goal.returns-in-Ok-Swapped-clause-compared

@@ -11,7 +11,7 @@ invariant_of-self-2 g c =
     let cs = c.self.inside.claims.entries in let h = held.Owner c.in_ok-handle.handle in let says = c.in_ok-handle.ensures in
     let x = c.came.result.known in
     claim_begins o e p cs c.came.new.claims.entries h x
-    (comes_empty o d e p h [] cs (nothing_beside o d p cs c.self.invariant) c.stands.ensures says.counted says.handle.0)
+    (comes_empty o d e p h [] cs (nothing_beside o d p cs c.self.invariant) c.assert_invariant.ensures says.counted says.handle.0)
     (c.came.ensures.claims ∙ ap (λ (l : List (Option (Known g.row.D-Value.Denot))). l ++ Some x ∷ []) c.look_at.ensures.claims) c.came.ensures.known
 
 pub returns-in_err-handle-clause-refused : goal.returns-in_err-handle-clause-refused

@@ -25,7 +25,7 @@ arrived-requires-clause-hand g c =
     let cs = c.given.new.claims.entries in let h = held.Owner c.in_ok-handle.handle in let f = held.Owner c.exchange-found.result in
     let w = c.in_ok-handle.ensures.hand in let says = c.exchange-found.ensures in
     subst (λ (l : List (Option (Known g.row.D-Value.Denot))). IsWholeBeside o e p (f ∷ []) l) (sym c.look_at-2.ensures.claims)
-    (swaps o d e p p h f [] cs w c.stands.ensures (by_event d _ e says.event) (bears_on o d e p (h ∷ []) cs w says.keeps) says.bag says.held)
+    (swaps o d e p p h f [] cs w c.assert_invariant.ensures (by_event d _ e says.event) (bears_on o d e p (h ∷ []) cs w says.keeps) says.bag says.held)
 
 pub returns-clause-exchanged : goal.returns-clause-exchanged
 returns-clause-exchanged g c =

@@ -17,7 +17,7 @@ arrived-requires-clause-hand g c =
     let o = g.D.Domain.opened in let d = c.self.inside.desk in let e = c.load.new.desk in let p = c.self.inside.pile in let cs = c.self.inside.claims.entries in
     let h = held.Owner c.in_ok-found.found in let says = c.in_ok-found.ensures in let w = nothing_beside o d p cs c.self.invariant in
     subst (λ (l : List (Option (Known g.row.D-Value.Denot))). IsWholeBeside o e p (h ∷ []) l) (sym c.look_at.ensures.claims)
-    (comes o d e p p h [] cs w c.stands.ensures (by_event d _ e says.event) (bears_on o d e p [] cs w says.keeps) says.bag says.held)
+    (comes o d e p p h [] cs w c.assert_invariant.ensures (by_event d _ e says.event) (bears_on o d e p [] cs w says.keeps) says.bag says.held)
 
 pub returns-clause-loaded : goal.returns-clause-loaded
 returns-clause-loaded g c =

@@ -12,7 +12,7 @@ invariant_of-self-2 g c =
     let o = g.D.Domain.opened in let d = c.self.inside.desk in let e = c.make.new.desk in let p = c.self.inside.pile in let cs = c.self.inside.claims.entries in
     let h = c.in_ok-handle.handle in let says = c.in_ok-handle.ensures in
     more o d e p p cs cs c.came.new.claims.entries (held.Owner h) c.came.result.known c.self.invariant
-    c.stands.ensures (by_make d c.args.enabled false c.args.fields c.args.value h.block h.place e says.event)
+    c.assert_invariant.ensures (by_make d c.args.enabled false c.args.fields c.args.value h.block h.place e says.event)
     (bears_kept (domain_of o) d e p c.self.invariant.bears says.desk.domain says.desk.shape says.endings says.count)
     says.bag says.held refl c.came.ensures.claims c.came.ensures.known
 

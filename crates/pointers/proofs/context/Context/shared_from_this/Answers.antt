@@ -16,7 +16,7 @@ invariant_of-self-2 g c =
     let cs = c.self.inside.claims.entries in
     let h = c.in_ok-handle.handle in let of = c.look-of.result.now in let says = c.in_ok-handle.ensures in
     more_kept o d e p cs c.look-of.new.claims.entries c.came.new.claims.entries (held.Owner h) c.came.result.known c.self.invariant
-    c.stands.ensures (by_share d of.block of.place h.place e says.event) says.keeps
+    c.assert_invariant.ensures (by_share d of.block of.place h.place e says.event) says.keeps
     (says.bag)
     says.held c.look-of.ensures.claims c.came.ensures.claims c.came.ensures.known
 

@@ -16,7 +16,7 @@ invariant_of-self g c =
     let cs = c.self.inside.claims.entries in
     let h = c.in-Ok.handle in let of = c.look-of.result.now in let says = c.in-Ok.ensures in
     more_kept o d e p cs c.look-of.new.claims.entries c.came.new.claims.entries (held.Owner h) c.came.result.known c.self.invariant
-    c.stands.ensures (by_upgrade d of.block of.place (Ok h) e says.upgrade) says.keeps
+    c.assert_invariant.ensures (by_upgrade d of.block of.place (Ok h) e says.upgrade) says.keeps
     says.bag says.held c.look-of.ensures.claims c.came.ensures.claims c.came.ensures.known
 
 pub invariant_of-self-in-Err : goal.invariant_of-self-in-Err

@@ -16,4 +16,4 @@ pub returns-in_ok-none-in-None-clause-hand : goal.returns-in_ok-none-in-None-cla
 returns-in_ok-none-in-None-clause-hand g c =
     let o = g.D.Domain.opened in let d = c.args.desk.now in let e = c.empty_weak.new.desk in let p = c.args.pile.now in let cs = c.args.claims.now.entries in
     let h = held.Weak c.in_ok-none-in-None.none in let says = c.in_ok-none-in-None.ensures in
-    comes_empty o d e p h [] cs (nothing_beside o d p cs c.requires.whole) c.stands.ensures says.counted says.handle.0
+    comes_empty o d e p h [] cs (nothing_beside o d p cs c.requires.whole) c.assert_invariant.ensures says.counted says.handle.0

@@ -1,4 +1,0 @@
-use Rattle.pointers.proofs.program.leading.lead_alone.Given as goal
-
-abbrev pub ghosts-lead_at : goal.ghosts-lead_at
-ghosts-lead_at g a = record { claims = a.blank.name; desk = a.part.desk }

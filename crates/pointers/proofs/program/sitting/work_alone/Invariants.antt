@@ -1,4 +1,0 @@
-use Rattle.pointers.proofs.program.sitting.work_alone.Given as goal
-
-abbrev pub ghosts-work_at : goal.ghosts-work_at
-ghosts-work_at g a = record { claims = a.blank.name; desk = a.part.desk }
