@@ -1,5 +1,10 @@
 pub mod Prelude
-pub mod Circling
-pub mod Drawing
-pub mod Telling
 pub mod ColorLemmas
+pub mod CountLemmas
+pub mod GraphLemmas
+pub mod HitLemmas
+pub mod KnotLemmas
+pub mod MoreLemmas
+pub mod NumberLemmas
+pub mod ReportLemmas
+pub mod SumLemmas

@@ -9,4 +9,4 @@ free_cell_text shared n = cond (nat_lt n shared) (codes "s" ++ decimal n) (codes
 -- a cell's word in a script, but for the block in place of a name before the dot
 abbrev pub block_cell_text : ℕ → Holding → List ℕ
 block_cell_text shared h =
-    cond (h.from == 0) (free_cell_text shared h.slot) (decimal h.from ++ codes "." ++ member_text h.slot)
+    cond (h.from == 0) (free_cell_text shared h.label) (decimal h.from ++ codes "." ++ member_text h.label)

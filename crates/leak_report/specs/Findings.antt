@@ -1,22 +1,21 @@
--- What is found at a scene of the handles that cells hold. All of it is own.
-use Rattle.std.specs.Prelude.{ℕ, Bool, List}
-use Rattle.leak_report.specs.Prelude.{AbstractState, Holding, state_in, ties}
-use Rattle.holders.specs.Registers.{all_held}
+-- What cells hold at a scene, and what is found of it. All of it is own.
+use Rattle.std.specs.Prelude.{ℕ, suc, List, [], ◌∷◌}
+use Rattle.leak_report.specs.Prelude.{AbstractState, AreFindings, Findings, Holding, state_in}
+use Rattle.leak_report.specs.Holders.{all_held}
+
+-- a handle whose slot is its place in a list; which cell it is in is told by its label
+abbrev pub placed : ℕ → Holding → Holding
+placed n h = record { from = h.from; to = h.to; slot = n; label = h.label; is_owner = h.is_owner }
+
+-- all of them, from this place on
+abbrev pub numbered : ℕ → List Holding → List Holding
+numbered n [] = []
+numbered n (h ∷ hs) = placed n h ∷ numbered (suc n) hs
 
 -- what all cells hold at a scene
 abbrev pub held_at : AbstractState → List Holding
-held_at c = all_held (state_in c) c.extent.shape.blocks
+held_at c = numbered 0 (all_held (state_in c) c.extent.shape.blocks)
 
--- what was found of the owners among them: which blocks are kept, the least block of each one's knot, and the owners
--- that cut one
-pub record Findings : Type 0 where
-  pub kept : List Bool
-  pub knots : List ℕ
-  pub cuts : List Holding
-
-abbrev pub findings : List Bool → List ℕ → List Holding → Findings
-findings kept knots cuts = record { kept = kept; knots = knots; cuts = cuts }
-
--- the owners at a scene that tie knots of leaked blocks
-abbrev pub ties_at : Findings → AbstractState → List Holding
-ties_at f c = ties f.kept f.knots (held_at c)
+-- this was found of it: which blocks are kept, their knots, what ties them, and what cuts one
+abbrev pub AreFound : AbstractState → Findings → Type 0
+AreFound c f = AreFindings c.extent.shape.blocks (held_at c) f

@@ -1,14 +1,12 @@
 -- What is left as a graph for Graphviz, line by line, each without its line feed. All of it is own.
-use Rattle.std.specs.Prelude.{ℕ, Bool, false, cond, List, [], ◌∷◌, ◌++◌, length, nat_lt, ◌==◌}
-use Rattle.std.specs.Prelude.{slice_index, slice_index_or, Some, None, codes, decimal, Option}
-use Rattle.leak_report.specs.Prelude.{AbstractState, at, flat_map, from, held_on, Holding}
-use Rattle.leak_report.specs.Prelude.{member_text, State, state_in}
+use Rattle.std.specs.Prelude.{ℕ, Bool, cond, List, [], ◌∷◌, ◌++◌, ◌==◌}
+use Rattle.std.specs.Prelude.{slice_index, Some, None, codes, decimal, Option}
+use Rattle.leak_report.specs.Prelude.{AbstractState, Findings, flat_map, from, held_in, Holding}
+use Rattle.leak_report.specs.Prelude.{is_tie, marked, member_text, State, state_in}
 use Rattle.std.specs.List.{list_any}
-use Rattle.owner_graph.specs.Ends.{same_place}
-use Rattle.owner_graph.specs.Ties.{is_tie}
 use Rattle.step_core.specs.Totals.{fields_of}
 use Rattle.leak_report.specs.Cells.{free_cell_text}
-use Rattle.leak_report.specs.Findings.{Findings, held_at, ties_at}
+use Rattle.leak_report.specs.Findings.{held_at}
 
 -- the color of a block: whether it is kept, and else whether something ties its knot
 abbrev pub color_text : Bool → Bool → List ℕ
@@ -28,27 +26,20 @@ abbrev pub node_if : ℕ → List ℕ → Option (List ℕ) → List (List ℕ)
 node_if block color None = []
 node_if block color (Some fields) = node_text block fields color ∷ []
 
-abbrev pub is_tied : List Holding → Bool
-is_tied ties = nat_lt 0 (length ties)
+-- a handle in the block ties its knot
+abbrev pub has_tie : Findings → List Holding → ℕ → Bool
+has_tie f hs block = list_any (is_tie f.kept.items f.knots.items) (held_in hs block)
+
+abbrev pub color_at : Findings → List Holding → ℕ → List ℕ
+color_at f hs block = color_text (marked f.kept.items block) (has_tie f hs block)
 
 -- of a block that isn't vacant
-abbrev pub node_lines : State → List Bool → List ℕ → List Holding → ℕ → List (List ℕ)
-node_lines s kept knots ties block =
-    node_if block (color_text (slice_index_or kept block false) (is_tied (held_on ties (at knots block))))
-    (fields_of s block)
+abbrev pub node_lines : State → Findings → List Holding → ℕ → List (List ℕ)
+node_lines s f hs block = node_if block (color_at f hs block) (fields_of s block)
 
 -- of all blocks, in order
-abbrev pub all_nodes : State → List Bool → List ℕ → List Holding → ℕ → List (List ℕ)
-all_nodes s kept knots ties blocks = flat_map (node_lines s kept knots ties) (from 1 blocks)
-
--- the cell of a handle is among those that are listed
-abbrev pub is_listed : Holding → List Holding → Bool
-is_listed c hs = list_any (λ (h : Holding). same_place h c) hs
-
--- a handle, but on the block in which it is
-abbrev pub at_source : Holding → Holding
-at_source h =
-    record { from = h.from; to = h.from; slot = h.slot; label = h.label; is_owner = h.is_owner }
+abbrev pub all_nodes : State → Findings → List Holding → ℕ → List (List ℕ)
+all_nodes s f hs blocks = flat_map (node_lines s f hs) (from 1 blocks)
 
 -- an owner is a full line, a bold one where it cuts its knot, and a weak handle a dashed one
 abbrev pub style_text : Bool → Bool → List ℕ
@@ -77,12 +68,13 @@ member_lines from member block style color =
 
 abbrev pub edge_by : ℕ → List ℕ → List ℕ → Holding → List (List ℕ)
 edge_by shared style color h =
-    cond (h.from == 0) (free_lines shared h.slot h.to style) (member_lines h.from h.slot h.to style color)
+    cond (h.from == 0) (free_lines shared h.label h.to style) (member_lines h.from h.label h.to style color)
 
 -- a handle
 abbrev pub edge_lines : ℕ → Findings → Holding → List (List ℕ)
 edge_lines shared f h =
-    edge_by shared (style_text h.is_owner (is_listed h f.cuts)) (tie_text (is_tie f.kept f.knots h)) h
+    edge_by shared (style_text h.is_owner (marked f.cuts.items h.slot))
+    (tie_text (is_tie f.kept.items f.knots.items h)) h
 
 -- how the graph begins
 abbrev pub head_lines : List (List ℕ)
@@ -91,5 +83,5 @@ head_lines = codes "digraph left {" ∷ codes "node [style=filled, fillcolor=whi
 -- all lines of the graph of what is left at a scene, where this was found
 abbrev pub graph_lines : Findings → AbstractState → List (List ℕ)
 graph_lines f c =
-    head_lines ++ all_nodes (state_in c) f.kept f.knots (ties_at f c) c.extent.shape.blocks
+    head_lines ++ all_nodes (state_in c) f (held_at c) c.extent.shape.blocks
     ++ flat_map (edge_lines c.extent.shape.shared_cells f) (held_at c) ++ codes "}" ∷ []

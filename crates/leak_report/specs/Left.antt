@@ -1,15 +1,15 @@
 -- What is left at the end of a script's run. All of it is own.
-use Rattle.std.specs.Prelude.{◌≡◌, ℕ, ◌+◌, ◌≤◌, Bool, true, false, ◌≢◌, ◌↔◌, List, length}
-use Rattle.std.specs.Prelude.{slice_index_or, None, Ok, Err, Result}
-use Rattle.leak_report.specs.Prelude.{AbstractState, AllCounted, AreCuts, census_of, IsKept}
-use Rattle.leak_report.specs.Prelude.{KnotsAre, state_in}
+use Rattle.std.specs.Prelude.{◌≡◌, ℕ, ◌≤◌, Bool, true, false, ◌≢◌, ◌↔◌, List, None, Ok, Err, Result}
+use Rattle.leak_report.specs.Prelude.{AbstractState, census_of, Findings, IsKept}
+use Rattle.leak_report.specs.Prelude.{marked, state_in}
 use Rattle.script_stepper.specs.Ends.{IsRunOut}
 use Rattle.script_text.specs.Beginnings.{script_abstraction}
 use Rattle.script_text.specs.Drafts.{ScriptView}
 use Rattle.script_text.specs.Grammar.{ended}
 use Rattle.script_text.specs.declared.fault.Fault.{Fault}
-use Rattle.leak_report.specs.Findings.{Findings, held_at, ties_at}
+use Rattle.leak_report.specs.Findings.{AreFound, held_at}
 use Rattle.leak_report.specs.Graph.{graph_lines}
+use Rattle.leak_report.specs.Holders.{AllCounted}
 use Rattle.leak_report.specs.Lines.{all_lines}
 
 -- a path of owners leads to the block from a free cell
@@ -27,20 +27,13 @@ Leaks true c = (b : ℕ) × IsLeaked c b
 Leaks false c = (b : ℕ) → IsLeaked c b → ⊥
 
 -- just the blocks are marked that are kept
-pub record MarksKept (c : AbstractState) (kept : List Bool) : Type 0 where
-  pub size : length kept ≡ c.extent.shape.blocks + 1
-  pub marks : (b : ℕ) → b ≤ c.extent.shape.blocks → slice_index_or kept b false ≡ true ↔ IsKeptAt c b
+abbrev pub MarksKept : AbstractState → List Bool → Type 0
+MarksKept c kept = (b : ℕ) → b ≤ c.extent.shape.blocks → marked kept b ≡ true ↔ IsKeptAt c b
 
--- what was found is so: what is kept, the knots, and which of the owners that tie one cut it
-pub record AreFound (c : AbstractState) (f : Findings) : Type 0 where
-  pub kept : MarksKept c f.kept
-  pub knots : KnotsAre c.extent.shape.blocks (held_at c) f.knots
-  pub cuts : AreCuts c.extent.shape.blocks (held_at c) (ties_at f c) f.cuts
-
--- the lines that are told, or those of a graph
-abbrev pub lines_told : Bool → Findings → AbstractState → List (List ℕ)
-lines_told false f c = all_lines f c
-lines_told true f c = graph_lines f c
+-- the lines of a report, or those of a graph
+abbrev pub report_lines : Bool → Findings → AbstractState → List (List ℕ)
+report_lines false f c = all_lines f c
+report_lines true f c = graph_lines f c
 
 -- what cells hold on a block, each cell once, is just what is counted there
 abbrev pub IsCountedAt : AbstractState → Type 0
@@ -51,7 +44,7 @@ pub record TellsOf (c : AbstractState) (draws leaks : Bool) (text : List ℕ) : 
   pub findings : Findings
   pub found : AreFound c findings
   pub counted : IsCountedAt c
-  pub says : text ≡ ended (lines_told draws findings c)
+  pub says : text ≡ ended (report_lines draws findings c)
   pub leaks_is : Leaks leaks c
 
 -- whether something is leaked, where that was answered

@@ -1,8 +1,9 @@
 pub mod Prelude
 pub mod Cells
-pub mod Circles
-pub mod Coloring
+pub mod Colors
 pub mod Findings
 pub mod Graph
+pub mod Holders
+pub mod Knots
 pub mod Left
 pub mod Lines

@@ -1,12 +1,12 @@
 -- The lines that tell what is left, each without its line feed. All of it is own.
 use Rattle.std.specs.Prelude.{ℕ, Bool, false, cond, List, [], ◌∷◌, ◌++◌, slice_index_or, Some}
 use Rattle.std.specs.Prelude.{None, codes, Option}
-use Rattle.leak_report.specs.Prelude.{AbstractState, census_of, Counts, ended_in, flat_map, from}
-use Rattle.leak_report.specs.Prelude.{held_on, Holding, made_in, State, state_in, totals_text}
+use Rattle.leak_report.specs.Prelude.{AbstractState, census_of, Counts, ended_in, Findings, flat_map}
+use Rattle.leak_report.specs.Prelude.{from, held_on, Holding, made_in, State, state_in, totals_text}
 use Rattle.script_stepper.specs.Lines.{block_text}
 use Rattle.leak_report.specs.Cells.{block_cell_text}
-use Rattle.leak_report.specs.Circles.{circles}
-use Rattle.leak_report.specs.Findings.{Findings, held_at, ties_at}
+use Rattle.leak_report.specs.Findings.{held_at}
+use Rattle.leak_report.specs.Knots.{all_knots}
 
 abbrev pub kind_text : Bool → List ℕ
 kind_text is_owner = cond is_owner (codes "owner") (codes "weak")
@@ -45,6 +45,6 @@ listing shared hs kept blocks s = flat_map (left_lines shared hs kept s) (from 1
 -- all lines of what is left at a scene, where this was found
 abbrev pub all_lines : Findings → AbstractState → List (List ℕ)
 all_lines f c =
-    listing c.extent.shape.shared_cells (held_at c) f.kept c.extent.shape.blocks (state_in c)
-    ++ circles c.extent.shape.shared_cells (ties_at f c) f.cuts c.extent.shape.blocks
+    listing c.extent.shape.shared_cells (held_at c) f.kept.items c.extent.shape.blocks (state_in c)
+    ++ all_knots c.extent.shape.shared_cells f (held_at c) c.extent.shape.blocks c.extent.shape.blocks
     ++ totals_text (made_in c.history) (ended_in c.history) ∷ []

@@ -2,12 +2,14 @@
 pub use Rattle.std.specs.List.{flat_map}
 pub use Rattle.control_word.specs.State.{State}
 pub use Rattle.control_word.specs.declared.packed.counts.Counts.{Counts}
-pub use Rattle.holders.specs.Registers.{AllCounted}
-pub use Rattle.owner_graph.specs.Knots.{KnotsAre}
+pub use Rattle.owner_graph.specs.Fed.{marked}
+pub use Rattle.owner_graph.specs.Findings.{AreFindings}
 pub use Rattle.owner_graph.specs.Labels.{at}
 pub use Rattle.owner_graph.specs.Owners.{IsAmong, IsKept}
-pub use Rattle.owner_graph.specs.Rows.{held_on, row_at}
-pub use Rattle.owner_graph.specs.Ties.{AreCuts, ties}
+pub use Rattle.owner_graph.specs.Rows.{held_in, held_on, row_at}
+pub use Rattle.owner_graph.specs.Ties.{is_tie}
+pub use Rattle.owner_graph.specs.Weakenings.{knot_ties}
+pub use Rattle.owner_graph.specs.declared.findings.Findings.{Findings}
 pub use Rattle.owner_graph.specs.declared.holding.Holding.{Holding}
 pub use Rattle.script_stepper.specs.Lines.{totals_text}
 pub use Rattle.script_text.specs.Canonical.{AddsLines}

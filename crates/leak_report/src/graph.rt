@@ -1,22 +1,19 @@
 //! What is left at a run's end as a graph for Graphviz.
-ghost use Rattle.std.specs.Prelude.{◌≡◌, ℕ, ◌+◌, ◌<◌, ◌≤◌, true, [], ◌∷◌, ◌++◌, length, IfOk};
-ghost use Rattle.std.specs.Prelude.{OnOk, string_bytes, All};
-ghost use Rattle.leak_report.specs.Prelude.{abstraction, AddsLines, AllCounted, flat_map, held_on};
-ghost use Rattle.leak_report.specs.Prelude.{Holding, IsAmong, IsAtEnd, row_at, state_in};
-ghost use Rattle.leak_report.specs.Findings.{findings, held_at, ties_at};
+ghost use Rattle.std.specs.Prelude.{◌≡◌, ◌≤◌, true, [], ◌∷◌, ◌++◌, IfOk, OnOk, string_bytes};
+ghost use Rattle.leak_report.specs.Prelude.{abstraction, AddsLines, AreFindings, flat_map, IsAtEnd};
+ghost use Rattle.leak_report.specs.Prelude.{state_in};
+ghost use Rattle.leak_report.specs.Findings.{held_at};
 ghost use Rattle.leak_report.specs.Graph.{all_nodes, box_text, edge_by, edge_lines, fields_text};
-ghost use Rattle.leak_report.specs.Graph.{free_lines, free_text, head_lines, is_listed};
-ghost use Rattle.leak_report.specs.Graph.{member_lines, node_lines, node_text, style_text};
-ghost use Rattle.leak_report.specs.Graph.{tie_text};
-ghost use Rattle.leak_report.specs.Left.{AreFound, TellsOf};
+ghost use Rattle.leak_report.specs.Graph.{free_lines, free_text, head_lines, member_lines};
+ghost use Rattle.leak_report.specs.Graph.{node_lines, node_text, style_text, tie_text};
+ghost use Rattle.leak_report.specs.Left.{IsCountedAt, TellsOf};
 
-use crate::coloring::color_of;
-use crate::cutting::{by_source, is_listed_in};
-use crate::finding::{Found, leaks};
+use crate::color::color_of;
+use crate::found::{Found, leaks};
 use crate::lines::{member_word, put_free};
-use crate::listing::Left;
+use crate::listing::Report;
 use control_word::Block;
-use owner_graph::{Holding, is_tie};
+use owner_graph::{Findings, Holding};
 use script_stepper::End;
 use std::alloc::{AllocError, Global};
 use std::fmt::Write;
@@ -50,13 +47,9 @@ fn put_node(text: &mut String, block: u16, fields: &[u64; 4], color: &str) -> Re
 fn put_block(world: &World, number: u16, found: &Found, text: &mut String) -> Result<(), AllocError>
     requires end { IsAtEnd world.now }
     requires block { (1 ≤ number) × (number ≤ world.now.ghost_state.extent.shape.blocks) }
-    requires kept { number + 1 ≤ length found.now.kept.items }
-    requires knots { number + 1 ≤ length found.now.circles.knots.items }
-    requires ties { (block : ℕ) → row_at found.now.circles.tie_rows.items block
-        ≡ held_on found.now.circles.ties.items block }
+    requires found { AreFindings found.now.blocks found.now.held.items found.now.findings }
     ensures { OnOk result (AddsLines text.old text.new
-        (node_lines (state_in (abstraction world.now)) found.now.kept.items
-        found.now.circles.knots.items found.now.circles.ties.items number)) }
+        (node_lines (state_in (abstraction world.now)) found.now.findings found.now.held.items number)) }
 {
     let Some(fields) = world.fields(Block(number)) else {
         return Ok(());
@@ -75,13 +68,9 @@ fn put_blocks(
 ) -> Result<(), AllocError>
     requires end { IsAtEnd world.now }
     requires all { blocks ≡ world.now.ghost_state.extent.shape.blocks }
-    requires kept { blocks + 1 ≤ length found.now.kept.items }
-    requires knots { blocks + 1 ≤ length found.now.circles.knots.items }
-    requires ties { (block : ℕ) → row_at found.now.circles.tie_rows.items block
-        ≡ held_on found.now.circles.ties.items block }
+    requires found { AreFindings found.now.blocks found.now.held.items found.now.findings }
     ensures { OnOk result (AddsLines text.old text.new
-        (all_nodes (state_in (abstraction world.now)) found.now.kept.items
-        found.now.circles.knots.items found.now.circles.ties.items blocks)) }
+        (all_nodes (state_in (abstraction world.now)) found.now.findings found.now.held.items blocks)) }
 {
     for before in 0..blocks {
         put_block(world, before + 1, found, text)?;
@@ -178,26 +167,22 @@ fn put_edge(
     ensures { OnOk result (AddsLines text.old text.new (edge_by shared style.now color.now held)) }
 {
     if held.from == 0 {
-        return put_free_edge(text, shared, held.slot, held.to, style);
+        return put_free_edge(text, shared, held.label, held.to, style);
     }
-    put_member_edge(text, held.from, held.slot, held.to, style, color)
+    put_member_edge(text, held.from, held.label, held.to, style, color)
 }
 
-/// Adds the line of what is held in a cell, where the cells that cut a knot are listed by their blocks.
+/// Adds the line of what is held in a cell.
 fn put_held(
     text: &mut String,
     shared: u32,
-    found: &Found,
-    cuts: &[Vec<Holding>],
+    found: &Findings,
     held: Holding,
 ) -> Result<(), AllocError>
-    requires { (c : Holding) → is_listed c (row_at cuts.now c.from) ≡ is_listed c found.now.circles.cuts.items }
-    ensures { OnOk result (AddsLines text.old text.new (edge_lines shared (findings found.now.kept.items
-        found.now.circles.knots.items found.now.circles.cuts.items) held)) }
+    ensures { OnOk result (AddsLines text.old text.new (edge_lines shared found.now held)) }
 {
-    let style = style_word(held.is_owner, is_listed_in(held, cuts));
-    let kept = found.kept.as_slice();
-    let color = tie_word(is_tie(held, kept, found.circles.knots.as_slice()));
+    let style = style_word(held.is_owner, found.is_cut(held.slot));
+    let color = tie_word(found.is_tie(held));
     put_edge(text, shared, style, color, held)?;
     Ok(())
 }
@@ -206,29 +191,15 @@ fn put_held(
 fn put_all_held(
     text: &mut String,
     shared: u32,
-    found: &Found,
-    cuts: &[Vec<Holding>],
+    found: &Findings,
     holdings: &[Holding],
 ) -> Result<(), AllocError>
-    requires { (c : Holding) → is_listed c (row_at cuts.now c.from) ≡ is_listed c found.now.circles.cuts.items }
-    ensures { OnOk result (AddsLines text.old text.new (flat_map (edge_lines shared (findings found.now.kept.items
-        found.now.circles.knots.items found.now.circles.cuts.items)) holdings.now)) }
+    ensures { OnOk result (AddsLines text.old text.new
+        (flat_map (edge_lines shared found.now) holdings.now)) }
 {
     for held in holdings {
-        put_held(text, shared, found, cuts, *held)?;
+        put_held(text, shared, found, *held)?;
     }
-    Ok(())
-}
-
-/// Adds the lines of all that was found to be held.
-fn put_edges(alloc: Global, blocks: u32, found: &Found, text: &mut String) -> Result<(), AllocError>
-    requires { All (IsAmong blocks) found.now.circles.cuts.items }
-    ensures { OnOk result (AddsLines text.old text.new (flat_map (edge_lines 128 (findings found.now.kept.items
-        found.now.circles.knots.items found.now.circles.cuts.items)) found.now.held.items)) }
-{
-    let cuts = by_source(alloc, blocks, found.circles.cuts.as_slice())?;
-    let held = found.held.as_slice();
-    put_all_held(text, SCRIPT_SHARED_CELLS, found, cuts.as_slice(), held)?;
     Ok(())
 }
 
@@ -241,24 +212,20 @@ fn put_head(text: &mut String) -> Result<(), AllocError>
 }
 
 /// Draws what is left at a run's end.
-pub(crate) fn drawn_at(alloc: Global, end: &End, found: &Found) -> Result<Left, AllocError>
+pub(crate) fn drawn_at(alloc: Global, end: &End, found: &Found) -> Result<Report, AllocError>
     requires held { found.now.held.items ≡ held_at (abstraction end.now.world) }
-    requires counted { AllCounted end.now.blocks
-        (state_in (abstraction end.now.world)) found.now.held.items }
-    requires cuts { All (IsAmong end.now.blocks) found.now.circles.cuts.items }
-    requires tie_rows { (block : ℕ) → row_at found.now.circles.tie_rows.items block
-        ≡ held_on found.now.circles.ties.items block }
-    requires ties { found.now.circles.ties.items ≡ ties_at (findings found.now.kept.items
-        found.now.circles.knots.items found.now.circles.cuts.items) (abstraction end.now.world) }
-    requires found { AreFound (abstraction end.now.world) (findings found.now.kept.items
-        found.now.circles.knots.items found.now.circles.cuts.items) }
-    ensures { IfOk result (λ left. TellsOf (abstraction end.now.world) true left.leaks (string_bytes left.text)) }
+    requires found { AreFindings found.now.blocks found.now.held.items found.now.findings }
+    requires counted { IsCountedAt (abstraction end.now.world) }
+    requires blocks { found.now.blocks ≡ end.now.world.ghost_state.extent.shape.blocks }
+    ensures { IfOk result (λ report. TellsOf (abstraction end.now.world) true report.leaks
+        (string_bytes report.text)) }
 {
     let mut text = String::new(alloc);
     put_head(&mut text)?;
     put_blocks(&end.world, end.blocks, found, &mut text)?;
-    put_edges(alloc, end.blocks as u32, found, &mut text)?;
+    let held = found.held.as_slice();
+    put_all_held(&mut text, SCRIPT_SHARED_CELLS, &found.findings, held)?;
     text.push_str("}\n")?;
-    let leaks = leaks(&end.world, end.blocks, found.kept.as_slice());
-    Ok(Left { text, leaks })
+    let leaks = leaks(&end.world, end.blocks, found);
+    Ok(Report { text, leaks })
 }

@@ -1,15 +1,15 @@
 //! What is left at a script's end, and who holds it, as text or as a graph.
 #![tactic(auto)]
 
-mod answering;
-mod circles;
-mod coloring;
-mod cutting;
-mod finding;
+mod color;
+mod found;
 mod graph;
-mod knotting;
+mod held;
+mod knots;
 mod lines;
 mod listing;
+mod report;
 
-pub use answering::left_text;
-pub use coloring::{Colored, colors};
+pub use color::{Colored, colors};
+pub use held::holdings;
+pub use report::left_text;

@@ -61,9 +61,9 @@ pub(crate) fn put_cell(text: &mut String, shared: u32, holding: Holding) -> Resu
     ensures { OnOk result (string_bytes text.new ≡ string_bytes text.old ++ block_cell_text shared holding) }
 {
     if holding.from == 0 {
-        return put_free(text, shared, holding.slot);
+        return put_free(text, shared, holding.label);
     }
-    put_member(text, holding.from, member_word(holding.slot))
+    put_member(text, holding.from, member_word(holding.label))
 }
 
 /// Adds how the line of a handle begins.

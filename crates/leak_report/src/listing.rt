@@ -1,14 +1,13 @@
 //! What is left, block by block.
-ghost use Rattle.std.specs.Prelude.{◌≡◌, ℕ, ◌+◌, ◌≤◌, false, [], ◌∷◌, length, IfOk, OnOk};
-ghost use Rattle.std.specs.Prelude.{string_bytes};
-ghost use Rattle.leak_report.specs.Prelude.{abstraction, AddsLines, AllCounted, ended_in, held_on};
-ghost use Rattle.leak_report.specs.Prelude.{IsAtEnd, made_in, row_at, state_in, totals_text};
-ghost use Rattle.leak_report.specs.Findings.{findings, held_at, ties_at};
-ghost use Rattle.leak_report.specs.Left.{AreFound, TellsOf};
+ghost use Rattle.std.specs.Prelude.{◌≡◌, ℕ, ◌≤◌, false, [], ◌∷◌, IfOk, OnOk, string_bytes};
+ghost use Rattle.leak_report.specs.Prelude.{abstraction, AddsLines, AreFindings, ended_in, IsAtEnd};
+ghost use Rattle.leak_report.specs.Prelude.{made_in, state_in, totals_text};
+ghost use Rattle.leak_report.specs.Findings.{held_at};
+ghost use Rattle.leak_report.specs.Left.{IsCountedAt, TellsOf};
 ghost use Rattle.leak_report.specs.Lines.{left_lines, listing};
 
-use crate::circles::put_circles;
-use crate::finding::{Found, leaks};
+use crate::found::{Found, leaks};
+use crate::knots::put_knots;
 use crate::lines::{put_block, put_holders};
 use control_word::Block;
 use script_stepper::{End, put_totals};
@@ -26,19 +25,17 @@ fn put_left(
 ) -> Result<(), AllocError>
     requires end { IsAtEnd world.now }
     requires block { (1 ≤ number) × (number ≤ world.now.ghost_state.extent.shape.blocks) }
-    requires rows { number + 1 ≤ length found.now.rows.items }
-    requires kept { number + 1 ≤ length found.now.kept.items }
-    requires held { row_at found.now.rows.items number ≡ held_on (held_at (abstraction world.now)) number }
+    requires found { AreFindings found.now.blocks found.now.held.items found.now.findings }
     ensures { OnOk result (AddsLines text.old text.new
-        (left_lines shared (held_at (abstraction world.now)) found.now.kept.items
+        (left_lines shared found.now.held.items found.now.findings.kept.items
         (state_in (abstraction world.now)) number)) }
 {
     let Some(counts) = world.census(Block(number)) else {
         return Ok(());
     };
-    let index = usize::from(number);
-    put_block(text, number, counts, found.kept[index])?;
-    put_holders(text, shared, found.rows[index].as_slice())?;
+    let block = u32::from(number);
+    put_block(text, number, counts, found.findings.is_kept(block))?;
+    put_holders(text, shared, found.findings.handles_on(block))?;
     Ok(())
 }
 
@@ -52,11 +49,9 @@ fn put_listing(
 ) -> Result<(), AllocError>
     requires end { IsAtEnd world.now }
     requires all { blocks ≡ world.now.ghost_state.extent.shape.blocks }
-    requires size { blocks + 1 ≤ length found.now.rows.items }
-    requires kept { blocks + 1 ≤ length found.now.kept.items }
-    requires held { (block : ℕ) → row_at found.now.rows.items block ≡ held_on (held_at (abstraction world.now)) block }
+    requires found { AreFindings found.now.blocks found.now.held.items found.now.findings }
     ensures { OnOk result (AddsLines text.old text.new
-        (listing shared (held_at (abstraction world.now)) found.now.kept.items blocks
+        (listing shared found.now.held.items found.now.findings.kept.items blocks
         (state_in (abstraction world.now)))) }
 {
     for before in 0..blocks {
@@ -74,33 +69,22 @@ fn put_sums(world: &World, text: &mut String) -> Result<(), AllocError>
     Ok(())
 }
 
-/// What is told of a run's end.
+/// The report of a run's end.
 #[derive(Drop)]
-pub(crate) struct Left {
+pub(crate) struct Report {
     pub text: String,
     /// Whether a block is leaked.
     pub leaks: bool,
 }
 
-/// Tells what is left at a run's end.
-pub(crate) fn left_at(alloc: Global, end: &End, found: &Found) -> Result<Left, AllocError>
+/// Reports what is left at a run's end.
+pub(crate) fn listed_at(alloc: Global, end: &End, found: &Found) -> Result<Report, AllocError>
     requires held { found.now.held.items ≡ held_at (abstraction end.now.world) }
-    requires counted { AllCounted end.now.blocks
-        (state_in (abstraction end.now.world)) found.now.held.items }
-    requires size { length found.now.rows.items ≡ end.now.blocks + 1 }
-    requires rows { (block : ℕ)
-        → row_at found.now.rows.items block ≡ held_on (held_at (abstraction end.now.world)) block }
-    requires sizes { (length found.now.circles.tie_rows.items ≡ end.now.blocks + 1)
-        × (length found.now.circles.cut_rows.items ≡ end.now.blocks + 1) }
-    requires tie_rows { (block : ℕ) → row_at found.now.circles.tie_rows.items block
-        ≡ held_on found.now.circles.ties.items block }
-    requires cut_rows { (block : ℕ) → row_at found.now.circles.cut_rows.items block
-        ≡ held_on found.now.circles.cuts.items block }
-    requires ties { found.now.circles.ties.items ≡ ties_at (findings found.now.kept.items
-        found.now.circles.knots.items found.now.circles.cuts.items) (abstraction end.now.world) }
-    requires found { AreFound (abstraction end.now.world) (findings found.now.kept.items
-        found.now.circles.knots.items found.now.circles.cuts.items) }
-    ensures { IfOk result (λ left. TellsOf (abstraction end.now.world) false left.leaks (string_bytes left.text)) }
+    requires found { AreFindings found.now.blocks found.now.held.items found.now.findings }
+    requires counted { IsCountedAt (abstraction end.now.world) }
+    requires blocks { found.now.blocks ≡ end.now.world.ghost_state.extent.shape.blocks }
+    ensures { IfOk result (λ report. TellsOf (abstraction end.now.world) false report.leaks
+        (string_bytes report.text)) }
 {
     let mut text = String::new(alloc);
     put_listing(
@@ -110,8 +94,8 @@ pub(crate) fn left_at(alloc: Global, end: &End, found: &Found) -> Result<Left, A
         found,
         &mut text,
     )?;
-    put_circles(SCRIPT_SHARED_CELLS, end.blocks, &found.circles, &mut text)?;
+    put_knots(alloc, SCRIPT_SHARED_CELLS, found, &mut text)?;
     put_sums(&end.world, &mut text)?;
-    let leaks = leaks(&end.world, end.blocks, found.kept.as_slice());
-    Ok(Left { text, leaks })
+    let leaks = leaks(&end.world, end.blocks, found);
+    Ok(Report { text, leaks })
 }

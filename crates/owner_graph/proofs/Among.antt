@@ -1,7 +1,7 @@
 -- Owners among so many vertices are edges among so many vertices.
-use Rattle.std.proofs.Common.{ℕ, ◌+◌, Bool, true, false, cond, List, [], ◌∷◌, ◌++◌, All, arith}
-use Rattle.owner_graph.proofs.Prelude.{All-cons, All-head, All-nil, All-tail, AreWithin, edge_of}
-use Rattle.owner_graph.proofs.Prelude.{Holding, IsAmong, IsEdgeWithin, owner_edges}
+use Rattle.std.proofs.Common.{ℕ, ◌+◌, Bool, true, false, cond, List, [], ◌∷◌, ◌++◌, arith}
+use Rattle.owner_graph.proofs.Prelude.{All, All-cons, All-head, All-nil, All-tail, AreWithin}
+use Rattle.owner_graph.proofs.Prelude.{edge_of, Holding, IsAmong, IsEdgeWithin, owner_edges}
 
 pub among_within : (vertices : ℕ) (hs : List Holding) → All (IsAmong vertices) hs
     → AreWithin (vertices + 1) (owner_edges hs)

@@ -1,12 +1,12 @@
 -- Paths of owners, the other way round.
-use Rattle.std.proofs.Common.{◌≡◌, ℕ, ◌+◌, ◌≤◌, Bool, true, false, ◌≢◌, ◌↔◌, List, [], ◌∷◌, ◌++◌}
-use Rattle.std.proofs.Common.{length, ◌==◌, slice_index_or, sym, refl, subst, inl, inr, ⊎_elim}
-use Rattle.std.proofs.Common.{arith, eq-eqb, ne_eqb}
-use Rattle.owner_graph.proofs.Prelude
-use Prelude.{All-cons, All-head, All-nil, All-tail, AreWithin, back_edges, cases_eq, cond-false}
-use Prelude.{cond-true, Edge, HasVertex, Holding, IsEdgeWithin, IsOwnerPath, IsPath, leading}
-use Prelude.{MarksReached, owner_edges, OwnersLead, Owns, Rows, targets}
-use Rattle.owner_graph.proofs.Owning.{owned, owns}
+use Rattle.std.proofs.Common.{◌≡◌, ◌≢◌, ◌↔◌, inl, inr, ℕ, ◌+◌, ◌==◌, Bool, true, false, List, []}
+use Rattle.std.proofs.Common.{◌∷◌, ◌++◌, length, refl, sym, subst, ⊎_elim, arith, eq-eqb, ne_eqb}
+use Rattle.owner_graph.proofs.Prelude.{All-cons, All-head, All-nil, All-tail, AreWithin}
+use Rattle.owner_graph.proofs.Prelude.{back_edges, cases_eq, cond-false, cond-true, Edge}
+use Rattle.owner_graph.proofs.Prelude.{HasVertex, Holding, IsEdgeWithin, IsOwnerPath, IsPath}
+use Rattle.owner_graph.proofs.Prelude.{leading, MarksReached, owner_edges, OwnersLead, Owns, Rows}
+use Rattle.owner_graph.proofs.Prelude.{slice_index_or, targets, ◌≤◌}
+use Rattle.owner_graph.proofs.OwnerLemmas.{owned, owns}
 
 leading_here : (e : Edge) (es : List Edge) (a : ℕ) → e.from ≡ a
     → leading (e ∷ es) a ≡ e.to ∷ leading es a

@@ -1,10 +1,10 @@
 -- What is found, where it was found by slices of what was found before.
-use Rattle.std.proofs.Common.{◌≡◌, ℕ, ◌<◌, ◌≤◌, Bool, true, ◌↔◌, List, length, subst}
+use Rattle.std.proofs.Common.{◌≡◌, ◌↔◌, ℕ, ◌<◌, Bool, true, List, length, subst}
 use Rattle.owner_graph.proofs.Prelude.{AreWeakenings, at, EndsWhenCut, handle_listed, held_in}
 use Rattle.owner_graph.proofs.Prelude.{Holding, is_tie, knot_ties, KnotsAre, labels_of, marked}
-use Rattle.owner_graph.proofs.Prelude.{pairs_at, row_at}
-use Rattle.owner_graph.specs.declared.findings.Findings.{Findings}
+use Rattle.owner_graph.proofs.Prelude.{pairs_at, row_at, ◌≤◌}
 use Rattle.owner_graph.specs.Findings.{AreFindings}
+use Rattle.owner_graph.specs.declared.findings.Findings.{Findings}
 use Rattle.owner_graph.specs.Indices.{IsIndex}
 use Rattle.owner_graph.specs.Owners.{IsKept}
 

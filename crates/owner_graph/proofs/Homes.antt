@@ -1,12 +1,11 @@
 -- The vertices of knots, as they are listed.
-use Rattle.std.proofs.Common.{◌≡◌, ℕ, zero, suc, ◌+◌, ◌≤◌, Bool, true, false, cond, ◌↔◌, List, []}
-use Rattle.std.proofs.Common.{◌∷◌, ◌++◌, ◌==◌, All, sym, refl, ap, ◌∙◌, subst, inl, inr, arith}
-use Rattle.std.proofs.Common.{eq-eqb}
-use Rattle.owner_graph.proofs.Prelude.{All-cons, All-head, All-nil, All-tail, at, cases_eq}
+use Rattle.std.proofs.Common.{◌≡◌, ◌↔◌, inl, inr, ℕ, zero, suc, ◌+◌, ◌==◌, Bool, true, false, cond}
+use Rattle.std.proofs.Common.{List, [], ◌∷◌, ◌++◌, refl, sym, ap, subst, ◌∙◌, arith, eq-eqb}
+use Rattle.owner_graph.proofs.Prelude.{All, All-cons, All-head, All-nil, All-tail, at, cases_eq}
 use Rattle.owner_graph.proofs.Prelude.{cond-true, EndsWithOwners, held_on, Holding, homes}
-use Rattle.owner_graph.proofs.Prelude.{is_weakened, IsAmong, without}
-use Rattle.owner_graph.specs.declared.weakening.Weakening.TheVariants.{Nobody}
+use Rattle.owner_graph.proofs.Prelude.{is_weakened, IsAmong, without, ◌≤◌}
 use Rattle.owner_graph.specs.Members.{home}
+use Rattle.owner_graph.specs.declared.weakening.Weakening.TheVariants.{Nobody}
 
 -- what is so of all of two lists is so of all of the first, and of the second
 pub all_front : {A : Type 0} (P : A → Type 0) (xs ys : List A) → All P (xs ++ ys) → All P xs

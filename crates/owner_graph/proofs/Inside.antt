@@ -1,7 +1,7 @@
 -- What is to be weak is in the knot.
-use Rattle.std.proofs.Common.{◌≡◌, ℕ, ◌≤◌, true, ◌&&◌, ◌||◌, ◌≢◌, List, nat_lt, ◌==◌, ap, ◌∙◌}
-use Rattle.std.proofs.Common.{arith, ltb-true, eqb-true}
-use Rattle.owner_graph.proofs.Prelude.{and_parts, at, Holding, is_weakened, same_place}
+use Rattle.std.proofs.Common.{◌≡◌, ◌≢◌, ℕ, ◌==◌, ◌&&◌, ◌||◌, true, List, ap, ◌∙◌, arith, nat_lt}
+use Rattle.owner_graph.proofs.Prelude.{and_parts, at, eqb-true, Holding, is_weakened, ltb-true}
+use Rattle.owner_graph.proofs.Prelude.{same_place, ◌≤◌}
 use Rattle.owner_graph.specs.declared.weakening.Weakening.TheVariants.{Labelled}
 
 pub placed_inside : (knots : List ℕ) (t : Holding) (least : ℕ) → 1 ≤ t.from

@@ -1,15 +1,15 @@
 -- What shows of one knot that it ends where some owners are weak, or that it doesn't.
-use Rattle.std.proofs.Common.{◌≡◌, ℕ, zero, suc, ◌<◌, ◌≤◌, Bool, true, false, cond, ◌≢◌, ◌⊎◌, ◌↔◌}
-use Rattle.std.proofs.Common.{List, [], ◌∷◌, length, ◌==◌, All, sym, refl, ap, ◌∙◌, subst, inl}
-use Rattle.std.proofs.Common.{inr, true≢false, arith, eq-eqb, eqb-true}
-use Rattle.owner_graph.proofs.Prelude.{All-head, All-tail, at, cases_eq, cond-true, Ended}
-use Rattle.owner_graph.proofs.Prelude.{EndsWithout, EndsWithOwners, handle_listed, held_on}
-use Rattle.owner_graph.proofs.Prelude.{Holding, IsAmong, KnotsAre, marked, OwnersLead, Owns, Rises}
-use Rattle.owner_graph.proofs.Prelude.{without}
+use Rattle.std.proofs.Common.{◌≡◌, ◌≢◌, ◌↔◌, inl, inr, ◌⊎◌, ℕ, zero, suc, ◌<◌, ◌==◌, Bool, true}
+use Rattle.std.proofs.Common.{false, true≢false, cond, List, [], ◌∷◌, length, refl, sym, ap, subst}
+use Rattle.std.proofs.Common.{◌∙◌, arith, eq-eqb}
+use Rattle.owner_graph.proofs.Prelude.{All, All-head, All-tail, at, cases_eq, cond-true, Ended}
+use Rattle.owner_graph.proofs.Prelude.{EndsWithout, EndsWithOwners, eqb-true, handle_listed}
+use Rattle.owner_graph.proofs.Prelude.{held_on, Holding, IsAmong, KnotsAre, marked, OwnersLead}
+use Rattle.owner_graph.proofs.Prelude.{Owns, Rises, without, ◌≤◌}
 use Rattle.owner_graph.specs.OneKnot.{HasHolder, IsListed, IsWitness}
-use Rattle.owner_graph.proofs.Cutting.{knot_label, same_knot}
-use Rattle.owner_graph.proofs.Feeding.{owner_among, still_owned}
-use Rattle.owner_graph.proofs.Labelling.{one_then, then_one}
+use Rattle.owner_graph.proofs.CutLemmas.{knot_label, same_knot}
+use Rattle.owner_graph.proofs.Feeds.{owner_among, still_owned}
+use Rattle.owner_graph.proofs.LabelLemmas.{one_then, then_one}
 
 -- an owner that is left, as a handle on its vertex
 pub record OnRow (gone : Holding → Bool) (P : Holding → Type 0) (a b : ℕ) : Type 0 where

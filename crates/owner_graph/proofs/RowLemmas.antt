@@ -1,8 +1,8 @@
 -- A row gets a handle more.
-use Rattle.std.proofs.Common.{◌≡◌, ℕ, zero, suc, ◌+◌, ◌<◌, ◌≤◌, Bool, true, false, cond, ◌≢◌, List}
-use Rattle.std.proofs.Common.{[], ◌∷◌, ◌++◌, length, get_or, take, set, ◌==◌, sym, refl, ap, ◌∙◌}
-use Rattle.std.proofs.Common.{subst, ⊎_elim, arith, length-append, length-set, eq-eqb, ne_eqb}
-use Rattle.owner_graph.proofs.Prelude.{cases_eq, cond-false, cond-true, Holding, row_at, Vec}
+use Rattle.std.proofs.Common.{◌≡◌, ◌≢◌, ℕ, zero, suc, ◌+◌, ◌<◌, ◌==◌, Bool, true, false, cond}
+use Rattle.std.proofs.Common.{List, [], ◌∷◌, ◌++◌, length, take, get_or, set, refl, sym, ap, subst}
+use Rattle.std.proofs.Common.{◌∙◌, ⊎_elim, arith, eq-eqb, ne_eqb, length-set, length-append}
+use Rattle.owner_graph.proofs.Prelude.{cases_eq, cond-false, cond-true, Holding, row_at, Vec, ◌≤◌}
 
 none_more : (g : List (Vec Holding)) (row : Vec Holding) → row.items ≡ []
     → ((v : ℕ) → row_at g v ≡ []) → (v : ℕ)

@@ -1,13 +1,12 @@
 -- Ties, and those of them that are cuts, one more at a time.
-use Rattle.std.proofs.Common.{◌≡◌, ℕ, ◌+◌, ◌<◌, ◌≤◌, Bool, true, false, cond, not, ◌&&◌, List, []}
-use Rattle.std.proofs.Common.{◌∷◌, ◌++◌, length, get_or, take, nat_lt, ◌==◌, All, sym, refl, subst}
-use Rattle.std.proofs.Common.{append-nil, arith, ltb-true}
-use Rattle.owner_graph.proofs.Prelude.{All-push, and_parts, AreCuts, at, EndsWhenCut, Holding}
-use Rattle.owner_graph.proofs.Prelude.{is_tie, IsAmong, IsTied, KnotsAre, marked, NoTies}
-use Rattle.owner_graph.proofs.Prelude.{take_more, ties_by}
+use Rattle.std.proofs.Common.{◌≡◌, ℕ, ◌+◌, ◌<◌, ◌==◌, ◌&&◌, Bool, true, false, cond, not, nat_lt}
+use Rattle.std.proofs.Common.{List, [], ◌∷◌, ◌++◌, length, take, get_or, refl, sym, subst, arith}
+use Rattle.owner_graph.proofs.Prelude.{All, All-push, and_parts, append-nil, AreCuts, at}
+use Rattle.owner_graph.proofs.Prelude.{EndsWhenCut, Holding, is_tie, IsAmong, IsTied, KnotsAre}
+use Rattle.owner_graph.proofs.Prelude.{ltb-true, marked, NoTies, take_more, ties_by, ◌≤◌}
 use Rattle.owner_graph.specs.Ties.{tie}
 use Rattle.owner_graph.specs.Ties.AreCuts.{NoCut, OneCut}
-use Rattle.owner_graph.proofs.Labelling.{led_among}
+use Rattle.owner_graph.proofs.LabelLemmas.{led_among}
 
 -- the least vertex of a vertex's knot is a vertex
 pub label_among : (vertices : ℕ) (hs : List Holding) (knots : List ℕ) → All (IsAmong vertices) hs

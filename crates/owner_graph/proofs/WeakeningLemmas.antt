@@ -1,17 +1,18 @@
 -- Labels, pairs of them, and those of which something is so, one more at a time.
-use Rattle.std.proofs.Common.{◌≡◌, ℕ, zero, suc, ◌+◌, ◌-◌, ◌<◌, ◌≤◌, Bool, true, false, cond, List}
-use Rattle.std.proofs.Common.{[], ◌∷◌, ◌++◌, map, length, get_or, take, drop, ◌==◌, sym, refl, ap}
-use Rattle.std.proofs.Common.{◌∙◌, subst, inl, inr, true≢false, append_assoc, append-nil, arith}
-use Rattle.std.proofs.Common.{length-append, eq-eqb, eqb-true}
-use Rattle.owner_graph.proofs.Prelude.{AreThose, AreWeakenings, cases_eq, cond-false, cond-true}
-use Rattle.owner_graph.proofs.Prelude.{filter, flat_map, held_in, held_on, Holding, homes, is_tie}
-use Rattle.owner_graph.proofs.Prelude.{knot_ties, label_pair, LabelPair, new_labels, NoMore, pairs}
-use Rattle.owner_graph.proofs.Prelude.{pairs_at, row_at, Suffices, take_more, twice, Vec}
-use Rattle.std.specs.List.{list_any}
-use Rattle.std.proofs.lemmas.List.Elements.{filter_more}
+use Rattle.std.proofs.Common.{◌≡◌, ℕ, zero, suc, ◌+◌, ◌<◌, ◌==◌, Bool, true, false, cond, List, []}
+use Rattle.std.proofs.Common.{◌∷◌, ◌++◌, length, take, drop, get_or, ◌-◌, map, refl, sym, ap}
+use Rattle.std.proofs.Common.{subst, ◌∙◌, append_assoc, arith, length-append, inl, inr, eq-eqb}
+use Rattle.std.proofs.Common.{true≢false}
+use Rattle.owner_graph.proofs.Prelude.{append-nil, AreThose, AreWeakenings, cases_eq, cond-false}
+use Rattle.owner_graph.proofs.Prelude.{cond-true, eqb-true, filter, flat_map, held_in, held_on}
+use Rattle.owner_graph.proofs.Prelude.{Holding, homes, is_tie, knot_ties, label_pair, LabelPair}
+use Rattle.owner_graph.proofs.Prelude.{new_labels, NoMore, pairs, pairs_at, row_at, Suffices}
+use Rattle.owner_graph.proofs.Prelude.{take_more, twice, Vec, ◌≤◌}
 use Rattle.owner_graph.specs.Weakenings.{ties_in}
+use Rattle.std.specs.List.{list_any}
 use Rattle.owner_graph.specs.Weakenings.AreThose.{NotOne, OneIs}
-use Rattle.owner_graph.specs.Weakenings.AreWeakenings.{NoneIsTold, OneSuffices, TwoSuffice}
+use Rattle.std.proofs.lemmas.List.Elements.{filter_more}
+use Rattle.owner_graph.specs.Weakenings.AreWeakenings.{NoneSuffices, OneSuffices, TwoSuffice}
 
 -- ---- those of which something is so
 
@@ -179,7 +180,7 @@ pub pairs_done : (left : List ℕ) (all so_far : List LabelPair) → length left
 pairs_done [] all so_far none p = sym (append-nil so_far) ∙ sym p
 pairs_done (l ∷ ls) all so_far none p = absurd (omega (arith, none))
 
--- ---- what is told of a knot
+-- ---- what lets a knot end
 
 pub filled : (n : ℕ) (r : Bool) → r ≡ (n == 0) → r ≡ false → 0 < n
 filled n r is off = elim (cases_eq n 0) [
@@ -209,10 +210,10 @@ module _ (vertices : ℕ) (hs : List Holding) (knots : List ℕ) (least : ℕ) (
       subst (λ (l : List LabelPair). AreThose (Suffices vertices hs knots least) l []) is
       (subst (AreThose (Suffices vertices hs knots least) ones) (no_items ws none) those)
 
-  pub none_is_told : (ones ws : List LabelPair) → ones ≡ map twice labels → length ws ≡ 0
+  pub none_suffices : (ones ws : List LabelPair) → ones ≡ map twice labels → length ws ≡ 0
       → AreThose (Suffices vertices hs knots least) ones ws → 20 < length labels
       → AreWeakenings vertices hs knots least labels ws
-  none_is_told ones ws is none those many = NoneIsTold (none_alone ones ws is none those) many
+  none_suffices ones ws is none those many = NoneSuffices (none_alone ones ws is none those) many
       (no_items ws none)
 
   pub two_suffice : (ones found twos ws : List LabelPair) → ones ≡ map twice labels

@@ -1,8 +1,8 @@
 -- Owners as edges from vertex to vertex. All of it is own.
 use Rattle.std.specs.Prelude.{ℕ, ◌+◌, cond, Bool, List, [], ◌∷◌}
 use Rattle.std.specs.List.{flat_map}
-use Rattle.directed_graph.specs.declared.graph.Edge.{Edge}
-use Rattle.directed_graph.specs.Paths.{HasRows, MarksReached, Rows}
+use Rattle.owner_graph.specs.declared.directed_graph.graph.Edge.{Edge}
+use Rattle.owner_graph.specs.Paths.{HasRows, MarksReached, Rows}
 use Rattle.owner_graph.specs.declared.holding.Holding.{Holding}
 
 abbrev pub edge_of : Holding → Edge

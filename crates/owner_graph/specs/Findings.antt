@@ -4,7 +4,7 @@ use Rattle.std.specs.Prelude.{Option, Some, None, slice_get}
 use Rattle.std.specs.Global.{Vec}
 use Rattle.owner_graph.specs.declared.holding.Holding.{Holding}
 use Rattle.owner_graph.specs.declared.findings.Findings.{Findings}
-use Rattle.owner_graph.specs.declared.weakenings.LabelPair.{LabelPair}
+use Rattle.owner_graph.specs.declared.label_pairs.LabelPair.{LabelPair}
 use Rattle.owner_graph.specs.Ends.{EndsWhenCut}
 use Rattle.owner_graph.specs.Fed.{marked}
 use Rattle.owner_graph.specs.Indices.{IsIndex}
@@ -31,8 +31,8 @@ IsCut vertices hs f h =
     (at f.knots.items h.from) h
 
 -- so much is so of the pairs of labels of the knot with this least vertex
-abbrev pub AreTold : ℕ → List Holding → Findings → ℕ → List LabelPair → Type 0
-AreTold vertices hs f least ws =
+abbrev pub HasWeakenings : ℕ → List Holding → Findings → ℕ → List LabelPair → Type 0
+HasWeakenings vertices hs f least ws =
     at f.knots.items least ≡ least → AreWeakenings vertices hs f.knots.items least
     (labels_of (knot_ties f.kept.items f.knots.items vertices hs least)) ws
 
@@ -45,5 +45,5 @@ pub record AreFindings (vertices : ℕ) (hs : List Holding) (f : Findings) : Typ
   pub sources : (b : ℕ) → row_at f.sources.items b ≡ held_in hs b
   pub cuts : (i : ℕ) → i < length hs → marked f.cuts.items i ≡ true
       ↔ IsCut vertices hs f (handle_listed hs i)
-  pub weakenings : (k : ℕ) → 1 ≤ k → k ≤ vertices → AreTold vertices hs f k
+  pub weakenings : (k : ℕ) → 1 ≤ k → k ≤ vertices → HasWeakenings vertices hs f k
       (pairs_at f.weakenings.items k)

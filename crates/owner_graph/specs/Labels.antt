@@ -1,4 +1,4 @@
--- Labels of vertices that are to be looked at. All of it is own.
+-- Labels of vertices that are to be checked. All of it is own.
 use Rattle.std.specs.Prelude.{◌≡◌, ◌≢◌, ℕ, ◌≤◌, List, slice_index_or, true}
 use Rattle.owner_graph.specs.declared.holding.Holding.{Holding}
 use Rattle.owner_graph.specs.Owners.{Owns}

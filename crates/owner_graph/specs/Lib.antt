@@ -6,10 +6,12 @@ pub mod Findings
 pub mod Indices
 pub mod Knots
 pub mod Labels
-pub mod OneKnot
 pub mod Layers
 pub mod Members
+pub mod OneKnot
 pub mod Owners
+pub mod Paths
 pub mod Rows
+pub mod Searches
 pub mod Ties
 pub mod Weakenings

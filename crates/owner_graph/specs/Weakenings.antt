@@ -2,7 +2,7 @@
 use Rattle.std.specs.Prelude.{◌≡◌, ℕ, ◌<◌, ◌≤◌, ◌==◌, ◌++◌, Bool, cond, List, [], ◌∷◌, length, map}
 use Rattle.std.specs.List.{filter, flat_map, list_any}
 use Rattle.owner_graph.specs.declared.holding.Holding.{Holding}
-use Rattle.owner_graph.specs.declared.weakenings.LabelPair.{LabelPair}
+use Rattle.owner_graph.specs.declared.label_pairs.LabelPair.{LabelPair}
 use Rattle.owner_graph.specs.declared.weakening.Weakening.TheVariants.{Labelled}
 use Rattle.owner_graph.specs.Ends.{EndsWithout, is_weakened}
 use Rattle.owner_graph.specs.Members.{homes}
@@ -62,6 +62,6 @@ pub data AreWeakenings (vertices : ℕ) (hs : List Holding) (knots : List ℕ) (
       → length labels ≤ 20
       → AreThose (Suffices vertices hs knots least) (pairs labels) ws
       → AreWeakenings vertices hs knots least labels ws
-  NoneIsTold : AreThose (Suffices vertices hs knots least) (map twice labels) []
+  NoneSuffices : AreThose (Suffices vertices hs knots least) (map twice labels) []
       → 20 < length labels → ws ≡ []
       → AreWeakenings vertices hs knots least labels ws

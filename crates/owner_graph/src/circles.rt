@@ -1,18 +1,18 @@
 //! Circles: knots each of whose vertices has just one owner that counts. Each owner within a circle
 //! is a cut.
 ghost use Rattle.std.specs.Prelude.{◌≡◌, ◌≢◌, ◌≤◌, All, IsTrue, true};
-ghost use Rattle.owner_graph.specs.Circles.{IsLinked, IsPlace, IsTold};
+ghost use Rattle.owner_graph.specs.Circles.{IsLinked, IsPlace, IsOnCircle};
 ghost use Rattle.owner_graph.specs.Fed.{marked};
 ghost use Rattle.owner_graph.specs.Labels.{at};
 
-use crate::guesses::search::{at, put_at, zeros};
 use crate::holding::{Holding, as_index};
-use crate::tying::marked;
+use crate::search::components::{at, put_at, zeros};
+use crate::tie::marked;
 use std::alloc::{AllocError, Global};
 
 /// Of each vertex the place of an owner on it, as a vertex and a slot, and a vertex that an owner
-/// in it is on; and of each knot, by its least vertex, whether it is a circle. It is a guess, which
-/// [`are_circles`] looks at.
+/// in it is on; and of each knot, by its least vertex, whether it is a circle. [`are_circles`]
+/// checks it.
 #[derive(Drop)]
 pub(crate) struct Circles {
     pub(crate) sources: Vec<usize>,
@@ -48,8 +48,8 @@ impl Circles {
     }
 }
 
-/// A guess at the circles, by which vertices stay.
-pub(crate) fn guessed_circles(
+/// Searches for circles, by which vertices stay.
+pub(crate) fn find_circles(
     alloc: Global,
     vertices: u32,
     handles: &[Holding],
@@ -65,7 +65,7 @@ pub(crate) fn guessed_circles(
     Ok(circles)
 }
 
-/// Whether a handle is at the place that is told of a vertex.
+/// Whether a handle is at the place that is recorded for a vertex.
 fn is_place(circles: &Circles, vertex: usize, handle: Holding) -> bool
     ensures { IsTrue result → IsPlace circles.now vertex handle }
 {
@@ -74,7 +74,7 @@ fn is_place(circles: &Circles, vertex: usize, handle: Holding) -> bool
 }
 
 /// Whether an owner is on a vertex, and where it is in a vertex that stays, and on one of a circle,
-/// at the place that is told of that.
+/// at the place that is recorded for that.
 fn is_linked(stays: &[bool], knots: &[usize], circles: &Circles, handle: Holding) -> bool
     ensures { IsTrue result → IsLinked stays.now knots.now circles.now handle }
 {
@@ -100,9 +100,9 @@ pub(crate) fn are_circles(
         .all(|handle| is_linked(stays, knots, circles, *handle))
 }
 
-/// Whether an owner is told to be within a circle.
-pub(crate) fn is_told(vertices: u32, knots: &[usize], circles: &Circles, tie: Holding) -> bool
-    ensures { IsTrue result → IsTold vertices knots.now circles.now tie }
+/// Whether an owner is recorded as one within a circle.
+pub(crate) fn is_on_circle(vertices: u32, knots: &[usize], circles: &Circles, tie: Holding) -> bool
+    ensures { IsTrue result → IsOnCircle vertices knots.now circles.now tie }
 {
     let knot = as_index(tie.to);
     let vertex = at(circles.targets.as_slice(), as_index(tie.from));

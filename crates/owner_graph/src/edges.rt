@@ -2,8 +2,8 @@
 ghost use Rattle.std.specs.Prelude.{◌≡◌, ◌++◌, IfOk, OnOk};
 ghost use Rattle.owner_graph.specs.Edges.{back_edges, edges_by, owner_edges};
 
+use crate::directed_graph::Edge;
 use crate::holding::{Holding, as_index};
-use directed_graph::Edge;
 use std::alloc::{AllocError, Global};
 
 /// Adds an edge for an owner, and none for a weak handle.

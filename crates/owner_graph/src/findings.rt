@@ -12,16 +12,16 @@ ghost use Rattle.owner_graph.specs.Rows.{handle_listed, held_in, row_at};
 ghost use Rattle.owner_graph.specs.Ties.{is_tie};
 ghost use Rattle.owner_graph.specs.Weakenings.{AreWeakenings, knot_ties, labels_of};
 
-use crate::grouping::by_source;
-use crate::guesses::search::at;
-use crate::guesses::walk::Walk;
+use crate::directed_graph::GraphError;
 use crate::holding::{Holding, as_index};
 use crate::index::{Index, row};
-use crate::keeping::kept;
+use crate::label_pairs::{LabelPair, knot_ties, weakenings_of};
 use crate::labels::knots;
-use crate::tying::{Looked, is_cut_by, is_tie, look};
-use crate::weakenings::{LabelPair, knot_ties, weakenings_of};
-use directed_graph::GraphError;
+use crate::reachability::kept;
+use crate::rows::by_source;
+use crate::search::components::at;
+use crate::search::walk::Walk;
+use crate::tie::{Lookup, is_cut_by, is_tie, look_up};
 use std::alloc::{AllocError, Global};
 
 /// What is found of a graph of owners (own): which vertices are kept, the least vertex of each
@@ -57,15 +57,15 @@ fn is_cut_tie(
     handles: &[Holding],
     kept: &[bool],
     knots: &[usize],
-    looked: &Looked,
+    lookup: &Lookup,
     walk: &mut Walk,
     handle: Holding,
 ) -> Result<bool, AllocError>
     requires among { All (IsAmong vertices) handles.now }
     requires knots { KnotsAre vertices handles.now knots.now }
-    requires circles { IsTrue looked.now.are_circles
-        → All (IsLinked looked.now.index.stays.items knots.now looked.now.circles) handles.now }
-    requires index { IsIndex vertices handles.now knots.now looked.now.index }
+    requires circles { IsTrue lookup.now.are_circles
+        → All (IsLinked lookup.now.index.stays.items knots.now lookup.now.circles) handles.now }
+    requires index { IsIndex vertices handles.now knots.now lookup.now.index }
     requires handle { IsAmong vertices handle }
     ensures { IfOk result (λ is. IsTrue is ↔ ((is_tie kept.now knots.now handle ≡ true)
         × EndsWhenCut vertices handles.now (at knots.now handle.from) handle)) }
@@ -78,7 +78,7 @@ fn is_cut_tie(
         to: least,
         ..handle
     };
-    let is = is_cut_by(alloc, vertices, handles, knots, looked, walk, tie)?;
+    let is = is_cut_by(alloc, vertices, handles, knots, lookup, walk, tie)?;
     Ok(is)
 }
 
@@ -89,14 +89,14 @@ fn cuts_of(
     handles: &[Holding],
     kept: &[bool],
     knots: &[usize],
-    looked: &Looked,
+    lookup: &Lookup,
     walk: &mut Walk,
 ) -> Result<Vec<bool>, AllocError>
     requires among { All (IsAmong vertices) handles.now }
     requires knots { KnotsAre vertices handles.now knots.now }
-    requires circles { IsTrue looked.now.are_circles
-        → All (IsLinked looked.now.index.stays.items knots.now looked.now.circles) handles.now }
-    requires index { IsIndex vertices handles.now knots.now looked.now.index }
+    requires circles { IsTrue lookup.now.are_circles
+        → All (IsLinked lookup.now.index.stays.items knots.now lookup.now.circles) handles.now }
+    requires index { IsIndex vertices handles.now knots.now lookup.now.index }
     ensures { IfOk result (λ v. (i : ℕ) → i < length handles.now → marked v.items i ≡ true
         ↔ ((is_tie kept.now knots.now (handle_listed handles.now i) ≡ true)
         × EndsWhenCut vertices handles.now (at knots.now (handle_listed handles.now i).from)
@@ -104,7 +104,7 @@ fn cuts_of(
 {
     let mut cuts = Vec::new(alloc);
     for handle in handles {
-        let is_cut = is_cut_tie(alloc, vertices, handles, kept, knots, looked, walk, *handle)?;
+        let is_cut = is_cut_tie(alloc, vertices, handles, kept, knots, lookup, walk, *handle)?;
         cuts.push(is_cut)?;
     }
     Ok(cuts)
@@ -200,10 +200,10 @@ impl Findings {
         let sources = by_source(alloc, vertices, handles)?;
         let marks = kept.as_slice();
         let labels = knots.as_slice();
-        let looked = look(alloc, vertices, handles, labels)?;
+        let lookup = look_up(alloc, vertices, handles, labels)?;
         let mut walk = Walk::new(alloc, vertices)?;
-        let cuts = cuts_of(alloc, vertices, handles, marks, labels, &looked, &mut walk)?;
-        let index = looked.index;
+        let cuts = cuts_of(alloc, vertices, handles, marks, labels, &lookup, &mut walk)?;
+        let index = lookup.index;
         let weakenings = all_weakenings(
             alloc,
             vertices,

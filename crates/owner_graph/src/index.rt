@@ -9,10 +9,10 @@ ghost use Rattle.owner_graph.specs.Members.{home, homes};
 ghost use Rattle.owner_graph.specs.Owners.{IsAmong};
 ghost use Rattle.owner_graph.specs.Rows.{held_on, row_at};
 
-use crate::ending::staying;
-use crate::grouping::by_vertex;
-use crate::guesses::search::at;
+use crate::ends::staying;
 use crate::holding::{Holding, as_index};
+use crate::rows::by_vertex;
+use crate::search::components::at;
 use crate::weakening::Weakening;
 use std::alloc::{AllocError, Global};
 

@@ -4,24 +4,29 @@ ghost use Rattle.owner_graph.specs.Knots.{IsLeast, KnotsAre};
 ghost use Rattle.owner_graph.specs.Labels.{at};
 ghost use Rattle.owner_graph.specs.Owners.{IsAmong};
 
-use crate::grouping::by_vertex;
-use crate::guesses::search::{Guess, at, guessed};
+use crate::certificates::knots::are_knots;
+use crate::directed_graph::GraphError;
 use crate::holding::{Holding, as_index};
-use crate::keeping::knot;
-use crate::looks::looking::are_knots;
-use directed_graph::GraphError;
+use crate::reachability::knot;
+use crate::rows::by_vertex;
+use crate::search::components::{KnotCertificate, at, find_components};
 use std::alloc::{AllocError, Global};
 
 /// The label of each vertex: the least vertex of its rank.
-fn labels_of(alloc: Global, vertices: u32, guess: &Guess) -> Result<Vec<usize>, AllocError>
+fn labels_of(
+    alloc: Global,
+    vertices: u32,
+    certificate: &KnotCertificate,
+) -> Result<Vec<usize>, AllocError>
     ensures size { IfOk result (λ labels. length labels.items ≡ vertices + 1) }
     ensures labels { IfOk result (λ labels. (b : ℕ) → b ≤ vertices
-        → at labels.items b ≡ at guess.now.firsts.items (at guess.now.ranks.items b)) }
+        → at labels.items b ≡ at certificate.now.firsts.items
+        (at certificate.now.ranks.items b)) }
 {
     let mut labels = Vec::new(alloc);
     for vertex in 0..as_index(vertices) + 1 {
-        let rank = at(guess.ranks.as_slice(), vertex);
-        labels.push(at(guess.firsts.as_slice(), rank))?;
+        let rank = at(certificate.ranks.as_slice(), vertex);
+        labels.push(at(certificate.firsts.as_slice(), rank))?;
     }
     Ok(labels)
 }
@@ -64,29 +69,32 @@ fn one_by_one(alloc: Global, vertices: u32, handles: &[Holding]) -> Result<Vec<u
     Ok(knots)
 }
 
-/// A guess at the knots.
-fn guess_of(alloc: Global, vertices: u32, handles: &[Holding]) -> Result<Guess, AllocError>
+/// Searches for the knots.
+fn certificate_of(
+    alloc: Global,
+    vertices: u32,
+    handles: &[Holding],
+) -> Result<KnotCertificate, AllocError>
     requires { All (IsAmong vertices) handles.now }
 {
     let rows = by_vertex(alloc, vertices, handles)?;
-    guessed(alloc, vertices, handles.len(), rows.as_slice())
+    find_components(alloc, vertices, handles.len(), rows.as_slice())
 }
 
 /// Of each vertex, from 1, the least of the knot that it is in (own): vertices have one knot just
 /// where owners lead from each to the other. A vertex that nothing ties is a knot of its own. Of
 /// the free cells so many are.
 ///
-/// One search guesses the knots, and two more look whether the guess is right, so that this takes
-/// time linear in vertices and handles; where it weren't, each vertex would be searched from. It is
-/// refused only where a growth of memory was. Condition: the vertices of all that is listed are
-/// among so many.
+/// One search finds labels, and two more check them, so that this takes time linear in vertices and
+/// handles; where the check failed, each vertex would be searched from. It is refused only where a
+/// growth of memory was. Condition: the vertices of all that is listed are among so many.
 pub fn knots(alloc: Global, vertices: u32, handles: &[Holding]) -> Result<Vec<usize>, AllocError>
     requires { All (IsAmong vertices) handles.now }
     ensures { IfOk result (λ knots. KnotsAre vertices handles.now knots.items) }
 {
-    let guess = guess_of(alloc, vertices, handles)?;
-    let labels = labels_of(alloc, vertices, &guess)?;
-    let ranks = guess.ranks.as_slice();
+    let certificate = certificate_of(alloc, vertices, handles)?;
+    let labels = labels_of(alloc, vertices, &certificate)?;
+    let ranks = certificate.ranks.as_slice();
     if are_knots(alloc, vertices, handles, ranks, labels.as_slice())? {
         return Ok(labels);
     }

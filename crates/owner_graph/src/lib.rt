@@ -2,28 +2,30 @@
 //! owners are weak.
 #![tactic(auto)]
 
+mod certificates;
 mod circles;
+mod directed_graph;
 mod edges;
-mod ending;
+mod ends;
 mod findings;
-mod grouping;
-mod guesses;
 mod holding;
 mod index;
-mod keeping;
+mod label_pairs;
 mod labels;
-mod looks;
+mod lookups;
 mod one_knot;
-mod tying;
+mod reachability;
+mod rows;
+mod search;
+mod tie;
 mod weakening;
-mod weakenings;
 
-pub use directed_graph::GraphError;
+pub use directed_graph::{Edge, Graph, GraphError};
 pub use findings::Findings;
-pub use grouping::by_vertex;
 pub use holding::{Holding, same_place};
 pub use index::{Index, row};
-pub use keeping::{kept, knot};
+pub use label_pairs::{LabelPair, knot_ties};
 pub use labels::knots;
-pub use tying::{cuts, is_tie, ties};
-pub use weakenings::{LabelPair, knot_ties};
+pub use reachability::{kept, knot};
+pub use rows::by_vertex;
+pub use tie::{cuts, is_tie, ties};

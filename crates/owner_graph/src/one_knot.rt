@@ -7,17 +7,17 @@ ghost use Rattle.owner_graph.specs.Knots.{KnotsAre};
 ghost use Rattle.owner_graph.specs.Labels.{at};
 ghost use Rattle.owner_graph.specs.Owners.{IsAmong};
 
-use crate::ending::is_cut;
-use crate::guesses::walk::{Knot, Walk};
+use crate::certificates::one_knot::{is_risen, is_stuck};
+use crate::ends::is_cut;
 use crate::holding::{Holding, as_index};
 use crate::index::{Index, row};
-use crate::looks::one_knot::{is_risen, is_stuck};
+use crate::search::walk::{Knot, Walk};
 use crate::weakening::Weakening;
 use std::alloc::{AllocError, Global};
 
 /// Whether each vertex of the knot with this least vertex would end, if some of the owners in it
-/// were weak (own). A walk back along the others guesses it, and where a look finds the guess
-/// right, this takes time linear in the knot's vertices and the handles on them. It is refused only
+/// were weak (own). A walk back along the others finds a certificate, and where its check passes,
+/// this takes time linear in the knot's vertices and the handles on them. It is refused only
 /// where a growth of memory was. Conditions: the vertices of all handles are among so many, and
 /// what is to be weak is in vertices of the knot.
 pub(crate) fn ends_without(

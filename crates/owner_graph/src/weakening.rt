@@ -2,8 +2,8 @@
 ghost use Rattle.std.specs.Prelude.{◌≡◌};
 ghost use Rattle.owner_graph.specs.Ends.{is_weakened};
 
-use crate::guesses::search::at;
 use crate::holding::{Holding, as_index, same_place};
+use crate::search::components::at;
 
 /// Owners that are asked about: what would end, if they were weak (own).
 #[derive(Clone, Copy, Drop)]

@@ -14,7 +14,7 @@ use Rattle.owner_graph.specs.Members.{homes}
 use Rattle.owner_graph.specs.Rows.{held_in, held_on, row_at}
 use Rattle.owner_graph.specs.Ties.{is_tie}
 use Rattle.owner_graph.specs.Weakenings.{knot_ties}
-use Rattle.owner_graph.specs.declared.weakenings.LabelPair.{LabelPair}
+use Rattle.owner_graph.specs.declared.label_pairs.LabelPair.{LabelPair}
 use Rattle.owner_graph.proofs.WeakeningLemmas.{ties_by_rows}
 use Rattle.owner_text.specs.Drawing.{graph_lines, head_lines}
 use Rattle.owner_text.specs.Lines.{all_lines, knot_text, object_label, object_text, status_text}

@@ -6,10 +6,10 @@ use Rattle.owner_text.specs.Drawing.{graph_lines}
 use Rattle.owner_text.specs.Grammar.{ReadsAs}
 use Rattle.owner_text.specs.Lines.{all_lines, leaked_in, vertices_of}
 
--- the lines that are told, or those of a drawing
-abbrev pub lines_told : Bool → Draft → Findings → List (List ℕ)
-lines_told false d f = all_lines d f
-lines_told true d f = graph_lines d f
+-- the lines of a report, or those of a drawing
+abbrev pub report_lines : Bool → Draft → Findings → List (List ℕ)
+report_lines false d f = all_lines d f
+report_lines true d f = graph_lines d f
 
 -- a text reads as a graph, this was found of it, and the other text tells it, or draws it; and
 -- whether something leaks
@@ -19,5 +19,5 @@ pub record IsOwnersText (draws : Bool) (bytes : List ℕ) (leaks : Bool)
   pub reads : ReadsAs bytes draft
   pub findings : Findings
   pub found : AreFindings (vertices_of draft) draft.handles findings
-  pub says : text ≡ ended (lines_told draws draft findings)
+  pub says : text ≡ ended (report_lines draws draft findings)
   pub leaks_is : leaks ≡ nat_lt 0 (leaked_in draft findings)

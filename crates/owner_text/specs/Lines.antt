@@ -5,7 +5,7 @@ use Rattle.std.specs.Prelude.{length, ◌==◌, codes, decimal}
 use Rattle.owner_text.specs.Prelude.{at, Findings, flat_map, held_on, Holding, homes, marked}
 use Rattle.owner_text.specs.Prelude.{pairs_at}
 use Rattle.owner_graph.specs.Weakenings.{knot_ties}
-use Rattle.owner_graph.specs.declared.weakenings.LabelPair.{LabelPair}
+use Rattle.owner_graph.specs.declared.label_pairs.LabelPair.{LabelPair}
 use Rattle.owner_text.specs.Drafts.{Draft, is_object, object_at}
 use Rattle.owner_text.specs.Labels.{label_text}
 

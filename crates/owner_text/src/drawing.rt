@@ -2,7 +2,7 @@
 
 ghost use Rattle.std.specs.Prelude.{◌≡◌, ℕ, [], ◌∷◌, ◌++◌, IfOk, OnOk, string_bytes};
 ghost use Rattle.owner_text.specs.Prelude.{AddsLines, AreFindings, ended, flat_map, held_in};
-ghost use Rattle.owner_text.specs.Prelude.{is_tie, list_any, row_at};
+ghost use Rattle.owner_text.specs.Prelude.{row_at};
 ghost use Rattle.owner_text.specs.Drafts.{draft_of};
 ghost use Rattle.owner_text.specs.Drawing.{box_text, color_text, edge_lines, edge_text};
 ghost use Rattle.owner_text.specs.Drawing.{graph_lines, has_tie, head_lines, node_lines};
@@ -12,8 +12,7 @@ ghost use Rattle.owner_text.specs.Lines.{lines_to, vertices_of};
 
 use crate::draft::{Draft, is_object};
 use crate::listing::label_of;
-use crate::looks::{handles_in, is_cut, is_kept, stays};
-use owner_graph::{Findings, Holding, is_tie};
+use owner_graph::{Findings, Holding};
 use std::alloc::{AllocError, Global};
 use std::fmt::Write;
 
@@ -64,20 +63,6 @@ fn put_node(text: &mut String, number: u32, label: &str, color: &str) -> Result<
     Ok(())
 }
 
-/// Whether a handle ties its knot.
-fn is_tied(found: &Findings, handle: Holding) -> bool
-    ensures { result ≡ is_tie found.now.kept.items found.now.knots.items handle }
-{
-    is_tie(handle, found.kept.as_slice(), found.knots.as_slice())
-}
-
-/// Whether one of these handles does.
-fn has_tie(found: &Findings, handles: &[Holding]) -> bool
-    ensures { result ≡ list_any (is_tie found.now.kept.items found.now.knots.items) handles.now }
-{
-    handles.iter().any(|handle| is_tied(found, *handle))
-}
-
 /// Adds an object, where there is one.
 fn put_object(
     text: &mut String,
@@ -92,8 +77,8 @@ fn put_object(
     if !is_object(draft, number) {
         return Ok(());
     }
-    let is_tied = has_tie(found, handles_in(found, number));
-    let color = color_word(is_kept(found, number), stays(found, number), is_tied);
+    let is_tied = found.has_tie(number);
+    let color = color_word(found.is_kept(number), found.stays(number), is_tied);
     put_node(text, number, label_of(draft, number), color)?;
     Ok(())
 }
@@ -197,8 +182,8 @@ fn put_handle(
     if handle.from == 0 {
         return put_root(text, handle.slot, handle.to, label);
     }
-    let style = style_word(handle.is_owner, is_cut(found, handle.slot));
-    let color = tie_word(is_tied(found, handle));
+    let style = style_word(handle.is_owner, found.is_cut(handle.slot));
+    let color = tie_word(found.is_tie(handle));
     put_edge(text, handle, label, style, color)
 }
 

@@ -3,8 +3,7 @@
 ghost use Rattle.std.specs.Prelude.{◌≡◌, ℕ, [], ◌∷◌, ◌++◌, map, IfOk, OnOk, ◌==◌, string_bytes};
 ghost use Rattle.std.specs.Prelude.{codes};
 ghost use Rattle.owner_text.specs.Prelude.{AddsLines, at, flat_map, held_in, held_on, homes};
-ghost use Rattle.owner_text.specs.Prelude.{is_tie, row_at};
-ghost use Rattle.std.specs.List.{filter};
+ghost use Rattle.owner_text.specs.Prelude.{row_at};
 ghost use Rattle.owner_text.specs.Drafts.{draft_of};
 ghost use Rattle.owner_text.specs.Lines.{cut_lines, knot_lines, knot_text, lines_to, member_text};
 ghost use Rattle.owner_text.specs.Lines.{tie_text, tied_lines, vertices_of, weaken_text};
@@ -12,8 +11,7 @@ ghost use Rattle.owner_text.specs.Lines.{tie_text, tied_lines, vertices_of, weak
 use crate::draft::Draft;
 use crate::labels::Labels;
 use crate::lines::{put_end, put_tie, put_weakening};
-use crate::looks::{is_cut, members_of, weakenings_of};
-use owner_graph::{Findings, Holding, LabelPair, knot_ties};
+use owner_graph::{Findings, Holding, LabelPair};
 use std::alloc::{AllocError, Global};
 use std::fmt::Write;
 
@@ -67,7 +65,7 @@ fn put_cut(
     ensures { OnOk result (AddsLines text.old text.new
         (cut_lines found.now.cuts.items labels.now tie)) }
 {
-    if !is_cut(found, tie.slot) {
+    if !found.is_cut(tie.slot) {
         return Ok(());
     }
     put_tie(text, "cut", labels, tie)
@@ -115,36 +113,11 @@ fn put_tied(
     if ties.is_empty() {
         return Ok(());
     }
-    put_knot(text, members_of(found, least))?;
+    put_knot(text, found.members_of(least))?;
     put_ties(text, &draft.labels, ties)?;
     put_cuts(text, &draft.labels, found, ties)?;
-    put_weakenings(text, &draft.labels, weakenings_of(found, least))?;
+    put_weakenings(text, &draft.labels, found.weakenings_of(least))?;
     Ok(())
-}
-
-/// Whether this is the least object of a knot.
-fn is_least(found: &Findings, number: u32) -> bool
-    ensures { result ≡ (at found.now.knots.items number == number) }
-{
-    let index = number as usize;
-    let least = if index < found.knots.len() {
-        found.knots[index]
-    } else {
-        0
-    };
-    least == index
-}
-
-/// The owners that tie the knot with this least object.
-fn ties_of(alloc: Global, found: &Findings, least: u32) -> Result<Vec<Holding>, AllocError>
-    ensures { IfOk result (λ ties. ties.items
-        ≡ flat_map (λ m. filter (is_tie found.now.kept.items found.now.knots.items)
-        (row_at found.now.sources.items m.from)) (row_at found.now.index.members.items least)) }
-{
-    let members = members_of(found, least);
-    let (sources, kept) = (found.sources.as_slice(), found.kept.as_slice());
-    let ties = knot_ties(alloc, sources, kept, found.knots.as_slice(), members)?;
-    Ok(ties)
 }
 
 /// Adds the lines of the knot with this least object, where something ties it.
@@ -162,10 +135,10 @@ fn put_lines(
     ensures { OnOk result (AddsLines text.old text.new
         (knot_lines (draft_of draft.now) found.now least)) }
 {
-    if !is_least(found, least) {
+    if !found.is_least(least) {
         return Ok(());
     }
-    let ties = ties_of(alloc, found, least)?;
+    let ties = found.ties_of(alloc, least)?;
     put_tied(text, draft, found, least, ties.as_slice())?;
     Ok(())
 }

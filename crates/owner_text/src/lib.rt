@@ -1,4 +1,4 @@
-//! A graph of owners as text, and what is told of it.
+//! A graph of owners as text, and what is reported of it.
 //!
 //! A graph is a list of lines, each with a line feed; a carriage return just before it is ignored.
 //! Words are parted by spaces and tabs. A line without words, or whose first word begins with `#`,
@@ -17,7 +17,6 @@
 //! [`Cause`] lists them.
 #![tactic(auto)]
 
-mod answering;
 mod draft;
 mod drawing;
 mod fault;
@@ -25,10 +24,10 @@ mod knots;
 mod labels;
 mod lines;
 mod listing;
-mod looks;
+mod report;
 mod statement;
 mod text;
 mod words;
 
-pub use answering::{Told, owners_text};
 pub use fault::{Cause, Fault};
+pub use report::{Report, owners_text};

@@ -7,7 +7,6 @@ ghost use Rattle.owner_text.specs.Lines.{counted, is_leaked, lines_to, object_la
 
 use crate::draft::{Draft, is_object, object_at};
 use crate::lines::{put_handles, put_object, status_word};
-use crate::looks::{handles_on, is_kept, stays};
 use owner_graph::Findings;
 use std::alloc::AllocError;
 
@@ -33,9 +32,9 @@ fn put_lines(
     if !is_object(draft, number) {
         return Ok(());
     }
-    let status = status_word(is_kept(found, number), stays(found, number));
+    let status = status_word(found.is_kept(number), found.stays(number));
     put_object(text, number, status, label_of(draft, number))?;
-    put_handles(text, &draft.labels, handles_on(found, number))?;
+    put_handles(text, &draft.labels, found.handles_on(number))?;
     Ok(())
 }
 
@@ -73,7 +72,7 @@ pub(crate) fn objects_in(draft: &Draft, vertices: u32) -> u32
 fn is_leaked(draft: &Draft, found: &Findings, number: u32) -> bool
     ensures { result ≡ is_leaked (draft_of draft.now) found.now number }
 {
-    is_object(draft, number) && !is_kept(found, number) && stays(found, number)
+    is_object(draft, number) && !found.is_kept(number) && found.stays(number)
 }
 
 /// How many are leaked.

@@ -61,19 +61,19 @@
 //! `calls.rt`, a definition in `specs/Shapes` and a lemma in `proofs/Reversible`.
 #![tactic(auto)]
 
-mod converting;
+mod canonical;
+mod conversion;
 mod fault;
 mod line;
 mod parts;
-mod printing;
 mod program;
 mod script;
 mod text;
 mod words;
 
-pub use converting::convert;
+pub use canonical::print;
+pub use conversion::convert;
 pub use fault::{Cause, Fault};
 pub use line::{member_text, put_number, put_numbers};
-pub use printing::print;
 pub use script::Script;
 pub use text::parse;

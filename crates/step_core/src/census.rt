@@ -22,7 +22,7 @@ impl World {
         ensures counts { result ≡ census_of (model_state self.now.ghost_state) block.0 }
         ensures vacant { result ≡ None ↔ IsVacant (model_state self.now.ghost_state) block.0 }
     {
-        self.table.known();
+        self.table.assert_invariant();
         counted(
             self.table.word(block, OWNERS),
             self.table.word(block, WEAKS),
@@ -37,7 +37,7 @@ impl World {
         requires within { block.0 ≤ self.now.ghost_state.extent.shape.blocks }
         ensures { result ≡ fields_of (model_state self.now.ghost_state) block.0 }
     {
-        self.table.known();
+        self.table.assert_invariant();
         if self.census(block).is_none() {
             return None;
         }
@@ -51,12 +51,12 @@ impl World {
 
     /// What holds where each actor is at its end (own): the words stand for the history, and no actor has a handle, so
     /// that each handle is in a cell.
-    pub fn known_at_end(&self)
+    pub fn assert_invariant_at_end(&self)
         requires { IsAtEnd self.now }
         ensures kept { TableInvariant self.now.ghost_state }
         ensures hands { (model_state self.now.ghost_state).hands ≡ [] }
     {
-        self.table.known();
+        self.table.assert_invariant();
     }
 
     /// The block of the object that the handle in a cell is on; none where it is on none (own). Condition: the cell is
@@ -66,7 +66,7 @@ impl World {
         ensures target { result ≡ target_of (model_state self.now.ghost_state) cell }
         ensures within { IfSome result (λ b. (0 < b.0) × (b.0 ≤ self.now.ghost_state.extent.shape.blocks)) }
     {
-        self.table.known();
+        self.table.assert_invariant();
         self.table.target(cell)
     }
 

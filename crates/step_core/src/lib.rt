@@ -2,11 +2,11 @@
 #![tactic(auto)]
 
 mod census;
+mod debts;
+mod execution;
 mod limits;
-mod opening;
-mod owing;
-mod running;
-mod showing;
+mod observations;
+mod start;
 mod told;
 mod trace;
 mod world;

@@ -84,7 +84,7 @@ impl World {
         self.rest(number);
         let turned = self.act(number);
         self.rest(number);
-        self.table.known();
+        self.table.assert_invariant();
         turned
     }
 
@@ -216,9 +216,9 @@ impl World {
     {
         let thread = &mut self.threads[number];
         let pending_call = thread.pending_call;
-        self.table.known();
+        self.table.assert_invariant();
         let stepped = thread.step(number, &mut self.table);
-        self.table.known();
+        self.table.assert_invariant();
         self.made += makes(pending_call, stepped);
         self.ended += ends(stepped);
         stepped

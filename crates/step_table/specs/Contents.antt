@@ -17,7 +17,7 @@ use Rattle.control_word.specs.State.{State}
 use Rattle.control_word.specs.Words.{blocks_of, shown}
 use Rattle.control_word.specs.declared.site.Site.{Site}
 use Rattle.step_table.specs.declared.cell_steps.cell_step.Compared.{Compared}
-use Rattle.step_table.specs.declared.cell_steps.comparing.Comparing.{Comparing}
+use Rattle.step_table.specs.declared.cell_steps.compares.Comparing.{Comparing}
 use Rattle.step_table.specs.declared.slots.slot.Slot.{Slot}
 use Rattle.step_table.specs.declared.slots.slot.Slot.TheVariants.{Empty, Full}
 use Rattle.step_table.specs.CellAtomicSteps.{cell_in, kind_in_state, owing_funds}

@@ -61,7 +61,7 @@ pub use Rattle.step_table.specs.declared.cell_steps.cell_step.CellStep.TheVarian
 pub use Rattle.step_table.specs.declared.cell_steps.cell_step.CellStep.TheVariants.{Take, TakeOut}
 pub use Rattle.step_table.specs.declared.cell_steps.cell_step.CellStep.TheVariants.{Turn}
 pub use Rattle.step_table.specs.declared.cell_steps.cell_step.Compared.{Compared}
-pub use Rattle.step_table.specs.declared.cell_steps.comparing.Comparing.{Comparing}
+pub use Rattle.step_table.specs.declared.cell_steps.compares.Comparing.{Comparing}
 pub use Rattle.step_table.specs.declared.cell_steps.refill.Stage.{Stage}
 pub use Rattle.step_table.specs.declared.cell_steps.refill.Stage.TheVariants.{Checking, Failing}
 pub use Rattle.step_table.specs.declared.cell_steps.refill.Stage.TheVariants.{Lacking, Refilling}

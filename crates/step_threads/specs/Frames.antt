@@ -19,7 +19,7 @@ use Rattle.step_threads.specs.declared.programs.call.CellName.TheVariants as cel
 use Rattle.control_word.specs.declared.site.Site.{Site}
 use Rattle.control_word.specs.declared.site.Site.TheVariants.{Free, Member}
 use Rattle.step_threads.specs.declared.frame.Frame.{Frame}
-use Rattle.step_table.specs.declared.cell_steps.comparing.Comparing.{Comparing}
+use Rattle.step_table.specs.declared.cell_steps.compares.Comparing.{Comparing}
 use Rattle.step_table.specs.Contents.{is_of}
 use Rattle.step_threads.specs.declared.ending.Ending.{Ending}
 use Rattle.step_table.specs.AtomicSteps.{on}

@@ -1,10 +1,10 @@
 //! How a thread goes on step by step within an act.
-pub mod holding;
-pub mod locking;
-pub mod looking;
-pub mod making;
-pub mod reading;
-pub mod refilling;
-pub mod storing;
+pub mod ends;
+pub mod loads;
+pub mod locks;
+pub mod makes;
+pub mod reads;
+pub mod refills;
+pub mod same;
+pub mod stores;
 pub mod this;
-pub mod unwinding;

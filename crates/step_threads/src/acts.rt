@@ -1,8 +1,8 @@
 //! How a thread goes on act by act.
-pub(crate) mod asking;
-pub mod leaving;
-pub mod offering;
-pub mod refusing;
-pub(crate) mod shelving;
-pub mod trying;
+pub mod leaves;
+pub mod offers;
+pub(crate) mod questions;
+pub mod refusals;
+pub(crate) mod shelf;
+pub mod tries;
 pub mod values;

@@ -128,7 +128,7 @@ impl Thread {
         ensures stepped { HasStepped desk self.old table.old result self.new table.new }
         ensures fits { FitsThread desk self.new table.new }
     {
-        table.known();
+        table.assert_invariant();
         let statement = self.frame.statement();
         let event = self.frame.share(desk, table, name);
         says(event, silent(statement))
@@ -141,7 +141,7 @@ impl Thread {
         ensures stepped { HasStepped desk self.old table.old result self.new table.new }
         ensures fits { FitsThread desk self.new table.new }
     {
-        table.known();
+        table.assert_invariant();
         let statement = self.frame.statement();
         let event = self.frame.downgrade(desk, table, name);
         says(event, silent(statement))
@@ -154,7 +154,7 @@ impl Thread {
         ensures stepped { HasStepped desk self.old table.old result self.new table.new }
         ensures fits { FitsThread desk self.new table.new }
     {
-        table.known();
+        table.assert_invariant();
         let statement = self.frame.statement();
         let event = self.frame.registers.is_full(usize::from(name));
         let expired = self.frame.is_expired(desk, table, name);
@@ -176,7 +176,7 @@ impl Thread {
         ensures stepped { HasStepped desk self.old table.old result self.new table.new }
         ensures fits { FitsThread desk self.new table.new }
     {
-        table.known();
+        table.assert_invariant();
         let statement = self.frame.statement();
         let event = self.frame.registers.is_full(usize::from(name));
         let owners = self.frame.count(desk, table, name);

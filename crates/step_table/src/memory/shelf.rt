@@ -27,7 +27,7 @@ impl Table {
     fn place_on_shelf(&self, block: Block) -> usize
         ensures { result ≡ shelf_spot (opening self.now.extent) block.0 }
     {
-        self.known();
+        self.assert_invariant();
         let shape = &self.extent.shape;
         shelf_word(
             shape.blocks,

@@ -78,7 +78,7 @@ impl Table {
     }
 
     /// What always holds of a table: its words stand for its history.
-    pub fn known(&self)
+    pub fn assert_invariant(&self)
         ensures { TableInvariant self.now }
     {
         let _ = &self.words;
@@ -89,7 +89,7 @@ impl Table {
         ensures shared { result ≡ (model_state self.now).shared }
         ensures few { result ≤ 256 }
     {
-        self.known();
+        self.assert_invariant();
         self.extent.shape.shared_cells
     }
 
@@ -268,7 +268,7 @@ impl Table {
         requires ending { ((model_state self.now).object (object_of_block self.now block)).phase ≡ ending desk }
         ensures { result ≡ remains ((model_state self.now).object (object_of_block self.now block)) }
     {
-        self.known();
+        self.assert_invariant();
         if is_null(self.body_word(desk, block, FLAGS)) {
             return Ended::Null;
         }

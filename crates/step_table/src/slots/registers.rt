@@ -123,7 +123,7 @@ impl Registers {
         ensures table { table.new ≡ ghost_after_step table.old desk (leave (model_state table.old) pointer) }
         ensures holds { HoldsBag desk self.new.slots.items table.new }
     {
-        table.known();
+        table.assert_invariant();
         let last = table.leave_pointer(desk, pointer);
         self.slots[from] = Slot::Empty { place: None };
         last
@@ -139,7 +139,7 @@ impl Registers {
         ensures table { table.new ≡ ghost_after_step table.old desk (tell table.old pointer) }
         ensures holds { HoldsBag desk self.now.slots.items table.new }
     {
-        table.known();
+        table.assert_invariant();
         table.count(desk, pointer)
     }
 
@@ -153,7 +153,7 @@ impl Registers {
         ensures table { table.new ≡ ghost_after_step table.old desk (tell_expired (model_state table.old) pointer) }
         ensures holds { HoldsBag desk self.now.slots.items table.new }
     {
-        table.known();
+        table.assert_invariant();
         table.is_expired(desk, pointer)
     }
 
@@ -169,7 +169,7 @@ impl Registers {
             (ghost_after_step table.old desk (lock (model_state table.old) pointer)) table.old }
         ensures holds { HoldsBag desk self.now.slots.items table.new }
     {
-        table.known();
+        table.assert_invariant();
         table.look_lock(desk, pointer.block, pointer.place)
     }
 

@@ -23,7 +23,7 @@ impl Table {
             (model_state self.now).hands }
         ensures { result ≡ is_enabled (model_state self.now) pointer }
     {
-        self.known();
+        self.assert_invariant();
         is_enabled(self.word(pointer.block, FLAGS))
     }
 
@@ -37,7 +37,7 @@ impl Table {
         requires room { bag_size (model_state self.old) desk < (model_state self.old).allowance desk }
         ensures { self.new ≡ ghost_after_step self.old desk (give kind pointer) }
     {
-        self.known();
+        self.assert_invariant();
         let place = itself(pointer.block);
         match kind {
             Kind::Owner => self.share(desk, pointer.block, pointer.place, place),
@@ -78,7 +78,7 @@ impl Registers {
         ensures table { table.new ≡ ghost_after_step table.old desk (give kind pointer) }
         ensures holds { HoldsBag desk self.new.slots.items table.new }
     {
-        table.known();
+        table.assert_invariant();
         table.give(desk, kind, pointer);
         self.fill(to, this_of(kind, pointer));
     }

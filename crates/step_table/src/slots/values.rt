@@ -47,7 +47,7 @@ impl Registers {
         ensures table { table.new ≡ ghost_after_step table.old desk (alias place pointer) }
         ensures holds { HoldsBag desk self.new.slots.items table.new }
     {
-        table.known();
+        table.assert_invariant();
         table.share(desk, pointer.block, pointer.place, place);
         self.slots[to] = Slot::Full(Handle {
             kind: Kind::Owner,
@@ -64,7 +64,7 @@ impl Registers {
         ensures { result ≡ pointer_before (model_state table.now) (slot_pointer self.now.slots.items first)
             (slot_pointer self.now.slots.items second) }
     {
-        table.known();
+        table.assert_invariant();
         rank(self.get(usize::from(first))) < rank(self.get(usize::from(second)))
     }
 }

@@ -3,7 +3,7 @@ ghost use Rattle.std.specs.Prelude.{◌≡◌, Some};
 ghost use Rattle.step_table.specs.AtomicSteps.{give, is_enabled};
 ghost use Rattle.step_threads.specs.declared.programs.act.Act.{Act};
 
-use crate::act_steps::reading::{outside, tells};
+use crate::act_steps::reads::{outside, tells};
 use crate::pending_call::PendingCall;
 use crate::said::{Answer, Stepped};
 use crate::thread::{Thread, silent};
@@ -57,7 +57,7 @@ impl Thread {
         ensures stepped { HasStepped desk self.old table.old result self.new table.new }
         ensures fits { FitsThread desk self.new table.new }
     {
-        table.known();
+        table.assert_invariant();
         let statement = self.frame.statement();
         let from = usize::from(name);
         let hand = self.frame.registers.hand();

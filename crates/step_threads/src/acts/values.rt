@@ -133,7 +133,7 @@ impl Thread {
         ensures stepped { HasStepped desk self.old table.old result self.new table.new }
         ensures fits { FitsThread desk self.new table.new }
     {
-        table.known();
+        table.assert_invariant();
         let statement = self.frame.statement();
         let event = self.frame.alias(desk, table, name, of, field);
         says(event, silent(statement))

@@ -5,4 +5,4 @@ use Rattle.leak_report.proofs.graph.put_blocks.Given as goal
 abbrev pub invariant-loop-before : goal.invariant-loop-before
 invariant-loop-before l =
     string_bytes l.text ≡ string_bytes l.fn.text
-    ++ ended (all_nodes (state_in (abstraction l.world)) l.found.kept.items l.found.circles.knots.items l.found.circles.ties.items l.before)
+    ++ ended (all_nodes (state_in (abstraction l.world)) l.found.findings l.found.held.items l.before)

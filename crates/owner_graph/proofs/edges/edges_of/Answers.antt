@@ -1,5 +1,5 @@
 use Rattle.owner_graph.specs.Edges.{edges_by}
-use Rattle.owner_graph.proofs.Joining.{take_more}
+use Rattle.owner_graph.proofs.Appends.{take_more}
 use Rattle.owner_graph.proofs.edges.edges_of.Goals as goal
 
 pub loop-handle-preserved : goal.loop-handle-preserved

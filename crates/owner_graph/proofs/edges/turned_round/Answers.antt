@@ -1,5 +1,5 @@
 use Rattle.owner_graph.specs.Edges.{back}
-use Rattle.owner_graph.proofs.Joining.{take_more}
+use Rattle.owner_graph.proofs.Appends.{take_more}
 use Rattle.owner_graph.proofs.edges.turned_round.Goals as goal
 
 pub loop-edge-preserved : goal.loop-edge-preserved

@@ -1,5 +1,5 @@
-use Rattle.std.proofs.Common.{◌≡◌, ℕ, ◌+◌, ◌≤◌, length}
-use Rattle.owner_graph.proofs.Prelude.{AreWeakenings, at, knot_ties, labels_of, pairs_at}
+use Rattle.std.proofs.Common.{◌≡◌, ◌+◌, ℕ, length}
+use Rattle.owner_graph.proofs.Prelude.{AreWeakenings, at, knot_ties, labels_of, pairs_at, ◌≤◌}
 use Rattle.owner_graph.proofs.findings.all_weakenings.Given as goal
 
 abbrev pub invariant-loop-before : goal.invariant-loop-before

@@ -1,7 +1,7 @@
-use Rattle.std.proofs.Common.{◌≡◌, ℕ, Bool, true, ◌↔◌, subst}
+use Rattle.std.proofs.Common.{◌≡◌, ◌↔◌, Bool, ℕ, subst, true}
 use Rattle.owner_graph.proofs.Prelude.{at, EndsWhenCut, handle_listed, Holding, is_tie}
 use Rattle.owner_graph.specs.Rows.{no_handle}
-use Rattle.owner_graph.proofs.Stepping.{marks_pushed, same_at}
+use Rattle.owner_graph.proofs.Steps.{marks_pushed, same_at}
 use Rattle.owner_graph.proofs.findings.cuts_of.Goals as goal
 
 pub loop-handle-preserved : goal.loop-handle-preserved

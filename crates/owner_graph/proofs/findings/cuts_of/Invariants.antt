@@ -1,4 +1,4 @@
-use Rattle.std.proofs.Common.{◌≡◌, ℕ, ◌<◌, true, ◌↔◌, length}
+use Rattle.std.proofs.Common.{◌≡◌, ◌↔◌, ◌<◌, ℕ, length, true}
 use Rattle.owner_graph.proofs.Prelude.{at, EndsWhenCut, handle_listed, is_tie, marked}
 use Rattle.owner_graph.proofs.findings.cuts_of.Given as goal
 

@@ -1,4 +1,4 @@
-use Rattle.std.proofs.Common.{ℕ, sym, ap, ◌∙◌, subst, arith}
+use Rattle.std.proofs.Common.{◌∙◌, ℕ, ap, arith, subst, sym}
 use Rattle.owner_graph.proofs.Prelude.{at, EndsWhenCut}
 use Rattle.owner_graph.proofs.TieLemmas.{tie_label}
 use Rattle.owner_graph.proofs.findings.is_cut_tie.Goals as goal

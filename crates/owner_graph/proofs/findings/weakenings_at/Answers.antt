@@ -1,4 +1,4 @@
-use Rattle.std.proofs.Common.{◌≡◌, List, ap, ◌∙◌, subst}
+use Rattle.std.proofs.Common.{◌≡◌, ◌∙◌, List, ap, subst}
 use Rattle.owner_graph.proofs.Prelude.{AreWeakenings, held_on, Holding, homes, labels_of, row_at}
 use Rattle.owner_graph.proofs.Prelude.{Vec}
 use Rattle.owner_graph.proofs.WeakeningLemmas.{ties_by_rows}

@@ -1,5 +1,5 @@
-use Rattle.std.proofs.Common.{◌+◌, All, sym, refl, subst, arith}
-use Rattle.owner_graph.proofs.Prelude.{All-push, IsAmong}
+use Rattle.std.proofs.Common.{◌+◌, arith, refl, subst, sym}
+use Rattle.owner_graph.proofs.Prelude.{All, All-push, IsAmong}
 use Rattle.owner_graph.proofs.Homes.{home_among, homes_more}
 use Rattle.owner_graph.proofs.index.homes.Goals as goal
 

@@ -1,5 +1,5 @@
-use Rattle.std.proofs.Common.{◌≡◌, All}
-use Rattle.owner_graph.proofs.Prelude.{homes, IsAmong}
+use Rattle.std.proofs.Common.{◌≡◌}
+use Rattle.owner_graph.proofs.Prelude.{All, homes, IsAmong}
 use Rattle.owner_graph.proofs.index.homes.Given as goal
 
 abbrev pub invariant-loop-before : goal.invariant-loop-before

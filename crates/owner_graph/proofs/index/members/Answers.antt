@@ -1,5 +1,5 @@
-use Rattle.std.proofs.Common.{List, All, sym, ap, ◌∙◌, subst}
-use Rattle.owner_graph.proofs.Prelude.{held_on, Holding, IsAmong}
+use Rattle.std.proofs.Common.{◌∙◌, List, ap, subst, sym}
+use Rattle.owner_graph.proofs.Prelude.{All, held_on, Holding, IsAmong}
 use Rattle.owner_graph.proofs.TieLemmas.{label_among}
 use Rattle.owner_graph.proofs.index.members.Goals as goal
 

@@ -1,4 +1,4 @@
-use Rattle.std.proofs.Common.{◌≡◌, false, []}
+use Rattle.std.proofs.Common.{◌≡◌, [], false}
 use Rattle.owner_graph.proofs.Prelude.{marked}
 use Rattle.owner_graph.proofs.Homes.{none_weak}
 use Rattle.owner_graph.proofs.index.stays.Goals as goal

@@ -1,6 +1,7 @@
-use Rattle.std.proofs.Common.{◌≡◌, false, slice_index_or, arith}
+use Rattle.std.proofs.Common.{◌≡◌, false, arith}
+use Rattle.owner_graph.proofs.Prelude.{slice_index_or}
 use Rattle.owner_graph.proofs.Among.{among_within}
-use Rattle.owner_graph.proofs.Stepping.{false_at, least_is, next_low, none_is, true_at}
+use Rattle.owner_graph.proofs.Steps.{false_at, least_is, next_low, none_is, true_at}
 use Rattle.owner_graph.proofs.labels.least_of.Goals as goal
 
 pub unreachable-requires : goal.unreachable-requires

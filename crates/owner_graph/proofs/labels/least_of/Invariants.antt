@@ -1,4 +1,5 @@
-use Rattle.std.proofs.Common.{◌≡◌, ℕ, ◌≤◌, false, slice_index_or}
+use Rattle.std.proofs.Common.{◌≡◌, ℕ, false}
+use Rattle.owner_graph.proofs.Prelude.{slice_index_or, ◌≤◌}
 use Rattle.owner_graph.proofs.labels.least_of.Given as goal
 
 abbrev pub invariant-loop-before : goal.invariant-loop-before

@@ -1,6 +1,6 @@
-use Rattle.std.proofs.Common.{ℕ, ◌+◌, ◌≤◌, sym, subst, arith}
-use Rattle.owner_graph.proofs.Prelude.{IsLeast}
-use Rattle.owner_graph.proofs.Stepping.{at_pushed}
+use Rattle.std.proofs.Common.{◌+◌, ℕ, arith, subst, sym}
+use Rattle.owner_graph.proofs.Prelude.{IsLeast, ◌≤◌}
+use Rattle.owner_graph.proofs.Steps.{at_pushed}
 use Rattle.owner_graph.proofs.labels.one_by_one.Goals as goal
 
 pub loop-before-preserved : goal.loop-before-preserved

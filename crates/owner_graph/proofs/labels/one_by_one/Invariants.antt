@@ -1,5 +1,5 @@
-use Rattle.std.proofs.Common.{◌≡◌, ℕ, ◌+◌, ◌≤◌, length}
-use Rattle.owner_graph.proofs.Prelude.{at, IsLeast}
+use Rattle.std.proofs.Common.{◌≡◌, ◌+◌, ℕ, length}
+use Rattle.owner_graph.proofs.Prelude.{at, IsLeast, ◌≤◌}
 use Rattle.owner_graph.proofs.labels.one_by_one.Given as goal
 
 abbrev pub invariant-loop-before : goal.invariant-loop-before

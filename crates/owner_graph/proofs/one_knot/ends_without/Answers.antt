@@ -1,5 +1,6 @@
-use Rattle.std.proofs.Common.{◌≡◌, List, get_or, All, sym, refl, ap, ◌∙◌, subst, true≢false}
-use Rattle.owner_graph.proofs.Prelude.{held_on, Holding, homes, is_weakened, Rises, row_at, Vec}
+use Rattle.std.proofs.Common.{◌≡◌, ◌∙◌, List, ap, get_or, refl, subst, sym, true≢false}
+use Rattle.owner_graph.proofs.Prelude.{All, held_on, Holding, homes, is_weakened, Rises, row_at}
+use Rattle.owner_graph.proofs.Prelude.{Vec}
 use Rattle.owner_graph.specs.OneKnot.{HasHolder}
 use Rattle.owner_graph.proofs.Homes.{home_listed}
 use Rattle.owner_graph.proofs.OneKnot.{all_rise, ring_stays}

@@ -26,17 +26,17 @@ invariant_of-self c =
     let lt : c.args.number < length c.self.inside.threads.items = omega (arith, l, m, c.requires) in (
       all_fit c.self.inside.table c.step-stepped.new.table c.self.inside.threads.items c.args.number
           c.index_mut-thread.result.now c.step-stepped.new.self
-          c.step-stepped.result c.known.ensures c.known-2.ensures c.self.invariant.0 lt c.step-stepped.ensures.stepped
+          c.step-stepped.result c.assert_invariant.ensures c.assert_invariant-2.ensures c.self.invariant.0 lt c.step-stepped.ensures.stepped
           c.step-stepped.ensures.fits,
       told_now c.self.inside.table c.step-stepped.new.table c.self.inside.threads.items c.args.number
           c.index_mut-thread.result.now c.step-stepped.new.self
-          c.step-stepped.result c.self.inside.made c.self.inside.ended c.makes.result c.ends.result c.known.ensures
-          c.known-2.ensures
+          c.step-stepped.result c.self.inside.made c.self.inside.ended c.makes.result c.ends.result c.assert_invariant.ensures
+          c.assert_invariant-2.ensures
           (has_begun c.self.inside.table c.self.inside.threads.items c.args.number c.index_mut-thread.result.now lt
           c.index_mut-thread.ensures.value
           (c.self.invariant.0.each c.args.number c.index_mut-thread.result.now
           (thread_at c.self.inside.threads.items c.args.number c.index_mut-thread.result.now lt
-          c.index_mut-thread.ensures.value)) c.known.ensures c.self.invariant.0
+          c.index_mut-thread.ensures.value)) c.assert_invariant.ensures c.self.invariant.0
           c.self.invariant.1.threads (c.self.invariant.1.tidy c.args.number)) lt
           c.index_mut-thread.ensures.value c.step-stepped.ensures.stepped c.self.invariant.1 c.makes.ensures
           c.ends.ensures,
@@ -56,14 +56,14 @@ module _ (c : goal.After-self-3-1) where
       c.index_mut-thread.ensures.value
       (c.self.invariant.0.each c.args.number c.index_mut-thread.result.now
       (thread_at c.self.inside.threads.items c.args.number c.index_mut-thread.result.now within
-      c.index_mut-thread.ensures.value)) c.known.ensures
+      c.index_mut-thread.ensures.value)) c.assert_invariant.ensures
       c.self.invariant.0 c.self.invariant.1.threads (c.self.invariant.1.tidy c.args.number)
 
   all : AllFit c.step-stepped.new.table (set c.self.inside.threads.items c.args.number c.step-stepped.new.self)
   all =
       all_fit c.self.inside.table c.step-stepped.new.table c.self.inside.threads.items c.args.number
       c.index_mut-thread.result.now c.step-stepped.new.self
-      c.step-stepped.result c.known.ensures c.known-2.ensures c.self.invariant.0 within c.step-stepped.ensures.stepped
+      c.step-stepped.result c.assert_invariant.ensures c.assert_invariant-2.ensures c.self.invariant.0 within c.step-stepped.ensures.stepped
       c.step-stepped.ensures.fits
 
   went : Steps c.args.number (world_state c.self.inside.table c.self.inside.threads.items) c.step-stepped.result
@@ -93,7 +93,7 @@ module _ (c : goal.After-self-3-1) where
   never =
       never_now c.self.inside.table c.step-stepped.new.table c.self.inside.threads.items c.args.number
       c.index_mut-thread.result.now c.step-stepped.new.self
-      c.step-stepped.result c.self.inside.made c.self.inside.ended c.known.ensures begun within
+      c.step-stepped.result c.self.inside.made c.self.inside.ended c.assert_invariant.ensures begun within
       c.index_mut-thread.ensures.value
       c.step-stepped.ensures.stepped c.self.invariant.1
 
@@ -116,8 +116,8 @@ returns-clause-advances c =
     c.self.view_is
     (advances c.args.number (world_state c.self.inside.table c.self.inside.threads.items)
     (world_state c.step-stepped.new.table threads) c.step-stepped.result
-    (begun c) (went c) (never c) (as_many c) c.known-2.ensures (all_hold c.step-stepped.new.table threads (all c))
-    (all_idle c.step-stepped.new.table threads (all c) (as_large c) c.known-2.ensures))
+    (begun c) (went c) (never c) (as_many c) c.assert_invariant-2.ensures (all_hold c.step-stepped.new.table threads (all c))
+    (all_idle c.step-stepped.new.table threads (all c) (as_large c) c.assert_invariant-2.ensures))
 
 pub returns-clause-actors : goal.returns-clause-actors
 returns-clause-actors c =

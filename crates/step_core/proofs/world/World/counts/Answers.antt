@@ -10,7 +10,7 @@ loads-requires c =
       is = c.self.view_is;
       fit = c.self.invariant.0;
       told = c.self.invariant.1;
-      kept = c.known.ensures;
+      kept = c.assert_invariant.ensures;
       some = c.requires.some;
       within = c.requires.within;
     } in
@@ -23,7 +23,7 @@ more-owners-requires c =
       is = c.self.view_is;
       fit = c.self.invariant.0;
       told = c.self.invariant.1;
-      kept = c.known.ensures;
+      kept = c.assert_invariant.ensures;
       some = c.requires.some;
       within = c.requires.within;
     } in
@@ -38,7 +38,7 @@ more-weaks-requires c =
       is = c.self.view_is;
       fit = c.self.invariant.0;
       told = c.self.invariant.1;
-      kept = c.known.ensures;
+      kept = c.assert_invariant.ensures;
       some = c.requires.some;
       within = c.requires.within;
     } in
@@ -53,7 +53,7 @@ returns c =
       is = c.self.view_is;
       fit = c.self.invariant.0;
       told = c.self.invariant.1;
-      kept = c.known.ensures;
+      kept = c.assert_invariant.ensures;
       some = c.requires.some;
       within = c.requires.within;
     } in

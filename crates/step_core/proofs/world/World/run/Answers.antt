@@ -12,7 +12,7 @@ use Rattle.step_core.proofs.runs.Through.{Goes, through}
 use Rattle.step_core.proofs.telling.Census.{at_rest, still_now}
 use Rattle.step_core.proofs.world.World.run.Goals as goal
 
-module _ (c : goal.After-known-3) where
+module _ (c : goal.After-assert_invariant-3) where
   all : IsRun c.args.self.now c.finish.new.steps.items c.finish.new.self
   all =
       whole RunsToEnd (λ d m w ys runs. runs.run) _ c.args.self.now c.settle.new.self c.finish.new.self
@@ -27,10 +27,10 @@ module _ (c : goal.After-known-3) where
       let threads = c.self.inside.threads.items in
       subst Goes c.self.view_is
       (record {
-        kept = c.known.ensures;
+        kept = c.assert_invariant.ensures;
         actors = c.self.invariant.1.threads;
         hands = all_hold c.self.inside.table threads c.self.invariant.0;
-        idle = all_idle c.self.inside.table threads c.self.invariant.0 c.self.invariant.1.threads c.known.ensures;
+        idle = all_idle c.self.inside.table threads c.self.invariant.0 c.self.invariant.1.threads c.assert_invariant.ensures;
       })
 
   -- nobody owes anything once all have finished their calls
@@ -45,7 +45,7 @@ module _ (c : goal.After-known-3) where
       let pending_calls = ap (λ (u : WorldState). length u.pending_calls) c.self-2.view_is in
       none_pays c.settle.new.self
       (subst AllRestIdle c.self-2.view_is
-      (all_idle c.self-2.inside.table threads c.self-2.invariant.0 c.self-2.invariant.1.threads c.known-2.ensures))
+      (all_idle c.self-2.inside.table threads c.self-2.invariant.0 c.self-2.invariant.1.threads c.assert_invariant-2.ensures))
       (λ e lt. each e (omega (arith, lt, actors, told, frame_views, pending_calls)))
 
   -- each thread is at its end
@@ -102,7 +102,7 @@ returns-clause-headline c =
 
 pub returns-clause-rest : goal.returns-clause-rest
 returns-clause-rest c = λ b inside.
-    at_rest c.finish.new.self.ghost_state b (subst (λ (u : WorldState). TableInvariant u.ghost_state) c.self-3.view_is c.known-3.ensures)
+    at_rest c.finish.new.self.ghost_state b (subst (λ (u : WorldState). TableInvariant u.ghost_state) c.self-3.view_is c.assert_invariant-3.ensures)
     (still_now c.finish.new.self c.self-3.inside.table c.self-3.inside.threads.items c.self-3.inside.made
     c.self-3.inside.ended c.self-3.view_is
     c.self-3.invariant.0 c.self-3.invariant.1 (ends c))

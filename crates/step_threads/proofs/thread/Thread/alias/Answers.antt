@@ -17,7 +17,7 @@ returns-clause-fits c =
     (sym c.requires.begins.rest)
     (fits_done (alias (aliased c.args.field (place_in slots c.args.of))) d t v c.alias-event.new.table
     (owner_slot (slot_pointer slots c.args.name)) c.alias-event.new.self
-    c.known.ensures c.requires.begins.fits c.requires.begins.rest c.requires.begins.none (λ x. refl) (λ x. refl) on.table on.on)
+    c.assert_invariant.ensures c.requires.begins.fits c.requires.begins.rest c.requires.begins.none (λ x. refl) (λ x. refl) on.table on.on)
 
 pub alias-event-requires-clause-can : goal.alias-event-requires-clause-can
 alias-event-requires-clause-can c =

@@ -18,7 +18,7 @@ returns-clause-stepped c =
     let y = c.shown-now.result in
     let k = c.args.statement in
     let r = refill_here d t v Checking cell x k c.requires.fits c.requires.pending_call in
-    let is = shows_seen v d cell y (open_shown v d cell y c.known.ensures c.requires.fits.seat r.opens c.shown-now.ensures) in
+    let is = shows_seen v d cell y (open_shown v d cell y c.assert_invariant.ensures c.requires.fits.seat r.opens c.shown-now.ensures) in
     let next = Refill Lacking cell y k in
     let pending_call : c.if-is_drained.self ≡ cond (is_drained x y) next Rest =
     elim c.if-is_drained.branch [

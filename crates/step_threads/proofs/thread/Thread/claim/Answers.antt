@@ -13,6 +13,6 @@ pub returns-clause-fits : goal.returns-clause-fits
 returns-clause-fits c =
     subst (λ (v : GhostState). FitsThread c.args.desk (record { frame = c.claim.new.self; stock = c.args.self.now.stock; pending_call = Rest }) v)
     (sym c.claim.ensures.table)
-    (fits_claim c.args.desk c.args.self.now c.args.table.now c.args.block c.args.differs c.args.form c.claim.new.self c.known.ensures
+    (fits_claim c.args.desk c.args.self.now c.args.table.now c.args.block c.args.differs c.args.form c.claim.new.self c.assert_invariant.ensures
     c.requires.fits c.requires.pending_call
     (subst (λ (v : GhostState). HasGoneOn c.args.desk c.args.self.now.frame c.claim.new.self v) c.claim.ensures.table c.claim.ensures.on))

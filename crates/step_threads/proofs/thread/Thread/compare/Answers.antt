@@ -40,9 +40,9 @@ returns-then-is_none-clause-stepped c =
     (differ_looks d t v r.begins k cell c.args.weak r.act x look.found differs)
     (differ_waits d t v r.begins k cell c.args.weak r.act x look.found differs) _ _ _ bare
     (ap (λ (s : Said). Event s) (c.compared.ensures ∙ ap (λ n. answers n false) c.statement-statement.ensures
-    ∙ differ_says d t v r.begins k cell c.args.weak r.act x look.found differs c.known.ensures))
+    ∙ differ_says d t v r.begins k cell c.args.weak r.act x look.found differs c.assert_invariant.ensures))
     (look.table ∙ cond-false (is_some x.owned || same_value x (as_word (slot_value slots k))) _ _ neither)
-    (look.frame_view neither ∙ differ_went d t v r.begins k cell c.args.weak r.act x look.found differs c.known.ensures) r.begins.rest
+    (look.frame_view neither ∙ differ_went d t v r.begins k cell c.args.weak r.act x look.found differs c.assert_invariant.ensures) r.begins.rest
 
 pub returns-then-is_none-clause-fits : goal.returns-then-is_none-clause-fits
 returns-then-is_none-clause-fits c =
@@ -59,7 +59,7 @@ returns-then-is_none-clause-fits c =
     let neither : (is_some x.owned || same_value x (as_word (slot_value slots k))) ≡ false =
     ap (λ (b : Bool). b || same_value x (as_word (slot_value slots k))) bare ∙ differs in
     looked_on c.args.desk t v r.begins (cell_of_name (model_state v) slots c.args.cell)
-    (Some (compared_in slots (comparing slots k c.args.weak))) x c.look_to_compare-found.new.self c.look_to_compare-found.new.table c.known.ensures
+    (Some (compared_in slots (comparing slots k c.args.weak))) x c.look_to_compare-found.new.self c.look_to_compare-found.new.table c.assert_invariant.ensures
     (look.table ∙ cond-false (is_some x.owned || same_value x (as_word (slot_value slots k))) _ _ neither) (look.on neither)
 
 pub returns-then-from-eq-CELL_FUNDS-clause-stepped : goal.returns-then-from-eq-CELL_FUNDS-clause-stepped

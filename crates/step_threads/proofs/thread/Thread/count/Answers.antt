@@ -34,4 +34,4 @@ returns-clause-fits c =
     subst (λ (h : PendingCall). FitsThread d (record { frame = c.count-owners.new.self; stock = t.stock; pending_call = h }) c.count-owners.new.table)
     (sym c.requires.begins.rest)
     (fits_done (tell v) d t v c.count-owners.new.table (slot_pointer t.frame.registers.slots.items c.args.name) c.count-owners.new.self
-    c.known.ensures c.requires.begins.fits c.requires.begins.rest c.requires.begins.none (λ x. refl) (λ x. refl) on.table on.on)
+    c.assert_invariant.ensures c.requires.begins.fits c.requires.begins.rest c.requires.begins.none (λ x. refl) (λ x. refl) on.table on.on)

@@ -25,7 +25,7 @@ returns-clause-stepped c =
     let same = sym took.ensures.same ∙ yes in
     let n = (task_at t.frame).statement in
     differs_taken d t v c.args.name c.args.cell c.args.weak x within r.act r.pending_call r.differs _ _ _ same
-    (tells_still d t v c.args.name c.args.cell c.args.weak x r.fits r.act false c.known.ensures within (pending_call_here d t v _ r.fits r.pending_call).1 same
+    (tells_still d t v c.args.name c.args.cell c.args.weak x r.fits r.act false c.assert_invariant.ensures within (pending_call_here d t v _ r.fits r.pending_call).1 same
     r.differs)
     (ap (λ (s : Said). Event s) (c.compared.ensures ∙ ap (λ (m : ℕ). answers m false) c.statement-statement.ensures))
     (took.ensures.table ∙ cond-true took.result _ _ yes) (took.ensures.frame_view yes)
@@ -53,7 +53,7 @@ returns-clause-fits c =
       pending_call = Refill Turning (cell_of_name (model_state v) t.frame.registers.slots.items c.args.cell) (more_taken x) m;
     }) u) (sym table)
     (compare_taken d t v c.args.name c.args.cell c.args.weak x r.fits r.act took.new.self
-    (compared_in slots (comparing slots c.args.name c.args.weak)) c.known.ensures m r.pending_call
+    (compared_in slots (comparing slots c.args.name c.args.weak)) c.assert_invariant.ensures m r.pending_call
     (saw_other d t v c.args.name c.args.cell c.args.weak x r.fits r.act r.pending_call r.differs)
     (subst (λ (u : GhostState). HasGoneOn d t.frame took.new.self u) table (took.ensures.on yes))))
 

@@ -32,4 +32,4 @@ returns-clause-fits c =
     (sym
     c.requires.begins.rest)
     (fits_done downgrade d t v c.downgrade-event.new.table (slot_pointer t.frame.registers.slots.items c.args.name) c.downgrade-event.new.self
-    c.known.ensures c.requires.begins.fits c.requires.begins.rest c.requires.begins.none (λ x. refl) (λ x. refl) on.table on.on)
+    c.assert_invariant.ensures c.requires.begins.fits c.requires.begins.rest c.requires.begins.none (λ x. refl) (λ x. refl) on.table on.on)

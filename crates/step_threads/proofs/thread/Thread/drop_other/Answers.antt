@@ -31,7 +31,7 @@ left-ended-requires-clause-begins c = λ x.
     let said : c.drop_other-last.result ≡ on (is_last (model_state v)) false c.get-held.result =
     c.drop_other-last.ensures.last ∙ ap (on (is_last (model_state v)) false) (sym h) in
     begins_room v c.drop_other-last.new.table c.args.desk c.args.self.now c.drop_other-last.new.self c.get-held.result c.drop_other-last.result x
-    c.known-2.ensures c.requires.begins.fits c.requires.begins.none c.drop_other-last.ensures.on.endings is said
+    c.assert_invariant-2.ensures c.requires.begins.fits c.requires.begins.none c.drop_other-last.ensures.on.endings is said
 
 pub left-ended-requires-clause-room : goal.left-ended-requires-clause-room
 left-ended-requires-clause-room c = λ x.
@@ -42,7 +42,7 @@ left-ended-requires-clause-room c = λ x.
     c.drop_other-last.ensures.table ∙ ap (done_on (leave (model_state v)) v c.args.desk) (sym h) in
     let said : c.drop_other-last.result ≡ on (is_last (model_state v)) false c.get-held.result =
     c.drop_other-last.ensures.last ∙ ap (on (is_last (model_state v)) false) (sym h) in
-    room_weak v c.drop_other-last.new.table c.args.desk c.args.self.now c.get-held.result c.drop_other-last.result x c.known.ensures c.known-2.ensures
+    room_weak v c.drop_other-last.new.table c.args.desk c.args.self.now c.get-held.result c.drop_other-last.result x c.assert_invariant.ensures c.assert_invariant-2.ensures
     c.requires.begins.fits c.requires.begins.rest is said
 
 pub returns-clause-fits : goal.returns-clause-fits
@@ -65,7 +65,7 @@ returns-clause-fits c =
       roomy = c.left-ended.ensures.roomy;
     } in
     fits_left c.args.desk c.args.self.now c.left-ended.new.self v c.drop_other-last.new.table c.drop_other-last.new.self c.statement-statement.result
-    c.get-held.result c.drop_other-last.result c.known.ensures c.known-2.ensures
+    c.get-held.result c.drop_other-last.result c.assert_invariant.ensures c.assert_invariant-2.ensures
     c.requires.begins.fits c.requires.begins.rest c.requires.begins.none is said has c.left-ended.ensures.pending_call c.left-ended.ensures.stock
 
 pub returns-clause-stepped : goal.returns-clause-stepped

@@ -55,7 +55,7 @@ returns-clause-fits c =
     subst (λ (u : GhostState). FitsThread d
     (record { frame = record t.frame { registers = h; endings = c.advance.new.self }; stock = t.stock; pending_call = c.returning-self.result }) u)
     (sym c.take_out-found.ensures.table)
-    (fits_emptied d t v e (drop 1 t.frame.endings.list) h c.advance.new.self c.returning-self.result e.statement x c.known.ensures
+    (fits_emptied d t v e (drop 1 t.frame.endings.list) h c.advance.new.self c.returning-self.result e.statement x c.assert_invariant.ensures
     c.requires.fits c.requires.pending_call
     (first_is t.frame.endings.list e first) (ending_here d v t.frame.endings.list e c.requires.fits.endings.all first)
     c.take_out-found.ensures.found

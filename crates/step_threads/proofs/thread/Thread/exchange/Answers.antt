@@ -19,7 +19,7 @@ returns-clause-fits c =
     let after = c.exchange-found.new.self in
     subst (λ (u : GhostState). FitsThread d (record { frame = after; stock = t.stock; pending_call = c.returning-self.result }) u)
     (sym c.exchange-found.ensures.table)
-    (fits_swapped d t v c.args.cell (as_word (slot_value slots c.args.name)) found n c.returning-self.result after c.known.ensures c.requires.fits
+    (fits_swapped d t v c.args.cell (as_word (slot_value slots c.args.name)) found n c.returning-self.result after c.assert_invariant.ensures c.requires.fits
     c.requires.pending_call c.requires.none
     (cell_of_exchange d t v c.args.name c.args.cell c.requires.fits c.requires.within c.requires.act)
     (subst (λ (u : GhostState). HasGoneOn d t.frame after u) c.exchange-found.ensures.table c.exchange-found.ensures.on)

@@ -17,7 +17,7 @@ returns-clause-fits c =
     (sym c.requires.begins.rest)
     (fits_done (tell_expired (model_state v)) d t v c.is_expired-expired.new.table (slot_pointer t.frame.registers.slots.items c.args.name)
     c.is_expired-expired.new.self
-    c.known.ensures c.requires.begins.fits c.requires.begins.rest c.requires.begins.none (λ x. refl) (λ x. refl) on.table on.on)
+    c.assert_invariant.ensures c.requires.begins.fits c.requires.begins.rest c.requires.begins.none (λ x. refl) (λ x. refl) on.table on.on)
 
 pub is_expired-expired-requires-clause-can : goal.is_expired-expired-requires-clause-can
 is_expired-expired-requires-clause-can c =

@@ -14,4 +14,4 @@ returns-clause-fits c =
     fits_as d t (Refill Checking c.args.cell x c.args.statement) c.at_stage-self.result _ c.give_back.new.self c.at_stage-self.ensures
     (c.give_back.ensures ∙ ap (λ (k : Kind). ghost_after_step v d (OnCell (GiveBack k b c.from.result))) c.kind_in-kind.ensures
     ∙ ap (λ (n : ℕ). ghost_after_step v d (OnCell (GiveBack (kind_in_state (model_state v) c.args.cell) b n))) c.from.ensures)
-    (fits_failed d t v c.args.cell x c.args.statement c.requires.fits b c.known.ensures c.requires.pending_call)
+    (fits_failed d t v c.args.cell x c.args.statement c.requires.fits b c.assert_invariant.ensures c.requires.pending_call)

@@ -23,8 +23,8 @@ put-requires c =
     let e = c.finish-vacant.ensures.after ∙ ap (λ (r : Bool). ghost_after_step v c.args.desk (atomic_step.Finish c.args.ending.block r)) c.if-not-vacant.false
     in
     let is = ending_here c.args.desk v c.args.self.now.frame.endings.list c.args.ending c.requires.fits.endings.all c.requires.first in
-    room_left c.args.desk c.args.self.now v c.args.ending c.known.ensures
-    (subst (λ (u : GhostState). TableInvariant u) e c.known-2.ensures) c.requires.fits c.requires.rest is
+    room_left c.args.desk c.args.self.now v c.args.ending c.assert_invariant.ensures
+    (subst (λ (u : GhostState). TableInvariant u) e c.assert_invariant-2.ensures) c.requires.fits c.requires.rest is
 
 pub returns-clause-fits : goal.returns-clause-fits
 returns-clause-fits c =
@@ -40,7 +40,7 @@ returns-clause-fits c =
       pending_call = t.pending_call;
     }) u)
     (sym e)
-    (fits_finish c.args.desk t v c.args.ending c.finish.new.self c.put.new.self c.known.ensures c.requires.fits c.requires.rest c.finish.ensures.list
+    (fits_finish c.args.desk t v c.args.ending c.finish.new.self c.put.new.self c.assert_invariant.ensures c.requires.fits c.requires.rest c.finish.ensures.list
     c.finish.ensures.room is c.requires.empty c.put.ensures.blocks c.put.ensures.room)
 
 pub returns-then-not-vacant-clause-fits : goal.returns-then-not-vacant-clause-fits
@@ -55,5 +55,5 @@ returns-then-not-vacant-clause-fits c =
       pending_call =
           t.pending_call;
     }) u) (sym e)
-    (fits_finish_not c.args.desk t v c.args.ending c.finish.new.self c.known.ensures c.requires.fits c.requires.rest c.finish.ensures.list
+    (fits_finish_not c.args.desk t v c.args.ending c.finish.new.self c.assert_invariant.ensures c.requires.fits c.requires.rest c.finish.ensures.list
     c.finish.ensures.room is c.requires.empty)

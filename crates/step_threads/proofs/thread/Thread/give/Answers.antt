@@ -100,4 +100,4 @@ returns-clause-fits c =
     subst (λ (u : GhostState). FitsThread d (record { frame = after; stock = t.stock; pending_call = Rest }) u) (sym is)
     (fits_gone d t v (Giving k kind p) Rest r.fits r.pending_call (λ b. refl) (λ b. refl) (give kind p) after next.3 (give_stores v d p kind)
     (subst (λ (u : GhostState). HasGoneOn d t.frame after u) is (c.take.ensures.on d c.give.new.table c.give.ensures.holds))
-    (own_pending v d (give kind p) c.known.ensures r.fits.seat ∙ give_calm v d p kind) tt)
+    (own_pending v d (give kind p) c.assert_invariant.ensures r.fits.seat ∙ give_calm v d p kind) tt)

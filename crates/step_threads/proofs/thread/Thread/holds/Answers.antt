@@ -88,4 +88,4 @@ returns-clause-fits c =
     let slots = c.args.self.now.frame.registers.slots.items in
     let look = c.holds-holds.ensures in
     held_on c.args.desk c.args.self.now v c.requires.begins (cell_of_name (model_state v) slots c.args.cell) (as_word (slot_value slots c.args.name))
-    c.holds-holds.result c.holds-holds.new.self c.holds-holds.new.table c.known.ensures look.table look.on
+    c.holds-holds.result c.holds-holds.new.self c.holds-holds.new.table c.assert_invariant.ensures look.table look.on

@@ -50,7 +50,7 @@ returns-then-is_none-clause-fits c =
     let look = c.look_to_load-found.ensures in
     let bare : is_some c.look_to_load-found.result.owned ≡ false = c.if-is_none.ensures in
     looked_on d t v r.begins (cell_of_name (model_state v) t.frame.registers.slots.items c.args.cell) None
-    c.look_to_load-found.result c.look_to_load-found.new.self c.look_to_load-found.new.table c.known.ensures
+    c.look_to_load-found.result c.look_to_load-found.new.self c.look_to_load-found.new.table c.assert_invariant.ensures
     (look.table ∙ cond-false (is_some c.look_to_load-found.result.owned) _ _ bare) (look.on bare)
 
 pub returns-then-from-eq-CELL_FUNDS-clause-stepped : goal.returns-then-from-eq-CELL_FUNDS-clause-stepped

@@ -81,7 +81,7 @@ returns-then-word-eq0-clause-fits c =
     let after = c.take-then-word-eq0.new.self in
     let w = c.look_lock-word.new.table in
     subst (λ (h : PendingCall). FitsThread d (record { frame = after; stock = t.stock; pending_call = h }) w) (sym r.begins.rest)
-    (fits_done (lock (model_state v)) d t v w (Some p) after c.known.ensures r.begins.fits r.begins.rest r.begins.none (λ x. refl) (λ x. refl)
+    (fits_done (lock (model_state v)) d t v w (Some p) after c.assert_invariant.ensures r.begins.fits r.begins.rest r.begins.none (λ x. refl) (λ x. refl)
     (look.table ∙ cond-true (c.look_lock-word.result == 0) _ _ zero) (c.take-then-word-eq0.ensures.on d w look.holds))
 
 pub returns-clause-stepped : goal.returns-clause-stepped

@@ -23,5 +23,5 @@ returns-clause-fits c =
     subst (λ (u : GhostState). FitsThread d (record { frame = record t.frame { endings = c.advance.new.self }; stock = t.stock; pending_call = t.pending_call })
     u)
     (sym (c.look_member.ensures.after ∙ cond-true (c.look_member.result == 0) (ghost_after_step v d (atomic_step.Clear e.block e.stage)) v zero))
-    (fits_clear d t v e c.advance.new.self (drop 1 t.frame.endings.list) c.known.ensures c.requires.fits c.requires.rest
+    (fits_clear d t v e c.advance.new.self (drop 1 t.frame.endings.list) c.assert_invariant.ensures c.requires.fits c.requires.rest
     (first_is t.frame.endings.list e c.requires.first) c.advance.ensures.list c.advance.ensures.room is c.requires.inside c.requires.empty)

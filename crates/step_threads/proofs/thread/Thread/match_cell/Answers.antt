@@ -65,7 +65,7 @@ returns-clause-stepped c =
     let kind = c.kind_in-kind.ensures ∙ ap (kind_in_state (model_state v)) c.cell-at.ensures in
     swaps_it d t v k n c.args.weak x within r.act (match_at d t v k n c.args.weak x r.fits r.act r.pending_call r.alike r.owes)
     (match_goes d t v k n c.args.weak x r.fits r.act r.pending_call) _ _ _ same
-    (tells_still d t v k n c.args.weak x r.fits r.act true c.known.ensures within (match_valid d t v k n c.args.weak x r.fits r.act r.pending_call) same
+    (tells_still d t v k n c.args.weak x r.fits r.act true c.assert_invariant.ensures within (match_valid d t v k n c.args.weak x r.fits r.act r.pending_call) same
     r.alike)
     (ap (λ (s : Said). Event s) (c.compared.ensures ∙ ap (λ (m : ℕ). answers m true) c.statement-statement.ensures))
     (swap.ensures.table ∙ cond-true swap.result _ _ hit) (swap.ensures.frame_view hit)
@@ -95,7 +95,7 @@ returns-clause-fits c =
       stock = t.stock;
       pending_call = gives_back (kind_in_state (model_state v) (cell_of_name (model_state v) t.frame.registers.slots.items n)) m x x.owned;
     }) u) (sym table)
-    (compare_swapped d t v k n c.args.weak x r.fits r.act swap.new.self (compared_in slots (comparing slots k c.args.weak)) c.known.ensures m
+    (compare_swapped d t v k n c.args.weak x r.fits r.act swap.new.self (compared_in slots (comparing slots k c.args.weak)) c.assert_invariant.ensures m
     (looking_claims t x r.pending_call) (match_none d t v k n c.args.weak x r.fits r.act r.pending_call)
     (subst (λ (u : GhostState). HasGoneOn d t.frame swap.new.self u) table (swap.ensures.on hit))))
 

@@ -30,7 +30,7 @@ left-ended-requires-clause-begins c = λ x.
     let said : c.put-last.result ≡ on (is_last (model_state v)) false c.get-held.result =
     c.put-last.ensures.last ∙ ap (on (is_last (model_state v)) false) (sym h) in
     begins_room v c.put-last.new.table c.args.desk c.args.self.now c.put-last.new.self
-    c.get-held.result c.put-last.result x c.known-2.ensures c.requires.begins.fits c.requires.begins.none c.put-last.ensures.on.endings is said
+    c.get-held.result c.put-last.result x c.assert_invariant-2.ensures c.requires.begins.fits c.requires.begins.none c.put-last.ensures.on.endings is said
 
 pub left-ended-requires-clause-room : goal.left-ended-requires-clause-room
 left-ended-requires-clause-room c = λ x.
@@ -41,7 +41,7 @@ left-ended-requires-clause-room c = λ x.
     c.put-last.ensures.table ∙ ap (done_on (leave (model_state v)) v c.args.desk) (sym h) in
     let said : c.put-last.result ≡ on (is_last (model_state v)) false c.get-held.result =
     c.put-last.ensures.last ∙ ap (on (is_last (model_state v)) false) (sym h) in
-    room_weak v c.put-last.new.table c.args.desk c.args.self.now c.get-held.result c.put-last.result x c.known.ensures c.known-2.ensures
+    room_weak v c.put-last.new.table c.args.desk c.args.self.now c.get-held.result c.put-last.result x c.assert_invariant.ensures c.assert_invariant-2.ensures
     c.requires.begins.fits c.requires.begins.rest is said
 
 pub returns-clause-fits : goal.returns-clause-fits
@@ -64,7 +64,7 @@ returns-clause-fits c =
       roomy = c.left-ended.ensures.roomy;
     } in
     fits_left c.args.desk c.args.self.now c.left-ended.new.self v c.put-last.new.table c.put-last.new.self
-    c.statement-statement.result c.get-held.result c.put-last.result c.known.ensures c.known-2.ensures
+    c.statement-statement.result c.get-held.result c.put-last.result c.assert_invariant.ensures c.assert_invariant-2.ensures
     c.requires.begins.fits c.requires.begins.rest c.requires.begins.none is said has c.left-ended.ensures.pending_call c.left-ended.ensures.stock
 
 pub returns-clause-stepped : goal.returns-clause-stepped

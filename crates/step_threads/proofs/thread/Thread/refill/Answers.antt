@@ -26,7 +26,7 @@ returns-clause-fits c =
       | then-refill_cell p ↦
           fits_as d t Rest c.if-refill_cell.self w c.refill_cell.new.self p.self-is
           (c.refill_cell.ensures.after ∙ ap (λ (b : Bool). cond b w v) p.if-refill_cell.true)
-          (fits_refilled d t v cell x k c.requires.fits c.known.ensures c.requires.pending_call)
+          (fits_refilled d t v cell x k c.requires.fits c.assert_invariant.ensures c.requires.pending_call)
       | else-refill_cell p ↦
           fits_as d t (Refill Failing cell x k) c.if-refill_cell.self v c.refill_cell.new.self (p.self-is ∙ p.at_stage-self.ensures)
           (c.refill_cell.ensures.after ∙ ap (λ (b : Bool). cond b w v) p.if-refill_cell.false)

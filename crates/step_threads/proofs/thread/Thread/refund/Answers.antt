@@ -14,4 +14,4 @@ returns-clause-fits c =
     fits_as d t (Refill Refilling c.args.cell x c.args.statement) c.at_stage-self.result _ c.bring.new.self c.at_stage-self.ensures
     (c.bring.ensures ∙ ap (λ (k : Kind). ghost_after_step v d (OnCell (Bring k b x.place c.from.result))) c.kind_in.ensures
     ∙ ap (λ (n : ℕ). ghost_after_step v d (OnCell (Bring (kind_in_state (model_state v) c.args.cell) b x.place n))) c.from.ensures)
-    (fits_refunded d t v c.args.cell x c.args.statement c.requires.fits b c.known.ensures c.requires.pending_call c.requires.owned)
+    (fits_refunded d t v c.args.cell x c.args.statement c.requires.fits b c.assert_invariant.ensures c.requires.pending_call c.requires.owned)

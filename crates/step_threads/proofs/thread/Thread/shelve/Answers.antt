@@ -45,6 +45,6 @@ returns-in-Some-clause-fits c =
     c.in-Some.ensures.least.0 in
     subst (λ (h : PendingCall). FitsThread d (record { frame = frame; stock = s; pending_call = h }) c.shelve.new.self) (sym c.requires.begins.rest)
     (subst (λ (u : GhostState). FitsThread d (record { frame = frame; stock = s; pending_call = Rest }) u) (sym c.shelve.ensures)
-    (fits_moved d t v b shelf.Shelve frame s c.known.ensures c.requires.begins.fits c.requires.begins.none
+    (fits_moved d t v b shelf.Shelve frame s c.assert_invariant.ensures c.requires.begins.fits c.requires.begins.none
     (c.go_on-in-Some.ensures.on d w (record { owned = holds.owned; size = holds.size; formed = holds.formed }))
     (subst (λ (n : ℕ). Stocks d s.blocks n Rest w) (sym c.take_least.ensures.room) stocks)))

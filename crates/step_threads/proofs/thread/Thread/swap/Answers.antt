@@ -18,7 +18,7 @@ returns-clause-fits c =
     let after = c.swap-found.new.self in
     subst (λ (u : GhostState). FitsThread d (record { frame = after; stock = t.stock; pending_call = c.returning-self.result }) u)
     (sym c.swap-found.ensures.table)
-    (fits_swapped d t v c.args.cell (as_word (slot_value slots (hand slots))) found n c.returning-self.result after c.known.ensures c.requires.fits
+    (fits_swapped d t v c.args.cell (as_word (slot_value slots (hand slots))) found n c.returning-self.result after c.assert_invariant.ensures c.requires.fits
     c.requires.pending_call c.requires.none
     (cell_of_swap d t v c.args.cell c.requires.fits c.requires.within c.requires.act)
     (subst (λ (u : GhostState). HasGoneOn d t.frame after u) c.swap-found.ensures.table c.swap-found.ensures.on)

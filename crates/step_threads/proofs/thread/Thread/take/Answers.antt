@@ -25,7 +25,7 @@ returns-clause-fits c =
       pending_call = Refill Turning (cell_of_name (model_state v) t.frame.registers.slots.items c.args.cell)
           (more_taken x) n;
     }) u) (sym is)
-    (fits_taken d t v c.args.cell x c.requires.fits c' n c.known.ensures c.requires.pending_call c.requires.act
+    (fits_taken d t v c.args.cell x c.requires.fits c' n c.assert_invariant.ensures c.requires.pending_call c.requires.act
     (subst (λ (u : GhostState). HasGoneOn d t.frame c' u) is (c.take_fund.ensures.on c.if-not-take_fund.false))))
 
 pub cell-at-requires-clause-named : goal.cell-at-requires-clause-named

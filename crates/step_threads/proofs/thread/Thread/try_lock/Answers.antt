@@ -75,7 +75,7 @@ returns-then-now-word-clause-fits c =
     subst (λ (u : GhostState). FitsThread d (record { frame = after; stock = t.stock; pending_call = Rest }) u) (sym is)
     (fits_gone d t v (Locking word) Rest r.fits r.pending_call (λ b. refl) (λ b. refl) atomic_step after next.2 refl
     (subst (λ (u : GhostState). HasGoneOn d t.frame after u) is (c.take.ensures.on d c.try_lock-now.new.table look.holds))
-    (own_pending v d atomic_step c.known.ensures r.fits.seat) tt)
+    (own_pending v d atomic_step c.assert_invariant.ensures r.fits.seat) tt)
 
 pub returns-clause-stepped : goal.returns-clause-stepped
 returns-clause-stepped c =

@@ -20,4 +20,4 @@ returns-clause-fits c =
     ] in
     fits_as d t (cond (is_low x) next Rest) c.if-is_low.self _ c.turn_fund.new.self pending_call
     (c.turn_fund.ensures ∙ ap (λ (k : Kind). ghost_after_step v d (OnCell (Turn k b))) c.kind_in.ensures)
-    (fits_turned d t v c.args.cell x c.args.statement c.requires.fits b c.known.ensures c.requires.pending_call)
+    (fits_turned d t v c.args.cell x c.args.statement c.requires.fits b c.assert_invariant.ensures c.requires.pending_call)

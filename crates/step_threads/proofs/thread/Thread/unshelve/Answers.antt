@@ -12,7 +12,7 @@ use Rattle.step_threads.proofs.thread.Thread.unshelve.Goals as goal
 pub put-requires : goal.put-requires
 put-requires c =
     room_unshelve c.args.desk c.args.self.now c.args.table.now c.unshelve-got.new.self c.args.block c.requires.begins.fits c.requires.begins.rest
-    c.if-not-got.ensures.after c.known-2.ensures
+    c.if-not-got.ensures.after c.assert_invariant-2.ensures
 
 pub returns-then-not-got-clause-fits : goal.returns-then-not-got-clause-fits
 returns-then-not-got-clause-fits c =
@@ -26,7 +26,7 @@ returns-then-not-got-clause-fits c =
     let stocks = stocks_missed d t.stock.blocks t.stock.room v b (resting d t v c.requires.begins.fits c.requires.begins.rest) in
     subst (λ (h : PendingCall). FitsThread d (record { frame = frame; stock = t.stock; pending_call = h }) c.unshelve-got.new.self) (sym c.requires.begins.rest)
     (subst (λ (u : GhostState). FitsThread d (record { frame = frame; stock = t.stock; pending_call = Rest }) u) (sym c.if-not-got.ensures.after)
-    (fits_moved d t v b shelf.Miss frame t.stock c.known.ensures c.requires.begins.fits c.requires.begins.none
+    (fits_moved d t v b shelf.Miss frame t.stock c.assert_invariant.ensures c.requires.begins.fits c.requires.begins.none
     (c.go_on.ensures.on d w (record { owned = holds.owned; size = holds.size; formed = holds.formed })) stocks))
 
 pub returns-clause-fits : goal.returns-clause-fits
@@ -42,7 +42,7 @@ returns-clause-fits c =
     let stocks = stocks_unshelve d t.stock s v b (resting d t v c.requires.begins.fits c.requires.begins.rest) c.put.ensures.blocks c.put.ensures.room in
     subst (λ (h : PendingCall). FitsThread d (record { frame = frame; stock = s; pending_call = h }) c.unshelve-got.new.self) (sym c.requires.begins.rest)
     (subst (λ (u : GhostState). FitsThread d (record { frame = frame; stock = s; pending_call = Rest }) u) (sym c.if-not-got.ensures.after)
-    (fits_moved d t v b shelf.Unshelve frame s c.known.ensures c.requires.begins.fits c.requires.begins.none
+    (fits_moved d t v b shelf.Unshelve frame s c.assert_invariant.ensures c.requires.begins.fits c.requires.begins.none
     (c.go_on-2.ensures.on d w (record { owned = holds.owned; size = holds.size; formed = holds.formed })) stocks))
 
 pub go_on-requires-clause-ready : goal.go_on-requires-clause-ready

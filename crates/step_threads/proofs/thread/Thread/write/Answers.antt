@@ -11,7 +11,7 @@ returns-clause-fits c =
     let e = form_here c.args.self.now.frame c.args.form c.requires.act in
     let w = subst (λ (f : Form). FitsThread c.args.desk t (ghost_after_step c.args.table.now c.args.desk (atomic_step.Write c.args.block c.args.index (get_or
     (wanted f) c.args.index 0)))) e
-    (fits_write c.args.desk c.args.self.now c.args.table.now c.args.block c.args.index c.known.ensures c.requires.fits c.requires.pending_call
+    (fits_write c.args.desk c.args.self.now c.args.table.now c.args.block c.args.index c.assert_invariant.ensures c.requires.fits c.requires.pending_call
     c.requires.inside) in
     subst (λ (v : GhostState). FitsThread c.args.desk t v)
     (ap (λ (n : ℕ). ghost_after_step c.args.table.now c.args.desk (atomic_step.Write c.args.block c.args.index n)) (sym c.wanted_word.ensures) ∙ sym

@@ -10,7 +10,7 @@ share-requires-clause-held c = owner_held c.args.desk c.args.self.now.slots.item
 
 pub share-requires-clause-room : goal.share-requires-clause-room
 share-requires-clause-room c =
-    has_room c.args.desk c.args.self.now.slots.items c.args.table.now c.args.to c.known.ensures c.requires.seat c.requires.holds c.args.self.now.few
+    has_room c.args.desk c.args.self.now.slots.items c.args.table.now c.args.to c.assert_invariant.ensures c.requires.seat c.requires.holds c.args.self.now.few
     c.requires.inside c.requires.empty
 
 pub returns-clause-holds : goal.returns-clause-holds

@@ -7,12 +7,12 @@ use Rattle.step_table.proofs.slots.registers.Registers.claim.Goals as goal
 
 pub claim-requires-clause-room : goal.claim-requires-clause-room
 claim-requires-clause-room c =
-    has_room c.args.desk c.args.self.now.slots.items c.args.table.now c.args.to c.known.ensures c.requires.seat c.requires.holds c.args.self.now.few
+    has_room c.args.desk c.args.self.now.slots.items c.args.table.now c.args.to c.assert_invariant.ensures c.requires.seat c.requires.holds c.args.self.now.few
     c.requires.inside c.requires.empty
 
 pub returns-clause-holds : goal.returns-clause-holds
 returns-clause-holds c =
-    let k = c.known.ensures in
+    let k = c.assert_invariant.ensures in
     let m = c.requires.making in
     let slots = c.args.self.now.slots.items in
     let b = c.args.block in

@@ -11,37 +11,37 @@ use Rattle.step_table.proofs.slots.registers.Registers.compare_and_swap.Goals as
 pub compare_and_swap-requires-clause-expected : goal.compare_and_swap-requires-clause-expected
 compare_and_swap-requires-clause-expected c =
     goes_in_hand c.args.desk c.args.self.now.slots.items c.args.table.now c.args.comparing.expected c.args.cell c.compared-compared.result.expected
-    c.known.ensures c.requires.holds
+    c.assert_invariant.ensures c.requires.holds
     c.requires.compare.kinds.0 (ap (λ (q : Compared). q.expected) c.compared-compared.ensures)
 
 pub compare_and_swap-requires-clause-hand : goal.compare_and_swap-requires-clause-hand
 compare_and_swap-requires-clause-hand c =
     goes_in_hand c.args.desk c.args.self.now.slots.items c.args.table.now c.args.comparing.new c.args.cell c.compared-compared.result.new
-    c.known.ensures c.requires.holds
+    c.assert_invariant.ensures c.requires.holds
     c.requires.compare.kinds.1 (ap (λ (q : Compared). q.new) c.compared-compared.ensures)
 
 pub compare_and_swap-requires-clause-alike : goal.compare_and_swap-requires-clause-alike
 compare_and_swap-requires-clause-alike c =
-    alike_in c.args.desk c.args.self.now.slots.items c.args.table.now c.args.cell c.args.seen c.args.comparing c.compared-compared.result c.known.ensures
+    alike_in c.args.desk c.args.self.now.slots.items c.args.table.now c.args.cell c.args.seen c.args.comparing c.compared-compared.result c.assert_invariant.ensures
     c.requires.holds c.compared-compared.ensures
     ∙ c.requires.alike
 
 pub compare_and_swap-requires-clause-new : goal.compare_and_swap-requires-clause-new
 compare_and_swap-requires-clause-new c =
     goes_valid c.args.desk c.args.self.now.slots.items c.args.table.now c.args.comparing.new c.args.cell c.compared-compared.result.new
-    c.known.ensures c.requires.holds
+    c.assert_invariant.ensures c.requires.holds
     c.requires.compare.kinds.1 (ap (λ (q : Compared). q.new) c.compared-compared.ensures)
 
 pub compare_and_swap-requires-clause-owes : goal.compare_and_swap-requires-clause-owes
 compare_and_swap-requires-clause-owes c =
     goes_paid c.args.desk c.args.self.now.slots.items c.args.table.now c.args.comparing.new c.args.cell c.compared-compared.result.new
-    c.known.ensures c.requires.holds
+    c.assert_invariant.ensures c.requires.holds
     c.requires.compare.kinds.1 (ap (λ (q : Compared). q.new) c.compared-compared.ensures) c.requires.owes
 
 pub compare_and_swap-requires-clause-room : goal.compare_and_swap-requires-clause-room
 compare_and_swap-requires-clause-room c =
     goes_roomy c.args.desk c.args.self.now.slots.items c.args.table.now c.args.comparing.new c.args.cell c.compared-compared.result.new
-    c.known.ensures c.requires.holds
+    c.assert_invariant.ensures c.requires.holds
     c.requires.compare.kinds.1 (ap (λ (q : Compared). q.new) c.compared-compared.ensures) c.requires.seat c.args.self.now.few c.requires.compare.new
 
 pub returns-clause-slots : goal.returns-clause-slots
@@ -49,7 +49,7 @@ returns-clause-slots c =
     let v = c.args.table.now in
     let m = c.args.comparing in
     let bits = eqb-true _ _ (sym c.compare_and_swap.ensures.same ∙ c.if-not-compare_and_swap.false) in
-    let found = open_found v c.args.desk c.args.cell c.args.seen c.known.ensures c.requires.seat c.requires.open c.requires.seen bits in
+    let found = open_found v c.args.desk c.args.cell c.args.seen c.assert_invariant.ensures c.requires.seat c.requires.open c.requires.seen bits in
     ap (λ (y : Slot). slots_swapped m.new m.other c.args.self.now.slots.items y)
     (comes v c.args.desk c.args.cell c.args.seen c.kind_in-kind.result c.slot_in.result found c.kind_in-kind.ensures c.slot_in.ensures)
 
@@ -60,7 +60,7 @@ returns-clause-holds c =
     let l = c.args.self.now.slots.items in
     let m = c.args.comparing in
     let bits = eqb-true _ _ (sym c.compare_and_swap.ensures.same ∙ c.if-not-compare_and_swap.false) in
-    let found = open_found v d c.args.cell c.args.seen c.known.ensures c.requires.seat c.requires.open c.requires.seen bits in
+    let found = open_found v d c.args.cell c.args.seen c.assert_invariant.ensures c.requires.seat c.requires.open c.requires.seen bits in
     let y = comes v d c.args.cell c.args.seen c.kind_in-kind.result c.slot_in.result found c.kind_in-kind.ensures c.slot_in.ensures in
     let w = ghost_after_step v d (OnCell (CompareSwap c.args.cell c.args.seen c.compared-compared.result)) in
     let t = c.compare_and_swap.ensures.after ∙ ap (λ (b : Bool). cond b w v) c.if-not-compare_and_swap.false in

@@ -9,7 +9,7 @@ give-requires-clause-held c = inside_held c.args.desk c.args.self.now.slots.item
 
 pub give-requires-clause-room : goal.give-requires-clause-room
 give-requires-clause-room c =
-    has_room c.args.desk c.args.self.now.slots.items c.args.table.now c.args.to c.known.ensures c.requires.seat c.requires.holds c.args.self.now.few
+    has_room c.args.desk c.args.self.now.slots.items c.args.table.now c.args.to c.assert_invariant.ensures c.requires.seat c.requires.holds c.args.self.now.few
     c.requires.inside c.requires.empty
 
 pub returns-clause-holds : goal.returns-clause-holds
@@ -18,5 +18,5 @@ returns-clause-holds c =
     subst (λ (s : Slots). HoldsBag c.args.desk s c.give.new.self)
     (sym (c.fill.ensures ∙ ap (λ (x : Handle). set slots c.args.to (Full x)) c.this_of.ensures))
     (subst (λ (v : GhostState). HoldsBag c.args.desk (set slots c.args.to (Full (this_as c.args.kind c.args.pointer))) v) (sym c.give.ensures)
-    (holds_give c.args.desk slots c.args.table.now c.args.to c.args.kind c.args.pointer c.known.ensures c.requires.holds
+    (holds_give c.args.desk slots c.args.table.now c.args.to c.args.kind c.args.pointer c.assert_invariant.ensures c.requires.holds
     (inside_held c.args.desk slots c.args.table.now c.args.from c.args.pointer c.requires.holds c.requires.from) c.requires.inside c.requires.empty))

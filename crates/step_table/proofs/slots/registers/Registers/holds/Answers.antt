@@ -8,7 +8,7 @@ use Rattle.step_table.proofs.slots.registers.Registers.holds.Goals as goal
 
 pub holds-requires-clause-hand : goal.holds-requires-clause-hand
 holds-requires-clause-hand c =
-    goes_in_hand c.args.desk c.args.self.now.slots.items c.args.table.now c.args.at c.args.cell c.word-value.result c.known.ensures c.requires.holds
+    goes_in_hand c.args.desk c.args.self.now.slots.items c.args.table.now c.args.at c.args.cell c.word-value.result c.assert_invariant.ensures c.requires.holds
     c.requires.kind c.word-value.ensures
 
 pub returns-clause-exact : goal.returns-clause-exact

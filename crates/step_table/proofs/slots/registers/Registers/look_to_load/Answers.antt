@@ -11,21 +11,21 @@ returns-then-is_some-clause-found c =
     let v = c.args.table.now in
     let x = c.look_cell-found.result in
     shows_seen v c.args.desk c.args.cell x
-    (open_shown v c.args.desk c.args.cell x c.known.ensures c.requires.seat c.requires.open c.look_cell-found.ensures.found)
+    (open_shown v c.args.desk c.args.cell x c.assert_invariant.ensures c.requires.seat c.requires.open c.look_cell-found.ensures.found)
 
 pub returns-clause-found : goal.returns-clause-found
 returns-clause-found c =
     let v = c.args.table.now in
     let x = c.look_cell-found.result in
     shows_seen v c.args.desk c.args.cell x
-    (open_shown v c.args.desk c.args.cell x c.known.ensures c.requires.seat c.requires.open c.look_cell-found.ensures.found)
+    (open_shown v c.args.desk c.args.cell x c.assert_invariant.ensures c.requires.seat c.requires.open c.look_cell-found.ensures.found)
 
 pub returns-clause-slots : goal.returns-clause-slots
 returns-clause-slots c =
     let v = c.args.table.now in
     let x = c.look_cell-found.result in
     let slots = c.args.self.now.slots.items in
-    let found = open_shown v c.args.desk c.args.cell x c.known.ensures c.requires.seat c.requires.open c.look_cell-found.ensures.found in
+    let found = open_shown v c.args.desk c.args.cell x c.assert_invariant.ensures c.requires.seat c.requires.open c.look_cell-found.ensures.found in
     ap (λ (z : Slot). set slots c.args.to z)
     (comes v c.args.desk c.args.cell x c.kind_in-kind.result c.slot_in.result found c.kind_in-kind.ensures c.slot_in.ensures)
     ∙ sym (cond-false (is_some x.owned) slots (set slots c.args.to (slot_of (model_state v) (held_in (model_state v) c.args.cell)))
@@ -37,7 +37,7 @@ returns-clause-holds c =
     let d = c.args.desk in
     let slots = c.args.self.now.slots.items in
     let x = c.look_cell-found.result in
-    let found = open_shown v c.args.desk c.args.cell x c.known.ensures c.requires.seat c.requires.open c.look_cell-found.ensures.found in
+    let found = open_shown v c.args.desk c.args.cell x c.assert_invariant.ensures c.requires.seat c.requires.open c.look_cell-found.ensures.found in
     let y = comes v d c.args.cell x c.kind_in-kind.result c.slot_in.result found c.kind_in-kind.ensures c.slot_in.ensures in
     let w = ghost_after_step v d (OnCell (Look c.args.cell x None)) in
     let t = c.look_cell-found.ensures.after ∙ ap (λ (b : Bool). cond b v w) (sym c.is_some.ensures ∙ c.if-is_some.false) in

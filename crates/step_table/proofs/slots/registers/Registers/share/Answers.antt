@@ -13,7 +13,7 @@ copy_pointer-requires-clause-place c =
 
 pub copy_pointer-requires-clause-room : goal.copy_pointer-requires-clause-room
 copy_pointer-requires-clause-room c =
-    has_room c.args.desk c.args.self.now.slots.items c.args.table.now c.args.to c.known.ensures c.requires.seat c.requires.holds c.args.self.now.few
+    has_room c.args.desk c.args.self.now.slots.items c.args.table.now c.args.to c.assert_invariant.ensures c.requires.seat c.requires.holds c.args.self.now.few
     c.requires.inside c.requires.empty
 
 pub returns-clause-holds : goal.returns-clause-holds

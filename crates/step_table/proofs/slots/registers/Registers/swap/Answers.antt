@@ -12,28 +12,28 @@ pub swap_cell-found-requires-clause-new : goal.swap_cell-found-requires-clause-n
 swap_cell-found-requires-clause-new c =
     let l = c.args.self.now.slots.items in
     let e = get_or_read l c.args.from c.index.result.now c.requires.from c.index.ensures plain in
-    goes_valid c.args.desk l c.args.table.now c.args.from c.args.cell c.word-new.result c.known.ensures c.requires.holds c.requires.kind
+    goes_valid c.args.desk l c.args.table.now c.args.from c.args.cell c.word-new.result c.assert_invariant.ensures c.requires.holds c.requires.kind
     (c.word-new.ensures ∙ ap as_word e)
 
 pub swap_cell-found-requires-clause-hand : goal.swap_cell-found-requires-clause-hand
 swap_cell-found-requires-clause-hand c =
     let l = c.args.self.now.slots.items in
     let e = get_or_read l c.args.from c.index.result.now c.requires.from c.index.ensures plain in
-    goes_in_hand c.args.desk l c.args.table.now c.args.from c.args.cell c.word-new.result c.known.ensures c.requires.holds c.requires.kind
+    goes_in_hand c.args.desk l c.args.table.now c.args.from c.args.cell c.word-new.result c.assert_invariant.ensures c.requires.holds c.requires.kind
     (c.word-new.ensures ∙ ap as_word e)
 
 pub swap_cell-found-requires-clause-owes : goal.swap_cell-found-requires-clause-owes
 swap_cell-found-requires-clause-owes c =
     let l = c.args.self.now.slots.items in
     let e = get_or_read l c.args.from c.index.result.now c.requires.from c.index.ensures plain in
-    goes_paid c.args.desk l c.args.table.now c.args.from c.args.cell c.word-new.result c.known.ensures c.requires.holds c.requires.kind
+    goes_paid c.args.desk l c.args.table.now c.args.from c.args.cell c.word-new.result c.assert_invariant.ensures c.requires.holds c.requires.kind
     (c.word-new.ensures ∙ ap as_word e) c.requires.owes
 
 pub swap_cell-found-requires-clause-room : goal.swap_cell-found-requires-clause-room
 swap_cell-found-requires-clause-room c =
     let l = c.args.self.now.slots.items in
     let e = get_or_read l c.args.from c.index.result.now c.requires.from c.index.ensures plain in
-    goes_roomy c.args.desk l c.args.table.now c.args.from c.args.cell c.word-new.result c.known.ensures c.requires.holds c.requires.kind
+    goes_roomy c.args.desk l c.args.table.now c.args.from c.args.cell c.word-new.result c.assert_invariant.ensures c.requires.holds c.requires.kind
     (c.word-new.ensures ∙ ap as_word e)
     c.requires.seat c.args.self.now.few c.requires.from
 
@@ -42,7 +42,7 @@ returns-clause-found c =
     let v = c.args.table.now in
     let x = c.swap_cell-found.result in
     shows_seen v c.args.desk c.args.cell x
-    (open_shown v c.args.desk c.args.cell x c.known.ensures c.requires.seat c.requires.open c.swap_cell-found.ensures.found)
+    (open_shown v c.args.desk c.args.cell x c.assert_invariant.ensures c.requires.seat c.requires.open c.swap_cell-found.ensures.found)
 
 pub returns-clause-few : goal.returns-clause-few
 returns-clause-few c = c.swap_cell-found.ensures.found.valid.taken
@@ -51,7 +51,7 @@ pub returns-clause-slots : goal.returns-clause-slots
 returns-clause-slots c =
     let v = c.args.table.now in
     let x = c.swap_cell-found.result in
-    let found = open_shown v c.args.desk c.args.cell x c.known.ensures c.requires.seat c.requires.open c.swap_cell-found.ensures.found in
+    let found = open_shown v c.args.desk c.args.cell x c.assert_invariant.ensures c.requires.seat c.requires.open c.swap_cell-found.ensures.found in
     ap (λ (y : Slot). set (set c.args.self.now.slots.items c.args.to y) c.args.from plain)
     (comes v c.args.desk c.args.cell x c.kind_in-kind.result c.slot_in.result found c.kind_in-kind.ensures c.slot_in.ensures)
 
@@ -61,7 +61,7 @@ returns-clause-holds c =
     let d = c.args.desk in
     let l = c.args.self.now.slots.items in
     let x = c.swap_cell-found.result in
-    let found = open_shown v d c.args.cell x c.known.ensures c.requires.seat c.requires.open c.swap_cell-found.ensures.found in
+    let found = open_shown v d c.args.cell x c.assert_invariant.ensures c.requires.seat c.requires.open c.swap_cell-found.ensures.found in
     let y = comes v d c.args.cell x c.kind_in-kind.result c.slot_in.result found c.kind_in-kind.ensures c.slot_in.ensures in
     let e = c.word-new.ensures ∙ ap as_word (get_or_read l c.args.from c.index.result.now c.requires.from c.index.ensures plain) in
     let t = c.swap_cell-found.ensures.after ∙ ap (λ (w : CellWord). ghost_after_step v d (OnCell (Swap c.args.cell w x))) e in

@@ -11,24 +11,24 @@ use Rattle.step_table.proofs.slots.registers.Registers.take_differing.Goals as g
 pub take_differing-requires-clause-expected : goal.take_differing-requires-clause-expected
 take_differing-requires-clause-expected c =
     goes_in_hand c.args.desk c.args.self.now.slots.items c.args.table.now c.args.comparing.expected c.args.cell c.compared-compared.result.expected
-    c.known.ensures c.requires.holds
+    c.assert_invariant.ensures c.requires.holds
     c.requires.compare.kinds.0 (ap (λ (q : Compared). q.expected) c.compared-compared.ensures)
 
 pub take_differing-requires-clause-hand : goal.take_differing-requires-clause-hand
 take_differing-requires-clause-hand c =
     goes_in_hand c.args.desk c.args.self.now.slots.items c.args.table.now c.args.comparing.new c.args.cell c.compared-compared.result.new
-    c.known.ensures c.requires.holds
+    c.assert_invariant.ensures c.requires.holds
     c.requires.compare.kinds.1 (ap (λ (q : Compared). q.new) c.compared-compared.ensures)
 
 pub take_differing-requires-clause-differs : goal.take_differing-requires-clause-differs
 take_differing-requires-clause-differs c =
-    alike_in c.args.desk c.args.self.now.slots.items c.args.table.now c.args.cell c.args.seen c.args.comparing c.compared-compared.result c.known.ensures
+    alike_in c.args.desk c.args.self.now.slots.items c.args.table.now c.args.cell c.args.seen c.args.comparing c.compared-compared.result c.assert_invariant.ensures
     c.requires.holds c.compared-compared.ensures
     ∙ c.requires.differs
 
 pub take_differing-requires-clause-room : goal.take_differing-requires-clause-room
 take_differing-requires-clause-room c =
-    has_room c.args.desk c.args.self.now.slots.items c.args.table.now c.args.comparing.other c.known.ensures c.requires.seat
+    has_room c.args.desk c.args.self.now.slots.items c.args.table.now c.args.comparing.other c.assert_invariant.ensures c.requires.seat
     c.requires.holds c.args.self.now.few
     c.requires.compare.other c.requires.compare.empty
 
@@ -36,7 +36,7 @@ pub returns-clause-slots : goal.returns-clause-slots
 returns-clause-slots c =
     let v = c.args.table.now in
     let bits = eqb-true _ _ (sym c.take_differing.ensures.same ∙ c.if-not-take_differing.false) in
-    let found = open_found v c.args.desk c.args.cell c.args.seen c.known.ensures c.requires.seat c.requires.open c.requires.seen.0 bits in
+    let found = open_found v c.args.desk c.args.cell c.args.seen c.assert_invariant.ensures c.requires.seat c.requires.open c.requires.seen.0 bits in
     c.differ.ensures ∙ ap (λ (y : Slot). differed c.args.comparing.new c.args.comparing.other c.args.self.now.slots.items y)
     (comes v c.args.desk c.args.cell c.args.seen c.kind_in-kind.result c.slot_in.result found c.kind_in-kind.ensures c.slot_in.ensures)
 
@@ -47,7 +47,7 @@ returns-clause-holds c =
     let l = c.args.self.now.slots.items in
     let m = c.args.comparing in
     let bits = eqb-true _ _ (sym c.take_differing.ensures.same ∙ c.if-not-take_differing.false) in
-    let found = open_found v d c.args.cell c.args.seen c.known.ensures c.requires.seat c.requires.open c.requires.seen.0 bits in
+    let found = open_found v d c.args.cell c.args.seen c.assert_invariant.ensures c.requires.seat c.requires.open c.requires.seen.0 bits in
     let y = comes v d c.args.cell c.args.seen c.kind_in-kind.result c.slot_in.result found c.kind_in-kind.ensures c.slot_in.ensures in
     let w = ghost_after_step v d (OnCell (Take c.args.cell c.args.seen (Some c.compared-compared.result))) in
     let t = c.take_differing.ensures.after ∙ ap (λ (b : Bool). cond b w v) c.if-not-take_differing.false in

@@ -8,14 +8,14 @@ use Rattle.step_table.proofs.slots.registers.Registers.take_fund.Goals as goal
 
 pub take_fund-requires-clause-room : goal.take_fund-requires-clause-room
 take_fund-requires-clause-room c =
-    has_room c.args.desk c.args.self.now.slots.items c.args.table.now c.args.to c.known.ensures c.requires.seat c.requires.holds c.args.self.now.few
+    has_room c.args.desk c.args.self.now.slots.items c.args.table.now c.args.to c.assert_invariant.ensures c.requires.seat c.requires.holds c.args.self.now.few
     c.requires.inside c.requires.empty
 
 pub returns-clause-slots : goal.returns-clause-slots
 returns-clause-slots c =
     let v = c.args.table.now in
     let bits = eqb-true _ _ (sym c.take_fund.ensures.same ∙ c.if-not-take_fund.false) in
-    let found = open_found v c.args.desk c.args.cell c.args.seen c.known.ensures c.requires.seat c.requires.open c.requires.seen.0 bits in
+    let found = open_found v c.args.desk c.args.cell c.args.seen c.assert_invariant.ensures c.requires.seat c.requires.open c.requires.seen.0 bits in
     ap (λ (y : Slot). set c.args.self.now.slots.items c.args.to y)
     (comes v c.args.desk c.args.cell c.args.seen c.kind_in-kind.result c.slot_in.result found c.kind_in-kind.ensures c.slot_in.ensures)
 
@@ -25,7 +25,7 @@ returns-clause-holds c =
     let d = c.args.desk in
     let slots = c.args.self.now.slots.items in
     let bits = eqb-true _ _ (sym c.take_fund.ensures.same ∙ c.if-not-take_fund.false) in
-    let found = open_found v d c.args.cell c.args.seen c.known.ensures c.requires.seat c.requires.open c.requires.seen.0 bits in
+    let found = open_found v d c.args.cell c.args.seen c.assert_invariant.ensures c.requires.seat c.requires.open c.requires.seen.0 bits in
     let y = comes v d c.args.cell c.args.seen c.kind_in-kind.result c.slot_in.result found c.kind_in-kind.ensures c.slot_in.ensures in
     let w = ghost_after_step v d (OnCell (Take c.args.cell c.args.seen None)) in
     let t = c.take_fund.ensures.after ∙ ap (λ (b : Bool). cond b w v) c.if-not-take_fund.false in

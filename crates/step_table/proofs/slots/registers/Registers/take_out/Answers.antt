@@ -9,7 +9,7 @@ use Rattle.step_table.proofs.slots.registers.Registers.take_out.Goals as goal
 
 pub take_out-found-requires-clause-room : goal.take_out-found-requires-clause-room
 take_out-found-requires-clause-room c =
-    has_room c.args.desk c.args.self.now.slots.items c.args.table.now c.args.to c.known.ensures c.requires.seat c.requires.holds c.args.self.now.few
+    has_room c.args.desk c.args.self.now.slots.items c.args.table.now c.args.to c.assert_invariant.ensures c.requires.seat c.requires.holds c.args.self.now.few
     c.requires.inside c.requires.empty
 
 pub returns-then-is_none-clause-found : goal.returns-then-is_none-clause-found
@@ -17,7 +17,7 @@ returns-then-is_none-clause-found c =
     let v = c.args.table.now in
     let x = c.take_out-found.result in
     shows_seen v c.args.desk (Member c.args.block c.args.member) x
-    (member_found v c.args.desk c.args.block c.args.member x c.known.ensures c.requires.seat c.requires.ending c.requires.member c.take_out-found.ensures.found)
+    (member_found v c.args.desk c.args.block c.args.member x c.assert_invariant.ensures c.requires.seat c.requires.ending c.requires.member c.take_out-found.ensures.found)
 
 pub returns-then-is_none-clause-holds : goal.returns-then-is_none-clause-holds
 returns-then-is_none-clause-holds c =
@@ -32,14 +32,14 @@ returns-clause-found c =
     let v = c.args.table.now in
     let x = c.take_out-found.result in
     shows_seen v c.args.desk (Member c.args.block c.args.member) x
-    (member_found v c.args.desk c.args.block c.args.member x c.known.ensures c.requires.seat c.requires.ending c.requires.member c.take_out-found.ensures.found)
+    (member_found v c.args.desk c.args.block c.args.member x c.assert_invariant.ensures c.requires.seat c.requires.ending c.requires.member c.take_out-found.ensures.found)
 
 pub returns-clause-slots : goal.returns-clause-slots
 returns-clause-slots c =
     let v = c.args.table.now in
     let x = c.take_out-found.result in
     let n = Member c.args.block c.args.member in
-    let found = member_found v c.args.desk c.args.block c.args.member x c.known.ensures c.requires.seat c.requires.ending c.requires.member
+    let found = member_found v c.args.desk c.args.block c.args.member x c.assert_invariant.ensures c.requires.seat c.requires.ending c.requires.member
     c.take_out-found.ensures.found in
     let slots = c.args.self.now.slots.items in
     ap (λ (z : Slot). set slots c.args.to z) (comes v c.args.desk n x c.kind_in-kind.result c.slot_in.result found c.kind_in-kind.ensures c.slot_in.ensures)
@@ -54,7 +54,7 @@ returns-clause-holds c =
     let slots = c.args.self.now.slots.items in
     let x = c.take_out-found.result in
     let n = Member c.args.block c.args.member in
-    let found = member_found v d c.args.block c.args.member x c.known.ensures c.requires.seat c.requires.ending c.requires.member
+    let found = member_found v d c.args.block c.args.member x c.assert_invariant.ensures c.requires.seat c.requires.ending c.requires.member
     c.take_out-found.ensures.found in
     let y = comes v d n x c.kind_in-kind.result c.slot_in.result found c.kind_in-kind.ensures c.slot_in.ensures in
     subst (λ (z : Slot). HoldsBag d (set slots c.args.to z) c.take_out-found.new.self) (sym y)

@@ -11,7 +11,7 @@ try_lock-now-requires-clause-held c =
 
 pub try_lock-now-requires-clause-room : goal.try_lock-now-requires-clause-room
 try_lock-now-requires-clause-room c =
-    has_room c.args.desk c.args.self.now.slots.items c.args.table.now c.args.to c.known.ensures c.requires.seat c.requires.holds c.args.self.now.few
+    has_room c.args.desk c.args.self.now.slots.items c.args.table.now c.args.to c.assert_invariant.ensures c.requires.seat c.requires.holds c.args.self.now.few
     c.requires.inside c.requires.empty
 
 pub returns-clause-holds : goal.returns-clause-holds

@@ -1,0 +1,11 @@
+use Rattle.std.proofs.Common.{ℕ, List, string_bytes, subst}
+use Rattle.std.specs.Io.KnownBytes.{Appends}
+use Rattle.leak_report.proofs.report.left_text.Goals as goal
+
+pub returns-clause-holds : goal.returns-clause-holds
+returns-clause-holds g c = (
+  string_bytes c.in_ok-left.left.text,
+  c.in_ok-left.ensures.report,
+  subst (λ (t : List ℕ). Appends (g.S.Sink.taken c.args.writer.now) (g.S.Sink.taken c.write_text.new.writer) t) c.as_bytes.ensures.value
+      c.in_ok-write_text.ensures.writes,
+)

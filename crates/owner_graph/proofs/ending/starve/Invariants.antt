@@ -1,5 +1,0 @@
-use Rattle.owner_graph.proofs.Feeding.{HasStarved}
-use Rattle.owner_graph.proofs.ending.starve.Given as goal
-
-abbrev pub invariant-loop-vertex : goal.invariant-loop-vertex
-invariant-loop-vertex l = HasStarved l.fed l.fn.stays.items l.stays.items l.vertex l.found

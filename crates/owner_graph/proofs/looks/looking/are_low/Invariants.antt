@@ -1,5 +1,0 @@
-use Rattle.owner_graph.proofs.Prelude.{AreLow}
-use Rattle.owner_graph.proofs.looks.looking.are_low.Given as goal
-
-abbrev pub invariant-loop-before : goal.invariant-loop-before
-invariant-loop-before l = AreLow l.before l.labels

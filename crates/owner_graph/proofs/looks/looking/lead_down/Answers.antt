@@ -1,8 +1,0 @@
-use Rattle.std.proofs.Common.{◌≡◌, Bool, true, false, List, slice_index_or, subst}
-use Rattle.owner_graph.proofs.looks.looking.lead_down.Goals as goal
-
-pub returns-in-Ok : goal.returns-in-Ok
-returns-in-Ok c = λ yes b some le.
-    (c.in-Ok.ensures.reached b le).0
-    (subst (λ (l : List Bool). slice_index_or l b false ≡ true) c.as_slice.ensures.value
-    (c.are_marked.ensures yes b some le))

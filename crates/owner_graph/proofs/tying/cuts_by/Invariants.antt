@@ -1,8 +1,0 @@
-use Rattle.std.proofs.Common.{take, All}
-use Rattle.owner_graph.proofs.Prelude.{AreCuts, IsAmong}
-use Rattle.owner_graph.proofs.tying.cuts_by.Given as goal
-
-abbrev pub invariant-loop-tie : goal.invariant-loop-tie
-invariant-loop-tie l =
-    AreCuts l.vertices l.handles (take l.tie-index l.ties) l.cuts.items
-    × All (IsAmong l.vertices) l.cuts.items

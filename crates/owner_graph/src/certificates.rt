@@ -1,0 +1,3 @@
+//! Checks of the certificates that searches find.
+pub(crate) mod knots;
+pub(crate) mod one_knot;
