@@ -3,6 +3,7 @@
 The script is run once more by `draw`, whose picture has a row for each act, in the order of the run.
 """
 
+import bisect
 import re
 import subprocess
 
@@ -20,6 +21,17 @@ def order(program: str, turns: list[str], script: bytes) -> list[int]:
         rows = [int(it) for it in ROW.findall(ran.stdout)]
         threads, drawn = threads + rows, len(rows)
     return threads
+
+
+def up_to(program: str, words: list[str], number: int, script: bytes) -> int:
+    """How many of a run's first acts there are, up to this number; the run is drawn with these words."""
+
+    def is_missing(act):
+        part = [f"--from={act}", f"--to={act}"]
+        ran = subprocess.run([program, "draw", *words, *part], input=script, capture_output=True)
+        return not ROW.search(ran.stdout)
+
+    return bisect.bisect(range(1, number + 1), False, key=is_missing)
 
 
 def counted(program: str, script: bytes) -> str:

@@ -43,13 +43,14 @@ OF_REFUSALS = {
 @dataclass
 class Asked:
     """What the program was asked: the script's name and bytes, the list of turns, the words after `--from`,
-    `--to` and `--most`, why its input or output failed, and what finds the faults of its lines, by their
-    causes."""
+    `--to` and `--most`, how many acts a run has that ends before its part, why its input or output failed,
+    and what finds the faults of its lines, by their causes."""
 
     name: str = "standard input"
     script: bytes = b""
     turns: str = ""
     part: dict = field(default_factory=dict)
+    acts: int | None = None
     reason: str = ""
     finders: dict = field(default_factory=lambda: FINDERS)
 
@@ -99,6 +100,8 @@ def of_part(asked):
             return [f"{option} is `{shown(word.encode())}`, which is no number from 1 to {2**32 - 1}"]
     if {"--from", "--to"} <= set(asked.part) and int(asked.part["--from"]) > int(asked.part["--to"]):
         return [f'act {asked.part["--from"]} comes after act {asked.part["--to"]}']
+    if asked.acts is not None:
+        return [f"the run has {asked.acts} acts"]
     return []
 
 

@@ -101,6 +101,16 @@ def meanings(output):
     return [f"refused {it}: {OF_STATEMENTS[it]}" for it in numbers if it in OF_STATEMENTS]
 
 
+def before_part(program, words, options, asked):
+    """How many acts a run has that ends before the part of it that is to be drawn."""
+    first = asked.part.get("--from", "")
+    if not re.fullmatch(r"\+?[0-9]+", first) or not 0 < int(first) < 2**32:
+        return None
+    how = [f"{it}={options[it]}" for it in TURNS if it in options] + ["--fine"] * ("--fine" in words)
+    there = acts.up_to(program, how, int(first), asked.script)
+    return there if there < int(first) else None
+
+
 def of_acts(program, command, words, options, asked):
     """How many acts each thread has, or which turns come when their threads are done."""
     if command == "check":
@@ -160,6 +170,8 @@ def main(program, *words):
         asked.finders = graphs.FINDERS
     if refusal == OUTPUT:
         asked.reason = reason_of_output()
+    if command == "draw" and refusal.startswith("refused 4: "):
+        asked.acts = before_part(program, words, options, asked)
     lines = explanation(refusal, asked) if ran.returncode == 1 else []
     lines += meanings(ran.stdout) if watched else []
     if explains and command == "left" and ran.returncode != 1:

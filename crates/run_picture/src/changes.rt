@@ -53,7 +53,7 @@ fn put_numbers(text: &mut String, owners: u32, weaks: u32) -> Result<(), AllocEr
 }
 
 /// Adds the owners and weak pointers of a block to a text.
-fn put_counts_text(text: &mut String, counts: Option<Counts>) -> Result<(), AllocError>
+pub(crate) fn put_counts_text(text: &mut String, counts: Option<Counts>) -> Result<(), AllocError>
     ensures { OnOk result (string_bytes text.new ≡ string_bytes text.old ++ counts_text counts) }
 {
     match counts {

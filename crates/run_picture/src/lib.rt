@@ -8,10 +8,16 @@ mod document;
 mod ends;
 mod lanes;
 mod page;
+mod page_head;
+mod page_reader;
+mod page_view;
 mod picture;
+mod run_lines;
 mod sheet;
+mod step_page;
 #[cfg(test)]
 mod tests;
 
 pub use document::draw;
-pub use picture::{Change, Left, LeftBlock, Picture, Row, Touch};
+pub use picture::{Change, Holder, Left, LeftBlock, Picture, Pointer, Row, Touch};
+pub use step_page::run_page;

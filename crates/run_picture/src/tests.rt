@@ -1,11 +1,16 @@
 //! A picture with each kind of what it shows.
 
-use crate::{Change, Left, LeftBlock, Picture, Row, Touch, draw};
+use crate::{Change, Holder, Left, LeftBlock, Picture, Pointer, Row, Touch, draw, run_page};
 use control_word::{Block, Counts, Site};
 use std::alloc::{AllocError, Global};
 
 fn row(alloc: Global, number: u32, cell: Site, counts: Option<Counts>) -> Result<Row, AllocError> {
     let change = Change { block: 1, counts };
+    let pointer = Pointer {
+        holder: Holder::Cell(cell),
+        block: 1,
+        is_owner: true,
+    };
     Ok(Row {
         number,
         thread: 1,
@@ -18,6 +23,7 @@ fn row(alloc: Global, number: u32, cell: Site, counts: Option<Counts>) -> Result
             shown: String::from_str(alloc, "b1")?,
         }),
         changes: vec![in alloc; change]?,
+        pointers: vec![in alloc; pointer]?,
     })
 }
 
@@ -39,6 +45,7 @@ fn picture(alloc: Global) -> Result<Picture, AllocError> {
     Ok(Picture {
         threads: 1,
         shared_cells: 128,
+        script: String::from_str(alloc, "threads 1\n")?,
         rows: vec![in alloc; free, gone]?,
         left: Some(Left {
             blocks: vec![in alloc; block]?,
@@ -64,10 +71,11 @@ const PARTS: [&str; 8] = [
     "</svg>\n",
 ];
 
-fn has_parts(text: &str) -> bool {
+/// Whether these stand on a text, in this order, and nothing behind the last.
+fn has_all(text: &str, parts: &[&str]) -> bool {
     let mut rest = text;
-    for part in PARTS {
-        match rest.split_once(part) {
+    for part in parts {
+        match rest.split_once(*part) {
             Some((_, after)) => rest = after,
             None => return false,
         }
@@ -78,7 +86,33 @@ fn has_parts(text: &str) -> bool {
 #[test]
 fn a_picture_shows_its_rows(rt: HostRuntime) {
     match drawn(rt.alloc()) {
-        Ok(text) => assert!(&rt; has_parts(text.as_str())),
+        Ok(text) => assert!(&rt; has_all(text.as_str(), &PARTS)),
+        Err(_) => panic!(&rt; "no memory"),
+    }
+}
+
+/// What has to stand on its page, in this order.
+const LINES: [&str; 9] = [
+    "<!DOCTYPE html>",
+    "<pre>threads 1\nact 7 1 swap\nat 1.1 store s0 a&lt;b\nsaid 1.1 lock owner\n",
+    "block 1 2 w1\n",
+    "free 0 owner 1\n",
+    "act 8 1 swap\n",
+    "block 1 0 w0\n",
+    "member 1 0 owner 1\n",
+    "left 1 white\ntotals made 1 ended 0 left 1\n</pre>",
+    "</html>\n",
+];
+
+fn paged(alloc: Global) -> Result<String, AllocError> {
+    let picture = picture(alloc)?;
+    run_page(alloc, &picture)
+}
+
+#[test]
+fn a_page_has_the_lines_of_its_rows(rt: HostRuntime) {
+    match paged(rt.alloc()) {
+        Ok(text) => assert!(&rt; has_all(text.as_str(), &LINES)),
         Err(_) => panic!(&rt; "no memory"),
     }
 }

@@ -7,7 +7,7 @@ use Rattle.std.proofs.lemmas.List.Elements.{All-push}
 use Rattle.script_orders.specs.Found.{outcomes_in}
 use Rattle.script_orders.specs.Orders.{AllDiffer, AreOutcomes, IsAdded, IsAnswerText, IsOutcome}
 use Rattle.script_orders.specs.Orders.{Outcome, TellsAll, texts_of}
-use Rattle.script_orders.specs.declared.answering.Reply.{Reply}
+use Rattle.script_orders.specs.declared.answers.Reply.{Reply}
 use Rattle.script_orders.specs.declared.orders.Answer.{Answer}
 use Rattle.script_orders.specs.declared.orders.Answer.TheVariants.{Told}
 use Rattle.script_text.specs.declared.fault.Fault.{Fault}

@@ -1,15 +1,15 @@
 //! All orders of a script: each outcome once, with the least turns that give it.
 #![tactic(auto)]
 
-mod answering;
-mod differing;
+mod answers;
+mod differences;
 mod lists;
 mod machine;
 mod orders;
 mod outcomes;
+mod report;
 mod search;
-mod sorting;
 mod states;
-mod telling;
+mod threads;
 
 pub use orders::{Answer, MOST_STATES, Query, orders_text};

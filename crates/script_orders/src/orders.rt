@@ -5,7 +5,7 @@ ghost use Rattle.script_text.specs.Grammar.{Refuses};
 ghost use Rattle.script_stepper.specs.Runs.{Delivers, is_output};
 ghost use Rattle.script_orders.specs.Orders.{IsAnswerText, TellsOrders};
 
-use crate::answering::{Reply, all_outcomes, given_up, turns_to};
+use crate::answers::{Reply, all_outcomes, given_up, turns_to};
 use crate::search::Search;
 use script_stepper::{Sink, write_text};
 use script_text::{Fault, parse};

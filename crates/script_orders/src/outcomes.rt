@@ -6,7 +6,7 @@ ghost use Rattle.script_text.specs.Grammar.{Refuses};
 ghost use Rattle.script_orders.specs.Found.{outcomes_in};
 ghost use Rattle.script_orders.specs.Orders.{AllDiffer, IsAdded, IsOutcome, texts_of};
 
-use crate::sorting::by_threads;
+use crate::threads::by_threads;
 use indexmap::IndexMap;
 use script_stepper::{Output, step_text};
 use script_text::Fault;
@@ -62,7 +62,7 @@ impl Outcomes {
     }
 
     /// No text stands twice.
-    pub fn known(&self)
+    pub fn assert_invariant(&self)
         ensures { AllDiffer (texts_of (outcomes_in self.now.found.entries)) }
     {
         let _ = self.found.len();

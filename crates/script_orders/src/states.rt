@@ -3,7 +3,7 @@
 use crate::machine::heap::{Heap, Objects, narrow};
 use crate::machine::line::{Line, Told};
 use crate::machine::plan::Plan;
-use crate::machine::standing::Standing;
+use crate::machine::position::Standing;
 use crate::machine::turn::Turn;
 use control_word::Refusal;
 use indexmap::IndexSet;

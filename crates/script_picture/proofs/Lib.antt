@@ -5,3 +5,4 @@ pub mod Taking
 pub mod Ending
 pub mod Stepping
 pub mod Pictures
+pub mod Pointing

@@ -5,7 +5,6 @@ use Rattle.std.specs.Prelude.{◌≤◌, Result, Ok, Err, IfErr, IfOk, min, nat_
 use Rattle.std.proofs.lemmas.Bool.{cases_lt, le-leb, leb-true, lt-ltb, ltb-true}
 use Rattle.run_picture.specs.declared.picture.Picture.{Picture}
 use Rattle.run_picture.specs.declared.picture.Row.{Row}
-use Rattle.run_picture.specs.Shown.{ShowsPicture}
 use Rattle.script_text.specs.declared.fault.Fault.{Fault}
 use Rattle.script_text.specs.declared.fault.Fault.TheVariants.{Memory}
 use Rattle.script_text.specs.Drafts.{ScriptView}
@@ -17,6 +16,7 @@ use Rattle.script_picture.specs.declared.part.Part.{Part}
 use Rattle.script_picture.specs.Parts.{shown_part}
 use Rattle.script_picture.specs.Acts.{AreRows, Seen, acts_in}
 use Rattle.script_picture.specs.Pictures.{Draws, IsBehind, IsPictureText, IsRunRecorded}
+use Rattle.script_picture.specs.Pictures.{ShowsAs}
 use Rattle.script_picture.specs.Recording.{IsRecorded}
 
 both : (a b : Bool) → (a && b) ≡ true → (a ≡ true) × (b ≡ true)
@@ -24,11 +24,11 @@ both true b e = (refl, e)
 both false b e = absurd cc
 
 -- too many acts came
-pub draws_more : (asked shown : Part) (acts : ℕ) (list : List Row) (items : List Seen)
+pub draws_more : (is_page : Bool) (asked shown : Part) (acts : ℕ) (list : List Row) (items : List Seen)
     (text : List ℕ) → shown ≡ shown_part asked
     → (nat_lt shown.last asked.last && nat_lt shown.last acts) ≡ true → text ≡ []
-    → IsRecorded (shown_part asked) acts list items → Draws true asked items text
-draws_more asked shown acts list items text is more none h =
+    → IsRecorded (shown_part asked) acts list items → Draws is_page true asked items text
+draws_more is_page asked shown acts list items text is more none h =
     let last : shown.last ≡ min asked.last (asked.first + 1999) = ap (λ (p : Part). p.last) is in
     let t = both (nat_lt shown.last asked.last) (nat_lt shown.last acts) more in
     let part = ltb-true shown.last asked.last t.0 in
@@ -45,11 +45,11 @@ behind_parts asked acts e =
     let inner = both (nat_lt 1 asked.first) (nat_lt acts asked.first) outer.0 in
     (ltb-true 1 asked.first inner.0, ltb-true acts asked.first inner.1, leb-true acts asked.last outer.1)
 
-pub draws_behind : (asked shown : Part) (acts : ℕ) (list : List Row) (items : List Seen)
+pub draws_behind : (is_page : Bool) (asked shown : Part) (acts : ℕ) (list : List Row) (items : List Seen)
     (text : List ℕ) → shown ≡ shown_part asked
     → (nat_lt 1 asked.first && nat_lt acts asked.first && nat_le acts asked.last) ≡ true → text ≡ []
-    → IsRecorded (shown_part asked) acts list items → Draws true asked items text
-draws_behind asked shown acts list items text is behind none h =
+    → IsRecorded (shown_part asked) acts list items → Draws is_page true asked items text
+draws_behind is_page asked shown acts list items text is behind none h =
     let p = behind_parts asked acts behind in
     let first = p.0 in
     let before = p.1 in
@@ -80,13 +80,13 @@ not_both true false e p q = cc
 not_both false b e p q = cc
 
 -- no more than a picture shows
-pub draws_all : (asked shown : Part) (acts : ℕ) (list : List Row) (items : List Seen)
+pub draws_all : (is_page : Bool) (asked shown : Part) (acts : ℕ) (list : List Row) (items : List Seen)
     (text : List ℕ) → shown ≡ shown_part asked
     → (nat_lt shown.last asked.last && nat_lt shown.last acts) ≡ false
     → (nat_lt 1 asked.first && nat_lt acts asked.first && nat_le acts asked.last) ≡ false
-    → (picture : Picture) × (picture.rows.items ≡ list) × ShowsPicture picture [] text
-    → IsRecorded (shown_part asked) acts list items → Draws false asked items text
-draws_all asked shown acts list items text is few begun shows h =
+    → (picture : Picture) × (picture.rows.items ≡ list) × ShowsAs is_page picture text
+    → IsRecorded (shown_part asked) acts list items → Draws is_page false asked items text
+draws_all is_page asked shown acts list items text is few begun shows h =
     let last : shown.last ≡ min asked.last (asked.first + 1999) = ap (λ (p : Part). p.last) is in
     let all = h.all in (
       λ more.
@@ -109,13 +109,13 @@ draws_all asked shown acts list items text is few begun shows h =
     )
 
 -- the text of a run that was recorded
-pub picture_told : (fine none : Bool) (asked : Part) (script : ScriptView) (turns : List ℕ)
+pub picture_told : (fine is_page none : Bool) (asked : Part) (script : ScriptView) (turns : List ℕ)
     (acts : ℕ) (list : List Row) (text : List ℕ)
     → IsRunRecorded fine script turns (shown_part asked) acts list
     → ((items : List Seen) → IsRecorded (shown_part asked) acts list items
-    → Draws none asked items text)
-    → IsPictureText fine asked (Ok none) script turns text
-picture_told fine none asked script turns acts list text h draws =
+    → Draws is_page none asked items text)
+    → IsPictureText fine is_page asked (Ok none) script turns text
+picture_told fine is_page none asked script turns acts list text h draws =
     record {
       seen = h.seen;
       says = h.says;
@@ -148,10 +148,10 @@ only_memory (Ok d) bytes list h = tt
 only_memory (Err f) bytes list h = subst (λ (x : Fault). IsRefused bytes list x) (sym h) tt
 
 -- what was answered may be forgotten
-pub forgotten : (fine none : Bool) (part : Part) (fault : Fault) (bytes list text : List ℕ)
-    → IsScriptRun (IsPictureText fine part (Ok none)) bytes list text
-    → IsScriptRun (IsPictureText fine part (Err fault)) bytes list text
-forgotten fine none part fault bytes list text h = record {
+pub forgotten : (fine is_page none : Bool) (part : Part) (fault : Fault) (bytes list text : List ℕ)
+    → IsScriptRun (IsPictureText fine is_page part (Ok none)) bytes list text
+    → IsScriptRun (IsPictureText fine is_page part (Err fault)) bytes list text
+forgotten fine is_page none part fault bytes list text h = record {
   script = h.script;
   turns = h.turns;
   reads = h.reads;

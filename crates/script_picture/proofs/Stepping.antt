@@ -9,8 +9,7 @@ use Rattle.step_core.specs.declared.trace.TraceStep.{TraceStep}
 use Rattle.step_core.specs.Following.{said_by}
 use Rattle.step_core.specs.Runs.{CallsOn, InOrder, IsRun, IsScheduled, IsStepOf, NamesActor, RunsToEnd}
 use Rattle.step_core.specs.Runs.{Settles, call_under_way, is_owing}
-use Rattle.step_core.specs.Worlds.{Advances, Steps, WorldState}
-use Rattle.step_table.specs.GhostStates.{model_state}
+use Rattle.step_core.specs.Worlds.{Advances, Steps, WorldState, abstraction}
 use Rattle.step_threads.specs.declared.said.Said.{Said}
 use Rattle.step_threads.specs.declared.said.Stepped.{Stepped}
 use Rattle.script_stepper.specs.Running.{heard}
@@ -95,14 +94,14 @@ pub same_step : (d : ℕ) (u v w : WorldState) (r r' : Stepped) → Steps d u r 
 same_step d u v w r r' p q = p.1 ∙ sym q.steps.1
 
 pub heard_again : (x : TraceStep) (said : Said) (u v : WorldState) (r s : Rows) → u ≡ v → said_by x.stepped ≡ Some said
-    → Adds (seen_in (model_state u.ghost_state) (x.actor, said) ∷ []) r s → Adds (step_seen x v) r s
+    → Adds (seen_in (abstraction u) (x.actor, said) ∷ []) r s → Adds (step_seen x v) r s
 heard_again x said u v r s same is adds =
-    subst (λ (o : Option Said). Adds (map (seen_in (model_state v.ghost_state)) (heard x.actor o)) r s) (sym is)
-    (subst (λ (b : WorldState). Adds (seen_in (model_state b.ghost_state) (x.actor, said) ∷ []) r s) same adds)
+    subst (λ (o : Option Said). Adds (map (seen_in (abstraction v)) (heard x.actor o)) r s) (sym is)
+    (subst (λ (b : WorldState). Adds (seen_in (abstraction b) (x.actor, said) ∷ []) r s) same adds)
 
 pub none_heard : (x : TraceStep) (v : WorldState) (r : Rows) → said_by x.stepped ≡ None → Adds (step_seen x v) r r
 none_heard x v r is =
-    subst (λ (o : Option Said). Adds (map (seen_in (model_state v.ghost_state)) (heard x.actor o)) r r) (sym is)
+    subst (λ (o : Option Said). Adds (map (seen_in (abstraction v)) (heard x.actor o)) r r) (sym is)
     (adds_none r)
 
 -- ---- each step is one of a thread of the world

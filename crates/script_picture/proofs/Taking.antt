@@ -5,18 +5,20 @@ use Rattle.std.specs.Prelude.{Option}
 use Rattle.std.specs.List.{flat_map}
 use Rattle.std.proofs.lemmas.List.{append-nil, replicate_more, take_more}
 use Rattle.step_threads.specs.declared.said.Said.{Said}
-use Rattle.step_threads.specs.AbstractStates.{AbstractState, state_in}
-use Rattle.step_table.specs.GhostStates.{model_state}
+use Rattle.step_threads.specs.AbstractStates.{AbstractState}
 use Rattle.step_core.specs.Worlds.{WorldState, abstraction}
 use Rattle.script_text.specs.Grammar.{ended}
 use Rattle.script_stepper.specs.Lines.{item_lines}
 use Rattle.script_stepper.specs.Running.{AllRest, IsThread, heard, turns_left}
 use Rattle.script_stepper.proofs.OneTurn.{Turn, turn_run}
 use Rattle.script_stepper.proofs.RunLemmas.{run_thread, takes_then}
-use Rattle.script_stepper.proofs.StepLemmas.{same_blocks}
+use Rattle.script_stepper.proofs.StepLemmas.{same_shape}
 use Rattle.script_picture.specs.declared.recording.Rows.{Rows}
 use Rattle.script_picture.specs.Acts.{Seen, seen_in}
-use Rattle.script_picture.specs.Recording.{Adds, HasTaken, Sees, TakesAlone}
+use Rattle.control_word.specs.declared.shape.Shape.{Shape}
+use Rattle.leak_report.specs.Holders.{free_cells}
+use Rattle.script_picture.specs.declared.recording.Source.{Source}
+use Rattle.script_picture.specs.Recording.{Adds, Fits, HasTaken, Sees, TakesAlone}
 use Rattle.script_picture.proofs.Recordings.{adds_none, adds_then}
 
 -- some turns, and then others
@@ -24,7 +26,7 @@ sees_then : (xs ys : List ℕ) (c m c' : AbstractState) (seen later : List Seen)
 sees_then [] ys c m c' seen later p q =
     subst (λ (l : List Seen). Sees ys c (l ++ later) c') (sym p.0) (subst (λ (b : AbstractState). Sees ys b later c') p.1 q)
 sees_then (x ∷ xs) ys c m c' seen later p q =
-    let first = map (seen_in (state_in p.2)) p.0 in (
+    let first = map (seen_in p.2) p.0 in (
       p.0,
       p.1 ++ later,
       p.2,
@@ -35,7 +37,7 @@ sees_then (x ∷ xs) ys c m c' seen later p q =
 
 -- a turn, and what it said
 pub taken_turn : (thread : ℕ) (u u' : WorldState) (x : Option Said) (r r' : Rows) → Turn thread u u' x
-    → Adds (map (seen_in (model_state u'.ghost_state)) (heard thread x)) r r' → HasTaken (thread ∷ []) u u' r r'
+    → Adds (map (seen_in (abstraction u')) (heard thread x)) r r' → HasTaken (thread ∷ []) u u' r r'
 taken_turn thread u u' x r r' t adds =
     record {
       text = ended (flat_map item_lines (heard thread x));
@@ -46,14 +48,14 @@ taken_turn thread u u' x r r' t adds =
         text_is = refl;
         most = (turn_run thread u u' x [] _ t refl).most;
       };
-      seen = map (seen_in (model_state u'.ghost_state)) (heard thread x);
+      seen = map (seen_in (abstraction u')) (heard thread x);
       sees = (
         heard thread x,
         [],
         abstraction u',
         t.takes,
         (refl, refl),
-        sym (append-nil (map (seen_in (model_state u'.ghost_state)) (heard thread x))),
+        sym (append-nil (map (seen_in (abstraction u')) (heard thread x))),
       );
       adds = adds;
     }
@@ -98,13 +100,19 @@ taken_more ts i u v w r m s lt p q = taken_same _ _ u w r s (sym (take_more ts i
 pub taken_thread : (xs : List ℕ) (u v : WorldState) (r m : Rows) (thread : ℕ) → HasTaken xs u v r m → IsThread u thread → IsThread v thread
 taken_thread xs u v r m thread h t = run_thread xs u v [] h.text thread h.run t
 
+-- a world of the same shape is as large
+pub fits_still : (r m : Source) (u v : WorldState) → m.blocks ≡ r.blocks
+    → v.ghost_state.extent.shape ≡ u.ghost_state.extent.shape → Fits r u → Fits m v
+fits_still r m u v blocks same h = record {
+  blocks = blocks ∙ h.blocks ∙ sym (ap (λ (x : Shape). x.blocks) same);
+  cells = ap (λ (x : Shape). free_cells x) same ∙ h.cells;
+}
+
 -- the table and the rows' blocks are as they were
-pub taken_blocks : (xs : List ℕ) (u v : WorldState) (r m : Rows) → HasTaken xs u v r m → r.source.blocks ≤ u.ghost_state.extent.shape.blocks
-    → m.source.blocks ≤ v.ghost_state.extent.shape.blocks
-taken_blocks xs u v r m h le =
-    let same = same_blocks xs u v [] h.text h.run in
-    let blocks = h.adds.blocks in
-    omega (arith, same, blocks, le)
+pub taken_fits : (xs : List ℕ) (u v : WorldState) (r m : Rows) → HasTaken xs u v r m → Fits r.source u
+    → Fits m.source v
+taken_fits xs u v r m h fits =
+    fits_still r.source m.source u v h.adds.blocks (same_shape xs u v [] h.text h.run) fits
 
 -- ---- a thread that runs alone
 

@@ -7,17 +7,19 @@ use Rattle.run_picture.specs.declared.picture.Change.{Change}
 use Rattle.run_picture.specs.declared.picture.Row.{Row}
 use Rattle.script_picture.specs.declared.part.Part.{Part}
 use Rattle.script_picture.specs.Parts.{is_in}
+use Rattle.script_picture.specs.Pointers.{pointers_after}
 use Rattle.script_stepper.specs.Lines.{item_lines, statement_text}
 use Rattle.script_text.specs.Traces.{Item}
 use Rattle.step_core.specs.Totals.{census_of}
+use Rattle.step_threads.specs.AbstractStates.{AbstractState, state_in}
 
--- an act: what its thread said, and the state after it
+-- an act: what its thread said, and how all was after it
 pub record Seen : Type 0 where
   pub item : Item
-  pub state : State
+  pub after : AbstractState
 
-abbrev pub seen_in : State → Item → Seen
-seen_in state item = record { item = item; state = state }
+abbrev pub seen_in : AbstractState → Item → Seen
+seen_in after item = record { item = item; after = after }
 
 -- an act, and its number in the run, from 1
 abbrev pub Numbered : Type 0
@@ -46,7 +48,8 @@ abbrev pub GoesOnWith : List ℕ → List ℕ → List ℕ → Type 0
 GoesOnWith begun old new = (more : List ℕ) × (new ≡ old ++ (begun ++ more))
 
 -- a row is that of an act: it has its number and its thread, its statement, and the lines that it
--- said; and the counts that it tells are those after the act
+-- said; the counts that it tells are those after the act; and it has just the pointers that its
+-- thread and the cells have then
 pub record IsRow (act : Numbered) (row : Row) : Type 0 where
   pub number : row.number ≡ act.0
   pub thread : row.thread ≡ act.1.item.0
@@ -54,7 +57,8 @@ pub record IsRow (act : Numbered) (row : Row) : Type 0 where
       let item = act.1.item in
       GoesOnWith (place_start item.0 item.1.statement) [] (string_bytes row.statement)
   pub lines : map bytes_of row.lines.items ≡ item_lines act.1.item
-  pub counts : All (TellsCounts act.1.state) row.changes.items
+  pub counts : All (TellsCounts (state_in act.1.after)) row.changes.items
+  pub pointers : row.pointers.items ≡ pointers_after act.1.after act.1.item.0
 
 -- a row for each of these acts, in order
 abbrev pub AreRows : List Numbered → List Row → Type 0

@@ -1,4 +1,5 @@
 pub mod Acts
 pub mod Parts
 pub mod Pictures
+pub mod Pointers
 pub mod Recording

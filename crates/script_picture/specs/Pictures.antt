@@ -3,6 +3,7 @@ use Rattle.std.specs.Prelude.{◌≡◌, ◌⊎◌, ℕ, ◌+◌, ◌<◌, ◌�
 use Rattle.std.specs.Prelude.{None, Result, Ok, Err}
 use Rattle.run_picture.specs.declared.picture.Picture.{Picture}
 use Rattle.run_picture.specs.declared.picture.Row.{Row}
+use Rattle.run_picture.specs.Pages.{page_text}
 use Rattle.run_picture.specs.Shown.{ShowsPicture}
 use Rattle.step_core.specs.declared.trace.TraceStep.{TraceStep}
 use Rattle.step_core.specs.Worlds.{WorldState}
@@ -56,19 +57,25 @@ HasMoreActs part seen = (part.first + 1999 < part.last) × (part.first + 1999 < 
 abbrev pub IsBehind : Part → List Seen → Type 0
 IsBehind part seen = (1 < part.first) × (length seen < part.first) × (length seen ≤ part.last)
 
--- the text is elements, each closed where it was opened, on which just a picture is read whose rows
--- are the acts of a part: each once, in order, with counts of blocks as they are after it
-pub record IsPicture (part : Part) (seen : List Seen) (text : List ℕ) : Type 0 where
+-- a picture is shown by elements, each closed where it was opened, on which just that is read; or by a
+-- page: a head, the lines of its rows, and a tail
+abbrev pub ShowsAs : Bool → Picture → List ℕ → Type 0
+ShowsAs false picture text = ShowsPicture picture [] text
+ShowsAs true picture text = text ≡ page_text picture
+
+-- the text shows a picture whose rows are the acts of a part: each once, in order, with counts of
+-- blocks as they are after it, and all pointers that its thread and the cells have then
+pub record IsPicture (is_page : Bool) (part : Part) (seen : List Seen) (text : List ℕ) : Type 0 where
   pub picture : Picture
   pub are : AreRows (acts_in part 1 seen) picture.rows.items
-  pub shows : ShowsPicture picture [] text
+  pub shows : ShowsAs is_page picture text
 
 -- nothing is written where a part has too many acts, or begins behind the last one; else the acts
 -- are drawn
-abbrev pub Draws : Bool → Part → List Seen → List ℕ → Type 0
-Draws true part seen text = (HasMoreActs part seen ⊎ IsBehind part seen) × (text ≡ [])
-Draws false part seen text = (HasMoreActs part seen → ⊥) × (IsBehind part seen → ⊥)
-    × IsPicture (shown_part part) seen text
+abbrev pub Draws : Bool → Bool → Part → List Seen → List ℕ → Type 0
+Draws is_page true part seen text = (HasMoreActs part seen ⊎ IsBehind part seen) × (text ≡ [])
+Draws is_page false part seen text = (HasMoreActs part seen → ⊥) × (IsBehind part seen → ⊥)
+    × IsPicture is_page (shown_part part) seen text
 
 -- whether nothing was drawn, where that was answered
 abbrev pub AnswersNone : Result Bool Fault → Bool → Type 0
@@ -76,11 +83,11 @@ AnswersNone (Ok answer) none = answer ≡ none
 AnswersNone (Err fault) none = Unit {0}
 
 -- a script's run with these turns says this, and the text is the picture of a part of it
-pub record IsPictureText (fine : Bool) (part : Part) (answer : Result Bool Fault)
+pub record IsPictureText (fine is_page : Bool) (part : Part) (answer : Result Bool Fault)
     (script : ScriptView)
     (turns text : List ℕ) : Type 0 where
   pub seen : List Seen
   pub says : SaysBy fine script turns seen
   pub none : Bool
-  pub draws : Draws none part seen text
+  pub draws : Draws is_page none part seen text
   pub answers : AnswersNone answer none

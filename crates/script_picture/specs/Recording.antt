@@ -4,13 +4,14 @@ use Rattle.run_picture.specs.declared.picture.Row.{Row}
 use Rattle.step_core.specs.declared.trace.TraceStep.{TraceStep}
 use Rattle.step_core.specs.Following.{said_by}
 use Rattle.step_core.specs.Worlds.{Advances, WorldState, abstraction}
-use Rattle.step_table.specs.GhostStates.{model_state}
-use Rattle.step_threads.specs.AbstractStates.{AbstractState, frame_of, next, state_in}
+use Rattle.step_threads.specs.AbstractStates.{AbstractState, frame_of, next}
 use Rattle.script_text.specs.Traces.{Item, TakesTurn, in_order}
 use Rattle.script_stepper.specs.Running.{HasRun, heard}
 use Rattle.script_picture.specs.declared.part.Part.{Part}
 use Rattle.script_picture.specs.declared.recording.Rows.{Rows}
+use Rattle.script_picture.specs.declared.recording.Source.{Source}
 use Rattle.script_picture.specs.Acts.{AreRows, Seen, acts_in, seen_in}
+use Rattle.script_picture.specs.Pointers.{HasCells}
 
 -- these acts came, from the first on: they were counted until one was behind the part, and the rows
 -- are the part's
@@ -22,6 +23,11 @@ pub record IsRecorded (part : Part) (acts : ℕ) (list : List Row) (seen : List 
 
 abbrev pub RowsAre : Rows → List Seen → Type 0
 RowsAre r seen = IsRecorded r.part r.acts r.list.items seen
+
+-- the world is as large as these rows take it to be
+pub record Fits (source : Source) (u : WorldState) : Type 0 where
+  pub blocks : source.blocks ≡ u.ghost_state.extent.shape.blocks
+  pub cells : HasCells u.ghost_state
 
 -- these acts came too
 pub record Adds (added : List Seen) (r r' : Rows) : Type 0 where
@@ -35,7 +41,7 @@ Sees [] c seen c' = (seen ≡ []) × (c' ≡ c)
 Sees (thread ∷ turns) c seen c' =
     (items : List Item) × (later : List Seen) × (m : AbstractState)
     × TakesTurn thread c (next (frame_of c (thread - 1))) items m × Sees turns m later c'
-    × (seen ≡ map (seen_in (state_in m)) items ++ later)
+    × (seen ≡ map (seen_in m) items ++ later)
 
 -- the world took these turns, and what they said came, with the state after each
 pub record HasTaken (turns : List ℕ) (u u' : WorldState) (r r' : Rows) : Type 0 where
@@ -61,7 +67,7 @@ step_items x = heard x.actor (said_by x.stepped)
 
 -- the same with the state after it
 abbrev pub step_seen : TraceStep → WorldState → List Seen
-step_seen x u = map (seen_in (model_state u.ghost_state)) (step_items x)
+step_seen x u = map (seen_in (abstraction u)) (step_items x)
 
 -- these steps, one after another: what each said, and the state after it
 abbrev pub SeesSteps : WorldState → List TraceStep → List Seen → WorldState → Type 0

@@ -4,6 +4,7 @@
 mod drawing;
 mod left;
 mod part;
+mod pointers;
 mod recorded;
 mod recording;
 mod running;

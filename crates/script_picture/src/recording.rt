@@ -1,16 +1,20 @@
 //! Acts as they come, with the counts that change by each.
 ghost use Rattle.std.specs.Prelude.{◌≡◌, ◌∷◌, ◌++◌, ◌≤◌, [], All, IfOk, IfSome, OnOk, length, map};
-ghost use Rattle.control_word.specs.State.{State};
+ghost use Rattle.step_core.specs.Runs.{NamesActor};
+ghost use Rattle.step_core.specs.Worlds.{abstraction};
 ghost use Rattle.step_table.specs.GhostStates.{model_state};
+ghost use Rattle.step_threads.specs.AbstractStates.{AbstractState, state_in};
 ghost use Rattle.script_stepper.specs.Lines.{said_lines};
 ghost use Rattle.script_picture.specs.Acts.{IsRow, TellsCounts, bytes_of, seen_in};
-ghost use Rattle.script_picture.specs.Recording.{Adds, RowsAre};
+ghost use Rattle.script_picture.specs.Pointers.{pointers_after};
+ghost use Rattle.script_picture.specs.Recording.{Adds, Fits, RowsAre};
 
 use crate::part::Part;
+use crate::pointers::pointers_of;
 use crate::source::{put_statement, spelled_in, written_at};
 use crate::trace_label::Aimed;
 use control_word::{Block, Counts};
-use run_picture::{Change, Row, Touch};
+use run_picture::{Change, Pointer, Row, Touch};
 use script_stepper::put_lines;
 use script_text::member_text;
 use std::alloc::{AllocError, Global};
@@ -225,12 +229,22 @@ fn written_of<'a>(source: &'a Source, made: &Made) -> Option<&'a [u8]> {
     }
 }
 
+/// What is so after an act: the counts that changed, and the pointers that its thread and the cells
+/// have.
+#[derive(Drop)]
+struct After {
+    changes: Vec<Change>,
+    pointers: Vec<Pointer>,
+}
+
 /// The row of an act.
-fn row_of(source: &Source, number: u32, made: Made, changes: Vec<Change>) -> Result<Row, AllocError>
-    ensures { IfOk result (λ row. (state : State) → All (TellsCounts state) changes.items
-        → IsRow (number, seen_in state (made.thread, made.said)) row) }
+fn row_of(source: &Source, number: u32, made: Made, after: After) -> Result<Row, AllocError>
+    ensures { IfOk result (λ row. (c : AbstractState) → All (TellsCounts (state_in c)) after.changes.items
+        → after.pointers.items ≡ pointers_after c made.thread
+        → IsRow (number, seen_in c (made.thread, made.said)) row) }
 {
     let alloc = source.alloc;
+    let After { changes, pointers } = after;
     let written = written_of(source, &made);
     let Made {
         thread,
@@ -249,13 +263,15 @@ fn row_of(source: &Source, number: u32, made: Made, changes: Vec<Change>) -> Res
         lines: lines_of(alloc, thread, said)?,
         touch: touch_of(alloc, aimed)?,
         changes,
+        pointers,
     })
 }
 
 /// Adds an act or a step that was made, if it is one of the part.
 pub(crate) fn add_row(world: &World, made: Made, rows: &mut Rows) -> Result<(), AllocError>
-    requires { rows.old.source.blocks ≤ world.now.ghost_state.extent.shape.blocks }
-    ensures { OnOk result (Adds (seen_in (model_state world.now.ghost_state) (made.thread, made.said) ∷ [])
+    requires fits { Fits rows.old.source world.now }
+    requires thread { NamesActor (length world.now.frame_views) made.thread }
+    ensures { OnOk result (Adds (seen_in (abstraction world.now) (made.thread, made.said) ∷ [])
         rows.old rows.new) }
 {
     if rows.acts > u64::from(rows.part.last) {
@@ -266,7 +282,13 @@ pub(crate) fn add_row(world: &World, made: Made, rows: &mut Rows) -> Result<(), 
         return Ok(());
     }
     let changes = changes_of(world, &rows.source, &mut rows.shown)?;
-    let row = row_of(&rows.source, rows.acts as u32, made, changes)?;
+    let pointers = pointers_of(rows.source.alloc, world, made.thread, rows.source.blocks)?;
+    let row = row_of(
+        &rows.source,
+        rows.acts as u32,
+        made,
+        After { changes, pointers },
+    )?;
     rows.list.push(row)?;
     Ok(())
 }

@@ -7,7 +7,7 @@ ghost use Rattle.step_core.specs.Following.{said_by};
 ghost use Rattle.step_core.specs.Worlds.{Advances, IsAsLarge, WorldState, abstraction};
 ghost use Rattle.script_stepper.specs.Running.{AllOver, AllRest, IsThread, turns_left};
 ghost use Rattle.script_picture.specs.Acts.{Seen};
-ghost use Rattle.script_picture.specs.Recording.{Adds, HasTaken, SeesSteps, TakesAlone, TakesOut, step_seen};
+ghost use Rattle.script_picture.specs.Recording.{Adds, Fits, HasTaken, SeesSteps, TakesAlone, TakesOut, step_seen};
 
 use crate::recording::{Made, Rows, add_row};
 use crate::trace_label::{Aimed, TraceLabel, aimed_at, step_word, trace_label_of};
@@ -18,7 +18,7 @@ use step_core::{Said, Stepped, TraceStep, Turned, World};
 fn take_turn(world: &mut World, thread: u8, rows: &mut Rows) -> Result<bool, AllocError>
     requires rests { AllRest world.old }
     requires thread { IsThread world.old thread }
-    requires blocks { rows.old.source.blocks ≤ world.old.ghost_state.extent.shape.blocks }
+    requires fits { Fits rows.old.source world.old }
     ensures taken { OnOk result (HasTaken (thread ∷ []) world.old world.new rows.old rows.new) }
     ensures acted { IfOk result (λ acted. acted ≡ is_some (next (frame_of (abstraction world.old) (thread - 1)))) }
     ensures less { IfOk result (λ acted. acted ≡ true
@@ -46,7 +46,7 @@ fn take_turn(world: &mut World, thread: u8, rows: &mut Rows) -> Result<bool, All
 fn take_turns(world: &mut World, turns: &[u8], rows: &mut Rows) -> Result<(), AllocError>
     requires rests { AllRest world.old }
     requires threads { All (IsThread world.old) turns.now }
-    requires blocks { rows.old.source.blocks ≤ world.old.ghost_state.extent.shape.blocks }
+    requires fits { Fits rows.old.source world.old }
     ensures { OnOk result (HasTaken turns.now world.old world.new rows.old rows.new) }
 {
     for thread in turns {
@@ -59,7 +59,7 @@ fn take_turns(world: &mut World, turns: &[u8], rows: &mut Rows) -> Result<(), Al
 fn finish(world: &mut World, thread: u8, rows: &mut Rows) -> Result<(), AllocError>
     requires rests { AllRest world.old }
     requires thread { IsThread world.old thread }
-    requires blocks { rows.old.source.blocks ≤ world.old.ghost_state.extent.shape.blocks }
+    requires fits { Fits rows.old.source world.old }
     ensures taken { OnOk result (TakesAlone thread world.old world.new rows.old rows.new) }
     ensures over { OnOk result (next (frame_of (abstraction world.new) (thread - 1)) ≡ None) }
 {
@@ -77,7 +77,7 @@ pub(crate) fn record_turns(
     requires rests { AllRest world.old }
     requires all { threads ≡ length world.old.frame_views }
     requires threads { All (IsThread world.old) turns.now }
-    requires blocks { rows.old.source.blocks ≤ world.old.ghost_state.extent.shape.blocks }
+    requires fits { Fits rows.old.source world.old }
     ensures taken { OnOk result (TakesOut turns.now world.old world.new rows.old rows.new) }
     ensures over { OnOk result (AllOver world.new) }
 {
@@ -109,7 +109,7 @@ fn aimed_by(trace_label: &TraceLabel, stepped: Stepped) -> Option<Aimed> {
 /// Makes a step that a run of the same world made.
 fn take_step(world: &mut World, step: &TraceStep, rows: &mut Rows) -> Result<(), AllocError>
     requires actor { NamesActor (length world.old.frame_views) step.now.actor }
-    requires blocks { rows.old.source.blocks ≤ world.old.ghost_state.extent.shape.blocks }
+    requires fits { Fits rows.old.source world.old }
     ensures adds { OnOk result ((m : WorldState) → Advances (step.now.actor - 1) world.old step.now.stepped m
         → (world.new ≡ m) × Adds (step_seen step.now m) rows.old rows.new) }
     ensures same { OnOk result (rows.new.source.blocks ≡ rows.old.source.blocks) }
@@ -140,7 +140,7 @@ pub(crate) fn record_steps(
     rows: &mut Rows,
 ) -> Result<(), AllocError>
     requires actors { All (λ step. NamesActor (length world.old.frame_views) step.actor) steps.now }
-    requires blocks { rows.old.source.blocks ≤ world.old.ghost_state.extent.shape.blocks }
+    requires fits { Fits rows.old.source world.old }
     ensures sees { OnOk result ((last : WorldState) → IsRun world.old steps.now last
         → (seen : List Seen) × SeesSteps world.old steps.now seen last × Adds seen rows.old rows.new) }
     ensures part { OnOk result (rows.new.part ≡ rows.old.part) }

@@ -2,6 +2,7 @@
 ghost use Rattle.std.specs.Prelude.{◌≡◌, ◌++◌, [], OnOk, string_bytes};
 ghost use Rattle.script_picture.specs.Acts.{GoesOnWith, place_start};
 
+use crate::recording::Source;
 use script_text::Script;
 use std::alloc::{AllocError, Global};
 use std::fmt::Write;
@@ -90,6 +91,73 @@ pub(crate) fn written_at(statements: &[Vec<Vec<u8>>], thread: u8, statement: u32
     } else {
         None
     }
+}
+
+/// Adds the line of a statement of a thread.
+fn put_statement_line(text: &mut String, thread: u8, written: &[u8]) -> Result<(), AllocError> {
+    write!(text, "script {thread}")?;
+    put_written(text, Some(written))?;
+    text.push_str("\n")
+}
+
+/// Adds the line of a name of a thread, if it has one of this number.
+fn put_name_line(
+    text: &mut String,
+    thread: u8,
+    number: usize,
+    name: &String,
+) -> Result<(), AllocError> {
+    if name.is_empty() {
+        return Ok(());
+    }
+    write!(text, "spelled {thread} {number} ")?;
+    text.push_str(name.as_str())?;
+    text.push_str("\n")
+}
+
+/// Adds the lines of the statements of a thread.
+fn put_statement_lines(
+    text: &mut String,
+    thread: u8,
+    statements: &[Vec<u8>],
+) -> Result<(), AllocError> {
+    for written in statements {
+        put_statement_line(text, thread, written.as_slice())?;
+    }
+    Ok(())
+}
+
+/// Adds the lines of the names of a thread.
+fn put_name_lines(text: &mut String, thread: u8, names: &[String]) -> Result<(), AllocError> {
+    for number in 0..names.len() {
+        put_name_line(text, thread, number, &names[number])?;
+    }
+    Ok(())
+}
+
+/// Adds the lines of a thread, by its index from 0.
+fn put_thread_lines(text: &mut String, source: &Source, index: u8) -> Result<(), AllocError> {
+    let thread = index.saturating_add(1);
+    let at = usize::from(index);
+    if at < source.statements.len() {
+        put_statement_lines(text, thread, source.statements[at].as_slice())?;
+    }
+    if at < source.names.len() {
+        put_name_lines(text, thread, source.names[at].as_slice())?;
+    }
+    Ok(())
+}
+
+/// The lines that say how many threads a script has, and how their statements and names are
+/// written.
+pub(crate) fn script_lines(alloc: Global, source: &Source) -> Result<String, AllocError> {
+    let mut text = String::new(alloc);
+    let threads = source.threads;
+    writeln!(text, "threads {threads}")?;
+    for index in 0..threads {
+        put_thread_lines(&mut text, source, index)?;
+    }
+    Ok(text)
 }
 
 /// Adds a byte of a line; no other than an ASCII character stands in a statement.

@@ -6,11 +6,11 @@ mod closing;
 mod gate;
 mod laws;
 mod reports;
-mod running;
+mod runs;
 mod workers;
 
 pub use gate::{Gate, Open};
 pub use laws::{desk_calls, table_calls, team_laws, worker_logs};
-pub use reports::delivering::run_text;
+pub use reports::delivery::run_text;
 pub use reports::report::Report;
-pub use running::run_script;
+pub use runs::run_script;

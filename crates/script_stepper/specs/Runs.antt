@@ -6,8 +6,8 @@ use Rattle.script_text.specs.declared.fault.Fault.{Fault}
 use Rattle.script_text.specs.declared.fault.Fault.TheVariants.{Memory, Syntax, BadTurn, Output, Input}
 use Rattle.script_text.specs.Drafts.{ScriptView}
 use Rattle.script_text.specs.Grammar.{Faulty, ReadsAs, ended}
-use Rattle.script_stepper.specs.declared.runs.stepping.Pace.{Pace}
-use Rattle.script_stepper.specs.declared.runs.stepping.Pace.TheVariants as pace
+use Rattle.script_stepper.specs.declared.runs.answers.Pace.{Pace}
+use Rattle.script_stepper.specs.declared.runs.answers.Pace.TheVariants as pace
 use Rattle.step_core.specs.Worlds.{WorldState, abstraction}
 use Rattle.script_text.specs.Beginnings.{script_abstraction, script_world_state}
 use Rattle.script_stepper.specs.Lines.{run_lines}

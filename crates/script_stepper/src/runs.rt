@@ -1,6 +1,6 @@
 //! Runs of scripts, from their beginning to their end, and their text.
-pub(crate) mod closing;
-pub(crate) mod ending;
-pub(crate) mod running;
-pub mod stepping;
+pub mod answers;
+pub(crate) mod end;
 pub(crate) mod steps;
+pub(crate) mod totals;
+pub(crate) mod turns;

@@ -10,7 +10,7 @@ use Rattle.script_stepper.specs.Runs.{Delivers, TellsRun}
 use Rattle.script_stepper.specs.Sinks.{AppendsBeginning}
 use Rattle.script_stepper.proofs.Writing.{Appends-kept, Appends-then}
 use Rattle.leak_report.specs.Left.{IsLeftText}
-use Rattle.leak_report.proofs.Telling.{forgotten as left_forgotten}
+use Rattle.leak_report.proofs.ReportLemmas.{forgotten as left_forgotten}
 use Rattle.script_orders.specs.declared.orders.Answer.{Answer}
 use Rattle.script_orders.specs.declared.orders.Answer.TheVariants as orders
 use Rattle.script_orders.specs.Orders.{TellsOrders}
@@ -82,13 +82,13 @@ module _ (line : Option (List ℕ)) (bytes : List ℕ) (answer : Answer) (a b c 
       Delivers {A = Outcome} (TellsOrders line (orders_answer (Err f)) bytes) (Err f) a c) (sym e)
       (h.0, (answer, h.1), all_of a c h.0 (kept_after a b c h.0 h.2 k))
 
-pub picture_unflushed : (is_fine : Bool) (part : Part) (bytes list : List ℕ) (more : Bool)
+pub picture_unflushed : (is_fine is_page : Bool) (part : Part) (bytes list : List ℕ) (more : Bool)
     (fault : Fault) (a b c : Option (List ℕ))
-    → (text : List ℕ) × TellsRun (IsPictureText is_fine part (Ok more)) bytes list (Ok text)
+    → (text : List ℕ) × TellsRun (IsPictureText is_fine is_page part (Ok more)) bytes list (Ok text)
     × Appends a b text
     → Keeps b c → fault ≡ Output
-    → Delivers {A = Bool} (TellsRun (IsPictureText is_fine part (Err fault)) bytes list) (Err fault)
+    → Delivers {A = Bool} (TellsRun (IsPictureText is_fine is_page part (Err fault)) bytes list) (Err fault)
     a c
-picture_unflushed is_fine part bytes list more fault a b c =
-    unflushed (λ answer. TellsRun (IsPictureText is_fine part answer) bytes list) more fault a b c
-    (λ text h. picture_forgotten is_fine more part Output bytes list text h)
+picture_unflushed is_fine is_page part bytes list more fault a b c =
+    unflushed (λ answer. TellsRun (IsPictureText is_fine is_page part answer) bytes list) more fault a b c
+    (λ text h. picture_forgotten is_fine is_page more part Output bytes list text h)

@@ -233,10 +233,10 @@ plainly_asks words Run list h =
 plainly_asks words (Left draws) list h =
     let found = left_with_turns draws h.0 list words h.1 in
     plain_for words (codes "left") (Left draws) list found.0 (found.0.1, sym found.1)
-plainly_asks words (Draw is_fine part) list h =
-    let found = draw_asked words is_fine part h.0 list h.1 in
-    plain_for words (codes "draw") (Draw is_fine part) list found.line
-    (found.line.1, sym found.fine, sym found.part_is)
+plainly_asks words (Draw is_fine is_page part) list h =
+    let found = draw_asked words is_fine is_page part h.0 list h.1 in
+    plain_for words (codes "draw") (Draw is_fine is_page part) list found.line
+    (found.line.1, sym found.fine, sym found.page, sym found.part_is)
 plainly_asks words (Owners draws) list h =
     let found = owners_asked draws h.0 words h.1 in
     plain_for words (codes "owners") (Owners draws) list

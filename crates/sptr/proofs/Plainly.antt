@@ -5,12 +5,13 @@ use Rattle.std.specs.Str.{bytes_eq}
 use Rattle.clap.specs.Words.{IsAmong, Kinds, Text, fault_of}
 use Rattle.clap.specs.declared.error.kind.ErrorKind.{ErrorKind}
 use Rattle.clap.specs.declared.error.kind.ErrorKind.TheVariants as kind
+use Rattle.script_picture.specs.declared.part.Part.{Part}
 use Rattle.script_text.specs.declared.fault.Fault.{Fault}
 use Rattle.script_text.specs.declared.fault.Fault.TheVariants.{Memory}
 use Rattle.script_stepper.specs.Runs.{Delivers}
 use Rattle.sptr.specs.CommandLine.{AsksFor, AsksHelp, AsksPlainly, AsksVersion, NamesNoCommand}
 use Rattle.sptr.specs.CommandLine.{command_named, draws_given, fine_given, names_list, names_text}
-use Rattle.sptr.specs.CommandLine.{finds_given, most_given, part_given, program, turns_given}
+use Rattle.sptr.specs.CommandLine.{finds_given, most_given, page_given, part_given, program, turns_given}
 use Rattle.sptr.specs.Serving.{AnswersCommand, IsAnswered, IsMistaken, IsReason, IsShownText}
 use Rattle.sptr.specs.Serving.{IsReported, IsSilent, IsTurnedAway, Report, Serves}
 use Rattle.script_text.specs.Faults.{fault_line}
@@ -47,7 +48,7 @@ asked_as name words =
     (pick (bytes_eq name (codes "fine")) Fine
     (pick (bytes_eq name (codes "run")) Run
     (pick (bytes_eq name (codes "left")) (Left (draws_given words))
-    (pick (bytes_eq name (codes "draw")) (Draw (fine_given words) (part_given words))
+    (pick (bytes_eq name (codes "draw")) (Draw (fine_given words) (page_given words) (part_given words))
     (pick (bytes_eq name (codes "owners")) (Owners (draws_given words))
     (Orders (finds_given words) (most_given words)))))))))
 
@@ -59,7 +60,7 @@ name_of Step = codes "step"
 name_of Fine = codes "fine"
 name_of Run = codes "run"
 name_of (Left draws) = codes "left"
-name_of (Draw is_fine part) = codes "draw"
+name_of (Draw is_fine is_page part) = codes "draw"
 name_of (Owners draws) = codes "owners"
 name_of (Orders finds most) = codes "orders"
 
@@ -71,7 +72,7 @@ named words Step x = x
 named words Fine x = x
 named words Run x = x
 named words (Left draws) x = x.0
-named words (Draw is_fine part) x = x.0
+named words (Draw is_fine is_page part) x = x.0
 named words (Owners draws) x = x.0
 named words (Orders finds most) x = x.0
 
@@ -83,7 +84,9 @@ by_name words Step x = refl
 by_name words Fine x = refl
 by_name words Run x = refl
 by_name words (Left draws) x = ap Left x.1
-by_name words (Draw is_fine part) x = ap₂ Draw x.1 x.2
+by_name words (Draw is_fine is_page part) x =
+    ap (λ (f : Bool). Draw f is_page part) x.1
+    ∙ ap₂ (λ (g : Bool) (p : Option Part). Draw (fine_given words) g p) x.2 x.3
 by_name words (Owners draws) x = ap Owners x.1
 by_name words (Orders finds most) x = ap₂ Orders x.1 x.2
 

@@ -147,8 +147,8 @@ module _ (words : List Text) (m : ArgMatches) (name : Text) (rows : List Row)
   asks_by_name Fine h = named_as _ h
   asks_by_name Run h = named_as _ h
   asks_by_name (Left draws) h = (named_as _ h.0, flag_found (codes "dot") draws h.1)
-  asks_by_name (Draw is_fine part) h =
-      (named_as _ h.0, flag_found (codes "fine") is_fine h.1, part_found part h.2)
+  asks_by_name (Draw is_fine is_page part) h =
+      (named_as _ h.0, flag_found (codes "fine") is_fine h.1, flag_found (codes "page") is_page h.2, part_found part h.3)
   asks_by_name (Owners draws) h = (named_as _ h.0, flag_found (codes "dot") draws h.1)
   asks_by_name (Orders finds most) h =
       (named_as _ h.0, finds_found finds h.1, most_found most h.2)

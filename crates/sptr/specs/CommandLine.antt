@@ -49,7 +49,7 @@ left_line = record (new_shape (codes "left")) {
 unfoldable pub draw_line : Shape
 draw_line = record (new_shape (codes "draw")) {
   rules = file_word ∷ option_rule (codes "turns") ∷ option_rule (codes "turns-file")
-      ∷ flag_rule (codes "fine") ∷ option_rule (codes "from") ∷ option_rule (codes "to") ∷ [];
+      ∷ flag_rule (codes "fine") ∷ flag_rule (codes "page") ∷ option_rule (codes "from") ∷ option_rule (codes "to") ∷ [];
 }
 
 -- `owners`, which takes a graph, and how to tell it
@@ -131,6 +131,10 @@ count_in id (Some command) = count_of id command.1
 abbrev pub fine_given : List Text → Bool
 fine_given words = nat_lt 0 (count_in (codes "fine") (subcommand_of program words))
 
+-- whether `--page` is there, so that the run is shown on a page
+abbrev pub page_given : List Text → Bool
+page_given words = nat_lt 0 (count_in (codes "page") (subcommand_of program words))
+
 -- the part of the run that `--from` and `--to` name
 abbrev pub part_given : List Text → Option Part
 part_given words = part_named (word_given (codes "from") words) (word_given (codes "to") words)
@@ -156,9 +160,9 @@ AsksFor words Fine = command_named words ≡ Some (codes "fine")
 AsksFor words Run = command_named words ≡ Some (codes "run")
 AsksFor words (Left draws) =
     (command_named words ≡ Some (codes "left")) × (draws ≡ draws_given words)
-AsksFor words (Draw is_fine part) =
+AsksFor words (Draw is_fine is_page part) =
     (command_named words ≡ Some (codes "draw")) × (is_fine ≡ fine_given words)
-    × (part ≡ part_given words)
+    × (is_page ≡ page_given words) × (part ≡ part_given words)
 AsksFor words (Owners draws) =
     (command_named words ≡ Some (codes "owners")) × (draws ≡ draws_given words)
 AsksFor words (Orders finds most) =
@@ -191,10 +195,14 @@ abbrev pub part_words : Part → List Text
 part_words part =
     (codes "--from=" ++ decimal part.first) ∷ (codes "--to=" ++ decimal part.last) ∷ []
 
--- the words ask for the picture of this part, which is all acts where no option names one
-abbrev pub IsDrawLine : Bool → Option Part → Text → Text → List Text → Type 0
-IsDrawLine is_fine None name list words = ⊥
-IsDrawLine is_fine (Some part) name list words =
+-- the words ask for the picture of this part, which is all acts where no option names one; or for the
+-- page of all acts
+abbrev pub IsDrawLine : Bool → Bool → Option Part → Text → Text → List Text → Type 0
+IsDrawLine is_fine is_page None name list words = ⊥
+IsDrawLine is_fine true (Some part) name list words =
+    (part ≡ all_acts)
+    × IsLine (codes "draw") (fine_words is_fine ++ codes "--page" ∷ []) name list words
+IsDrawLine is_fine false (Some part) name list words =
     ((part ≡ all_acts) × IsLine (codes "draw") (fine_words is_fine) name list words)
     ⊎ (IsPart part
     × IsJoinedLine (codes "draw") (fine_words is_fine ++ part_words part) name list words)
@@ -216,8 +224,9 @@ IsAskedBy name rows Fine = name ≡ codes "fine"
 IsAskedBy name rows Run = name ≡ codes "run"
 IsAskedBy name rows (Left draws) =
     (name ≡ codes "left") × (draws ≡ nat_lt 0 (count_of (codes "dot") rows))
-IsAskedBy name rows (Draw is_fine part) =
+IsAskedBy name rows (Draw is_fine is_page part) =
     (name ≡ codes "draw") × (is_fine ≡ nat_lt 0 (count_of (codes "fine") rows))
+    × (is_page ≡ nat_lt 0 (count_of (codes "page") rows))
     × (part ≡ part_named (first_of (codes "from") rows) (first_of (codes "to") rows))
 IsAskedBy name rows (Owners draws) =
     (name ≡ codes "owners") × (draws ≡ nat_lt 0 (count_of (codes "dot") rows))
@@ -234,8 +243,8 @@ AsksPlainly words Fine list = (name : Text) × IsLine (codes "fine") [] name lis
 AsksPlainly words Run list = (name : Text) × (words ≡ name ∷ codes "run" ∷ []) × (list ≡ [])
 AsksPlainly words (Left draws) list =
     (name : Text) × IsLine (codes "left") (dot_words draws) name list words
-AsksPlainly words (Draw is_fine part) list =
-    (name : Text) × IsDrawLine is_fine part name list words
+AsksPlainly words (Draw is_fine is_page part) list =
+    (name : Text) × IsDrawLine is_fine is_page part name list words
 AsksPlainly words (Owners draws) list =
     (name : Text) × (words ≡ name ∷ codes "owners" ∷ dot_words draws) × (list ≡ [])
 AsksPlainly words (Orders finds most) list =

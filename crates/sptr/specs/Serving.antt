@@ -65,11 +65,11 @@ TellsNone answer (Err fault) = ⊥
 
 -- the picture of a part of a run, or nothing where it has too many acts, begins behind the last one
 -- or is no part
-abbrev pub TellsPart : Bool → Option Part → Result Bool Fault → List ℕ → List ℕ
+abbrev pub TellsPart : Bool → Bool → Option Part → Result Bool Fault → List ℕ → List ℕ
     → Result (List ℕ) Fault → Type 0
-TellsPart is_fine (Some part) answer bytes list =
-    TellsRun (IsPictureText is_fine part answer) bytes list
-TellsPart is_fine None answer bytes list = TellsNone answer
+TellsPart is_fine is_page (Some part) answer bytes list =
+    TellsRun (IsPictureText is_fine is_page part answer) bytes list
+TellsPart is_fine is_page None answer bytes list = TellsNone answer
 
 -- what is told of a script's orders, or nothing where no number says how many states are seen
 abbrev pub TellsMost : Bool → Option ℕ → Result Outcome Fault → List ℕ → List ℕ
@@ -108,8 +108,8 @@ AnswersCommand Fine list answer bytes = UnlessInput (TellsRun IsFineText bytes l
 AnswersCommand Run list answer bytes = UnlessInput (TellsReport bytes)
 AnswersCommand (Left draws) list answer bytes =
     UnlessInput (TellsRun (IsLeftText draws (is_found answer)) bytes list)
-AnswersCommand (Draw is_fine part) list answer bytes =
-    UnlessInput (TellsPart is_fine part (is_found answer) bytes list)
+AnswersCommand (Draw is_fine is_page part) list answer bytes =
+    UnlessInput (TellsPart is_fine is_page part (is_found answer) bytes list)
 AnswersCommand (Owners draws) list answer bytes = UnlessInput (TellsGraph draws bytes answer)
 AnswersCommand (Orders finds most) list answer bytes =
     UnlessInput (TellsMost finds most answer bytes list)

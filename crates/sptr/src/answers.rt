@@ -233,7 +233,7 @@ pub(crate) fn draw<O: Write>(
     output: &mut Output<O>,
 ) -> Result<bool, Fault>
     requires { output.old.has_failed ≡ false }
-    ensures told { Delivers (TellsRun (IsPictureText order.entry.is_fine order.entry.part result)
+    ensures told { Delivers (TellsRun (IsPictureText order.entry.is_fine order.entry.is_page order.entry.part result)
         order.entry.script.now order.entry.turns.now) result
         (O.contents output.old.writer) (O.contents output.new.writer) }
     ensures failed { output.new.has_failed ≡ is_output result }

@@ -29,15 +29,26 @@ pub(crate) enum Asked {
     /// The lines of a script's run on real workers, thread by thread.
     Run,
     /// What is left at the end of the run, and who holds it, as text or drawn.
-    Left { draws: bool },
-    /// The picture of a part of the run, by acts or by single steps; no part where its numbers are
-    /// faulty.
-    Draw { is_fine: bool, part: Option<Part> },
+    Left {
+        draws: bool,
+    },
+    /// The picture of a part of the run, by acts or by single steps, or a page that shows it act by
+    /// act; no part where its numbers are faulty.
+    Draw {
+        is_fine: bool,
+        is_page: bool,
+        part: Option<Part>,
+    },
     /// What leaks of a graph of owners, as text or drawn.
-    Owners { draws: bool },
+    Owners {
+        draws: bool,
+    },
     /// The outcomes of all orders of a script, or the turns by which a line is told, with so many
     /// states at most; no such number where that is faulty.
-    Orders { finds: bool, most: Option<u32> },
+    Orders {
+        finds: bool,
+        most: Option<u32>,
+    },
 }
 
 /// What a command line asks for, with its list of turns, or the line that is to be found, which is
@@ -139,6 +150,7 @@ fn asked_by_name(name: &str, given: &ArgMatches<'_>) -> Asked
         },
         "draw" => Asked::Draw {
             is_fine: has_flag(given, "fine"),
+            is_page: has_flag(given, "page"),
             part: part_of(given),
         },
         "owners" => Asked::Owners {

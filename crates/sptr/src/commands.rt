@@ -88,8 +88,10 @@ fn draw_command<'a>(alloc: Global) -> Result<Command<'a>, AllocError>
 {
     let about = "Runs a script act by act, and draws the run as SVG";
     let fine = "By single atomic steps, one for each number of the list";
+    let page = "As one HTML page on which to go through the run act by act";
     turns_command(alloc, "draw", about)?
         .arg(flag(alloc, "fine", fine))?
+        .arg(flag(alloc, "page", page))?
         .arg(option(alloc, "from", "N", "The first act that is drawn, from 1"))?
         .arg(option(alloc, "to", "M", "The last act that is drawn"))
 }

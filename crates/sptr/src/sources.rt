@@ -74,12 +74,17 @@ fn answer_bytes<R: Threads + Wait + Sync, O: Write>(
         Asked::Left { draws } => {
             done_or(Outcome::Leaks, left(alloc, turns, draws, text, output))
         }
-        Asked::Draw { is_fine, part } => match part {
+        Asked::Draw {
+            is_fine,
+            is_page,
+            part,
+        } => match part {
             Some(part) => {
                 let order = Order {
                     script: text,
                     turns,
                     is_fine,
+                    is_page,
                     part,
                 };
                 done_or(Outcome::NoPicture, draw(alloc, order, output))

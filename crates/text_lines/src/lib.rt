@@ -8,11 +8,11 @@
 mod fault;
 mod lines;
 mod number;
-mod reading;
+mod reader;
 mod words;
 
 pub use fault::{LineFault, Stop};
 pub use lines::{is_clean, line_content, split_line};
 pub use number::number_of;
-pub use reading::{LineReader, read_lines};
+pub use reader::{LineReader, read_lines};
 pub use words::{after_word, first_word, without_last_spaces, without_spaces, words_in};

@@ -2,7 +2,7 @@
 
 use crate::machine::heap::Heap;
 use crate::machine::pointer::empty;
-use crate::machine::standing::Standing;
+use crate::machine::position::Standing;
 use crate::machine::store::Store;
 use control_word::Refusal;
 use script_text::Script;

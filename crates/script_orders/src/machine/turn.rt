@@ -2,7 +2,7 @@
 
 use crate::machine::heap::Heap;
 use crate::machine::line::Line;
-use crate::machine::standing::Standing;
+use crate::machine::position::Standing;
 use control_word::Refusal;
 use step_core::CellName;
 

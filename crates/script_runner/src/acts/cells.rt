@@ -112,7 +112,7 @@ pub(crate) fn load<H: Home, R: Wait>(
 {
     match table.load(rt, cell_of(cell), hand) {
         Ok(()) => {
-            table.stands();
+            table.assert_invariant();
             ActResult {
                 taken: true,
                 answer: None,
@@ -142,7 +142,7 @@ pub(crate) fn exchange<H: Home>(
 {
     match table.exchange(usize::from(name), cell_of(cell)) {
         Ok(()) => {
-            table.stands();
+            table.assert_invariant();
             ActResult {
                 taken,
                 answer: None,
@@ -202,7 +202,7 @@ fn swap_taken<H: Home>(table: &mut HandleTable<'_, u64, H>, hand: usize, cell: C
 {
     match table.exchange(hand, cell_of(cell)) {
         Ok(()) => {
-            table.stands();
+            table.assert_invariant();
             set_aside(table, hand);
         }
         Err(_) => set_aside(table, hand),

@@ -30,7 +30,7 @@ pub(crate) fn top_of<H: Home>(table: &mut HandleTable<'_, u64, H>) -> Option<End
     ensures told { IfSome result (IsTop table.old) }
     ensures same { table.new ≡ table.old }
 {
-    table.stands();
+    table.assert_invariant();
     match table.remains() {
         None => None,
         Some(Remains::Null) => Some(Ended::Null),

@@ -11,7 +11,7 @@ ghost use Rattle.script_runner.specs.Notes.{PlaysOn, Settles, SettlesPartly};
 
 use crate::acts::act_result::ActResult;
 use crate::acts::comparison::compare;
-use crate::acts::dealing::deal;
+use crate::acts::dispatch::deal;
 use crate::workers::log::Log;
 use crate::workers::seats::{told_of, top_of};
 use handle_table::{HandleTable, Home};
@@ -40,7 +40,7 @@ impl<'a> Log<'a> {
             Some(_) => {}
             None => return false,
         }
-        table.stands();
+        table.assert_invariant();
         let round = table.round();
         let ended = told_of(table, &round);
         self.note(statement, None, ended);
@@ -129,7 +129,7 @@ impl<'a> Log<'a> {
         ensures limits { KeepsLimits table.old table.new }
         ensures book { self.new.share.book ≡ self.old.share.book }
     {
-        table.stands();
+        table.assert_invariant();
         let compared = compare(rt, table, hand, name, cell, weak);
         self.taken = false;
         match compared {

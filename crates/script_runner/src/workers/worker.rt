@@ -4,9 +4,9 @@ ghost use Rattle.script_runner.specs.Facts.{suit_fact};
 ghost use Rattle.script_runner.specs.Kinds.{AllSuit, first_stance};
 
 use crate::gate::Gate;
-use crate::workers::beginning::begin;
 use crate::workers::log::Log;
-use crate::workers::playing::play;
+use crate::workers::start::begin;
+use crate::workers::turns::play;
 use handle_table::{HandleTable, Home, Work};
 use std::sync::Wait;
 use std::thread::Threads;
@@ -45,7 +45,7 @@ impl<'a, R: Threads + Wait + Sync, G: Gate + Sync> Work<u64, R> for Worker<'a, G
         × IsWorked w.kinds.items w.tasks.items w.log t w'.log u };
 
     fn work<H: Home>(&mut self, rt: &R, table: &mut HandleTable<'_, u64, H>) {
-        table.stands();
+        table.assert_invariant();
         begin(table, &self.kinds);
         play(
             rt,
@@ -56,6 +56,6 @@ impl<'a, R: Threads + Wait + Sync, G: Gate + Sync> Work<u64, R> for Worker<'a, G
             self.number,
             self.gate,
         );
-        table.stands();
+        table.assert_invariant();
     }
 }

@@ -7,7 +7,7 @@ ghost use Rattle.script_stepper.specs.Running.{IsThread};
 ghost use Rattle.script_stepper.specs.StepRuns.{IsStepRun, IsStepText, step_lines};
 
 use crate::lines::put_said;
-use crate::runs::closing::put_closing;
+use crate::runs::totals::put_closing;
 use std::alloc::{AllocError, Global};
 use step_core::{RunRefusal, Stepped, Trace, TraceStep, World};
 

@@ -1,7 +1,6 @@
 //! What is found at a script's end: who holds what, and in which color each block is drawn.
 use crate::same::same;
-use holders::holdings;
-use leak_report::colors;
+use leak_report::{colors, holdings};
 use owner_graph::Holding;
 use script_stepper::{End, end_of};
 use std::alloc::{AllocError, Global};
@@ -30,7 +29,7 @@ fn each_block_has_its_color(rt: HostRuntime) -> Result<(), Fail> {
 }
 
 /// Where an owner is, and on which block.
-fn told(held: &Holding) -> (u32, u32, u32, bool) {
+fn place_of(held: &Holding) -> (u32, u32, u32, bool) {
     (held.from, held.slot, held.to, held.is_owner)
 }
 
@@ -48,7 +47,7 @@ fn each_cell_tells_what_it_holds(rt: HostRuntime) -> Result<(), Fail> {
     let held = holdings(rt.alloc(), &end.world, 128, 256, end.blocks)?;
     same(&rt, held.len(), HELD.len());
     for (held, wanted) in held.iter().zip(HELD) {
-        same(&rt, told(held), wanted);
+        same(&rt, place_of(held), wanted);
     }
     Ok(())
 }

@@ -1,6 +1,6 @@
 //! What is reached in a small graph.
 use crate::same::same;
-use directed_graph::{Edge, Graph, GraphError};
+use owner_graph::{Edge, Graph, GraphError};
 use std::alloc::AllocError;
 use std::process::Abort;
 

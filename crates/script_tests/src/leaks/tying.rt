@@ -15,15 +15,15 @@ fn circle() -> [Holding; 2]
 }
 
 /// Vertices and label of an owner.
-type Told = (u32, u32, u32);
+type Place = (u32, u32, u32);
 
-fn told(handle: Option<&Holding>) -> Option<Told> {
+fn place_of(handle: Option<&Holding>) -> Option<Place> {
     let handle = handle?;
     Some((handle.from, handle.to, handle.label))
 }
 
 /// The ties, each on the least vertex of its knot, and how many of them are cuts.
-fn tied(alloc: Global) -> Result<([bool; 2], [Option<Told>; 2], usize), AllocError> {
+fn tied(alloc: Global) -> Result<([bool; 2], [Option<Place>; 2], usize), AllocError> {
     let handles = circle();
     let kept = [true, false, false];
     let knots = knots(alloc, 2, &handles)?;
@@ -33,7 +33,7 @@ fn tied(alloc: Global) -> Result<([bool; 2], [Option<Told>; 2], usize), AllocErr
     ];
     let ties = ties(alloc, 2, &handles, &kept, knots.as_slice())?;
     let cuts = cuts(alloc, 2, &handles, knots.as_slice(), ties.as_slice())?;
-    let both = [told(ties.get(0)), told(ties.get(1))];
+    let both = [place_of(ties.get(0)), place_of(ties.get(1))];
     Ok((are_ties, both, cuts.len()))
 }
 
@@ -44,7 +44,7 @@ fn each_owner_of_a_circle_ties_it(rt: HostRuntime) {
 }
 
 /// What is on each vertex, and which of what is on the second vertex ties the knot.
-fn grouped(alloc: Global) -> Result<([usize; 3], Option<Told>), AllocError> {
+fn grouped(alloc: Global) -> Result<([usize; 3], Option<Place>), AllocError> {
     let handles = circle();
     let rows = by_vertex(alloc, 2, &handles)?;
     let ties = knot_ties(
@@ -59,7 +59,7 @@ fn grouped(alloc: Global) -> Result<([usize; 3], Option<Told>), AllocError> {
         rows.get(1).map_or(9, |row| row.len()),
         rows.get(2).map_or(9, |row| row.len()),
     ];
-    Ok((lengths, told(ties.first())))
+    Ok((lengths, place_of(ties.first())))
 }
 
 #[test]

@@ -48,7 +48,7 @@ fn are(rt: &impl Abort, alloc: Global, handles: &[Holding], cuts: &[bool], pairs
     same(rt, found.knots.as_slice(), [0, 1, 1].as_slice());
     same(rt, found.cuts.as_slice(), cuts);
     match weakenings(alloc, &found) {
-        Some(told) => same(rt, told.as_slice(), pairs),
+        Some(found) => same(rt, found.as_slice(), pairs),
         None => same(rt, false, true),
     }
 }
@@ -85,4 +85,34 @@ fn pairs_of_labels_are_told_where_no_single_one_is_enough(rt: HostRuntime) {
         owner(2, 1, 1, 5),
     ];
     are(&rt, rt.alloc(), &both, &[false; 4], &[(7, 9), (8, 5)]);
+}
+
+/// What is looked up of a circle of two: of each vertex, of one past the last, and of each handle.
+#[test]
+fn what_was_found_is_looked_up_by_numbers(rt: HostRuntime) {
+    let circle = [owner(1, 2, 0, 7), owner(2, 1, 1, 8)];
+    let Some(found) = found(rt.alloc(), &circle) else {
+        return same(&rt, false, true);
+    };
+    same(
+        &rt,
+        [found.is_kept(0), found.is_kept(1), found.is_kept(3)],
+        [true, false, false],
+    );
+    same(&rt, [found.stays(1), found.stays(3)], [true, false]);
+    same(&rt, [found.is_cut(1), found.is_cut(2)], [true, false]);
+    same(&rt, [found.has_tie(2), found.has_tie(3)], [true, false]);
+    same(&rt, [found.is_least(1), found.is_least(2)], [true, false]);
+    same(&rt, found.is_tie(circle[0]), true);
+    let lengths = [
+        found.handles_on(2).len(),
+        found.handles_in(3).len(),
+        found.members_of(1).len(),
+        found.weakenings_of(1).len(),
+    ];
+    same(&rt, lengths, [1, 0, 2, 2]);
+    match found.ties_of(rt.alloc(), 1) {
+        Ok(ties) => same(&rt, ties.len(), 2),
+        Err(_) => same(&rt, false, true),
+    }
 }

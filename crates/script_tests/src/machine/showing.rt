@@ -222,7 +222,7 @@ fn what_comes_next_is_told(rt: HostRuntime) -> Result<(), Fail> {
 fn what_is_left_is_told(rt: HostRuntime) -> Result<(), Fail> {
     let mut pair = Pair::new(rt.alloc(), &OWNS, &[])?;
     pair.run(rt.alloc())?;
-    pair.world.known_at_end();
+    pair.world.assert_invariant_at_end();
     let block = Block(1);
     same(&rt, pair.world.census(block), counts(1, 0));
     same(&rt, pair.world.fields(block), Some([5, 6, 7, 8]));

@@ -121,6 +121,7 @@ fn drawn(alloc: Global, script: &[u8], part: Part) -> Result<(bool, Vec<u8>), Fa
         script,
         turns: b"",
         is_fine: false,
+        is_page: false,
         part,
     };
     let mut taken = Vec::new(alloc);

@@ -14,7 +14,7 @@ run_drawn-requires c =
 
 pub returns-clause-told : goal.returns-clause-told
 returns-clause-told c =
-    told_of c.run_drawn.result (λ (d : Drawn). IsPictureText c.args.order.is_fine c.args.order.part
+    told_of c.run_drawn.result (λ (d : Drawn). IsPictureText c.args.order.is_fine c.args.order.is_page c.args.order.part
     (Ok d.is_none)) (λ (d : Drawn). string_bytes d.text)
     c.args.order.script.now c.args.order.turns.now c.in_ok-script.script c.in_ok-turns.turns.items
     c.as_slice.result.now c.threads.result

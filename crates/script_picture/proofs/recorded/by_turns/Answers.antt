@@ -5,6 +5,7 @@ use Rattle.step_core.specs.Worlds.{WorldState}
 use Rattle.script_text.specs.Beginnings.{script_shape}
 use Rattle.script_stepper.proofs.Overs.{at_end}
 use Rattle.script_stepper.proofs.StepLemmas.{same_blocks, same_shape}
+use Rattle.leak_report.specs.Holders.{free_cells}
 use Rattle.script_picture.specs.Parts.{shown_part}
 use Rattle.script_picture.proofs.Ending.{turns_recorded}
 use Rattle.script_picture.proofs.recorded.by_turns.Goals as goal
@@ -12,6 +13,15 @@ use Rattle.script_picture.proofs.recorded.by_turns.Goals as goal
 pub record_turns-requires-clause-threads : goal.record_turns-requires-clause-threads
 record_turns-requires-clause-threads c =
     subst (λ (n : ℕ). All (λ t. (1 ≤ t) × (t ≤ n)) c.args.turns.now) (sym c.in_ok-world.ensures.threads) c.requires
+
+pub record_turns-requires-clause-fits : goal.record_turns-requires-clause-fits
+record_turns-requires-clause-fits c =
+    let shape : c.in_ok-world.field-0.world.ghost_state.extent.shape ≡ script_shape c.args.script.now =
+    ap (λ (x : WorldState). x.ghost_state.extent.shape) c.in_ok-world.ensures.world_state in
+    record {
+      blocks = c.in-Ok.ensures.blocks ∙ c.in_ok-world.ensures.blocks;
+      cells = ap (λ (x : Shape). free_cells x) shape;
+    }
 
 pub invariant_of-result : goal.invariant_of-result
 invariant_of-result c =

@@ -1,10 +1,21 @@
-use Rattle.std.proofs.Common.{List, [], subst, sym}
-use Rattle.script_text.specs.Beginnings.{script_world_state}
+use Rattle.std.proofs.Common.{◌≡◌, ◌∙◌, List, [], ap, subst, sym}
+use Rattle.control_word.specs.declared.shape.Shape.{Shape}
+use Rattle.leak_report.specs.Holders.{free_cells}
+use Rattle.script_text.specs.Beginnings.{script_shape, script_world_state}
 use Rattle.step_core.specs.declared.trace.TraceStep.{TraceStep}
 use Rattle.step_core.specs.Runs.{IsRun}
 use Rattle.step_core.specs.Worlds.{WorldState}
 use Rattle.script_picture.specs.Recording.{SeesSteps}
 use Rattle.script_picture.proofs.recorded.stepped_rows.Goals as goal
+
+pub record_steps-requires-clause-fits : goal.record_steps-requires-clause-fits
+record_steps-requires-clause-fits c =
+    let shape : c.in-Ok.field-0.world.ghost_state.extent.shape ≡ script_shape c.args.script.now =
+    ap (λ (x : WorldState). x.ghost_state.extent.shape) c.in-Ok.ensures.world_state in
+    record {
+      blocks = c.in_ok-rows.ensures.blocks ∙ c.in-Ok.ensures.blocks;
+      cells = ap (λ (x : Shape). free_cells x) shape;
+    }
 
 pub returns-clause-rows : goal.returns-clause-rows
 returns-clause-rows c last run =

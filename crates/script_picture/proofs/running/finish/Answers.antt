@@ -1,6 +1,6 @@
 use Rattle.std.proofs.Common.{◌∙◌, sym, []}
 use Rattle.script_stepper.proofs.RunLemmas.{still_over}
-use Rattle.script_picture.proofs.Taking.{alone_ends, alone_more, alone_none, taken_blocks}
+use Rattle.script_picture.proofs.Taking.{alone_ends, alone_more, alone_none, taken_fits}
 use Rattle.script_picture.proofs.Taking.{taken_thread}
 use Rattle.script_picture.proofs.running.finish.Goals as goal
 
@@ -12,10 +12,10 @@ take_turn-requires-clause-thread c =
     taken_thread _ c.args.world.now c.loop.world c.args.rows.now c.loop.rows c.args.thread
     c.loop.invariant.taken c.requires.thread
 
-pub take_turn-requires-clause-blocks : goal.take_turn-requires-clause-blocks
-take_turn-requires-clause-blocks c =
-    taken_blocks _ c.args.world.now c.loop.world c.args.rows.now c.loop.rows c.loop.invariant.taken
-    c.requires.blocks
+pub take_turn-requires-clause-fits : goal.take_turn-requires-clause-fits
+take_turn-requires-clause-fits c =
+    taken_fits _ c.args.world.now c.loop.world c.args.rows.now c.loop.rows c.loop.invariant.taken
+    c.requires.fits
 
 pub loop-smaller : goal.loop-smaller
 loop-smaller c = c.in_ok-take_turn.ensures.less c.if-branch.true

@@ -5,6 +5,7 @@ use Rattle.step_threads.specs.declared.said.Stepped.TheVariants.{Event}
 use Rattle.step_core.specs.declared.trace.TraceStep.{TraceStep}
 use Rattle.step_core.specs.Runs.{NamesActor}
 use Rattle.script_picture.proofs.Stepping.{seen_all, seen_more, seen_none}
+use Rattle.script_picture.proofs.Taking.{fits_still}
 use Rattle.script_picture.proofs.running.record_steps.Goals as goal
 
 nothing : TraceStep
@@ -18,7 +19,7 @@ loop-step-init c = record {
   sees = λ last run. seen_none c.args.world.now c.args.steps.now last c.args.rows.now run;
   part = refl;
   actors = refl;
-  blocks = c.requires.blocks;
+  fits = c.requires.fits;
 }
 
 pub take_step-requires-clause-actor : goal.take_step-requires-clause-actor
@@ -37,9 +38,6 @@ loop-step-preserved c =
     let here : c.loop-step.step-index < length c.args.steps.now = omega arith in
     let i = c.loop-step.invariant in
     let e = c.in_ok-take_step.ensures in
-    let blocks = e.same in
-    let extent = ap (λ (x : Extent). x.shape.blocks) e.extent in
-    let before = i.blocks in
     record {
       sees = λ last run.
           seen_more c.args.world.now c.args.steps.now c.loop-step.step-index nothing last
@@ -47,7 +45,9 @@ loop-step-preserved c =
           c.take_step.new.rows here (i.sees last run) e.adds;
       part = e.part ∙ i.part;
       actors = e.actors ∙ i.actors;
-      blocks = omega (arith, blocks, extent, before);
+      fits =
+          fits_still c.loop-step.rows.source c.take_step.new.rows.source c.loop-step.world
+          c.take_step.new.world e.same (ap (λ (x : Extent). x.shape) e.extent) i.fits;
     }
 
 pub returns-clause-sees : goal.returns-clause-sees

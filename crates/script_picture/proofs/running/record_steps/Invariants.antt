@@ -1,6 +1,7 @@
-use Rattle.std.proofs.Common.{◌≡◌, ◌≤◌, length}
+use Rattle.std.proofs.Common.{◌≡◌, length}
 use Rattle.step_core.specs.Runs.{IsRun}
 use Rattle.step_core.specs.Worlds.{WorldState}
+use Rattle.script_picture.specs.Recording.{Fits}
 use Rattle.script_picture.proofs.Stepping.{HasSeen}
 use Rattle.script_picture.proofs.running.record_steps.Given as goal
 
@@ -10,5 +11,5 @@ invariant-loop-step l = record {
       → HasSeen l.fn.world l.steps l.step-index last l.world l.fn.rows l.rows;
   part : l.rows.part ≡ l.fn.rows.part;
   actors : length l.world.frame_views ≡ length l.fn.world.frame_views;
-  blocks : l.rows.source.blocks ≤ l.world.ghost_state.extent.shape.blocks;
+  fits : Fits l.rows.source l.world;
 }

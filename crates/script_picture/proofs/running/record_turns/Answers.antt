@@ -1,6 +1,6 @@
 use Rattle.std.proofs.Common.{◌+◌, arith}
 use Rattle.script_picture.proofs.Ending.{all_ended, ended_then, none_ended}
-use Rattle.script_picture.proofs.Taking.{taken_blocks, taken_thread}
+use Rattle.script_picture.proofs.Taking.{taken_fits, taken_thread}
 use Rattle.script_picture.proofs.running.record_turns.Goals as goal
 
 pub finish-requires-clause-thread : goal.finish-requires-clause-thread
@@ -9,10 +9,10 @@ finish-requires-clause-thread c =
     (c.loop-index.index + 1) c.loop-index.invariant.taken
     (omega arith, omega arith)
 
-pub finish-requires-clause-blocks : goal.finish-requires-clause-blocks
-finish-requires-clause-blocks c =
-    taken_blocks _ c.args.world.now c.loop-index.world c.args.rows.now c.loop-index.rows
-    c.loop-index.invariant.taken c.requires.blocks
+pub finish-requires-clause-fits : goal.finish-requires-clause-fits
+finish-requires-clause-fits c =
+    taken_fits _ c.args.world.now c.loop-index.world c.args.rows.now c.loop-index.rows
+    c.loop-index.invariant.taken c.requires.fits
 
 pub loop-index-init : goal.loop-index-init
 loop-index-init c = none_ended c.args.turns.now _ _ _ _ c.in_ok-take_turns.ensures

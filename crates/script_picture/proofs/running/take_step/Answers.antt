@@ -1,7 +1,19 @@
-use Rattle.std.proofs.Common.{◌-◌, ◌∙◌, sym}
+use Rattle.std.proofs.Common.{ℕ, ◌-◌, ◌∙◌, ap, refl, subst, sym}
 use Rattle.std.proofs.lemmas.Result.{on_ok_weaker}
+use Rattle.step_core.specs.Runs.{NamesActor}
+use Rattle.step_table.specs.declared.memory.extent.Extent.{Extent}
+use Rattle.script_picture.proofs.Taking.{fits_still}
 use Rattle.script_picture.proofs.Stepping.{heard_again, same_step}
 use Rattle.script_picture.proofs.running.take_step.Goals as goal
+
+pub add_row-requires-clause-fits : goal.add_row-requires-clause-fits
+add_row-requires-clause-fits c =
+    fits_still c.args.rows.now.source c.args.rows.now.source c.args.world.now c.step.new.self refl
+    (ap (λ (x : Extent). x.shape) c.step.ensures.extent) c.requires.fits
+
+pub add_row-requires-clause-thread : goal.add_row-requires-clause-thread
+add_row-requires-clause-thread c =
+    subst (λ (n : ℕ). NamesActor n c.args.step.now.actor) (sym c.step.ensures.actors) c.requires.actor
 
 pub returns-clause-adds : goal.returns-clause-adds
 returns-clause-adds c =

@@ -1,14 +1,20 @@
-use Rattle.std.proofs.Common.{◌-◌, ◌<◌, ◌≤◌, length, arith, subst, sym}
+use Rattle.std.proofs.Common.{ℕ, ◌-◌, ◌<◌, length, ap, arith, refl, subst, sym}
 use Rattle.std.specs.Prelude.{None, Some}
 use Rattle.step_table.specs.declared.memory.extent.Extent.{Extent}
+use Rattle.step_core.specs.Runs.{NamesActor}
 use Rattle.script_stepper.proofs.OneTurn.{acted_turn, done_turn, turn_fewer}
 use Rattle.script_picture.proofs.Recordings.{adds_none}
-use Rattle.script_picture.proofs.Taking.{taken_turn}
+use Rattle.script_picture.proofs.Taking.{fits_still, taken_turn}
 use Rattle.script_picture.proofs.running.take_turn.Goals as goal
 
-pub add_row-requires : goal.add_row-requires
-add_row-requires c =
-    subst (λ (x : Extent). c.args.rows.now.source.blocks ≤ x.shape.blocks) (sym c.turn.ensures.extent) c.requires.blocks
+pub add_row-requires-clause-fits : goal.add_row-requires-clause-fits
+add_row-requires-clause-fits c =
+    fits_still c.args.rows.now.source c.args.rows.now.source c.args.world.now c.turn.new.self refl
+    (ap (λ (x : Extent). x.shape) c.turn.ensures.extent) c.requires.fits
+
+pub add_row-requires-clause-thread : goal.add_row-requires-clause-thread
+add_row-requires-clause-thread c =
+    subst (λ (n : ℕ). NamesActor n c.args.thread) (sym c.turn.ensures.actors) c.requires.thread
 
 pub returns-in_ok-add_row-in-Acted-clause-taken : goal.returns-in_ok-add_row-in-Acted-clause-taken
 returns-in_ok-add_row-in-Acted-clause-taken c =

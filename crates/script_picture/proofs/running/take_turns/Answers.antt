@@ -1,7 +1,7 @@
 use Rattle.std.proofs.Common.{arith, get_or, length, ◌<◌}
 use Rattle.std.proofs.lemmas.List.Elements.{All-get_or}
 use Rattle.script_stepper.specs.Running.{IsThread}
-use Rattle.script_picture.proofs.Taking.{taken_blocks, taken_more, taken_none, taken_thread}
+use Rattle.script_picture.proofs.Taking.{taken_fits, taken_more, taken_none, taken_thread}
 use Rattle.script_picture.proofs.running.take_turns.Goals as goal
 
 pub loop-thread-init : goal.loop-thread-init
@@ -16,10 +16,10 @@ take_turn-requires-clause-thread c =
     (All-get_or (IsThread c.args.world.now) c.args.turns.now c.loop-thread.thread-index 0 here
     c.requires.threads)
 
-pub take_turn-requires-clause-blocks : goal.take_turn-requires-clause-blocks
-take_turn-requires-clause-blocks c =
-    taken_blocks _ c.args.world.now c.loop-thread.world c.args.rows.now c.loop-thread.rows
-    c.loop-thread.invariant c.requires.blocks
+pub take_turn-requires-clause-fits : goal.take_turn-requires-clause-fits
+take_turn-requires-clause-fits c =
+    taken_fits _ c.args.world.now c.loop-thread.world c.args.rows.now c.loop-thread.rows
+    c.loop-thread.invariant c.requires.fits
 
 pub loop-thread-preserved : goal.loop-thread-preserved
 loop-thread-preserved c =

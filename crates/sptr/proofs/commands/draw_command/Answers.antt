@@ -10,9 +10,12 @@ returns-clause-shape c =
     argument_added c.in_ok-turns_command.field-0 c.in_ok-arg.field-0 _ _ _
     (c.in_ok-arg.ensures.shape c.flag.ensures.local) c.in_ok-turns_command.ensures.shape
     c.flag.ensures.rule in
-    let from =
+    let page =
     argument_added c.in_ok-arg.field-0 c.in_ok-arg-2.field-0 _ _ _
-    (c.in_ok-arg-2.ensures.shape c.option.ensures.local) fine c.option.ensures.rule in
-    IfOk-weaker c.arg-3.result _ _ (λ r h.
-    argument_added c.in_ok-arg-2.field-0 r _ _ _ (h.shape c.option-2.ensures.local) from
-    c.option-2.ensures.rule) c.arg-3.ensures
+    (c.in_ok-arg-2.ensures.shape c.flag-2.ensures.local) fine c.flag-2.ensures.rule in
+    let from =
+    argument_added c.in_ok-arg-2.field-0 c.in_ok-arg-3.field-0 _ _ _
+    (c.in_ok-arg-3.ensures.shape c.option.ensures.local) page c.option.ensures.rule in
+    IfOk-weaker c.arg-4.result _ _ (λ r h.
+    argument_added c.in_ok-arg-3.field-0 r _ _ _ (h.shape c.option-2.ensures.local) from
+    c.option-2.ensures.rule) c.arg-4.ensures

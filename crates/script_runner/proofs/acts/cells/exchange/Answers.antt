@@ -25,7 +25,7 @@ returns-in-Ok-clause-acts g c =
     law.exchange_taken c.args.hand c.args.table.now c.args.cell c.requires.named c.requires.reached c.cell_of.result c.cell_of.ensures c.requires.seated
     c.args.name c.requires.kind c.exchange.new.self
     (subst (λ j. ExchangesSlot c.args.table.now j c.cell_of.result c.exchange.new.self) c.from.ensures c.in-Ok.ensures.exchanged)
-    c.stands.ensures.fits c.stands.ensures.stands c.args.taken c.requires.name
+    c.assert_invariant.ensures.fits c.assert_invariant.ensures.stands c.args.taken c.requires.name
 
 pub returns-in-Ok-clause-kinds : goal.returns-in-Ok-clause-kinds
 returns-in-Ok-clause-kinds g c =

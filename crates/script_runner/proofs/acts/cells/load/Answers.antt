@@ -20,7 +20,7 @@ returns-in-Err-clause-kinds g c =
 pub returns-in-Ok-clause-acts : goal.returns-in-Ok-clause-acts
 returns-in-Ok-clause-acts g c =
     law.load_taken c.args.hand c.args.table.now c.args.cell c.requires.named c.requires.reached c.cell_of.result c.cell_of.ensures c.load.new.self
-    c.requires.hand c.in-Ok.ensures.loaded c.stands.ensures.fits c.stands.ensures.stands
+    c.requires.hand c.in-Ok.ensures.loaded c.assert_invariant.ensures.fits c.assert_invariant.ensures.stands
 
 pub returns-in-Ok-clause-kinds : goal.returns-in-Ok-clause-kinds
 returns-in-Ok-clause-kinds g c =

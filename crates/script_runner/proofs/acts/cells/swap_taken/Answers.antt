@@ -23,8 +23,8 @@ set_aside-requires-in-Err-clause-full g c = (
 pub returns-in-Ok-clause-acts : goal.returns-in-Ok-clause-acts
 returns-in-Ok-clause-acts g c =
     law.swap_swapped c.args.hand c.args.table.now c.args.cell c.requires.named c.requires.reached c.cell_of.result c.cell_of.ensures c.requires.seated
-    c.requires.hand c.requires.full c.requires.other c.exchange.new.self c.set_aside.new.table c.in-Ok.ensures.exchanged c.stands.ensures.fits
-    c.stands.ensures.stands c.set_aside.ensures.moved
+    c.requires.hand c.requires.full c.requires.other c.exchange.new.self c.set_aside.new.table c.in-Ok.ensures.exchanged c.assert_invariant.ensures.fits
+    c.assert_invariant.ensures.stands c.set_aside.ensures.moved
 
 pub returns-in-Ok-clause-kinds : goal.returns-in-Ok-clause-kinds
 returns-in-Ok-clause-kinds g c =

@@ -21,7 +21,7 @@ returns-clause-goes g c =
     let vacant : IsVacant t.slots c.args.hand =
     subst (λ (q : TableNow ℕ). IsVacant q.slots c.args.hand) (sym told.same)
     (comparisons.must_settle c.args.hand c.args.table.now c.in-Some.field-0 told.told c.requires.vacant) in
-    let stands = c.stands.ensures in
+    let stands = c.assert_invariant.ensures in
     subst (λ q. SettlesPartly c.args.hand c.args.statement q s c.told_of-ended.new.table x) told.same
     (subst (λ q. SettlesPartly c.args.hand c.args.statement t s q x) (sym c.told_of-ended.ensures.same)
     (noted.round_noted c.args.hand c.args.statement t s u x (comparisons.hand_vacant c.args.hand t stands.fits stands.stands stands.ends vacant)

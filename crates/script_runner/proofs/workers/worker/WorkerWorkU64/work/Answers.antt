@@ -26,5 +26,5 @@ returns g c =
       played.book,
       played.limits.1 ∙ allowance_same c.args.table.now.desk c.begin.new.table.desk begun.unmoved.0,
       playing.worked s.kinds.items s.tasks.items s.log c.play.new.log c.args.table.now c.begin.new.table c.play.new.table c.requires.needs.1
-          begun played.goes played.going (c.stands-2.ensures.here.shape ∙ sym c.stands.ensures.here.shape),
+          begun played.goes played.going (c.assert_invariant-2.ensures.here.shape ∙ sym c.assert_invariant.ensures.here.shape),
     )

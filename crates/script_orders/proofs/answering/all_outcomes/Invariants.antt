@@ -1,6 +1,0 @@
-use Rattle.script_orders.specs.Found.{outcomes_in}
-use Rattle.script_orders.specs.Orders.{AreOutcomes}
-use Rattle.script_orders.proofs.answering.all_outcomes.Given as goal
-
-abbrev pub invariant-loop : goal.invariant-loop
-invariant-loop l = AreOutcomes l.script (outcomes_in l.outcomes.found.entries)

@@ -1,5 +1,0 @@
-use Rattle.script_runner.proofs.Naming.{AreNamed}
-use Rattle.script_runner.proofs.workers.beginning.begin.Given as goal
-
-abbrev pub invariant-loop-name : goal.invariant-loop-name
-invariant-loop-name g l = AreNamed l.kinds.items l.name l.initial.table l.table
