@@ -21,7 +21,7 @@ pub use cells::Cell;
 pub use ends::Remains;
 pub use fault::{Fault, Returned};
 pub use looks::Peeked;
-pub use program::{Crew, Team};
+pub use program::Crew;
 pub use shared_handle::{Gone, Round};
 pub use staff::{Share, Work, run_workers, run_workers_open};
 pub use table::{HandleTable, Home};

@@ -4,19 +4,11 @@ ghost use Rattle.std.specs.Prelude.{length, vec_capacity, IfSome};
 ghost use Rattle.handle_table.specs.Parting.{AbsorbsAll, IsNew, IsPartedInto, WhyFewer};
 ghost use Rattle.handle_table.specs.Programs.{IsManned};
 
+use crate::staff::Share;
 use crate::table::{HandleTable, Home};
 use control_word::Refusal;
 use std::alloc::Global;
 use std::sync::Wait;
-
-/// How many workers there are, and what each gets: slots, a part of the allowance, and vacant blocks.
-#[derive(Clone, Copy, Drop)]
-pub struct Team {
-    pub workers: usize,
-    pub slots: usize,
-    pub allowance: u32,
-    pub blocks: u32,
-}
 
 /// Tables for a team, and why they are fewer than its workers, where they are.
 pub struct Crew<'d, V: Drop, H: Home> {
@@ -25,22 +17,23 @@ pub struct Crew<'d, V: Drop, H: Home> {
 }
 
 impl<'d, V: Drop, H: Home> HandleTable<'d, V, H> {
-    /// Tables for the workers of a team, and why they are fewer, where they are.
+    /// Tables for so many workers, and why they are fewer, where they are.
     fn recruit_all(
         &mut self,
         alloc: Global,
-        team: Team,
+        workers: usize,
+        share: Share,
         tables: &mut Vec<HandleTable<'d, V, H>>,
     ) -> Option<Refusal>
-        requires { (tables.old.items ≡ []) × (team.workers ≤ vec_capacity tables.old) }
-        ensures parts { IsPartedInto self.old.desk team.allowance team.blocks tables.new.items self.new.desk }
-        ensures new { All (IsNew team.slots) tables.new.items }
+        requires { (tables.old.items ≡ []) × (workers ≤ vec_capacity tables.old) }
+        ensures parts { IsPartedInto self.old.desk share.allowance share.blocks tables.new.items self.new.desk }
+        ensures new { All (IsNew share.slots) tables.new.items }
         ensures rest { (self.new.slots ≡ self.old.slots) × (self.new.endings ≡ self.old.endings) }
-        ensures manned { IsManned team.workers (length tables.new.items) result }
-        ensures fewer { IfSome result (WhyFewer self.new.desk team.allowance team.blocks) }
+        ensures manned { IsManned workers (length tables.new.items) result }
+        ensures fewer { IfSome result (WhyFewer self.new.desk share.allowance share.blocks) }
     {
-        while tables.len() < team.workers {
-            match self.recruit(alloc, team.slots, team.allowance, team.blocks) {
+        while tables.len() < workers {
+            match self.recruit(alloc, share.slots, share.allowance, share.blocks) {
                 Ok(table) => tables.push_reserved(table),
                 Err(why) => return Some(why),
             }
@@ -48,28 +41,28 @@ impl<'d, V: Drop, H: Home> HandleTable<'d, V, H> {
         None
     }
 
-    /// A table for each worker of a team, with its part of the allowance and of the vacant blocks (own). Where one is
+    /// A table for each of so many workers, with its part of the allowance and of the vacant blocks (own). Where one is
     /// refused, as a split is, the tables are fewer, and `fewer` says why.
-    pub fn team(&mut self, alloc: Global, team: Team) -> Crew<'d, V, H>
-        ensures parts { IsPartedInto self.old.desk team.allowance team.blocks result.tables.items self.new.desk }
-        ensures new { All (IsNew team.slots) result.tables.items }
+    pub fn team(&mut self, alloc: Global, workers: usize, share: Share) -> Crew<'d, V, H>
+        ensures parts { IsPartedInto self.old.desk share.allowance share.blocks result.tables.items self.new.desk }
+        ensures new { All (IsNew share.slots) result.tables.items }
         ensures rest { (self.new.slots ≡ self.old.slots) × (self.new.endings ≡ self.old.endings) }
-        ensures manned { IsManned team.workers (length result.tables.items) result.fewer }
-        ensures fewer { IfSome result.fewer (WhyFewer self.new.desk team.allowance team.blocks) }
+        ensures manned { IsManned workers (length result.tables.items) result.fewer }
+        ensures fewer { IfSome result.fewer (WhyFewer self.new.desk share.allowance share.blocks) }
     {
-        if team.workers == 0 {
+        if workers == 0 {
             return Crew {
                 tables: Vec::new(alloc),
                 fewer: None,
             };
         }
-        let Ok(mut tables) = Vec::with_capacity(alloc, team.workers) else {
+        let Ok(mut tables) = Vec::with_capacity(alloc, workers) else {
             return Crew {
                 tables: Vec::new(alloc),
                 fewer: Some(Refusal::Memory),
             };
         };
-        let fewer = self.recruit_all(alloc, team, &mut tables);
+        let fewer = self.recruit_all(alloc, workers, share, &mut tables);
         Crew { tables, fewer }
     }
 

@@ -10,7 +10,7 @@ ghost use Rattle.handle_table.specs.Staffs.{Staffs, StaffsOpen, StaffsOrNot};
 use crate::closing::{close_bare, close_sole, keep_sole};
 use crate::opening::{first_table, open_domain};
 use crate::parting::parts::Part;
-use crate::program::{Crew, Team};
+use crate::program::Crew;
 use crate::staff::posts::worked;
 use crate::table::{HandleTable, Home};
 use control_block::census::Census;
@@ -64,13 +64,7 @@ impl<'d, V: Drop + Send, H: Home + Send + Sync> HandleTable<'d, V, H> {
         ensures shared { CanShare self.old.desk share (length workers.old.items)
             → IfSome result (λ why. why ≡ Refusal.Memory) }
     {
-        let team = Team {
-            workers: workers.len(),
-            slots: share.slots,
-            allowance: share.allowance,
-            blocks: share.blocks,
-        };
-        let crew = self.team(alloc, team);
+        let crew = self.team(alloc, workers.len(), share);
         let Crew { tables, fewer } = crew;
         let mut tables = tables;
         if let Some(why) = fewer {

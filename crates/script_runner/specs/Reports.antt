@@ -29,8 +29,8 @@ abbrev pub share_for : ScriptView → Share
 share_for script =
     record { slots = 36; allowance = 65535; blocks = blocks_in script.version / length script.threads }
 
--- So many workers had tables of a new domain's parts, each with such a share, and the domain's first table absorbed what
--- they left. Then all handles left it, and what was left to end did so
+-- So many workers had tables of a new domain's parts, each with such a share, and the domain's first table absorbed
+-- what they left. Then all handles left it, and what was left to end did so
 pub record HadWorkers (domain : DomainNow) (share : Share) (count : ℕ) (last : DeskNow ℕ) : Type 0 where
   pub first : TableNow ℕ
   pub begins : IsFirstDesk domain first.desk

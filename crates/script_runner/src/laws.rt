@@ -8,7 +8,8 @@ ghost use Rattle.script_runner.specs.TableCalls.{UpgradesNot, MakesIn, MakesNull
 ghost use Rattle.script_runner.specs.TableCalls.{EmptiesIn, ResetsIn, MovesIn, CountsIn, ExpiresIn, ReadsIn};
 ghost use Rattle.script_runner.specs.TableCalls.{ReadsNot, ThisIn, WeakThisIn, ThisNot, PlacesIn, AlikeIn};
 ghost use Rattle.script_runner.specs.TableCalls.{MarksOrder};
-ghost use Rattle.script_runner.specs.CellCalls.{CellsNot, ComparesIn, DiffersIn, ExchangesIn, HoldsIn, LoadsIn, OffersIn};
+ghost use Rattle.script_runner.specs.CellCalls.{CellsNot, ComparesIn, DiffersIn, ExchangesIn};
+ghost use Rattle.script_runner.specs.CellCalls.{HoldsIn, LoadsIn, OffersIn};
 ghost use Rattle.script_runner.specs.EndCalls.{RemainsIn, RoundsIn};
 ghost use Rattle.script_runner.specs.Goings.{ActsOn, PassesOver};
 ghost use Rattle.script_runner.specs.Laws.{BeginsThread, GoesOnByMark, GoesOnByCall, IsJoined, StaysJoined};

@@ -49,7 +49,8 @@ left_line = record (new_shape (codes "left")) {
 unfoldable pub draw_line : Shape
 draw_line = record (new_shape (codes "draw")) {
   rules = file_word ∷ option_rule (codes "turns") ∷ option_rule (codes "turns-file")
-      ∷ flag_rule (codes "fine") ∷ flag_rule (codes "page") ∷ option_rule (codes "from") ∷ option_rule (codes "to") ∷ [];
+      ∷ flag_rule (codes "fine") ∷ flag_rule (codes "page")
+      ∷ option_rule (codes "from") ∷ option_rule (codes "to") ∷ [];
 }
 
 -- `owners`, which takes a graph, and how to tell it

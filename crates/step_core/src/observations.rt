@@ -9,8 +9,8 @@ ghost use Rattle.step_threads.specs.Frames.{hand, todo};
 ghost use Rattle.step_threads.specs.Endings.{first_of};
 ghost use Rattle.step_threads.specs.AbstractStates.{frame_of};
 ghost use Rattle.step_core.specs.WorldStates.{pending_call_of, abstraction};
-ghost use Rattle.step_core.specs.Showing.{counts_by, ends_in, first_act, is_ending_in, is_load_on, is_make_in, is_on_block};
-ghost use Rattle.step_core.specs.Showing.{loads_on, makes_in};
+ghost use Rattle.step_core.specs.Showing.{counts_by, ends_in, first_act, is_ending_in, is_load_on};
+ghost use Rattle.step_core.specs.Showing.{is_make_in, is_on_block, loads_on, makes_in};
 ghost use Rattle.step_core.specs.Totals.{census_of};
 
 use crate::world::World;

@@ -28,5 +28,6 @@ is_expected s slots k c = let x = cell_of_name s slots c in
 abbrev pub holds_step : State → Slots → ℕ → CellName → Option AtomicStep
 holds_step s slots k c =
     cond (may_go slots c k)
-    (Some (atomic_step.OnCell (cell_step.Holds (cell_of_name s slots c) (as_word (slot_value slots k)) (is_expected s slots k c))))
+    (Some (atomic_step.OnCell (cell_step.Holds (cell_of_name s slots c) (as_word (slot_value slots k))
+    (is_expected s slots k c))))
     None

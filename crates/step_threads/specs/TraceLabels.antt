@@ -163,7 +163,8 @@ module _ {V : Type 0} where
   IsMakeEvent worth s d l (Exchange k c) (Came x) e = Where (may_go l c k) (IsSwapEvent s l c k x e) (e ≡ None)
   IsMakeEvent worth s d l (Load c) (Came x) e = Where (is_there l c) (IsLoadEvent s l c x e) (e ≡ None)
   IsMakeEvent worth s d l (Compare k c weak) (Compared swaps x) e = IsCompareEvent s l c k weak swaps x e
-  IsMakeEvent worth s d l (Holds k c) (Got b) e = Where (may_go l c k) (IsSameEvent s l c k b e) ((b ≡ false) × (e ≡ None))
+  IsMakeEvent worth s d l (Holds k c) (Got b) e =
+      Where (may_go l c k) (IsSameEvent s l c k b e) ((b ≡ false) × (e ≡ None))
   IsMakeEvent worth s d l (OnShelf Shelve) (Found None) e = (stock s d ≡ []) × (e ≡ None)
   IsMakeEvent worth s d l (OnShelf Shelve) (Found (Some b)) e = e ≡ Some (event.Shelve (record { 0 = b }))
   IsMakeEvent worth s d l (OnShelf (Unshelve b)) (Got got) e =

@@ -111,8 +111,8 @@ impl<'p, 't, D: Domain> Up<'p, 't, D> {
         }
     }
 
-    /// Whether it holds what this pointer is, by the rule of `compare_exchange`: the same place, and the same object. It
-    /// is one look, which changes nothing and waits for nobody.
+    /// Whether it holds what this pointer is, by the rule of `compare_exchange`: the same place, and the same object.
+    /// It is one look, which changes nothing and waits for nobody.
     #[inline(always)]
     pub fn holds(&self, mine: &Weak<'t, D>) -> Result<bool, Fault>
         ensures told { IfOk result (LookedFor D.opened (seen_by (λ x. x.now.known) self.now.of)

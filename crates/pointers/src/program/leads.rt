@@ -2,7 +2,8 @@
 ghost use Rattle.std.specs.Prelude.{◌≡◌, IfErr, OnOk};
 ghost use Rattle.control_block.specs.Desks.{Belongs};
 ghost use Rattle.shared_handle.specs.Piles.{Bears};
-ghost use Rattle.pointers.specs.Leading.{AreSet, Ends, Follows, IsAsBefore, IsLeft, IsOver, LeadsOn, Starts, Stay, led_by};
+ghost use Rattle.pointers.specs.Leading.{AreSet, Ends, Follows, IsAsBefore, IsLeft, IsOver};
+ghost use Rattle.pointers.specs.Leading.{LeadsOn, Starts, Stay, led_by};
 
 use crate::context::Context;
 use crate::desk::Desk;

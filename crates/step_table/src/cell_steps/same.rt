@@ -1,4 +1,5 @@
-//! Looks at cells that ask whether they hold what an actor has. Each function is one atomic step, which changes nothing.
+//! Looks at cells that ask whether they hold what an actor has. Each function is one atomic step, which changes
+//! nothing.
 ghost use Rattle.std.specs.Prelude.{◌≡◌, ◌<◌, length, true};
 ghost use Rattle.control_word.specs.declared.model.view.Pending.TheVariants.{Idle};
 ghost use Rattle.control_word.specs.Handles.{equivalent};

@@ -5,7 +5,7 @@ use crate::parting::joins::{come_together, try_join};
 use crate::same::same;
 use crate::shapes::{alone, shape};
 use control_word::Refusal;
-use handle_table::{Crew, Fault, HandleTable, Home, Returned, Team};
+use handle_table::{Crew, Fault, HandleTable, Home, Returned, Share};
 use std::alloc::Global;
 use std::process::Abort;
 use std::sync::Wait;
@@ -30,13 +30,12 @@ struct Asks {
 impl<R: Abort + Threads + Wait + Sync> Play<R> for Asks {
     fn play<H: Home>(&self, rt: &R, table: &mut HandleTable<'_, u64, H>) {
         for (workers, allowance, blocks, there, fewer) in TEAMS {
-            let team = Team {
-                workers,
+            let share = Share {
                 slots: 1,
                 allowance,
                 blocks,
             };
-            let Crew { tables, fewer: why } = table.team(self.alloc, team);
+            let Crew { tables, fewer: why } = table.team(self.alloc, workers, share);
             same(rt, (tables.len(), why), (there, fewer));
             table.absorb_all(rt, tables);
         }
@@ -102,13 +101,12 @@ impl<R: Abort + Threads + Wait + Sync> Play<R> for Within {
             table,
             &[(Call::Make(0, [0; 4], false, 1), Answer::Done)],
         );
-        let team = Team {
-            workers: 1,
+        let share = Share {
             slots: 4,
             allowance: 3,
             blocks: 1,
         };
-        let Crew { tables, fewer } = table.team(self.alloc, team);
+        let Crew { tables, fewer } = table.team(self.alloc, 1, share);
         same(rt, fewer, None);
         join_all(rt, table, tables);
         all(rt, table, &LEFT);

@@ -10,4 +10,5 @@ compare_exchange_strong-requires-clause-holds g c =
 pub returns-clause-holds : goal.returns-clause-holds
 returns-clause-holds g c =
     let x = c.compare_exchange_strong in let e = x.ensures in
-    owners_compared c.args.desk.now x.new.desk c.args._slots.now c.assert_invariant.ensures c.args.desired x.result c.requires.holds e.refused e.back e.bag e.held
+    owners_compared c.args.desk.now x.new.desk c.args._slots.now c.assert_invariant.ensures c.args.desired x.result c.requires.holds e.refused e.back e.bag
+    e.held

@@ -88,8 +88,8 @@ returns-clause-bag g c =
     let d = c.args.desk.now in let m = c.make.new.desk in let n = c.watch.new.desk in let a = c.in-Ok-make.ensures in let node = c.in-Ok-make.node in
     let p = c.args.parent.now in let i = c.in-Ok.ensures in
     let s = c.share.new.desk in let l = c.load.new.desk in let h = c.watch.ensures in let k = c.in-Ok-share.ensures in let t = c.in-Ok-load.ensures in
-    let has = hands_over d m n s l node c.in-Ok-share.copy c.in-Ok-load.top c.assert_invariant.ensures.bag a.bag a.held h.bag h.held k.handle.0 k.handle.1 k.bag k.held
-    t.bag t.held in
+    let has = hands_over d m n s l node c.in-Ok-share.copy c.in-Ok-load.top c.assert_invariant.ensures.bag a.bag a.held h.bag h.held k.handle.0 k.handle.1
+    k.bag k.held t.bag t.held in
     (c.raise.ensures.bag (bag_of n) has).bag ∙ (h.bag ∙ a.bag)
 
 pub returns-clause-holds : goal.returns-clause-holds
@@ -97,8 +97,8 @@ returns-clause-holds g c =
     let d = c.args.desk.now in let m = c.make.new.desk in let n = c.watch.new.desk in let a = c.in-Ok-make.ensures in let node = c.in-Ok-make.node in
     let p = c.args.parent.now in let i = c.in-Ok.ensures in
     let s = c.share.new.desk in let l = c.load.new.desk in let h = c.watch.ensures in let k = c.in-Ok-share.ensures in let t = c.in-Ok-load.ensures in
-    let has = hands_over d m n s l node c.in-Ok-share.copy c.in-Ok-load.top c.assert_invariant.ensures.bag a.bag a.held h.bag h.held k.handle.0 k.handle.1 k.bag k.held
-    t.bag t.held in
+    let has = hands_over d m n s l node c.in-Ok-share.copy c.in-Ok-load.top c.assert_invariant.ensures.bag a.bag a.held h.bag h.held k.handle.0 k.handle.1
+    k.bag k.held t.bag t.held in
     let bag = (c.raise.ensures.bag (bag_of n) has).bag ∙ (h.bag ∙ a.bag) in
     let within = made_within d m c.args.fields c.args.value node.block node.place a.event in
     (within_holds c.raise.new.desk node within (subst (Lists node.block node.place) (sym bag) (lists_first node.block node.place (bag_of d))), within)
@@ -166,8 +166,8 @@ raise-requires-clause-bag g c =
     let d = c.args.desk.now in let m = c.make.new.desk in let n = c.watch.new.desk in let a = c.in-Ok-make.ensures in let node = c.in-Ok-make.node in
     let p = c.args.parent.now in let i = c.in-Ok.ensures in
     let s = c.share.new.desk in let l = c.load.new.desk in let h = c.watch.ensures in let k = c.in-Ok-share.ensures in let t = c.in-Ok-load.ensures in
-    let has = hands_over d m n s l node c.in-Ok-share.copy c.in-Ok-load.top c.assert_invariant.ensures.bag a.bag a.held h.bag h.held k.handle.0 k.handle.1 k.bag k.held
-    t.bag t.held in
+    let has = hands_over d m n s l node c.in-Ok-share.copy c.in-Ok-load.top c.assert_invariant.ensures.bag a.bag a.held h.bag h.held k.handle.0 k.handle.1
+    k.bag k.held t.bag t.held in
     let in_m = subst (Lists p.block p.place) (sym a.bag)
     (lists_under p.block node.block p.place node.place (bag_of d) (lists_of d p.block p.place c.requires.holds)) in
     let in_n = subst (Lists p.block p.place) (sym c.watch.ensures.bag) in_m in

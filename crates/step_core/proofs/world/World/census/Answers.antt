@@ -12,8 +12,8 @@ returns-clause-counts c =
 pub returns-clause-vacant : goal.returns-clause-vacant
 returns-clause-vacant c =
     let e = census_now c.args.self.now c.self.inside.table c.self.inside.threads.items c.self.inside.made c.self.inside.ended c.args.block.0
-    c.word.result c.word-2.result c.counted.result c.self.view_is c.self.invariant.0 c.self.invariant.1 c.assert_invariant.ensures c.requires.end c.requires.some
-    c.requires.within c.word.ensures c.word-2.ensures c.counted.ensures in
+    c.word.result c.word-2.result c.counted.result c.self.view_is c.self.invariant.0 c.self.invariant.1 c.assert_invariant.ensures c.requires.end
+    c.requires.some c.requires.within c.word.ensures c.word-2.ensures c.counted.ensures in
     let s = model_state c.args.self.now.ghost_state in
     let b = c.args.block.0 in
     subst (λ (r : Option Counts). (r ≡ None → IsVacant s b) × (IsVacant s b → r ≡ None)) (sym e)

@@ -10,5 +10,5 @@ returns-then-is_none c =
 pub returns : goal.returns
 returns c =
     fields_now c.args.self.now c.self.inside.table c.args.block c.word.result c.word-2.result c.word-3.result c.word-4.result c.census.result
-    c.is_none.result (ap (λ (u : WorldState). u.ghost_state) c.self.view_is) c.assert_invariant.ensures c.census.ensures.counts c.is_none.ensures c.if-is_none.false
-    c.word.ensures c.word-2.ensures c.word-3.ensures c.word-4.ensures
+    c.is_none.result (ap (λ (u : WorldState). u.ghost_state) c.self.view_is) c.assert_invariant.ensures c.census.ensures.counts c.is_none.ensures
+    c.if-is_none.false c.word.ensures c.word-2.ensures c.word-3.ensures c.word-4.ensures

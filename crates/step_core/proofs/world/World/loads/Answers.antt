@@ -5,8 +5,8 @@ use Rattle.step_core.proofs.world.World.loads.Goals as goal
 
 pub overflow_add-loads : goal.overflow_add-loads
 overflow_add-loads c =
-    let few = fits_more (is_load_on (model_state c.args.self.now.ghost_state) c.args.block.0 c.args.kind) c.args.self.now.pending_calls c.loop-thread.thread-index
-    c.loop-thread.loads c.from-loads.result c.is_load.result c.requires c.loop-thread.invariant c.from-loads.ensures in
+    let few = fits_more (is_load_on (model_state c.args.self.now.ghost_state) c.args.block.0 c.args.kind) c.args.self.now.pending_calls
+    c.loop-thread.thread-index c.loop-thread.loads c.from-loads.result c.is_load.result c.requires c.loop-thread.invariant c.from-loads.ensures in
     omega (arith, few)
 
 pub loop-thread-preserved : goal.loop-thread-preserved

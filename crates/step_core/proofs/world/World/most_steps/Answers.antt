@@ -28,8 +28,8 @@ module _ (c : goal.After-len) where
       let s = ap (sum_by steps_of) c.as_slice.ensures.value in
       let n = ap (λ (x : List Thread). length x) c.as_slice.ensures.value in
       let m = c.as_slice.ensures.len in
-      let t = few_threads c.self.inside.table c.self.inside.threads.items c.self.inside.made c.self.inside.ended c.assert_invariant.ensures c.self.invariant.1 in
-      let e = c.steps_left.ensures in
+      let t = few_threads c.self.inside.table c.self.inside.threads.items c.self.inside.made c.self.inside.ended c.assert_invariant.ensures
+      c.self.invariant.1 in let e = c.steps_left.ensures in
       let l = c.len.ensures in
       omega (arith, f, s, n, m, t, e, l)
 

@@ -22,9 +22,9 @@ pub returns-in-Some-clause-fits : goal.returns-in-Some-clause-fits
 returns-in-Some-clause-fits c =
     subst (λ (v : GhostState). FitsThread c.args.desk
     (record { frame = c.args.self.now.frame; stock = c.take_least.new.self; pending_call = Making c.in-Some.block 0 false }) v) (sym c.prepare.ensures)
-    (fits_prepare c.args.desk c.args.self.now c.args.table.now c.in-Some.block c.take_least.new.self c.args.form c.assert_invariant.ensures c.requires.begins.fits
-    c.requires.begins.rest c.requires.begins.none c.requires.begins.within c.requires.act c.in-Some.ensures.least.0 c.in-Some.ensures.least.1
-    c.take_least.ensures.room)
+    (fits_prepare c.args.desk c.args.self.now c.args.table.now c.in-Some.block c.take_least.new.self c.args.form c.assert_invariant.ensures
+    c.requires.begins.fits c.requires.begins.rest c.requires.begins.none c.requires.begins.within c.requires.act c.in-Some.ensures.least.0
+    c.in-Some.ensures.least.1 c.take_least.ensures.room)
 
 pub returns-in-None-clause-stepped : goal.returns-in-None-clause-stepped
 returns-in-None-clause-stepped c =

@@ -25,8 +25,8 @@ returns-clause-stepped c =
     let same = sym took.ensures.same ∙ yes in
     let n = (task_at t.frame).statement in
     differs_taken d t v c.args.name c.args.cell c.args.weak x within r.act r.pending_call r.differs _ _ _ same
-    (tells_still d t v c.args.name c.args.cell c.args.weak x r.fits r.act false c.assert_invariant.ensures within (pending_call_here d t v _ r.fits r.pending_call).1 same
-    r.differs)
+    (tells_still d t v c.args.name c.args.cell c.args.weak x r.fits r.act false c.assert_invariant.ensures within (pending_call_here d t v _ r.fits
+    r.pending_call).1 same r.differs)
     (ap (λ (s : Said). Event s) (c.compared.ensures ∙ ap (λ (m : ℕ). answers m false) c.statement-statement.ensures))
     (took.ensures.table ∙ cond-true took.result _ _ yes) (took.ensures.frame_view yes)
     (c.turning-self.ensures ∙ ap (λ (y : Site). Refill Turning y (more_taken x) c.statement-statement.result) c.cell-at.ensures

@@ -42,8 +42,8 @@ left-ended-requires-clause-room c = λ x.
     c.drop_other-last.ensures.table ∙ ap (done_on (leave (model_state v)) v c.args.desk) (sym h) in
     let said : c.drop_other-last.result ≡ on (is_last (model_state v)) false c.get-held.result =
     c.drop_other-last.ensures.last ∙ ap (on (is_last (model_state v)) false) (sym h) in
-    room_weak v c.drop_other-last.new.table c.args.desk c.args.self.now c.get-held.result c.drop_other-last.result x c.assert_invariant.ensures c.assert_invariant-2.ensures
-    c.requires.begins.fits c.requires.begins.rest is said
+    room_weak v c.drop_other-last.new.table c.args.desk c.args.self.now c.get-held.result c.drop_other-last.result x c.assert_invariant.ensures
+    c.assert_invariant-2.ensures c.requires.begins.fits c.requires.begins.rest is said
 
 pub returns-clause-fits : goal.returns-clause-fits
 returns-clause-fits c =

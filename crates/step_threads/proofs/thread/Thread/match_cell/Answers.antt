@@ -65,8 +65,8 @@ returns-clause-stepped c =
     let kind = c.kind_in-kind.ensures ∙ ap (kind_in_state (model_state v)) c.cell-at.ensures in
     swaps_it d t v k n c.args.weak x within r.act (match_at d t v k n c.args.weak x r.fits r.act r.pending_call r.alike r.owes)
     (match_goes d t v k n c.args.weak x r.fits r.act r.pending_call) _ _ _ same
-    (tells_still d t v k n c.args.weak x r.fits r.act true c.assert_invariant.ensures within (match_valid d t v k n c.args.weak x r.fits r.act r.pending_call) same
-    r.alike)
+    (tells_still d t v k n c.args.weak x r.fits r.act true c.assert_invariant.ensures within (match_valid d t v k n c.args.weak x r.fits r.act
+    r.pending_call) same r.alike)
     (ap (λ (s : Said). Event s) (c.compared.ensures ∙ ap (λ (m : ℕ). answers m true) c.statement-statement.ensures))
     (swap.ensures.table ∙ cond-true swap.result _ _ hit) (swap.ensures.frame_view hit)
     (c.returning-self.ensures ∙ ap (λ (q : Kind). gives_back q c.statement-statement.result x x.owned) kind

@@ -15,8 +15,8 @@ returns-clause-fits c =
     subst (λ (h : PendingCall). FitsThread d (record { frame = c.offer-event.new.self; stock = t.stock; pending_call = h }) c.offer-event.new.table)
     (sym c.requires.begins.rest)
     (fits_done share d t v c.offer-event.new.table (offered t.frame.registers.slots.items c.args.name c.args.cell) c.offer-event.new.self
-    c.assert_invariant.ensures c.requires.begins.fits c.requires.begins.rest c.requires.begins.none (λ x. share_calm v d x x.kind) (λ x. share_stores v d x x.kind)
-    on.table on.on)
+    c.assert_invariant.ensures c.requires.begins.fits c.requires.begins.rest c.requires.begins.none (λ x. share_calm v d x x.kind) (λ x. share_stores v d x
+    x.kind) on.table on.on)
 
 pub returns-clause-stepped : goal.returns-clause-stepped
 returns-clause-stepped c =

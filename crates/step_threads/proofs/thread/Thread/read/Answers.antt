@@ -81,6 +81,6 @@ returns-clause-fits c =
     let after = c.go_on-2.new.self in
     let w = c.read-value.new.table in
     subst (λ (h : PendingCall). FitsThread d (record { frame = after; stock = t.stock; pending_call = h }) w) (sym r.begins.rest)
-    (fits_done (read_atomic_step (model_state v)) d t v w (Some c.in-Some.pointer) after c.assert_invariant.ensures r.begins.fits r.begins.rest r.begins.none (λ x. refl)
-    (λ x. refl)
+    (fits_done (read_atomic_step (model_state v)) d t v w (Some c.in-Some.pointer) after c.assert_invariant.ensures r.begins.fits r.begins.rest
+    r.begins.none (λ x. refl) (λ x. refl)
     c.read-value.ensures.table (c.go_on-2.ensures.on d w c.read-value.ensures.holds))

@@ -33,5 +33,5 @@ returns-clause-fits c =
     subst (λ (h : PendingCall). FitsThread d (record { frame = c.share-event.new.self; stock = t.stock; pending_call = h }) c.share-event.new.table)
     (sym c.requires.begins.rest)
     (fits_done share d t v c.share-event.new.table (slot_pointer t.frame.registers.slots.items c.args.name) c.share-event.new.self
-    c.assert_invariant.ensures c.requires.begins.fits c.requires.begins.rest c.requires.begins.none (λ x. share_calm v d x x.kind) (λ x. share_stores v d x x.kind)
-    on.table on.on)
+    c.assert_invariant.ensures c.requires.begins.fits c.requires.begins.rest c.requires.begins.none (λ x. share_calm v d x x.kind) (λ x. share_stores v d x
+    x.kind) on.table on.on)

@@ -9,7 +9,8 @@ use Rattle.script_runner.proofs.workers.log.Log.compare.Goals as goal
 
 pub compare-compared-requires-clause-below : goal.compare-compared-requires-clause-below
 compare-compared-requires-clause-below g c =
-    comparisons.has_room c.args.kinds.now.items c.args.hand c.args.table.now c.args.name c.args.cell c.args.weak c.requires.suits c.assert_invariant.ensures.fits
+    comparisons.has_room c.args.kinds.now.items c.args.hand c.args.table.now c.args.name c.args.cell c.args.weak c.requires.suits
+    c.assert_invariant.ensures.fits
 
 pub settle-requires-in-Some : goal.settle-requires-in-Some
 settle-requires-in-Some g c =

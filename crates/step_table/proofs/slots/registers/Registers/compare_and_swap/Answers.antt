@@ -22,8 +22,8 @@ compare_and_swap-requires-clause-hand c =
 
 pub compare_and_swap-requires-clause-alike : goal.compare_and_swap-requires-clause-alike
 compare_and_swap-requires-clause-alike c =
-    alike_in c.args.desk c.args.self.now.slots.items c.args.table.now c.args.cell c.args.seen c.args.comparing c.compared-compared.result c.assert_invariant.ensures
-    c.requires.holds c.compared-compared.ensures
+    alike_in c.args.desk c.args.self.now.slots.items c.args.table.now c.args.cell c.args.seen c.args.comparing c.compared-compared.result
+    c.assert_invariant.ensures c.requires.holds c.compared-compared.ensures
     ∙ c.requires.alike
 
 pub compare_and_swap-requires-clause-new : goal.compare_and_swap-requires-clause-new

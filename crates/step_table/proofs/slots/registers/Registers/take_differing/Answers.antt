@@ -22,8 +22,8 @@ take_differing-requires-clause-hand c =
 
 pub take_differing-requires-clause-differs : goal.take_differing-requires-clause-differs
 take_differing-requires-clause-differs c =
-    alike_in c.args.desk c.args.self.now.slots.items c.args.table.now c.args.cell c.args.seen c.args.comparing c.compared-compared.result c.assert_invariant.ensures
-    c.requires.holds c.compared-compared.ensures
+    alike_in c.args.desk c.args.self.now.slots.items c.args.table.now c.args.cell c.args.seen c.args.comparing c.compared-compared.result
+    c.assert_invariant.ensures c.requires.holds c.compared-compared.ensures
     ∙ c.requires.differs
 
 pub take_differing-requires-clause-room : goal.take_differing-requires-clause-room

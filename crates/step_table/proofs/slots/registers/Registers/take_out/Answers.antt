@@ -17,7 +17,8 @@ returns-then-is_none-clause-found c =
     let v = c.args.table.now in
     let x = c.take_out-found.result in
     shows_seen v c.args.desk (Member c.args.block c.args.member) x
-    (member_found v c.args.desk c.args.block c.args.member x c.assert_invariant.ensures c.requires.seat c.requires.ending c.requires.member c.take_out-found.ensures.found)
+    (member_found v c.args.desk c.args.block c.args.member x c.assert_invariant.ensures c.requires.seat c.requires.ending c.requires.member
+    c.take_out-found.ensures.found)
 
 pub returns-then-is_none-clause-holds : goal.returns-then-is_none-clause-holds
 returns-then-is_none-clause-holds c =
@@ -32,7 +33,8 @@ returns-clause-found c =
     let v = c.args.table.now in
     let x = c.take_out-found.result in
     shows_seen v c.args.desk (Member c.args.block c.args.member) x
-    (member_found v c.args.desk c.args.block c.args.member x c.assert_invariant.ensures c.requires.seat c.requires.ending c.requires.member c.take_out-found.ensures.found)
+    (member_found v c.args.desk c.args.block c.args.member x c.assert_invariant.ensures c.requires.seat c.requires.ending c.requires.member
+    c.take_out-found.ensures.found)
 
 pub returns-clause-slots : goal.returns-clause-slots
 returns-clause-slots c =
