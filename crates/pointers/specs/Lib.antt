@@ -15,4 +15,5 @@ pub mod Staffs
 pub mod Leading
 pub mod Lists
 pub mod ListChanges
+pub mod ListRemovals
 pub mod Pools
