@@ -1,5 +1,5 @@
 -- Leaders, and the teams that they start.
-use Rattle.std.proofs.Common.{◌≡◌, ℕ, zero, suc, ◌+◌, ◌-◌, ◌*◌, ◌^◌, ◌<◌, ◌≤◌, max, List, [], ◌∷◌}
+use Rattle.std.proofs.Common.{◌≡◌, ℕ, zero, suc, ◌+◌, ◌*◌, ◌^◌, ◌<◌, ◌≤◌, max, List, [], ◌∷◌}
 use Rattle.std.proofs.Common.{length, IfErr, OnOk, Some, None, Ok, Err, Option, Result, sym, refl}
 use Rattle.std.proofs.Common.{ap, ◌∙◌, subst, inr, arith}
 use Rattle.pointers.proofs.Prelude.{allowance_of, Answer, AreTeams, DeskNow, DomainNow, EachWorked}

@@ -9,7 +9,7 @@ use Rattle.pointers.specs.Compares.{Compared}
 use Rattle.pointers.specs.Faults.{WhyNoMore}
 use Rattle.pointers.specs.ListChanges.{Appends, Comes, Follows, Heads, IsLast, IsListRefused, IsNode}
 use Rattle.pointers.specs.ListChanges.{IsNodeRefused, IsPlaceOf, IsRefusedAt, Passes, Pops, Swaps}
-use Rattle.pointers.specs.ListChanges.{WhyNotPushed}
+use Rattle.pointers.specs.ListChanges.{Tells, WhyNotPushed}
 use Rattle.pointers.specs.Lists.{IsBrokenOff, IsCount, Leads, Site, Walks, WhyNotLed, behind, next_of}
 use Rattle.pointers.specs.Lists.{somes}
 use Rattle.pointers.specs.Objects.{Makes}
@@ -177,6 +177,13 @@ module _ {V : Type 0} (o : DeskNow V) where
   stays_of s weak hoped new hoped' new' (Ok true) is = λ did. absurd (cc did)
   stays_of s weak hoped new hoped' new' (Ok false) is = λ did. is.1
   stays_of s weak hoped new hoped' new' (Err why) is = tt
+
+  pub told_by : (s : Site V) (weak : Bool) (hoped new hoped' new' : Option (Known V)) (r : Result Bool Fault)
+      → IfOk r (λ (b : Bool). Compared o s.of (shared_cell_at o s.of s.which s.number) Owner weak hoped new b hoped' new')
+      → IfOk r (λ (b : Bool). IsFalse b → Tells o s hoped')
+  told_by s weak hoped new hoped' new' (Ok true) is = λ did. absurd (cc did)
+  told_by s weak hoped new hoped' new' (Ok false) is = λ did. inr (weak, hoped, new, is.0)
+  told_by s weak hoped new hoped' new' (Err why) is = tt
 
 module _ {E : Type 0} where
   somes_some : (xs : List (Option E)) (e : E) → somes (xs ++ (Some e ∷ [])) ≡ somes xs + 1

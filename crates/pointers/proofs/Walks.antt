@@ -1,5 +1,5 @@
 -- A walk goes on by one node.
-use Rattle.std.proofs.Common.{◌≡◌, ◌+◌, List, [], ◌∷◌, ◌++◌, Some, None, Ok, Err, Option, Result}
+use Rattle.std.proofs.Common.{◌≡◌, List, [], ◌∷◌, ◌++◌, Some, None, Ok, Err, Option, Result}
 use Rattle.std.proofs.Common.{sym, refl, subst, inl, inr, Bor}
 use Rattle.pointers.proofs.Prelude.{CalledAt, DeskNow, Fault, Known, WhyEnded}
 use Rattle.std.specs.Fn.{Mut}

@@ -2,7 +2,7 @@
 ghost use Rattle.std.specs.Prelude.{◌≡◌, ◌⊎◌, IfErr, IfOk, IfSome, IsFalse, IsSomeAnd, IsTrue, OnOk, Some};
 ghost use Rattle.pointers.specs.Faults.{WhyNoMore};
 ghost use Rattle.pointers.specs.ListChanges.{Appends, AreAlike, Comes, Follows, Heads, IsLast, IsListRefused, IsNode};
-ghost use Rattle.pointers.specs.ListChanges.{IsRefusedAt, Swaps, WhyNoNode, WhyNotPushed};
+ghost use Rattle.pointers.specs.ListChanges.{IsRefusedAt, Swaps, Tells, WhyNoNode, WhyNotPushed};
 ghost use Rattle.pointers.specs.Lists.{next_of};
 
 use crate::domain::Domain;
@@ -64,6 +64,7 @@ impl<'p, 't, D: Domain, E: Element<Shared<'t, D>>> List<'p, 't, D, E> {
     ) -> Result<bool, Fault>
         ensures swapped { IfOk result (λ done. IsTrue done → Swaps D.opened self.now expected.old desired.old) }
         ensures stays { IfOk result (λ done. IsFalse done → desired.new ≡ desired.old) }
+        ensures found { IfOk result (λ done. IsFalse done → Tells D.opened self.now expected.new) }
         ensures refused { IfErr result (IsRefusedAt D.opened self.now) }
     {
         self.head().compare_exchange_strong(rt, expected, desired)

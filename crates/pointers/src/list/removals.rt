@@ -1,8 +1,10 @@
 //! Elements that go out of a list.
-ghost use Rattle.std.specs.Prelude.{IfErr, IfOk, OnOk};
+ghost use Rattle.std.specs.Prelude.{◌⊎◌, ◌↔◌, Err, IfErr, IfOk, IsTrue, Ok, OnOk, Option, Some};
 ghost use Rattle.pointers.specs.Cells.{WhyNotDone, shared_spot};
-ghost use Rattle.pointers.specs.ListChanges.{Empties, IsListRefused, IsRefusedAt, Pops};
-ghost use Rattle.pointers.specs.Lists.{Leads, next_of};
+ghost use Rattle.pointers.specs.ListChanges.{Empties, IsListRefused, IsPlaceOf, IsRefusedAt, Pops, Tells};
+ghost use Rattle.pointers.specs.ListRemovals.{IsFound, IsThatNode, IsUnlinked, Judges, Removes, Retains};
+ghost use Rattle.pointers.specs.ListRemovals.{WhyNotRetained};
+ghost use Rattle.pointers.specs.Lists.{Leads, behind, next_of};
 
 use crate::domain::Domain;
 use crate::fault::Fault;
@@ -39,7 +41,12 @@ impl<'p, 't, D: Domain, E: Element<Shared<'t, D>>> List<'p, 't, D, E> {
         rt: &R,
         before: &Option<Shared<'t, D>>,
         node: Shared<'t, D>,
-    ) -> Result<bool, Fault> {
+    ) -> Result<bool, Fault>
+        requires place { IsPlaceOf D.opened self.now (behind before.now self.now) }
+        requires leads { Leads D.opened (behind before.now self.now) (Some node) }
+        ensures out { IfOk result (IsUnlinked D.opened self.now node.entry) }
+        ensures refused { IfErr result (IsListRefused D.opened E.refused self.now) }
+    {
         let rest = behind_node(rt, &node)?;
         match before {
             Some(before) => {
@@ -56,7 +63,12 @@ impl<'p, 't, D: Domain, E: Element<Shared<'t, D>>> List<'p, 't, D, E> {
         rt: &R,
         node: Shared<'t, D>,
         rest: Option<Shared<'t, D>>,
-    ) -> Result<bool, Fault> {
+    ) -> Result<bool, Fault>
+        requires leads { Leads D.opened self.now (Some node) }
+        requires next { Leads D.opened (next_of node) rest }
+        ensures out { IfOk result (IsUnlinked D.opened self.now node.entry) }
+        ensures refused { IfErr result (IsListRefused D.opened E.refused self.now) }
+    {
         let mut rest = rest;
         let mut first = Some(node.share()?);
         if self.replace_first(rt, &mut first, &mut rest)? {
@@ -72,7 +84,12 @@ impl<'p, 't, D: Domain, E: Element<Shared<'t, D>>> List<'p, 't, D, E> {
         from: Option<Shared<'t, D>>,
         node: Shared<'t, D>,
         rest: Option<Shared<'t, D>>,
-    ) -> Result<bool, Fault> {
+    ) -> Result<bool, Fault>
+        requires told { Tells D.opened self.now from }
+        requires next { Leads D.opened (next_of node) rest }
+        ensures out { IfOk result (IsUnlinked D.opened self.now node.entry) }
+        ensures refused { IfErr result (IsListRefused D.opened E.refused self.now) }
+    {
         let mut before = from;
         for _ in rt.forever() {
             let Some(one) = before else {
@@ -96,6 +113,8 @@ impl<'p, 't, D: Domain, E: Element<Shared<'t, D>>> List<'p, 't, D, E> {
         keep: F,
     ) -> Result<usize, Fault>
         requires { F.IsAlwaysCallable keep }
+        ensures retained { IfOk result (Retains D.opened E.copied E.refused F.FnMut self.now keep) }
+        ensures fault { IfErr result (WhyNotRetained D.opened E.copied E.refused F.FnMut self.now keep) }
     {
         let mut keep = keep;
         let mut out = 0usize;
@@ -104,11 +123,7 @@ impl<'p, 't, D: Domain, E: Element<Shared<'t, D>>> List<'p, 't, D, E> {
             let Some(node) = self.behind(rt, &before)? else {
                 return Ok(out);
             };
-            let kept = match E::get(rt, &node)? {
-                Some(element) => keep(&element)?,
-                None => false,
-            };
-            if kept {
+            if stays(rt, &node, &mut keep)? {
                 before = Some(node);
             } else if self.unlink(rt, &before, node)? {
                 out = out.saturating_add(1);
@@ -118,7 +133,10 @@ impl<'p, 't, D: Domain, E: Element<Shared<'t, D>>> List<'p, 't, D, E> {
     }
 
     /// The first element that is of the same object as this one goes out (waits): whether there was one.
-    pub fn remove<R: Wait>(&self, rt: &R, element: &E) -> Result<bool, Fault> {
+    pub fn remove<R: Wait>(&self, rt: &R, element: &E) -> Result<bool, Fault>
+        ensures removed { IfOk result (Removes D.opened E.copied E.is_same self.now element.now) }
+        ensures fault { IfErr result (IsListRefused D.opened E.refused self.now) }
+    {
         let mut before = None;
         for _ in rt.forever() {
             let Some(node) = self.behind(rt, &before)? else {
@@ -162,15 +180,39 @@ fn has<'t, R: Wait, D: Domain, E: Element<Shared<'t, D>>>(
     rt: &R,
     node: &Shared<'t, D>,
     element: &E,
-) -> Result<bool, Fault> {
+) -> Result<bool, Fault>
+    ensures found { IfOk result (IsFound E.copied E.is_same node.now element.now) }
+    ensures refused { IfErr result (E.refused node.now) }
+{
     match E::get(rt, node)? {
         Some(found) => Ok(found.same(element)),
         None => Ok(false),
     }
 }
 
+/// Whether a node's element stays, as `keep` answers (waits). A node without one doesn't.
+fn stays<'t, R: Wait, D: Domain, E: Element<Shared<'t, D>>, F: FnMut(&E) -> Result<bool, Fault>>(
+    rt: &R,
+    node: &Shared<'t, D>,
+    keep: &mut F,
+) -> Result<bool, Fault>
+    requires { F.IsAlwaysCallable keep.old }
+    ensures judged { IfOk result (λ stays. (x : Option E) × Judges E.copied F.FnMut keep.old node.now x (Ok stays)
+        keep.new) }
+    ensures refused { IfErr result (λ why. E.refused node.now why
+        ⊎ ((x : Option E) × Judges E.copied F.FnMut keep.old node.now x (Err why) keep.new)) }
+    ensures callable { F.IsAlwaysCallable keep.new }
+{
+    match E::get(rt, node)? {
+        Some(element) => keep(&element),
+        None => Ok(false),
+    }
+}
+
 /// Whether it is an owner of the node.
-fn is_node<'t, D: Domain>(one: &Option<Shared<'t, D>>, node: &Shared<'t, D>) -> bool {
+fn is_node<'t, D: Domain>(one: &Option<Shared<'t, D>>, node: &Shared<'t, D>) -> bool
+    ensures { IsTrue result ↔ IsThatNode one.now node.now }
+{
     match one {
         Some(one) => one.is(node),
         None => false,

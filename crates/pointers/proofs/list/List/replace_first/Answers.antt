@@ -1,9 +1,9 @@
-use Rattle.std.proofs.Common.{IfErr, IfOk, IsTrue, Bool, false, subst}
-use Rattle.pointers.specs.ListChanges.{IsRefusedAt, Swaps}
+use Rattle.std.proofs.Common.{IfErr, IfOk, IsFalse, IsTrue, Bool, false, subst}
+use Rattle.pointers.specs.ListChanges.{IsRefusedAt, Swaps, Tells}
 use Rattle.pointers.specs.Lists.{Site, site}
 use Rattle.pointers.specs.Beside.{seen_by}
 use Rattle.pointers.proofs.Handles.{errs_map}
-use Rattle.pointers.proofs.ListSteps.{stays_of, swaps_of}
+use Rattle.pointers.proofs.ListSteps.{stays_of, swaps_of, told_by}
 use Rattle.pointers.proofs.list.List.replace_first.Goals as goal
 
 pub returns-clause-swapped : goal.returns-clause-swapped
@@ -19,6 +19,14 @@ returns-clause-stays g c =
     let o = g.D.Domain.opened in let call = c.compare_exchange_strong in
     stays_of o (site (seen_by (λ x. x.now.known) c.head.result.of) c.head.result.which c.head.result.number) false _ _ _ _
     call.result call.ensures.compared
+
+pub returns-clause-found : goal.returns-clause-found
+returns-clause-found g c =
+    let o = g.D.Domain.opened in let call = c.compare_exchange_strong in
+    subst (λ (s : Site g.row.D-Value.Denot). IfOk call.result (λ (done : Bool). IsFalse done → Tells o s
+    c.compare_exchange_strong.new.expected)) c.head.ensures
+    (told_by o (site (seen_by (λ x. x.now.known) c.head.result.of) c.head.result.which c.head.result.number) false _ _ _ _
+    call.result call.ensures.compared)
 
 pub returns-clause-refused : goal.returns-clause-refused
 returns-clause-refused g c =
