@@ -1,12 +1,29 @@
 //! Observers in a place, each of which watches a subject by a weak pointer.
+ghost use Rattle.std.specs.Prelude.{◌≡◌, IfErr, OnOk};
+ghost use Rattle.pointers.specs.Beside.{seen_by};
+ghost use Rattle.pointer_structures.specs.Watches.{Watches, WhyNotAttached};
 
 use pointers::{Domain, Fault, List, Member, Shared, Weak};
+use std::marker::Model;
 use std::sync::Wait;
 
 /// Observers in a place for an owner: a list of nodes, each of which watches a subject by its member `up`, and has a
 /// value. `weak_list` of the place is the same list.
 pub struct Observers<'p, 't, D: Domain> {
     list: List<'p, 't, D, Weak<'t, D>>,
+}
+
+impl<'p, 't, D: Domain> Model for Observers<'p, 't, D> {
+    ghost use Rattle.control_block.specs.contracts.handles.Shared as shared_handle;
+    ghost use Rattle.control_block.specs.contracts.handles.Weak as weak_handle;
+    ghost use Rattle.std.specs.Coded.{codes};
+    ghost use Rattle.pointers.specs.Lists.{Site};
+
+    ghost Value = { Site D.Value };
+
+    ghost coded = { Prim.hlevel (codes, shared_handle.the_row.coded, weak_handle.the_row.coded) };
+
+    ghost view = { λ o. o.list };
 }
 
 impl<'p, 't, D: Domain> Drop for Observers<'p, 't, D> {
@@ -18,7 +35,10 @@ impl<'p, 't, D: Domain> Drop for Observers<'p, 't, D> {
 
 impl<'p, 't, D: Domain> Observers<'p, 't, D> {
     /// The observers whose first node a place owns.
-    pub fn at(place: Member<'p, 't, D>) -> Observers<'p, 't, D> {
+    pub fn at(place: Member<'p, 't, D>) -> Observers<'p, 't, D>
+        ensures of { result.of ≡ seen_by (λ x. x.now.known) place.entry.of }
+        ensures place { (result.which ≡ place.entry.which) × (result.number ≡ place.entry.number) }
+    {
         Observers {
             list: place.weak_list(),
         }
@@ -30,7 +50,10 @@ impl<'p, 't, D: Domain> Observers<'p, 't, D> {
         rt: &R,
         subject: &Shared<'t, D>,
         value: D::Value,
-    ) -> Result<(), Fault> {
+    ) -> Result<(), Fault>
+        ensures attached { OnOk result (Watches D.opened self.now subject.now) }
+        ensures fault { IfErr result (WhyNotAttached D.opened self.now subject.now) }
+    {
         self.list.push_front_with(rt, subject.downgrade()?, value)
     }
 

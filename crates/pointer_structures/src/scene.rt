@@ -1,6 +1,12 @@
 //! Trees of nodes: each owns its first child and its next sibling, and knows its parent.
+ghost use Rattle.std.specs.Prelude.{◌⊎◌, IfErr, IfOk, IsTrue, OnOk};
+ghost use Rattle.pointers.specs.ListChanges.{IsRefusedAt};
+ghost use Rattle.pointers.specs.ListRemovals.{GoesOut};
+ghost use Rattle.pointers.specs.Lists.{Leads, behind, next_of};
+ghost use Rattle.pointer_structures.specs.Trees.{Detaches, IsChildRefused, IsNoChild, Joins, Unlinks, WhyNotDetached};
+ghost use Rattle.pointer_structures.specs.Trees.{WhyNotJoined, first_of};
 
-use crate::stack::goes_first;
+use crate::stack::{Stack, next, put_next};
 use pointers::{Domain, Fault, Shared};
 use std::sync::Wait;
 
@@ -11,23 +17,29 @@ pub fn add_child<'t, R: Wait, D: Domain>(
     rt: &R,
     parent: &Shared<'t, D>,
     child: Shared<'t, D>,
-) -> Result<(), Fault> {
-    let first = parent.first();
-    drop(first.load(rt)?);
+) -> Result<(), Fault>
+    ensures joined { OnOk result (Joins D.opened parent.now child.entry) }
+    ensures fault { IfErr result (WhyNotJoined D.opened parent.now child.entry) }
+{
+    let children = Stack::at(parent.first());
+    drop(children.top(rt)?);
     detach(rt, &child)?;
     child.up().store(Some(parent.downgrade()?))?;
-    goes_first(rt, &first, child)
+    children.push(rt, child)
 }
 
 /// The node goes out of its parent's children, and its `next` and `up` are empty then (waits). Where it has no parent,
 /// nothing changes. Refused as `add_child` is.
-pub fn detach<'t, R: Wait, D: Domain>(rt: &R, node: &Shared<'t, D>) -> Result<(), Fault> {
+pub fn detach<'t, R: Wait, D: Domain>(rt: &R, node: &Shared<'t, D>) -> Result<(), Fault>
+    ensures detached { OnOk result (Detaches D.opened node.now) }
+    ensures fault { IfErr result (WhyNotDetached D.opened node.now) }
+{
     let Some(parent) = node.parent(rt)? else {
         return Ok(());
     };
     for _ in rt.forever() {
         if goes_out(rt, &parent, node)? {
-            node.next().clear()?;
+            put_next(node, None)?;
             return node.up().clear();
         }
     }
@@ -40,29 +52,60 @@ fn goes_out<'t, R: Wait, D: Domain>(
     rt: &R,
     parent: &Shared<'t, D>,
     node: &Shared<'t, D>,
-) -> Result<bool, Fault> {
+) -> Result<bool, Fault>
+    ensures out { IfOk result (λ done. IsTrue done
+        → GoesOut D.opened (first_of parent.now) node.now ⊎ IsNoChild D.opened parent.now node.now) }
+    ensures fault { IfErr result (IsChildRefused D.opened parent.now node.now) }
+{
     let mut before: Option<Shared<'t, D>> = None;
     for _ in rt.forever() {
-        let came = match &before {
-            Some(sibling) => sibling.next().load(rt)?,
-            None => parent.first().load(rt)?,
-        };
-        let Some(child) = came else {
+        let Some(child) = child_behind(rt, parent, &before)? else {
             return Ok(true);
         };
         if child.is(node) {
-            let mut rest = node.next().load(rt)?;
-            let mut held = Some(child);
-            return match &before {
-                Some(sibling) => sibling
-                    .next()
-                    .compare_exchange_strong(rt, &mut held, &mut rest),
-                None => parent
-                    .first()
-                    .compare_exchange_strong(rt, &mut held, &mut rest),
-            };
+            return unlink(rt, parent, &before, child, node);
         }
         before = Some(child);
     }
     unreachable!()
+}
+
+/// The child behind another, or the first one (waits). None where there is none.
+fn child_behind<'t, R: Wait, D: Domain>(
+    rt: &R,
+    parent: &Shared<'t, D>,
+    before: &Option<Shared<'t, D>>,
+) -> Result<Option<Shared<'t, D>>, Fault>
+    ensures led { IfOk result (Leads D.opened (behind before.now (first_of parent.now))) }
+    ensures fault { IfErr result (IsRefusedAt D.opened (behind before.now (first_of parent.now))) }
+{
+    match before {
+        Some(sibling) => sibling.next().load(rt),
+        None => parent.first().load(rt),
+    }
+}
+
+/// The child behind another, or the first one, goes out, where it is there still (waits): whether it was.
+fn unlink<'t, R: Wait, D: Domain>(
+    rt: &R,
+    parent: &Shared<'t, D>,
+    before: &Option<Shared<'t, D>>,
+    child: Shared<'t, D>,
+    node: &Shared<'t, D>,
+) -> Result<bool, Fault>
+    ensures out { IfOk result (λ done. IsTrue done
+        → Unlinks D.opened (behind before.now (first_of parent.now)) child.entry node.now) }
+    ensures fault { IfErr result (λ why. IsRefusedAt D.opened (next_of node.now) why
+        ⊎ IsRefusedAt D.opened (behind before.now (first_of parent.now)) why) }
+{
+    let mut rest = next(rt, node)?;
+    let mut held = Some(child);
+    match before {
+        Some(sibling) => sibling
+            .next()
+            .compare_exchange_strong(rt, &mut held, &mut rest),
+        None => parent
+            .first()
+            .compare_exchange_strong(rt, &mut held, &mut rest),
+    }
 }

@@ -1,70 +1,156 @@
 //! A stack in a place, which threads push on and pop from without a lock.
+ghost use Rattle.std.specs.Prelude.{◌≡◌, IfErr, IfOk, IsFalse, IsSomeAnd, IsTrue, OnOk, Some};
+ghost use Rattle.pointers.specs.Beside.{seen_by};
+ghost use Rattle.pointers.specs.Faults.{WhyNoMore};
+ghost use Rattle.pointers.specs.ListChanges.{AreAlike, Comes, IsRefusedAt, Swaps};
+ghost use Rattle.pointers.specs.Lists.{Leads, next_of};
+ghost use Rattle.pointer_structures.specs.Refusals.{IsChainRefused};
+ghost use Rattle.pointer_structures.specs.Stacks.{GoesFirst, Pops, WhyNotPushed};
 
-use pointers::{Domain, Fault, Member, Shared};
+use pointers::{Call, Domain, Fault, Member, Shared};
+use std::marker::Model;
 use std::sync::Wait;
 
 /// A stack in a place for an owner, in C++ an `atomic<shared_ptr<Node>>` with the top: each object owns the one below
 /// it by its member `next`. All that have the same place share the stack. A call wants three pointers of the desk's to
 /// be unused.
 pub struct Stack<'p, 't, D: Domain> {
-    top: Member<'p, 't, D>,
+    place: Member<'p, 't, D>,
+}
+
+impl<'p, 't, D: Domain> Model for Stack<'p, 't, D> {
+    ghost use Rattle.control_block.specs.contracts.handles.Shared as shared_handle;
+    ghost use Rattle.control_block.specs.contracts.handles.Weak as weak_handle;
+    ghost use Rattle.std.specs.Coded.{codes};
+    ghost use Rattle.pointers.specs.Beside.{seen_by};
+    ghost use Rattle.pointers.specs.Lists.{Site};
+
+    ghost Value = { Site D.Value };
+
+    ghost coded = { Prim.hlevel (codes, shared_handle.the_row.coded, weak_handle.the_row.coded) };
+
+    ghost view = { λ s. record {
+      of = seen_by (λ x. x.now.known) s.place.of;
+      which = s.place.which;
+      number = s.place.number;
+    } };
 }
 
 impl<'p, 't, D: Domain> Drop for Stack<'p, 't, D> {
     fn drop(self) {
-        let Self { top } = self;
-        drop(top);
+        let Self { place } = self;
+        drop(place);
     }
 }
 
 impl<'p, 't, D: Domain> Stack<'p, 't, D> {
     /// The stack whose top a place owns.
-    pub fn at(top: Member<'p, 't, D>) -> Stack<'p, 't, D> {
-        Stack { top }
+    pub fn at(top: Member<'p, 't, D>) -> Stack<'p, 't, D>
+        ensures of { result.of ≡ seen_by (λ x. x.now.known) top.entry.of }
+        ensures place { (result.which ≡ top.entry.which) × (result.number ≡ top.entry.number) }
+    {
+        Stack { place: top }
     }
 
     /// The node goes on top (waits). At a fault it has let go.
-    pub fn push<R: Wait>(&self, rt: &R, node: Shared<'t, D>) -> Result<(), Fault> {
-        goes_first(rt, &self.top, node)
+    pub fn push<R: Wait>(&self, rt: &R, node: Shared<'t, D>) -> Result<(), Fault>
+        ensures pushed { OnOk result (GoesFirst D.opened self.now node.entry) }
+        ensures fault { IfErr result (WhyNotPushed D.opened self.now node.entry) }
+    {
+        let mut new = share_one(&node)?;
+        for _ in rt.forever() {
+            let mut first = self.top(rt)?;
+            put_next(&node, share(&first)?)?;
+            if self.swap(rt, &mut first, &mut new)? {
+                return Ok(());
+            }
+        }
+        unreachable!()
     }
 
     /// The top node comes out (waits). None where there is none. It keeps what its `next` owns.
-    pub fn pop<R: Wait>(&self, rt: &R) -> Result<Option<Shared<'t, D>>, Fault> {
+    pub fn pop<R: Wait>(&self, rt: &R) -> Result<Option<Shared<'t, D>>, Fault>
+        ensures popped { IfOk result (Pops D.opened self.now) }
+        ensures fault { IfErr result (IsChainRefused D.opened self.now) }
+    {
         for _ in rt.forever() {
-            let Some(node) = self.top.load(rt)? else {
+            let Some(node) = self.top(rt)? else {
                 return Ok(None);
             };
-            let mut below = node.next().load(rt)?;
-            let mut top = Some(node.share()?);
-            if self.top.compare_exchange_weak(rt, &mut top, &mut below)? {
+            let mut below = next(rt, &node)?;
+            let mut top = share_one(&node)?;
+            if self.swap(rt, &mut top, &mut below)? {
                 return Ok(Some(node));
             }
         }
         unreachable!()
     }
+
+    /// The top node, which stays (waits). None where there is none.
+    #[inline(always)]
+    pub(crate) fn top<R: Wait>(&self, rt: &R) -> Result<Option<Shared<'t, D>>, Fault>
+        ensures led { IfOk result (Leads D.opened self.now) }
+        ensures fault { IfErr result (IsRefusedAt D.opened self.now) }
+    {
+        self.place.load(rt)
+    }
+
+    /// The top node is swapped for another, where it is the one that is expected (waits): whether it was.
+    #[inline(always)]
+    fn swap<R: Wait>(
+        &self,
+        rt: &R,
+        expected: &mut Option<Shared<'t, D>>,
+        desired: &mut Option<Shared<'t, D>>,
+    ) -> Result<bool, Fault>
+        ensures swapped { IfOk result (λ done. IsTrue done → Swaps D.opened self.now expected.old desired.old) }
+        ensures stays { IfOk result (λ done. IsFalse done → desired.new ≡ desired.old) }
+        ensures fault { IfErr result (IsRefusedAt D.opened self.now) }
+    {
+        self.place.compare_exchange_weak(rt, expected, desired)
+    }
 }
 
-/// The node goes in front of what a place owns, by its `next` (waits).
-pub(crate) fn goes_first<'t, R: Wait, D: Domain>(
+/// The node that this one owns by its `next` (waits). None where there is none.
+#[inline(always)]
+pub(crate) fn next<'t, R: Wait, D: Domain>(
     rt: &R,
-    place: &Member<'_, 't, D>,
-    node: Shared<'t, D>,
-) -> Result<(), Fault> {
-    let mut new = Some(node.share()?);
-    for _ in rt.forever() {
-        let mut first = place.load(rt)?;
-        node.next().store(shared(&first)?)?;
-        if place.compare_exchange_weak(rt, &mut first, &mut new)? {
-            return Ok(());
-        }
-    }
-    unreachable!()
+    node: &Shared<'t, D>,
+) -> Result<Option<Shared<'t, D>>, Fault>
+    ensures led { IfOk result (Leads D.opened (next_of node.now)) }
+    ensures fault { IfErr result (IsRefusedAt D.opened (next_of node.now)) }
+{
+    node.next().load(rt)
+}
+
+/// The node owns this one by its `next` from now on, or none.
+#[inline(always)]
+pub(crate) fn put_next<'t, D: Domain>(
+    node: &Shared<'t, D>,
+    next: Option<Shared<'t, D>>,
+) -> Result<(), Fault>
+    ensures comes { OnOk result (Comes D.opened (next_of node.now) next.entry) }
+    ensures fault { IfErr result (IsRefusedAt D.opened (next_of node.now)) }
+{
+    node.next().store(next)
 }
 
 /// One owner more, where there is one.
-fn shared<'t, D: Domain>(of: &Option<Shared<'t, D>>) -> Result<Option<Shared<'t, D>>, Fault> {
+fn share<'t, D: Domain>(of: &Option<Shared<'t, D>>) -> Result<Option<Shared<'t, D>>, Fault>
+    ensures alike { IfOk result (AreAlike D.opened of.now) }
+    ensures fault { IfErr result (λ why. IsSomeAnd of.now (λ c. WhyNoMore D.opened (Some c) Call.Share why)) }
+{
     match of {
-        Some(of) => Ok(Some(of.share()?)),
+        Some(of) => share_one(of),
         None => Ok(None),
     }
+}
+
+/// One owner more of the node.
+#[inline(always)]
+fn share_one<'t, D: Domain>(node: &Shared<'t, D>) -> Result<Option<Shared<'t, D>>, Fault>
+    ensures alike { IfOk result (AreAlike D.opened (Some node.now)) }
+    ensures fault { IfErr result (WhyNoMore D.opened (Some node.now) Call.Share) }
+{
+    Ok(Some(node.share()?))
 }

@@ -1,0 +1,4 @@
+pub mod Refusals
+pub mod Stacks
+pub mod Trees
+pub mod Watches

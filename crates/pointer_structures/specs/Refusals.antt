@@ -1,0 +1,28 @@
+-- Why a call on a structure was not done (own).
+use Rattle.std.specs.Prelude.{◌⊎◌, Option, Some}
+use Rattle.control_block.specs.Desks.{DeskNow}
+use Rattle.pointers.specs.Cells.{WhyNotDone}
+use Rattle.pointers.specs.Faults.{WhyNoMore}
+use Rattle.pointers.specs.ListChanges.{IsListRefused, IsRefusedAt}
+use Rattle.pointers.specs.Lists.{Site, next_of}
+use Rattle.pointers.specs.declared.fault.Fault.{Fault}
+use Rattle.pointers.specs.declared.fault.call.Call.{Call}
+use Rattle.pointers.specs.declared.fault.call.Call.TheVariants.{Downgrade, Share}
+use Rattle.pointers.specs.declared.known.Known.{Known}
+
+module _ {V : Type 0} (o : DeskNow V) where
+  -- a call on the place of a chain of nodes was refused, on one behind a node, or one for an owner more of a node
+  abbrev pub IsChainRefused : Site V → Fault → Type 0
+  IsChainRefused s why = IsListRefused o (λ c w. ⊥) s why
+
+  -- a call on the node's `next` was refused, or one for an owner more of it
+  abbrev pub IsNextRefused : Known V → Fault → Type 0
+  IsNextRefused node why = IsRefusedAt o (next_of node) why ⊎ WhyNoMore o (Some node) Share why
+
+  -- a call on the node's `up` was refused
+  abbrev pub IsUpRefused : Known V → Fault → Type 0
+  IsUpRefused node why = (call : Call) × WhyNotDone o o.shape.weak_cells (Some node) 0 call why
+
+  -- there was no weak pointer to the node's object
+  abbrev pub WhyNotWatched : Known V → Fault → Type 0
+  WhyNotWatched node why = WhyNoMore o (Some node) Downgrade why
