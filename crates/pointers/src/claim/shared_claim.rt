@@ -44,9 +44,9 @@ impl<D: Domain> Model for SharedClaim<D> {
 }
 
 impl<D: Domain> SharedClaim<D> {
-    /// An owner that came to a desk just now.
+    /// Registers an owner that came to a desk just now.
     #[inline(always)]
-    pub(crate) fn came(
+    pub(crate) fn register(
         handle: handles::Shared,
         desk: &Desk<D::Value>,
         claims: &mut Claims<D>,

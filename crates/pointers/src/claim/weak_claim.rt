@@ -36,9 +36,9 @@ impl<D: Domain> Model for WeakClaim<D> {
 }
 
 impl<D: Domain> WeakClaim<D> {
-    /// A weak handle that came to a desk just now.
+    /// Registers a weak handle that came to a desk just now.
     #[inline(always)]
-    pub(crate) fn came(
+    pub(crate) fn register(
         handle: handles::Weak,
         desk: &Desk<D::Value>,
         claims: &mut Claims<D>,

@@ -28,7 +28,7 @@ impl<D: Domain> Context<D> {
         self.restock(domain);
         self.desk.assert_invariant();
         let handle = make(domain, &mut self.desk, fields, enabled, value)?;
-        Ok(SharedClaim::came(handle, &self.desk, &mut self.claims))
+        Ok(SharedClaim::register(handle, &self.desk, &mut self.claims))
     }
 
     /// An owner of a null pointer, with a value for its end.
@@ -45,6 +45,6 @@ impl<D: Domain> Context<D> {
         self.restock(domain);
         self.desk.assert_invariant();
         let handle = make_null(domain, &mut self.desk, value)?;
-        Ok(SharedClaim::came(handle, &self.desk, &mut self.claims))
+        Ok(SharedClaim::register(handle, &self.desk, &mut self.claims))
     }
 }

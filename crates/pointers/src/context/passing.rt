@@ -57,7 +57,7 @@ pub(crate) fn arrived<D: Domain>(
         let _gone = drop_shared(domain, desk, pile, handle);
         return None;
     }
-    Some(SharedClaim::came(handle, desk, claims))
+    Some(SharedClaim::register(handle, desk, claims))
 }
 
 /// What goes into a cell: a claim's handle, or an empty one, which is refused just where the desk is at its allowance.

@@ -46,7 +46,7 @@ pub(crate) fn arrived_weak<D: Domain>(
         release_weak(domain, desk, handle);
         return None;
     }
-    Some(WeakClaim::came(handle, desk, claims))
+    Some(WeakClaim::register(handle, desk, claims))
 }
 
 /// What goes into a cell: a claim's handle, or an empty one, which is refused just where the desk is at its allowance.

@@ -30,7 +30,7 @@ impl<D: Domain> Context<D> {
         self.desk.assert_invariant();
         let of = of.look(&mut self.claims);
         let handle = share(domain, &mut self.desk, of)?;
-        Ok(SharedClaim::came(handle, &self.desk, &mut self.claims))
+        Ok(SharedClaim::register(handle, &self.desk, &mut self.claims))
     }
 
     /// One owner more, which points at another place.
@@ -51,7 +51,7 @@ impl<D: Domain> Context<D> {
         self.desk.assert_invariant();
         let of = of.look(&mut self.claims);
         let handle = alias(domain, &mut self.desk, of, place)?;
-        Ok(SharedClaim::came(handle, &self.desk, &mut self.claims))
+        Ok(SharedClaim::register(handle, &self.desk, &mut self.claims))
     }
 
     /// An owner that the object gives of itself, which points at its field 0.
@@ -69,6 +69,6 @@ impl<D: Domain> Context<D> {
         self.desk.assert_invariant();
         let of = of.look(&mut self.claims);
         let handle = shared_from_this(domain, &mut self.desk, of)?;
-        Ok(SharedClaim::came(handle, &self.desk, &mut self.claims))
+        Ok(SharedClaim::register(handle, &self.desk, &mut self.claims))
     }
 }

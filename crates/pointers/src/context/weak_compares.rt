@@ -78,7 +78,7 @@ impl<D: Domain> Context<D> {
         self.desk.assert_invariant();
         look_at(of, &mut self.claims);
         let handle = empty_weak(domain, &mut self.desk)?;
-        Ok(WeakClaim::came(handle, &self.desk, &mut self.claims))
+        Ok(WeakClaim::register(handle, &self.desk, &mut self.claims))
     }
 
     /// Where the cell holds what is expected, or its like, what is desired goes into it, and what it held leaves. Else

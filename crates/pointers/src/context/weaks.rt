@@ -34,7 +34,7 @@ impl<D: Domain> Context<D> {
         self.desk.assert_invariant();
         let of = of.look(&mut self.claims);
         let handle = downgrade(domain, &mut self.desk, of)?;
-        Ok(WeakClaim::came(handle, &self.desk, &mut self.claims))
+        Ok(WeakClaim::register(handle, &self.desk, &mut self.claims))
     }
 
     /// One weak handle more, which points where the handle does.
@@ -55,7 +55,7 @@ impl<D: Domain> Context<D> {
         self.desk.assert_invariant();
         let of = of.look(&mut self.claims);
         let handle = share_weak(domain, &mut self.desk, of)?;
-        Ok(WeakClaim::came(handle, &self.desk, &mut self.claims))
+        Ok(WeakClaim::register(handle, &self.desk, &mut self.claims))
     }
 
     /// A weak handle that an object gives of itself, which points at its field 0.
@@ -73,7 +73,7 @@ impl<D: Domain> Context<D> {
         self.desk.assert_invariant();
         let of = of.look(&mut self.claims);
         let handle = weak_from_this(domain, &mut self.desk, of)?;
-        Ok(WeakClaim::came(handle, &self.desk, &mut self.claims))
+        Ok(WeakClaim::register(handle, &self.desk, &mut self.claims))
     }
 
     /// An owner of a weak handle's object, or `BadWeak` where none remains.
@@ -93,7 +93,7 @@ impl<D: Domain> Context<D> {
         self.desk.assert_invariant();
         let of = of.look(&mut self.claims);
         match upgrade(rt, domain, &mut self.desk, of) {
-            Ok(handle) => Ok(SharedClaim::came(handle, &self.desk, &mut self.claims)),
+            Ok(handle) => Ok(SharedClaim::register(handle, &self.desk, &mut self.claims)),
             Err(why) => Err(why),
         }
     }

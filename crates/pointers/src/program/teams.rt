@@ -49,8 +49,8 @@ impl<'l, V: Drop> Teams<'l, V> {
         wanted <= most
     }
 
-    /// A team was manned so.
-    fn told(&mut self, manned: Manned)
+    /// Notes how a team was manned.
+    fn note(&mut self, manned: Manned)
         ensures before { self.new.before ≡ Some manned }
         ensures workers { self.new.workers ≡ min (self.old.workers + manned.workers) (2 ^ 64 - 1) }
         ensures fewer { self.new.fewer ≡ first_of self.old.fewer manned.fewer }
@@ -99,7 +99,7 @@ impl<'l, V: Drop + Send> Teams<'l, V> {
             Err(_) => return Err(Fault::Memory),
         }
         let manned = self.work(rt, team, program);
-        self.told(manned);
+        self.note(manned);
         Ok(())
     }
 

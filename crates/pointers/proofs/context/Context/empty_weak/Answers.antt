@@ -9,10 +9,10 @@ pub invariant_of-self-2 : goal.invariant_of-self-2
 invariant_of-self-2 g c =
     let o = g.D.Domain.opened in let d = c.self.inside.desk in let e = c.empty_weak.new.desk in let p = c.self.inside.pile in
     let cs = c.self.inside.claims.entries in let h = held.Weak c.in_ok-handle.handle in let says = c.in_ok-handle.ensures in
-    let x = c.came.result.known in
-    claim_begins o e p cs c.came.new.claims.entries h x
+    let x = c.register.result.known in
+    claim_begins o e p cs c.register.new.claims.entries h x
     (comes_empty o d e p h [] cs (nothing_beside o d p cs c.self.invariant) c.assert_invariant.ensures says.counted says.handle.0)
-    (c.came.ensures.claims ∙ ap (λ (l : List (Option (Known g.row.D-Value.Denot))). l ++ Some x ∷ []) c.look_at.ensures.claims) c.came.ensures.known
+    (c.register.ensures.claims ∙ ap (λ (l : List (Option (Known g.row.D-Value.Denot))). l ++ Some x ∷ []) c.look_at.ensures.claims) c.register.ensures.known
 
 pub returns-in_err-handle-clause-refused : goal.returns-in_err-handle-clause-refused
 returns-in_err-handle-clause-refused g c =

@@ -15,9 +15,9 @@ invariant_of-self g c =
     let o = g.D.Domain.opened in let d = c.self.inside.desk in let e = c.upgrade.new.desk in let p = c.self.inside.pile in
     let cs = c.self.inside.claims.entries in
     let h = c.in-Ok.handle in let of = c.look-of.result.now in let says = c.in-Ok.ensures in
-    more_kept o d e p cs c.look-of.new.claims.entries c.came.new.claims.entries (held.Owner h) c.came.result.known c.self.invariant
+    more_kept o d e p cs c.look-of.new.claims.entries c.register.new.claims.entries (held.Owner h) c.register.result.known c.self.invariant
     c.assert_invariant.ensures (by_upgrade d of.block of.place (Ok h) e says.upgrade) says.keeps
-    says.bag says.held c.look-of.ensures.claims c.came.ensures.claims c.came.ensures.known
+    says.bag says.held c.look-of.ensures.claims c.register.ensures.claims c.register.ensures.known
 
 pub invariant_of-self-in-Err : goal.invariant_of-self-in-Err
 invariant_of-self-in-Err g c =
@@ -33,8 +33,8 @@ returns-in-Ok-clause-one g c =
     let o = g.D.Domain.opened in let d = c.self.inside.desk in let e = c.upgrade.new.desk in let p = c.self.inside.pile in
     let cs = c.self.inside.claims.entries in
     let h = c.in-Ok.handle in let of = c.look-of.result.now in let says = c.in-Ok.ensures in
-    of_one o d e p p cs c.args.of.now.at c.args.of.now.known c.came.result.known (held.Owner h) c.self.invariant
-    c.look-of.ensures.has (by_upgrade d of.block of.place (Ok h) e says.upgrade) c.came.ensures.known
+    of_one o d e p p cs c.args.of.now.at c.args.of.now.known c.register.result.known (held.Owner h) c.self.invariant
+    c.look-of.ensures.has (by_upgrade d of.block of.place (Ok h) e says.upgrade) c.register.ensures.known
     ((upgraded d of.block of.place h e says.upgrade).0 ∙ ap block_of (sym c.look-of.ensures.handle))
 
 pub returns-in-Err-clause-refused : goal.returns-in-Err-clause-refused

@@ -15,18 +15,18 @@ invariant_of-self-2 g c =
     let o = g.D.Domain.opened in let d = c.self.inside.desk in let e = c.weak_from_this.new.desk in let p = c.self.inside.pile in
     let cs = c.self.inside.claims.entries in
     let h = c.in_ok-handle.handle in let of = c.look-of.result.now in let says = c.in_ok-handle.ensures in
-    more_kept o d e p cs c.look-of.new.claims.entries c.came.new.claims.entries (held.Weak h) c.came.result.known c.self.invariant
+    more_kept o d e p cs c.look-of.new.claims.entries c.register.new.claims.entries (held.Weak h) c.register.result.known c.self.invariant
     c.assert_invariant.ensures (by_weak_share d h.block h.place e says.event) says.keeps
     (says.bag)
-    says.held c.look-of.ensures.claims c.came.ensures.claims c.came.ensures.known
+    says.held c.look-of.ensures.claims c.register.ensures.claims c.register.ensures.known
 
 pub returns-clause-one : goal.returns-clause-one
 returns-clause-one g c =
     let o = g.D.Domain.opened in let d = c.self.inside.desk in let e = c.weak_from_this.new.desk in let p = c.self.inside.pile in
     let cs = c.self.inside.claims.entries in
     let h = c.in_ok-handle.handle in let of = c.look-of.result.now in let says = c.in_ok-handle.ensures in
-    of_one o d e p p cs c.args.of.now.at c.args.of.now.known c.came.result.known (held.Weak h) c.self.invariant
-    c.look-of.ensures.has (by_weak_share d h.block h.place e says.event) c.came.ensures.known (says.handle.0 ∙ ap block_of (sym c.look-of.ensures.handle))
+    of_one o d e p p cs c.args.of.now.at c.args.of.now.known c.register.result.known (held.Weak h) c.self.invariant
+    c.look-of.ensures.has (by_weak_share d h.block h.place e says.event) c.register.ensures.known (says.handle.0 ∙ ap block_of (sym c.look-of.ensures.handle))
 
 pub returns-in_err-handle-clause-refused : goal.returns-in_err-handle-clause-refused
 returns-in_err-handle-clause-refused g c =

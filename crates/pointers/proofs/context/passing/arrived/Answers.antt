@@ -19,5 +19,5 @@ returns-then-is_empty-clause-whole g c =
 
 pub returns-clause-whole : goal.returns-clause-whole
 returns-clause-whole g c =
-    claim_begins g.D.Domain.opened c.args.desk.now c.args.pile.now c.args.claims.now.entries c.came.new.claims.entries (held.Owner c.args.handle)
-    c.came.result.known c.requires.hand c.came.ensures.claims c.came.ensures.known
+    claim_begins g.D.Domain.opened c.args.desk.now c.args.pile.now c.args.claims.now.entries c.register.new.claims.entries (held.Owner c.args.handle)
+    c.register.result.known c.requires.hand c.register.ensures.claims c.register.ensures.known
