@@ -115,8 +115,8 @@ module _ {V E F : Type 0} (Copied : Known V → Option E → Type 0)
 
 module _ {V E F : Type 0} (o : DeskNow V) (Copied : Known V → Option E → Type 0)
     (Refused : Known V → Fault → Type 0) (g : Mut F (Bor E × Unit {0}) (Result Bool Fault)) where
-  -- from one place of the list to another, f was called at each element; where one went out, the walk went on from the
-  -- same place
+  -- from one place of the list to another, f was called at each element. After one that is not to stay the walk went on
+  -- from the same place
   abbrev pub Sifts : Site V → Site V → F → List (Sifted E) → Site V → F → Type 0
   Sifts list s f [] t h = (s ≡ t) × (f ≡ h)
   Sifts list s f (x ∷ xs) t h =
