@@ -1,18 +1,19 @@
 -- Calls on a structure go on by one node.
 use Rattle.std.proofs.Common.{◌≡◌, ◌⊎◌, refl, sym, subst, inl, inr}
-use Rattle.std.specs.Prelude.{ℕ, Bool, false, true, IfOk, IsTrue, List, [], ◌∷◌, ◌++◌, IsSomeAnd}
+use Rattle.std.proofs.lemmas.List.Elements.{All-nil, All-push}
+use Rattle.std.specs.Prelude.{ℕ, All, Bool, false, IfOk, IsTrue, List, [], ◌∷◌, ◌++◌, IsSomeAnd}
 use Rattle.std.specs.Prelude.{Option, None, Some, Result, Ok, Err, OnOk}
 use Rattle.control_word.specs.declared.model.handle.Kind.TheVariants.{Owner}
 use Rattle.control_block.specs.Desks.{DeskNow}
 use Rattle.atomic_cells.specs.declared.sites.SharedMember.{SharedMember}
 use Rattle.atomic_cells.specs.declared.sites.SharedMember.TheVariants.{First}
-use Rattle.pointers.proofs.ListSteps.{passes_on, place_passed, refused_at, refused_first, refused_here, swaps_of}
+use Rattle.pointers.proofs.ListSteps.{passes_on, place_passed, refused_at, refused_first, swaps_of}
 use Rattle.pointers.specs.Cells.{StoredWeakly, WhyNotDone, shared_cell_at, weak_cell_at}
 use Rattle.pointers.specs.Compares.{Compared}
 use Rattle.pointers.specs.Faults.{WhyNoMore}
 use Rattle.pointers.specs.Known.{owned}
 use Rattle.pointers.specs.ListChanges.{AreAlike, Comes, IsPlaceOf, IsRefusedAt, Passes, Swaps}
-use Rattle.pointers.specs.ListRemovals.{AreOthers, GoesOut}
+use Rattle.pointers.specs.ListRemovals.{IsOther}
 use Rattle.pointers.specs.Lists.{Leads, Site, behind, next_of, site}
 use Rattle.pointers.specs.declared.fault.Fault.{Fault}
 use Rattle.pointers.specs.declared.fault.call.Call.{Call}
@@ -20,7 +21,7 @@ use Rattle.pointers.specs.declared.fault.call.Call.TheVariants.{Share}
 use Rattle.pointers.specs.declared.known.Known.{Known}
 use Rattle.pointer_structures.specs.Refusals.{IsChainRefused, IsUpRefused}
 use Rattle.pointer_structures.specs.Stacks.{GoesFirst, Pops, WhyNotPushed}
-use Rattle.pointer_structures.specs.Trees.{Detaches, HasParent, IsChildRefused, IsNoChild, Leaves, Unlinks, first_of}
+use Rattle.pointer_structures.specs.Trees.{Detaches, GoesOut, HasParent, IsChildRefused, IsNoChild, Unlinks, first_of}
 use Rattle.pointer_structures.specs.Watches.{ComesUp}
 
 module _ {V : Type 0} (o : DeskNow V) where
@@ -115,19 +116,14 @@ module _ {V : Type 0} (o : DeskNow V) where
       subst (λ (y : Option (Known V)). WhyNotDone o o.shape.shared_cells y n call why) there not in
       subst (λ (y : Site V). IsRefusedAt o y why) (sym here) (call, in_node)
 
-  others_on : (node : Known V) (cs : List (Known V)) (c : Known V) → AreOthers node cs → (¬ (owned c ≡ owned node))
-      → AreOthers node (cs ++ (c ∷ []))
-  others_on node [] c others not = (not, tt)
-  others_on node (d ∷ cs) c (first, others) not = (first, others_on node cs c others not)
-
   -- the children up to the one that was passed last, none of which is the node
   pub record Passed (parent node : Known V) (before : Option (Known V)) : Type 0 where
     pub children : List (Known V)
     pub passes : Passes o (first_of parent) children (behind before (first_of parent))
-    pub others : AreOthers node children
+    pub others : All (IsOther node) children
 
   pub passed_none : (parent node : Known V) → Passed parent node None
-  passed_none parent node = record { children = []; passes = refl; others = tt }
+  passed_none parent node = record { children = []; passes = refl; others = All-nil (IsOther node) }
 
   passed_place : (parent node : Known V) (before : Option (Known V)) → Passed parent node before
       → IsPlaceOf o (first_of parent) (behind before (first_of parent))
@@ -141,7 +137,7 @@ module _ {V : Type 0} (o : DeskNow V) where
     children = passed.children ++ (c ∷ []);
     passes = passes_on o (first_of parent) (behind before (first_of parent)) passed.children c passed.passes
         (subst (Leads o (behind before (first_of parent))) some leads);
-    others = others_on node passed.children c passed.others not;
+    others = All-push (IsOther node) passed.children c passed.others not;
   }
 
   pub passed_ends : (parent node : Known V) (before got : Option (Known V)) → Passed parent node before
@@ -158,16 +154,14 @@ module _ {V : Type 0} (o : DeskNow V) where
   pub passed_out : (parent node child : Known V) (before : Option (Known V)) (r : Result Bool Fault)
       → Passed parent node before → owned child ≡ owned node
       → IfOk r (λ (b : Bool). IsTrue b → Unlinks o (behind before (first_of parent)) child node)
-      → IfOk r (λ (b : Bool). IsTrue b → GoesOut o (first_of parent) node ⊎ IsNoChild o parent node)
+      → IfOk r (λ (b : Bool). IsTrue b → GoesOut o parent node ⊎ IsNoChild o parent node)
   passed_out parent node child before (Err why) passed same is = tt
-  passed_out parent node child before (Ok b) passed same is = λ did. let out = is did in inl (record {
+  passed_out parent node child before (Ok b) passed same is = λ did. inl (record {
     at = behind before (first_of parent);
     place = passed_place parent node before passed;
     held = child;
     same = same;
-    rest = out.0;
-    next = out.1;
-    out = inl out.2;
+    out = is did;
   })
 
   pub passed_refused : (parent node : Known V) (before : Option (Known V)) (why : Fault) → Passed parent node before
@@ -193,7 +187,7 @@ module _ {V : Type 0} (o : DeskNow V) where
       (call, subst (λ (y : Option (Known V)). WhyNotDone o o.shape.weak_cells y n call why) there not)
 
   pub leaves : {A : Type 0} (node parent : Known V) (up of : Option (Known V)) (n : ℕ) (r : Result A Fault) → HasParent o node up
-      → up ≡ Some parent → GoesOut o (first_of parent) node ⊎ IsNoChild o parent node → Comes o (next_of node) None
+      → up ≡ Some parent → GoesOut o parent node ⊎ IsNoChild o parent node → Comes o (next_of node) None
       → of ≡ Some node → OnOk r (StoredWeakly o of (weak_cell_at o of n) None) → OnOk r (Detaches o node)
   leaves node parent up of n (Err why) has some out next there is = tt
   leaves node parent up of n (Ok done) has some out next there is = inl (record {

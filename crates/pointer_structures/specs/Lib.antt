@@ -1,3 +1,4 @@
+pub mod Prunes
 pub mod Refusals
 pub mod Stacks
 pub mod Trees

@@ -1,5 +1,5 @@
 -- Why a call on a structure was not done (own).
-use Rattle.std.specs.Prelude.{◌⊎◌, Option, Some}
+use Rattle.std.specs.Prelude.{◌⊎◌, Some}
 use Rattle.control_block.specs.Desks.{DeskNow}
 use Rattle.pointers.specs.Cells.{WhyNotDone}
 use Rattle.pointers.specs.Faults.{WhyNoMore}

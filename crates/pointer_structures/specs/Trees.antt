@@ -1,13 +1,13 @@
 -- What the calls of a tree say (own): a node owns its first child by `first` and its next sibling by `next`, and `up`
 -- is back to its parent.
-use Rattle.std.specs.Prelude.{◌⊎◌, List, Option, None, Some}
+use Rattle.std.specs.Prelude.{◌≡◌, ◌⊎◌, All, List, Option, None, Some}
 use Rattle.control_word.specs.declared.model.handle.Kind.TheVariants.{Weak}
 use Rattle.control_block.specs.Desks.{DeskNow}
 use Rattle.atomic_cells.specs.declared.sites.SharedMember.TheVariants.{First}
 use Rattle.pointers.specs.Cells.{IsOwnerOf, Loaded, WhyNotLocked, weak_cell_at}
-use Rattle.pointers.specs.Known.{AreOfOne}
-use Rattle.pointers.specs.ListChanges.{Comes, IsRefusedAt, Passes, Swaps}
-use Rattle.pointers.specs.ListRemovals.{AreOthers, GoesOut}
+use Rattle.pointers.specs.Known.{AreOfOne, owned}
+use Rattle.pointers.specs.ListChanges.{Comes, IsPlaceOf, IsRefusedAt, Passes, Swaps}
+use Rattle.pointers.specs.ListRemovals.{IsOther}
 use Rattle.pointers.specs.Lists.{Leads, Site, next_of}
 use Rattle.pointers.specs.declared.fault.Fault.{Fault}
 use Rattle.pointers.specs.declared.fault.call.Call.TheVariants.{Load}
@@ -31,19 +31,27 @@ module _ {V : Type 0} where
   abbrev pub Unlinks : DeskNow V → Site V → Known V → Known V → Type 0
   Unlinks o s child node = (rest : Option (Known V)) × Leads o (next_of node) rest × Swaps o s (Some child) rest
 
+  -- the node went out of a place of the children so
+  pub record GoesOut (o : DeskNow V) (parent node : Known V) : Type 0 where
+    pub at : Site V
+    pub place : IsPlaceOf o (first_of parent) at
+    pub held : Known V
+    pub same : owned held ≡ owned node
+    pub out : Unlinks o at held node
+
   -- the children came to their end, and the node is none of them
   pub record IsNoChild (o : DeskNow V) (parent node : Known V) : Type 0 where
     pub children : List (Known V)
     pub at : Site V
     pub passes : Passes o (first_of parent) children at
     pub ends : Leads o at None
-    pub others : AreOthers node children
+    pub others : All (IsOther node) children
 
   -- the node went out of its parent's children, if it was among them, and its `next` and `up` are empty
   pub record Leaves (o : DeskNow V) (node : Known V) : Type 0 where
     pub parent : Known V
     pub has : HasParent o node (Some parent)
-    pub out : GoesOut o (first_of parent) node ⊎ IsNoChild o parent node
+    pub out : GoesOut o parent node ⊎ IsNoChild o parent node
     pub next : Comes o (next_of node) None
     pub up : ComesUp o node None
 
@@ -55,7 +63,8 @@ module _ {V : Type 0} where
   abbrev pub IsChildRefused : DeskNow V → Known V → Known V → Fault → Type 0
   IsChildRefused o parent node why = IsRefusedAt o (next_of node) why ⊎ IsChainRefused o (first_of parent) why
 
-  -- why a node was not detached: its parent was not found, or a call on its `up`, its `next` or the children was refused
+  -- why a node was not detached: its parent was not found, or a call on its `up`, its `next` or the children was
+  -- refused
   abbrev pub WhyNotDetached : DeskNow V → Known V → Fault → Type 0
   WhyNotDetached o node why =
       WhyNotLocked o o.shape.weak_cells (Some node) 0 (Load Up) why
@@ -70,8 +79,8 @@ module _ {V : Type 0} where
     pub comes : ComesUp o child (Some up)
     pub first : GoesFirst o (first_of parent) child
 
-  -- or why not: it was not detached, there was no weak pointer to the parent, or a call on the child's `up` or `next` or
-  -- on the children was refused
+  -- or why not: it was not detached, there was no weak pointer to the parent, or a call on the child's `up` or `next`
+  -- or on the children was refused
   abbrev pub WhyNotJoined : DeskNow V → Known V → Known V → Fault → Type 0
   WhyNotJoined o parent child why =
       WhyNotDetached o child why

@@ -1,9 +1,10 @@
 //! Observers in a place, each of which watches a subject by a weak pointer.
-ghost use Rattle.std.specs.Prelude.{◌≡◌, IfErr, OnOk};
+ghost use Rattle.std.specs.Prelude.{◌≡◌, IfErr, IfOk, OnOk};
 ghost use Rattle.pointers.specs.Beside.{seen_by};
+ghost use Rattle.pointer_structures.specs.Prunes.{IsAlive, Prunes, WhyNotPruned};
 ghost use Rattle.pointer_structures.specs.Watches.{Watches, WhyNotAttached};
 
-use pointers::{Domain, Fault, List, Member, Shared, Weak};
+use pointers::{Call, Domain, Fault, List, Member, Shared, Weak};
 use std::marker::Model;
 use std::sync::Wait;
 
@@ -58,7 +59,19 @@ impl<'p, 't, D: Domain> Observers<'p, 't, D> {
     }
 
     /// The observers whose subject has no owner go out and end (waits): how many did. One thread at a time may call it.
-    pub fn prune<R: Wait>(&self, rt: &R) -> Result<usize, Fault> {
-        self.list.retain(rt, |weak| Ok(!weak.expired()?))
+    pub fn prune<R: Wait>(&self, rt: &R) -> Result<usize, Fault>
+        ensures pruned { IfOk result (Prunes D.opened self.now) }
+        ensures fault { IfErr result (WhyNotPruned D.opened self.now) }
+    {
+        self.list.retain(rt, |weak| has_owner(weak))
     }
+}
+
+/// Whether the subject of a weak pointer has an owner.
+#[inline(always)]
+fn has_owner<'t, D: Domain>(weak: &Weak<'t, D>) -> Result<bool, Fault>
+    ensures alive { IfOk result (IsAlive D.opened weak.now) }
+    ensures fault { IfErr result (λ why. why ≡ Fault.Busy Call.Expired) }
+{
+    Ok(!weak.expired()?)
 }

@@ -1,10 +1,9 @@
 //! Trees of nodes: each owns its first child and its next sibling, and knows its parent.
 ghost use Rattle.std.specs.Prelude.{◌⊎◌, IfErr, IfOk, IsTrue, OnOk};
 ghost use Rattle.pointers.specs.ListChanges.{IsRefusedAt};
-ghost use Rattle.pointers.specs.ListRemovals.{GoesOut};
 ghost use Rattle.pointers.specs.Lists.{Leads, behind, next_of};
-ghost use Rattle.pointer_structures.specs.Trees.{Detaches, IsChildRefused, IsNoChild, Joins, Unlinks, WhyNotDetached};
-ghost use Rattle.pointer_structures.specs.Trees.{WhyNotJoined, first_of};
+ghost use Rattle.pointer_structures.specs.Trees.{Detaches, GoesOut, IsChildRefused, IsNoChild, Joins, Unlinks};
+ghost use Rattle.pointer_structures.specs.Trees.{WhyNotDetached, WhyNotJoined, first_of};
 
 use crate::stack::{Stack, next, put_next};
 use pointers::{Domain, Fault, Shared};
@@ -54,7 +53,7 @@ fn goes_out<'t, R: Wait, D: Domain>(
     node: &Shared<'t, D>,
 ) -> Result<bool, Fault>
     ensures out { IfOk result (λ done. IsTrue done
-        → GoesOut D.opened (first_of parent.now) node.now ⊎ IsNoChild D.opened parent.now node.now) }
+        → GoesOut D.opened parent.now node.now ⊎ IsNoChild D.opened parent.now node.now) }
     ensures fault { IfErr result (IsChildRefused D.opened parent.now node.now) }
 {
     let mut before: Option<Shared<'t, D>> = None;

@@ -1,5 +1,4 @@
-use Rattle.std.proofs.Common.{rules, ◌≡◌, ◌∙◌, ap, Err, Option, inl, inr}
-use Rattle.pointers.specs.Beside.{seen_by}
+use Rattle.std.proofs.Common.{rules, ◌≡◌, ◌∙◌, Err, inl, inr}
 use Rattle.pointers.proofs.Handles.{errs_map}
 use Rattle.pointers.proofs.ListSteps.{fault_is, on_ok, refused_here}
 use Rattle.pointer_structures.specs.Trees.{WhyNotJoined}

@@ -1,4 +1,4 @@
-use Rattle.std.proofs.Common.{rules, ◌≡◌, ap, Err, Option, inl, inr}
+use Rattle.std.proofs.Common.{ap, Option, inr}
 use Rattle.atomic_cells.specs.declared.sites.SharedMember.TheVariants.{First, Next}
 use Rattle.pointers.specs.declared.known.Known.{Known}
 use Rattle.pointers.specs.Lists.{behind}

@@ -1,4 +1,4 @@
-use Rattle.std.proofs.Common.{rules, ◌≡◌, Err, None, inl, inr, subst}
+use Rattle.std.proofs.Common.{rules, ◌≡◌, Err, inr, subst}
 use Rattle.pointers.proofs.ListSteps.{fault_is, refused_first, refused_here, refused_second}
 use Rattle.pointers.specs.Lists.{Leads}
 use Rattle.pointer_structures.specs.Refusals.{IsChainRefused}
