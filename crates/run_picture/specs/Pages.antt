@@ -74,8 +74,22 @@ abbrev pub run_lines : Picture → List ℕ
 run_lines picture = string_bytes picture.script ++ flat_map row_lines picture.rows.items
     ++ left_lines picture.left
 
--- the lines of the run in one element, in which no byte of theirs stands for markup, between a head
--- and scripts that are the same on each page
+-- lines in one element, in which no byte of theirs stands for markup
+abbrev pub lines_element : List ℕ → List ℕ
+lines_element lines = rendered (label (codes "pre") [] lines)
+
+-- the head of each page
+abbrev pub head_text : List ℕ
+head_text = HEAD.now
+
+-- a text, and then the scripts of each page
+abbrev pub with_scripts : List ℕ → List ℕ
+with_scripts text = (text ++ READER.now) ++ VIEW.now
+
+-- what is shown on a page, between a head and scripts that are the same on each
+abbrev pub page_of : List ℕ → List ℕ
+page_of shown = with_scripts (head_text ++ shown)
+
+-- the page of one run
 abbrev pub page_text : Picture → List ℕ
-page_text picture =
-    ((HEAD.now ++ rendered (label (codes "pre") [] (run_lines picture))) ++ READER.now) ++ VIEW.now
+page_text picture = page_of (lines_element (run_lines picture))

@@ -20,4 +20,4 @@ mod tests;
 
 pub use document::draw;
 pub use picture::{Change, Holder, Left, LeftBlock, Picture, Pointer, Row, Touch};
-pub use step_page::run_page;
+pub use step_page::{begin_page, put_lines, put_scripts, run_page, run_text};

@@ -1,6 +1,6 @@
-//! What stands above a run on a page: how the page looks, and its empty parts.
+//! What stands above the runs of a page: how the page looks, and its empty parts.
 
-/// What stands above the run.
+/// What stands above the runs.
 pub(crate) const HEAD: &str = r##"<!DOCTYPE html>
 <html lang="en">
 <head>
@@ -27,7 +27,8 @@ body {
 h1 { font-size: 1.15rem; margin: 0 0 0.5rem; }
 h2 { font-size: 0.95rem; margin: 0 0 0.35rem; }
 section { border: 1px solid var(--line); border-radius: 6px; padding: 0.6rem; min-width: 0; }
-.shown pre, .missing, [hidden] { display: none; }
+pre { overflow-x: auto; }
+.shown pre, .missing, [hidden], body:not(.outcomes) .of-outcomes { display: none; }
 nav {
   position: sticky; top: 0; z-index: 1; padding: 0.4rem 0; margin-bottom: 0.6rem;
   background: var(--page); border-bottom: 1px solid var(--line);
@@ -77,6 +78,20 @@ td { vertical-align: top; overflow-wrap: anywhere; }
 #lines a:hover { text-decoration: underline; }
 #lines .last a { background: var(--mark); }
 #lines .later { color: var(--soft); }
+#outcomes {
+  display: grid; gap: 0.4rem; margin-top: 0.4rem;
+  grid-template-columns: repeat(auto-fill, minmax(min(15rem, 100%), 1fr));
+  max-height: 40vh; overflow-y: auto; margin-bottom: 0.6rem;
+}
+#outcomes a {
+  display: block; height: 100%; padding: 0.35rem 0.5rem; color: inherit; text-decoration: none;
+  border: 1px solid var(--line); border-radius: 6px; overflow-wrap: anywhere;
+}
+#outcomes strong { color: var(--told); }
+#outcomes a:hover strong { text-decoration: underline; }
+#outcomes a[aria-current="true"] { background: var(--mark); border-color: var(--ink); }
+#outcomes :is(b, span) { display: block; }
+#outcomes span { color: var(--soft); }
 @media (min-width: 48rem) {
   main { grid-template-columns: minmax(0, 1fr) minmax(0, 1fr); }
   #now, #threads, #all { grid-column: 1 / -1; }
@@ -91,13 +106,15 @@ td { vertical-align: top; overflow-wrap: anywhere; }
   nav button, #slider, #keys { display: none; }
   nav { position: static; }
   #columns { flex-wrap: wrap; }
-  #columns ol, #lines { max-height: none; overflow: visible; }
+  #columns ol, #lines, #outcomes { max-height: none; overflow: visible; }
   section { break-inside: avoid; }
 }
 </style>
 </head>
 <body>
 <h1 id="title">A run, act by act</h1>
+<p class="note of-outcomes">Each outcome is a link into its run. Bold: what differs. <span id="count"></span></p>
+<ol class="of-outcomes" id="outcomes" aria-label="Outcomes"></ol>
 <nav hidden aria-label="Acts of the run">
 <div>
 <button id="back" title="One act back: left arrow">&larr; act</button>
@@ -106,6 +123,8 @@ td { vertical-align: top; overflow-wrap: anywhere; }
 <button id="line-on" title="On to the next line that is told: n">line &rarr;</button>
 <button id="end-back" title="Back to an end: E">&larr; end</button>
 <button id="end-on" title="On to the next end of an object: e">end &rarr;</button>
+<button class="of-outcomes" id="outcome-back" title="Back to an outcome: O">&larr; outcome</button>
+<button class="of-outcomes" id="outcome-on" title="On to the next outcome: o">outcome &rarr;</button>
 <output id="place"></output>
 </div>
 <input id="slider" type="range" step="1" aria-label="Act">
@@ -122,6 +141,7 @@ thread 1. s3, w3: cells.</p></section>
 <section id="all"><h2>Lines told</h2><ol id="lines"></ol></section>
 </main>
 <p class="note" id="keys" hidden>Keys: left and right arrow, one act; n and N, the next and the last
-line told; e and E, ends of objects; Home and End. The link's #number is the act.</p>
-<noscript><p>Scripts are off: below is the run, line by line.</p></noscript>
+line told; e and E, ends of objects; Home and End. The link's #number is the act.
+<span class="of-outcomes">o and O, the next and the last outcome; #2.12 is act 12 of outcome 2.</span></p>
+<noscript><p>Scripts are off: what was run is below, line by line.</p></noscript>
 "##;

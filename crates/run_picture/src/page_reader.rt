@@ -1,13 +1,32 @@
-//! What stands below a run on a page first: how its script reads the run's lines, and the threads.
+//! What stands below the runs of a page first: how its script reads their lines, and the threads.
 
-/// What reads a run, and shows its threads.
+/// What reads the runs, and shows the threads of one.
 pub(crate) const READER: &str = r##"<script>
 "use strict";
 
-// ---- the run, as its lines have it
+// ---- the runs of the page
 
 const byId = (id) => document.getElementById(id);
-const run = { threads: 0, statements: [], names: [], acts: [], left: [], totals: "" };
+const runs = [];
+let closing = [];
+
+const linesOf = (text) => text.split("\n").filter((line) => line !== "");
+
+// On a page of outcomes the lines that one tells stand before those of its run, and behind all runs how
+// many there are, and where they differ.
+function readPage(texts) {
+  let told = [];
+  for (const text of texts) {
+    if (text.startsWith("outcome ")) told = linesOf(text);
+    else if (text.startsWith("outcomes ")) closing = linesOf(text);
+    else runs.push({ told, lines: linesOf(text) });
+  }
+}
+
+// ---- the run that is shown, as its lines have it
+
+const noRun = () => ({ threads: 0, statements: [], names: [], acts: [], left: [], totals: "" });
+let run = noRun();
 
 // A line's first word says what it is; the act whose lines these are is the last.
 const readers = {
@@ -74,9 +93,9 @@ function nameOf(thread, number) {
   return `${thread} ${number === names.length ? "(drops)" : "(in hand)"}`;
 }
 
-function read(text) {
-  for (const line of text.split("\n")) {
-    if (line === "") continue;
+function read(lines) {
+  run = noRun();
+  for (const line of lines) {
     const [word, rest] = cut(line);
     readers[word](rest);
   }
@@ -117,6 +136,7 @@ function put(parent, tag, attributes, text) {
 // ---- the threads
 
 function putColumns() {
+  byId("columns").replaceChildren();
   for (let thread = 1; thread <= run.threads; thread++) {
     const column = put(byId("columns"), "div");
     put(column, "h2", {}, `thread ${thread}`);

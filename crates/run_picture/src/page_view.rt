@@ -1,7 +1,7 @@
-//! What stands below a run on a page at last: how its script shows what is so after an act, and
-//! goes from act to act.
+//! What stands below the runs of a page at last: how its script shows what is so after an act, and
+//! goes from act to act, and from outcome to outcome.
 
-/// What shows a run, and goes through it.
+/// What shows a run, and goes through it, and the outcomes.
 pub(crate) const VIEW: &str = r##"
 // ---- who owns and watches whom
 
@@ -109,10 +109,11 @@ function fillTable(state) {
 // ---- the lines that were told
 
 function putLines() {
+  byId("lines").replaceChildren();
   for (const [index, act] of run.acts.entries()) {
     for (const line of act.said) {
       const item = put(byId("lines"), "li", { "data-made": index + 1 });
-      put(item, "a", { href: `#${act.number}` }, line);
+      put(item, "a", { href: linkTo(act.number) }, line);
     }
   }
 }
@@ -125,6 +126,51 @@ function markLines(made) {
   }
 }
 
+// ---- the outcomes, of which a page of one run has none
+
+let chosen = 0;
+const hasOutcomes = () => runs[0].told.length > 0;
+const linkTo = (number) => (hasOutcomes() ? `#${chosen + 1}.${number}` : `#${number}`);
+
+// What a line tells of: a statement, or what is left.
+const subjectOf = (line) => (/^\d+\.\S+ /.test(line) ? cut(line)[0] : "left");
+
+function putOutcomes() {
+  if (!hasOutcomes()) return;
+  document.body.classList.add("outcomes");
+  byId("title").textContent = document.title = "All orders of a script, outcome by outcome";
+  byId("count").textContent = closing.join("; ");
+  const differ = (closing[1] || "").split(" ");
+  for (const [index, { told: [head, ...lines] }] of runs.entries()) {
+    const link = put(put(byId("outcomes"), "li"), "a", { href: `#${index + 1}.0` });
+    put(link, "strong", {}, head);
+    for (const line of lines) put(link, differ.includes(subjectOf(line)) ? "b" : "span", {}, line);
+  }
+}
+
+function choose(index) {
+  chosen = index;
+  read(runs[index].lines);
+  document.querySelector("main").classList.toggle("many", run.threads > 2);
+  byId("slider").min = firstShown();
+  byId("slider").max = run.acts.length;
+  putColumns();
+  putLines();
+  byId("outcome-back").disabled = index === 0;
+  byId("outcome-on").disabled = index === runs.length - 1;
+  for (const [at, item] of [...byId("outcomes").children].entries()) {
+    item.firstChild.setAttribute("aria-current", at === index);
+    if (at === index) showIn(item.parentElement, item);
+  }
+}
+
+// To another outcome, after as many acts.
+function turnTo(index) {
+  if (!runs[index]) return;
+  choose(index);
+  go(made);
+}
+
 // ---- from act to act
 
 let made = 0;
@@ -132,12 +178,14 @@ let made = 0;
 function tell() {
   const act = made > 0 ? run.acts[made - 1] : undefined;
   const last = run.acts.length ? run.acts[run.acts.length - 1].number : 0;
-  byId("place").textContent = `act ${numberOf(made)} of ${last}`;
+  const of = hasOutcomes() ? `outcome ${chosen + 1}, ` : "";
+  byId("place").textContent = `${of}act ${numberOf(made)} of ${last}`;
   byId("did").textContent = act ? `${act.at} \u2013 ${act.word}` : "Before the first act";
   byId("told").textContent = act ? act.said.join("\n") : "";
   const isOver = made === run.acts.length;
   const left = run.left.map(([block, color]) => `block ${block} ${meaning[color]}`);
-  byId("left").textContent = isOver ? [run.totals, ...left].filter(Boolean).join("; ") : "";
+  const end = run.totals ? [run.totals, ...left] : ["The run goes on: no more acts are on this page."];
+  byId("left").textContent = isOver ? end.join("; ") : "";
 }
 
 const meaning = { white: "is kept", orange: "is leaked, in a knot", lightgrey: "is leaked" };
@@ -157,7 +205,7 @@ function show(next) {
 
 function go(next) {
   show(next);
-  history.replaceState(null, "", `#${numberOf(made)}`);
+  history.replaceState(null, "", linkTo(numberOf(made)));
 }
 
 // The next act of which this is so, or the last one before; where there is none, where we are.
@@ -190,28 +238,32 @@ const keys = {
 
 function onKey(event) {
   const to = keys[event.key];
-  if (!to || event.ctrlKey || event.altKey || event.metaKey) return;
+  if (event.ctrlKey || event.altKey || event.metaKey) return;
+  if (event.key === "o") turnTo(chosen + 1);
+  if (event.key === "O") turnTo(chosen - 1);
+  if (!to) return;
   event.preventDefault();
   go(to());
 }
 
-// The act that the link names, where it is one of these; else the first.
+// The outcome and the act that the link names, where they are there; else the first.
 function followLink() {
-  const number = Number(location.hash.slice(1) || numberOf(firstShown()));
+  const words = location.hash.slice(1).split(".");
+  const outcome = hasOutcomes() ? Number(words.shift()) - 1 : 0;
+  choose(runs[outcome] ? outcome : 0);
+  const number = Number(words[0] || numberOf(firstShown()));
   const index = run.acts.findIndex((act) => act.number === number);
   show(index < 0 ? firstShown() : index + 1);
 }
 
 function begin() {
-  read(document.querySelector("pre").textContent);
+  readPage([...document.querySelectorAll("pre")].map((it) => it.textContent));
   document.documentElement.classList.add("shown");
   for (const it of document.querySelectorAll("[hidden]")) it.hidden = false;
-  document.querySelector("main").classList.toggle("many", run.threads > 2);
-  byId("slider").min = firstShown();
-  byId("slider").max = run.acts.length;
-  putColumns();
-  putLines();
+  putOutcomes();
   for (const [id, to] of Object.entries(moves)) byId(id).addEventListener("click", () => go(to()));
+  byId("outcome-back").addEventListener("click", () => turnTo(chosen - 1));
+  byId("outcome-on").addEventListener("click", () => turnTo(chosen + 1));
   byId("slider").addEventListener("input", () => go(Number(byId("slider").value)));
   document.addEventListener("keydown", onKey);
   window.addEventListener("hashchange", followLink);

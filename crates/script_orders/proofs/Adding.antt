@@ -22,6 +22,10 @@ still_outcomes script list text old new (inl same) is all = subst (AreOutcomes s
 still_outcomes script list text old new (inr more) is all =
     subst (AreOutcomes script) (sym more) (All-push (λ (o : Outcome). IsOutcome script o.1 o.0) old (text, list) all is)
 
+-- what holds of what was found, where it was found
+pub in_some : {A : Type 0} (found : Option A) (it : A) (Is : A → Type 0) → found ≡ Some it → IfSome found Is → Is it
+in_some {A} found it Is is h = subst (λ (o : Option A). IfSome o Is) is h
+
 -- the outcome of a list that was told
 pub outcome_told : (script given list : List ℕ) (told : Option (Vec ℕ)) (text : Vec ℕ)
     → told ≡ Some text → given ≡ list → IfSome told (λ t. IsOutcome script given t.items)

@@ -7,11 +7,7 @@ use Rattle.std.specs.List.{slice_get}
 use Rattle.std.proofs.lemmas.List.{append-nil, length-take-le, take_more}
 use Rattle.std.proofs.lemmas.Option.{get_or_from_slice_get, slice_get-map, slice_get_within}
 use Rattle.script_orders.specs.Found.{outcomes_in}
-use Rattle.script_orders.specs.Orders.{Outcome, head_line, told_from}
-
--- an outcome with the line above it
-abbrev pub told_one : ℕ → Outcome → List ℕ
-told_one number o = head_line number o.1 ++ o.0
+use Rattle.script_orders.specs.Orders.{Outcome, head_line, told_from, told_one}
 
 told_push : (k : ℕ) (os : List Outcome) (o : Outcome)
     → told_from k (os ++ o ∷ []) ≡ told_from k os ++ told_one (k + length os) o

@@ -42,20 +42,30 @@ list_after (b ∷ bs) = 32 ∷ b ∷ bs
 abbrev pub head_line : ℕ → List ℕ → List ℕ
 head_line number list = codes "outcome " ++ decimal number ++ codes " turns" ++ list_after list ++ 10 ∷ []
 
+-- an outcome with the line above it
+abbrev pub told_one : ℕ → Outcome → List ℕ
+told_one number o = head_line number o.1 ++ o.0
+
 -- outcomes, numbered from here
 abbrev pub told_from : ℕ → List Outcome → List ℕ
 told_from number [] = []
-told_from number (o ∷ os) = head_line number o.1 ++ o.0 ++ told_from (suc number) os
+told_from number (o ∷ os) = told_one number o ++ told_from (suc number) os
 
 -- how many outcomes there are, and how many states were seen
 abbrev pub counts_line : ℕ → ℕ → List ℕ
 counts_line outcomes states =
     codes "outcomes " ++ decimal outcomes ++ codes " states " ++ decimal states ++ 10 ∷ []
 
--- the text tells these outcomes; then comes a line that says where they differ, or none
-pub record TellsAll (outcomes : List Outcome) (states : ℕ) (text : List ℕ) : Type 0 where
+-- the text tells how many there are, and then comes a line that says where they differ, or none
+pub record Closes (outcomes : List Outcome) (states : ℕ) (text : List ℕ) : Type 0 where
   pub differ : List ℕ
-  pub says : text ≡ told_from 1 outcomes ++ counts_line (length outcomes) states ++ differ
+  pub says : text ≡ counts_line (length outcomes) states ++ differ
+
+-- the text tells these outcomes, and then closes
+pub record TellsAll (outcomes : List Outcome) (states : ℕ) (text : List ℕ) : Type 0 where
+  pub closing : List ℕ
+  pub closes : Closes outcomes states closing
+  pub says : text ≡ told_from 1 outcomes ++ closing
 
 -- the text tells outcomes of the script, each once
 pub record IsOrdersText (script text : List ℕ) : Type 0 where

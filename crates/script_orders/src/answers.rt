@@ -1,22 +1,22 @@
 //! Answers on a script's orders, each with the text that tells it.
 
-ghost use Rattle.std.specs.Prelude.{◌≡◌, ◌++◌, ◌∷◌, [], Some, None, IfErr, IfOk, IfSome, IsTrue, OnOk};
+ghost use Rattle.std.specs.Prelude.{◌≡◌, ◌++◌, ◌∷◌, [], Some, None, IfErr, IfOk, IfSome, IsTrue};
 ghost use Rattle.std.specs.Prelude.{codes};
 ghost use Rattle.script_text.specs.declared.fault.Fault.TheVariants.{Memory};
 ghost use Rattle.script_text.specs.Grammar.{Refuses};
 ghost use Rattle.script_orders.specs.declared.orders.Answer.TheVariants.{Told, Found, TooMany};
 ghost use Rattle.script_orders.specs.Found.{outcomes_in};
-ghost use Rattle.script_orders.specs.Orders.{AllDiffer, AreOutcomes, IsAnswerText, TellsAll, TellsLine};
-ghost use Rattle.script_orders.specs.Orders.{texts_of};
+ghost use Rattle.script_orders.specs.Orders.{IsAnswerText, TellsAll, TellsLine};
 
-use crate::lists::list_of;
+use crate::all_orders::{AllOutcomes, all_outcomes};
+use crate::lists::next_list;
 use crate::orders::Answer;
-use crate::outcomes::{Outcomes, outcome_text};
+use crate::outcomes::outcome_text;
 use crate::report::all_text;
 use crate::search::Search;
 use crate::threads::has_line;
 use control_word::Refusal;
-use script_text::Fault;
+use script_text::{Fault, parse};
 use std::alloc::Global;
 
 /// An answer, and the text that tells it.
@@ -27,7 +27,7 @@ pub(crate) struct Reply {
 }
 
 /// What comes of a search that was given up.
-pub(crate) fn given_up(alloc: Global, why: Refusal) -> Result<Reply, Fault>
+fn given_up(alloc: Global, why: Refusal) -> Result<Reply, Fault>
     ensures answer { IfOk result (λ reply. reply.answer ≡ TooMany) }
     ensures text { IfOk result (λ reply. reply.text.items ≡ []) }
     ensures refused { IfErr result (λ fault. fault ≡ Memory) }
@@ -41,45 +41,14 @@ pub(crate) fn given_up(alloc: Global, why: Refusal) -> Result<Reply, Fault>
     }
 }
 
-/// The next list of turns that is tried; none where there is no further one.
-fn next_list(alloc: Global, search: &mut Search) -> Result<Option<Vec<u8>>, Refusal> {
-    let Some(turns) = search.next_end()? else {
-        return Ok(None);
-    };
-    Ok(Some(list_of(alloc, turns.as_slice())?))
-}
-
-/// Adds the outcome of these turns.
-fn add_outcome(
-    alloc: Global,
-    outcomes: &mut Outcomes,
-    script: &[u8],
-    list: Vec<u8>,
-) -> Result<(), Fault>
-    ensures each { OnOk result (AreOutcomes script.now (outcomes_in outcomes.old.found.entries)
-        → AreOutcomes script.now (outcomes_in outcomes.new.found.entries)) }
-    ensures refused { IfErr result (λ fault. Refuses fault script.now) }
-{
-    let told = outcome_text(alloc, script, list.as_slice())?;
-    let Some(text) = told else {
-        return Ok(());
-    };
-    match outcomes.add(text, list) {
-        Ok(()) => Ok(()),
-        Err(_) => Err(Fault::Memory),
-    }
-}
-
-/// What is told of these outcomes.
-fn told(alloc: Global, outcomes: &Outcomes, states: usize) -> Result<Reply, Fault>
+/// What is told of all outcomes.
+fn told(alloc: Global, all: &AllOutcomes) -> Result<Reply, Fault>
     ensures answer { IfOk result (λ reply. reply.answer ≡ Told) }
-    ensures once { AllDiffer (texts_of (outcomes_in outcomes.now.found.entries)) }
     ensures text { IfOk result
-        (λ reply. TellsAll (outcomes_in outcomes.now.found.entries) states reply.text.items) }
+        (λ reply. TellsAll (outcomes_in all.now.outcomes.found.entries) all.now.states reply.text.items) }
     ensures refused { IfErr result (λ fault. fault ≡ Memory) }
 {
-    outcomes.assert_invariant();
-    match all_text(alloc, outcomes, states) {
+    match all_text(alloc, &all.outcomes, all.states) {
         Ok(text) => Ok(Reply {
             answer: Answer::Told,
             text,
@@ -88,26 +57,16 @@ fn told(alloc: Global, outcomes: &Outcomes, states: usize) -> Result<Reply, Faul
     }
 }
 
-/// The outcomes of all orders. The run that goes by itself has the least list, which is empty.
-pub(crate) fn all_outcomes(
-    alloc: Global,
-    script: &[u8],
-    most: u32,
-    search: &mut Search,
-) -> Result<Reply, Fault>
+/// What is told of the outcomes of all orders.
+pub(crate) fn every_outcome(alloc: Global, script: &[u8], most: u32) -> Result<Reply, Fault>
     ensures is { IfOk result (λ reply. IsAnswerText None reply.answer script.now reply.text.items) }
     ensures refused { IfErr result (λ fault. Refuses fault script.now) }
 {
-    let mut outcomes = Outcomes::new(alloc);
-    add_outcome(alloc, &mut outcomes, script, Vec::new(alloc))?;
-    for _ in 0..most {
-        match next_list(alloc, search) {
-            Ok(Some(list)) => add_outcome(alloc, &mut outcomes, script, list)?,
-            Ok(None) => return told(alloc, &outcomes, search.states()),
-            Err(why) => return given_up(alloc, why),
-        }
+    let found = all_outcomes(alloc, script, most)?;
+    match found {
+        Some(all) => told(alloc, &all),
+        None => given_up(alloc, Refusal::Limit),
     }
-    told(alloc, &outcomes, search.states())
 }
 
 /// Whether a run with these turns tells a line.
@@ -194,8 +153,8 @@ fn try_next(
     }
 }
 
-/// The least turns by which a line is told.
-pub(crate) fn turns_to(
+/// The least turns by which a line is told, of those that a search finds.
+fn turns_found(
     alloc: Global,
     script: &[u8],
     line: &[u8],
@@ -214,4 +173,16 @@ pub(crate) fn turns_to(
         }
     }
     never(alloc)
+}
+
+/// The least turns by which a line is told.
+pub(crate) fn turns_to(alloc: Global, script: &[u8], line: &[u8], most: u32) -> Result<Reply, Fault>
+    ensures is { IfOk result (λ reply. IsAnswerText (Some line.now) reply.answer script.now reply.text.items) }
+    ensures refused { IfErr result (λ fault. Refuses fault script.now) }
+{
+    let parsed = parse(alloc, script)?;
+    match Search::new(alloc, &parsed, most) {
+        Ok(mut search) => turns_found(alloc, script, line, most, &mut search),
+        Err(why) => given_up(alloc, why),
+    }
 }

@@ -1,6 +1,7 @@
 //! All orders of a script: each outcome once, with the least turns that give it.
 #![tactic(auto)]
 
+mod all_orders;
 mod answers;
 mod differences;
 mod lists;
@@ -12,4 +13,7 @@ mod search;
 mod states;
 mod threads;
 
+pub use all_orders::{AllOutcomes, all_outcomes};
 pub use orders::{Answer, MOST_STATES, Query, orders_text};
+pub use outcomes::Outcomes;
+pub use report::{closing_text, outcome_lines};

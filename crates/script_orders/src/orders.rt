@@ -5,10 +5,9 @@ ghost use Rattle.script_text.specs.Grammar.{Refuses};
 ghost use Rattle.script_stepper.specs.Runs.{Delivers, is_output};
 ghost use Rattle.script_orders.specs.Orders.{IsAnswerText, TellsOrders};
 
-use crate::answers::{Reply, all_outcomes, given_up, turns_to};
-use crate::search::Search;
+use crate::answers::{Reply, every_outcome, turns_to};
 use script_stepper::{Sink, write_text};
-use script_text::{Fault, parse};
+use script_text::Fault;
 use std::alloc::Global;
 
 /// Most states that a search sees unless it is told otherwise.
@@ -41,14 +40,9 @@ fn reply_to(alloc: Global, query: Query<'_>) -> Result<Reply, Fault>
         IsAnswerText (option_copied query.entry.line) reply.answer query.entry.script.now reply.text.items) }
     ensures refused { IfErr result (λ fault. Refuses fault query.entry.script.now) }
 {
-    let script = parse(alloc, query.script)?;
-    let mut search = match Search::new(alloc, &script, query.most) {
-        Ok(search) => search,
-        Err(why) => return given_up(alloc, why),
-    };
     match query.line {
-        Some(line) => turns_to(alloc, query.script, line, query.most, &mut search),
-        None => all_outcomes(alloc, query.script, query.most, &mut search),
+        Some(line) => turns_to(alloc, query.script, line, query.most),
+        None => every_outcome(alloc, query.script, query.most),
     }
 }
 

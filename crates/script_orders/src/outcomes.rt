@@ -48,7 +48,7 @@ pub(crate) fn outcome_text(
 
 /// Outcomes, by their texts, each with a list of turns that gives it, in the order in which they were found.
 #[derive(Drop)]
-pub(crate) struct Outcomes {
+pub struct Outcomes {
     pub found: IndexMap<Vec<u8>, Vec<u8>>,
 }
 

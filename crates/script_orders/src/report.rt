@@ -2,7 +2,8 @@
 
 ghost use Rattle.std.specs.Prelude.{◌≡◌, ◌++◌, IfOk, OnOk, codes, decimal, string_bytes};
 ghost use Rattle.script_orders.specs.Found.{outcomes_in};
-ghost use Rattle.script_orders.specs.Orders.{TellsAll, counts_line, head_line, list_after, told_from};
+ghost use Rattle.script_orders.specs.Orders.{Closes, TellsAll, counts_line, head_line, list_after, told_from};
+ghost use Rattle.script_orders.specs.Orders.{told_one};
 
 use crate::differences::differ_line;
 use crate::outcomes::Outcomes;
@@ -65,6 +66,39 @@ fn counts(alloc: Global, outcomes: usize, states: usize) -> Result<String, Alloc
     Ok(text)
 }
 
+/// The lines of an outcome as [`crate::orders_text`] writes them: its number from 1, the turns that give it, and what
+/// it tells (own). Refused where a growth was.
+pub fn outcome_lines(
+    alloc: Global,
+    number: usize,
+    outcome: &[u8],
+    list: &[u8],
+) -> Result<Vec<u8>, AllocError>
+    ensures { IfOk result (λ text. text.items ≡ told_one number (outcome.now, list.now)) }
+{
+    let mut text = Vec::new(alloc);
+    put_head(alloc, &mut text, number, list)?;
+    text.extend_from_slice(outcome)?;
+    Ok(text)
+}
+
+/// The last lines of [`crate::orders_text`]: how many outcomes there are, how many states were seen, and where the
+/// outcomes differ, if they do (own). Refused where a growth was.
+pub fn closing_text(
+    alloc: Global,
+    outcomes: &Outcomes,
+    states: usize,
+) -> Result<Vec<u8>, AllocError>
+    ensures { IfOk result (λ text. Closes (outcomes_in outcomes.now.found.entries) states text.items) }
+{
+    let mut text = Vec::new(alloc);
+    let counts = counts(alloc, outcomes.found.len(), states)?;
+    text.extend_from_slice(counts.as_bytes())?;
+    let differ = differ_line(alloc, &outcomes.found)?;
+    text.extend_from_slice(differ.as_bytes())?;
+    Ok(text)
+}
+
 /// The text of all outcomes, and of how many states were seen.
 pub(crate) fn all_text(
     alloc: Global,
@@ -75,9 +109,7 @@ pub(crate) fn all_text(
 {
     let mut text = Vec::new(alloc);
     put_outcomes(alloc, &mut text, outcomes)?;
-    let counts = counts(alloc, outcomes.found.len(), states)?;
-    text.extend_from_slice(counts.as_bytes())?;
-    let differ = differ_line(alloc, &outcomes.found)?;
-    text.extend_from_slice(differ.as_bytes())?;
+    let closing = closing_text(alloc, outcomes, states)?;
+    text.extend_from_slice(closing.as_slice())?;
     Ok(text)
 }

@@ -6,3 +6,4 @@ pub mod Ending
 pub mod Stepping
 pub mod Pictures
 pub mod Pointing
+pub mod RunLines

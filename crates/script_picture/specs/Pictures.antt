@@ -3,7 +3,7 @@ use Rattle.std.specs.Prelude.{◌≡◌, ◌⊎◌, ℕ, ◌+◌, ◌<◌, ◌�
 use Rattle.std.specs.Prelude.{None, Result, Ok, Err}
 use Rattle.run_picture.specs.declared.picture.Picture.{Picture}
 use Rattle.run_picture.specs.declared.picture.Row.{Row}
-use Rattle.run_picture.specs.Pages.{page_text}
+use Rattle.run_picture.specs.Pages.{page_text, run_lines}
 use Rattle.run_picture.specs.Shown.{ShowsPicture}
 use Rattle.step_core.specs.declared.trace.TraceStep.{TraceStep}
 use Rattle.step_core.specs.Worlds.{WorldState}
@@ -76,6 +76,19 @@ abbrev pub Draws : Bool → Bool → Part → List Seen → List ℕ → Type 0
 Draws is_page true part seen text = (HasMoreActs part seen ⊎ IsBehind part seen) × (text ≡ [])
 Draws is_page false part seen text = (HasMoreActs part seen → ⊥) × (IsBehind part seen → ⊥)
     × IsPicture is_page (shown_part part) seen text
+
+-- as many acts of a run, from the first on, as one picture shows
+abbrev pub first_acts : Part
+first_acts = record { first = 1; last = 2000 }
+
+-- a script's run with these turns says this, and the text is the lines of a picture whose rows are the
+-- acts of a part
+pub record IsLinesText (part : Part) (script : ScriptView) (turns text : List ℕ) : Type 0 where
+  pub seen : List Seen
+  pub says : SaysBy false script turns seen
+  pub picture : Picture
+  pub are : AreRows (acts_in part 1 seen) picture.rows.items
+  pub lines : text ≡ run_lines picture
 
 -- whether nothing was drawn, where that was answered
 abbrev pub AnswersNone : Result Bool Fault → Bool → Type 0

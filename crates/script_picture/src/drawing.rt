@@ -42,7 +42,7 @@ struct Drawn {
 
 /// The picture of a run that was recorded; what is left at its end where the last act is one of the
 /// part.
-fn picture_of(alloc: Global, recorded: Recorded) -> Result<Picture, AllocError>
+pub(crate) fn picture_of(alloc: Global, recorded: Recorded) -> Result<Picture, AllocError>
     ensures { IfOk result (λ picture. picture.rows.items ≡ recorded.rows.list.items) }
 {
     let Recorded { rows, threads, end } = recorded;

@@ -3,6 +3,7 @@
 
 mod drawing;
 mod left;
+mod lines;
 mod part;
 mod pointers;
 mod recorded;
@@ -12,4 +13,5 @@ mod source;
 mod trace_label;
 
 pub use drawing::{Order, draw_text};
+pub use lines::lines_text;
 pub use part::{MOST_ACTS, Part};

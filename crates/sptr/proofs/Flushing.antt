@@ -13,6 +13,7 @@ use Rattle.leak_report.specs.Left.{IsLeftText}
 use Rattle.leak_report.proofs.ReportLemmas.{forgotten as left_forgotten}
 use Rattle.script_orders.specs.declared.orders.Answer.{Answer}
 use Rattle.script_orders.specs.declared.orders.Answer.TheVariants as orders
+use Rattle.orders_page.specs.OutcomePages.{TellsPage}
 use Rattle.script_orders.specs.Orders.{TellsOrders}
 use Rattle.script_picture.proofs.Pictures.{forgotten as picture_forgotten}
 use Rattle.script_picture.specs.Pictures.{IsPictureText}
@@ -81,6 +82,12 @@ module _ (line : Option (List ℕ)) (bytes : List ℕ) (answer : Answer) (a b c 
       subst (λ (f : Fault).
       Delivers {A = Outcome} (TellsOrders line (orders_answer (Err f)) bytes) (Err f) a c) (sym e)
       (h.0, (answer, h.1), all_of a c h.0 (kept_after a b c h.0 h.2 k))
+
+pub page_unflushed : (bytes : List ℕ) (none : Bool) (fault : Fault) (a b c : Option (List ℕ))
+    → (text : List ℕ) × TellsPage (Ok none) bytes (Ok text) × Appends a b text
+    → Keeps b c → fault ≡ Output → Delivers {A = Bool} (TellsPage (Err fault) bytes) (Err fault) a c
+page_unflushed bytes none fault a b c =
+    unflushed (λ answer. TellsPage answer bytes) none fault a b c (λ text h. (none, h))
 
 pub picture_unflushed : (is_fine is_page : Bool) (part : Part) (bytes list : List ℕ) (more : Bool)
     (fault : Fault) (a b c : Option (List ℕ))

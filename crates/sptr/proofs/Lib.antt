@@ -1,3 +1,4 @@
+pub mod Conflicts
 pub mod Flushing
 pub mod Lines
 pub mod OnLiterals

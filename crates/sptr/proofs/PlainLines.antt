@@ -7,12 +7,13 @@ use Rattle.clap.specs.Lexer.{long_of, short_of}
 use Rattle.clap.specs.declared.error.kind.ErrorKind.TheVariants as kind
 use Rattle.sptr.proofs.OnLiterals.{sptr_on_literals}
 use Rattle.sptr.specs.CommandLine.{AsksFor, AsksPlainly, IsLine, dot_words, draws_given}
-use Rattle.sptr.specs.CommandLine.{IsOrdersLine, finds_given, most_given, names_list, names_text}
+use Rattle.sptr.specs.CommandLine.{IsOrdersLine, faults_of, finds_given, most_given, names_list}
+use Rattle.sptr.specs.CommandLine.{names_text, page_given}
 use Rattle.sptr.specs.CommandLine.{program, turns_given}
 use Rattle.sptr.specs.Parts.{most_states}
 use Rattle.sptr.specs.declared.command.Asked.{Asked}
 use Rattle.sptr.specs.declared.command.Asked.TheVariants.{Check, Convert, Draw, Fine, Left, Orders}
-use Rattle.sptr.specs.declared.command.Asked.TheVariants.{Owners, Run, Step}
+use Rattle.sptr.specs.declared.command.Asked.TheVariants.{OrdersPage, Owners, Run, Step}
 use Rattle.sptr.proofs.PlainDraws.{draw_asked}
 use Rattle.sptr.proofs.PlainTurns.{IsFor, with_turns}
 
@@ -139,19 +140,20 @@ owners_asked true name words is = subst (IsForOwners true) (sym is) (owners_draw
 -- the line has no fault, and asks for orders, or for a line of them
 record IsForOrders (finds : Bool) (line : Text) (words : List Text) : Type 0 where
   plain : IsFor (codes "orders") line words
+  page_is : page_given words ≡ false
   finds_is : finds_given words ≡ finds
   most_is : most_given words ≡ Some most_states
 
 orders_alone : (name : Text) → IsForOrders false [] (name ∷ codes "orders" ∷ [])
 unfolding sptr_on_literals
 orders_alone name =
-    record { plain = (refl, refl, refl, (refl, refl)); finds_is = refl; most_is = refl }
+    record { plain = (refl, refl, refl, (refl, refl)); page_is = refl; finds_is = refl; most_is = refl }
 
 orders_joined : (name line : Text)
     → IsForOrders true line (name ∷ codes "orders" ∷ (codes "--find=" ++ line) ∷ [])
 unfolding sptr_on_literals
 orders_joined name line =
-    record { plain = (refl, refl, refl, (refl, refl)); finds_is = refl; most_is = refl }
+    record { plain = (refl, refl, refl, (refl, refl)); page_is = refl; finds_is = refl; most_is = refl }
 
 orders_asked : (finds : Bool) (name line : Text) (words : List Text)
     → IsOrdersLine finds name line words → IsForOrders finds line words
@@ -160,6 +162,17 @@ orders_asked false name line words h =
     (subst (IsForOrders false []) (sym h.0) (orders_alone name))
 orders_asked true name line words is =
     subst (IsForOrders true line) (sym is) (orders_joined name line)
+
+-- the line has no fault, and asks for a page of orders
+record IsForOrdersPage (words : List Text) : Type 0 where
+  plain : IsFor (codes "orders") [] words
+  page_is : page_given words ≡ true
+  most_is : most_given words ≡ Some most_states
+
+orders_page_alone : (name : Text) → IsForOrdersPage (name ∷ codes "orders" ∷ codes "--page" ∷ [])
+unfolding sptr_on_literals
+orders_page_alone name =
+    record { plain = (refl, refl, refl, (refl, refl)); page_is = refl; most_is = refl }
 
 pub help_asked : (name : Text) → fault_of program (name ∷ codes "--help" ∷ [])
     ≡ kind.DisplayHelp ∷ []
@@ -186,7 +199,7 @@ left_with_turns true =
 
 -- the words have no fault, ask for this with this list of turns, and name no file
 pub record IsPlain (words : List Text) (asked : Asked) (list : List ℕ) : Type 0 where
-  pub faultless : fault_of program words ≡ []
+  pub faultless : faults_of words ≡ []
   pub asks : AsksFor words asked
   pub turns : turns_given words ≡ list
   pub no_text : names_text words ≡ false
@@ -244,4 +257,9 @@ plainly_asks words (Owners draws) list h =
 plainly_asks words (Orders finds most) list h =
     let found = orders_asked finds h.0 list words h.1 in
     plain_for words (codes "orders") (Orders finds most) list found.plain
-    (found.plain.1, sym found.finds_is, h.2 ∙ sym found.most_is)
+    (found.plain.1, found.page_is, sym found.finds_is, h.2 ∙ sym found.most_is)
+plainly_asks words (OrdersPage most) list h =
+    let found = subst IsForOrdersPage (sym h.1) (orders_page_alone h.0) in
+    plain_for words (codes "orders") (OrdersPage most) list
+    (subst (λ l. IsFor (codes "orders") l words) (sym h.2) found.plain)
+    (found.plain.1, found.page_is, h.3 ∙ sym found.most_is)

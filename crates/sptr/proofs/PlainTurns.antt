@@ -3,14 +3,14 @@ use Rattle.std.proofs.Common.{◌≡◌, ◌≢◌, ◌==◌, Bool, true, false,
 use Rattle.std.proofs.Common.{Some, None, codes, inl, inr, subst, eqb-true}
 use Rattle.std.specs.Prelude.{slice_get}
 use Rattle.std.specs.Str.{bytes_eq}
-use Rattle.clap.specs.Words.{Text, fault_of}
+use Rattle.clap.specs.Words.{Text}
 use Rattle.clap.specs.Lexer.{long_of, short_of}
-use Rattle.sptr.specs.CommandLine.{IsJoinedLine, IsLine, command_named, names_list, names_text}
-use Rattle.sptr.specs.CommandLine.{program, turns_given}
+use Rattle.sptr.specs.CommandLine.{IsJoinedLine, IsLine, command_named, faults_of, names_list}
+use Rattle.sptr.specs.CommandLine.{names_text, turns_given}
 
 abbrev pub IsFor : Text → Text → List Text → Type 0
 IsFor command list words =
-    (fault_of program words ≡ []) × (command_named words ≡ Some command)
+    (faults_of words ≡ []) × (command_named words ≡ Some command)
     × (turns_given words ≡ list)
     × ((names_text words ≡ false) × (names_list words ≡ false))
 

@@ -10,7 +10,7 @@ use Rattle.script_text.specs.declared.fault.Fault.{Fault}
 use Rattle.script_text.specs.declared.fault.Fault.TheVariants.{Memory}
 use Rattle.script_stepper.specs.Runs.{Delivers}
 use Rattle.sptr.specs.CommandLine.{AsksFor, AsksHelp, AsksPlainly, AsksVersion, NamesNoCommand}
-use Rattle.sptr.specs.CommandLine.{command_named, draws_given, fine_given, names_list, names_text}
+use Rattle.sptr.specs.CommandLine.{command_named, draws_given, faults_of, fine_given, names_list, names_text}
 use Rattle.sptr.specs.CommandLine.{finds_given, most_given, page_given, part_given, program, turns_given}
 use Rattle.sptr.specs.Serving.{AnswersCommand, IsAnswered, IsMistaken, IsReason, IsShownText}
 use Rattle.sptr.specs.Serving.{IsReported, IsSilent, IsTurnedAway, Report, Serves}
@@ -19,8 +19,9 @@ use Rattle.sptr.specs.Sources.{OfBytes, known_unless}
 use Rattle.sptr.specs.declared.answers.Outcome.{Outcome}
 use Rattle.sptr.specs.declared.command.Asked.{Asked}
 use Rattle.sptr.specs.declared.command.Asked.TheVariants.{Check, Convert, Draw, Fine, Left, Orders}
-use Rattle.sptr.specs.declared.command.Asked.TheVariants.{Owners, Run, Step}
+use Rattle.sptr.specs.declared.command.Asked.TheVariants.{OrdersPage, Owners, Run, Step}
 use Rattle.std.proofs.lemmas.Option.{same_Some}
+use Rattle.sptr.proofs.Conflicts.{first_stays}
 use Rattle.sptr.proofs.PlainLines.{help_asked, no_command, plainly_asks, version_asked}
 
 none_one : (one : ErrorKind) → one ∷ [] ≡ [] → ⊥
@@ -39,6 +40,11 @@ pick : Bool → Asked → Asked → Asked
 pick true a b = a
 pick false a b = b
 
+-- what `orders` asks for, where a page is asked for or not
+orders_as : Bool → List Text → Asked
+orders_as true words = OrdersPage (most_given words)
+orders_as false words = Orders (finds_given words) (most_given words)
+
 -- what the command with a name asks for
 asked_as : Text → List Text → Asked
 asked_as name words =
@@ -50,7 +56,7 @@ asked_as name words =
     (pick (bytes_eq name (codes "left")) (Left (draws_given words))
     (pick (bytes_eq name (codes "draw")) (Draw (fine_given words) (page_given words) (part_given words))
     (pick (bytes_eq name (codes "owners")) (Owners (draws_given words))
-    (Orders (finds_given words) (most_given words)))))))))
+    (orders_as (page_given words) words))))))))
 
 -- what words ask for goes by the name of their command
 name_of : Asked → Text
@@ -63,6 +69,7 @@ name_of (Left draws) = codes "left"
 name_of (Draw is_fine is_page part) = codes "draw"
 name_of (Owners draws) = codes "owners"
 name_of (Orders finds most) = codes "orders"
+name_of (OrdersPage most) = codes "orders"
 
 named : (words : List Text) (a : Asked) → AsksFor words a → command_named words ≡ Some (name_of a)
 unfolding name_of
@@ -75,9 +82,10 @@ named words (Left draws) x = x.0
 named words (Draw is_fine is_page part) x = x.0
 named words (Owners draws) x = x.0
 named words (Orders finds most) x = x.0
+named words (OrdersPage most) x = x.0
 
 by_name : (words : List Text) (a : Asked) → AsksFor words a → a ≡ asked_as (name_of a) words
-unfolding asked_as pick name_of
+unfolding asked_as pick name_of orders_as
 by_name words Check x = refl
 by_name words Convert x = refl
 by_name words Step x = refl
@@ -88,7 +96,10 @@ by_name words (Draw is_fine is_page part) x =
     ap (λ (f : Bool). Draw f is_page part) x.1
     ∙ ap₂ (λ (g : Bool) (p : Option Part). Draw (fine_given words) g p) x.2 x.3
 by_name words (Owners draws) x = ap Owners x.1
-by_name words (Orders finds most) x = ap₂ Orders x.1 x.2
+by_name words (Orders finds most) x =
+    ap₂ Orders x.2 x.3 ∙ ap (λ (is_page : Bool). orders_as is_page words) (sym x.1)
+by_name words (OrdersPage most) x =
+    ap OrdersPage x.2 ∙ ap (λ (is_page : Bool). orders_as is_page words) (sym x.1)
 
 -- words ask for one thing
 same_asked : (words : List Text) (a b : Asked) → AsksFor words a → AsksFor words b → a ≡ b
@@ -135,7 +146,7 @@ module _ (words : List Text) (input : Option (List ℕ)) (status : ℕ) (old new
       → IsAnswered b (Some list) input status old new has_failed faults
   turned_plainly reason b list r y h =
       let m =
-      h.memory (no_kind reason (fault_of program words) (plainly_asks words b list y).faultless r) in
+      h.memory (no_kind reason (faults_of words) (plainly_asks words b list y).faultless r) in
       record {
         answer = Err Memory;
         delivers = nothing input (AnswersCommand b list (Err Memory)) m.1.0;
@@ -171,7 +182,7 @@ unread input status old new has_failed faults one silent reports = (
 )
 
 module _ (words : List Text) where
-  only_kind : (reason one : ErrorKind) → fault_of program words ≡ one ∷ [] → IsReason words reason
+  only_kind : (reason one : ErrorKind) → faults_of words ≡ one ∷ [] → IsReason words reason
       → (reason ≡ kind.OutOfMemory) ⊎ (reason ≡ one)
   only_kind reason one e (inl is) = inl is
   only_kind reason one e (inr among) = elim (subst (IsAmong reason) e among) [
@@ -179,22 +190,25 @@ module _ (words : List Text) where
     | inr none ↦ absurd none
   ]
 
-  help_fault : AsksHelp words → fault_of program words ≡ kind.DisplayHelp ∷ []
-  help_fault h = ap (fault_of program) h.1 ∙ help_asked h.0
+  first_fault : (one : ErrorKind) → fault_of program words ≡ one ∷ [] → faults_of words ≡ one ∷ []
+  first_fault one is = first_stays (fault_of program words) _ one is
 
-  version_fault : AsksVersion words → fault_of program words ≡ kind.DisplayVersion ∷ []
-  version_fault h = ap (fault_of program) h.1 ∙ version_asked h.0
+  help_fault : AsksHelp words → faults_of words ≡ kind.DisplayHelp ∷ []
+  help_fault h = first_fault kind.DisplayHelp (ap (fault_of program) h.1 ∙ help_asked h.0)
 
-  command_fault : NamesNoCommand words → fault_of program words ≡ kind.MissingSubcommand ∷ []
-  command_fault h = ap (fault_of program) h.1 ∙ no_command h.0
+  version_fault : AsksVersion words → faults_of words ≡ kind.DisplayVersion ∷ []
+  version_fault h = first_fault kind.DisplayVersion (ap (fault_of program) h.1 ∙ version_asked h.0)
 
-  pub not_helped : {A : Type 0} → AsksHelp words → fault_of program words ≡ [] → A
+  command_fault : NamesNoCommand words → faults_of words ≡ kind.MissingSubcommand ∷ []
+  command_fault h = first_fault kind.MissingSubcommand (ap (fault_of program) h.1 ∙ no_command h.0)
+
+  pub not_helped : {A : Type 0} → AsksHelp words → faults_of words ≡ [] → A
   not_helped h e = absurd (none_one kind.DisplayHelp (sym (help_fault h) ∙ e))
 
-  pub not_told : {A : Type 0} → AsksVersion words → fault_of program words ≡ [] → A
+  pub not_told : {A : Type 0} → AsksVersion words → faults_of words ≡ [] → A
   not_told h e = absurd (none_one kind.DisplayVersion (sym (version_fault h) ∙ e))
 
-  pub not_mistaken : {A : Type 0} → NamesNoCommand words → fault_of program words ≡ [] → A
+  pub not_mistaken : {A : Type 0} → NamesNoCommand words → faults_of words ≡ [] → A
   not_mistaken h e = absurd (none_one kind.MissingSubcommand (sym (command_fault h) ∙ e))
 
 module _ (words : List Text) (status : ℕ) (old new : Option (List ℕ)) (has_failed : Bool)

@@ -1,5 +1,5 @@
 -- The program's command line is one of which `clap` tells the matches.
-use Rattle.std.proofs.Common.{◌≡◌, ◌≢◌, ◌∙◌, ℕ, true, refl, sym, ap, ap₂, List, [], ◌∷◌, Option}
+use Rattle.std.proofs.Common.{◌≡◌, ◌≢◌, ◌∙◌, ◌&&◌, ℕ, true, false, refl, sym, ap, ap₂, List, [], ◌∷◌, Option}
 use Rattle.std.proofs.Common.{Some, None, codes, inl, inr, option_map}
 use Rattle.std.specs.Prelude.{Bool, Box, is_some, nat_lt, option_and_then}
 use Rattle.std.specs.Borrow.{Bor}
@@ -17,13 +17,13 @@ use Rattle.sptr.proofs.OnLiterals.{lines, sptr_on_literals}
 use Rattle.sptr.proofs.Walks.{enters_own}
 use Rattle.script_picture.specs.declared.part.Part.{Part}
 use Rattle.sptr.specs.CommandLine.{AsksFor, IsAskedBy, command_named, count_in, draw_line}
-use Rattle.sptr.specs.CommandLine.{finds_given, left_line, list_or_line, most_given, orders_line}
-use Rattle.sptr.specs.CommandLine.{owners_line, part_given, program, script_line}
+use Rattle.sptr.specs.CommandLine.{finds_given, finds_on_page, left_line, list_or_line, most_given, orders_line}
+use Rattle.sptr.specs.CommandLine.{owners_line, page_given, part_given, program, script_line}
 use Rattle.sptr.specs.CommandLine.{turns_in, turns_line, word_in}
 use Rattle.sptr.specs.Parts.{most_named, part_named}
 use Rattle.sptr.specs.declared.command.Asked.{Asked}
 use Rattle.sptr.specs.declared.command.Asked.TheVariants.{Check, Convert, Draw, Fine, Left, Orders}
-use Rattle.sptr.specs.declared.command.Asked.TheVariants.{Owners, Run, Step}
+use Rattle.sptr.specs.declared.command.Asked.TheVariants.{OrdersPage, Owners, Run, Step}
 
 pub program_is_simple : is_simple program ≡ true
 unfolding sptr_on_literals
@@ -121,6 +121,9 @@ module _ (words : List Text) (m : ArgMatches) (name : Text) (rows : List Row)
   flag_found id has given =
       given ∙ sym (ap (λ (o : Option (Text × List Row)). nat_lt 0 (count_in id o)) found)
 
+  page_found : (has : Bool) → nat_lt 0 (count_of (codes "page") rows) ≡ has → page_given words ≡ has
+  page_found has given = sym (flag_found (codes "page") has (sym given))
+
   part_found : (part : Option Part)
       → part ≡ part_named (first_of (codes "from") rows) (first_of (codes "to") rows)
       → part ≡ part_given words
@@ -151,7 +154,8 @@ module _ (words : List Text) (m : ArgMatches) (name : Text) (rows : List Row)
       (named_as _ h.0, flag_found (codes "fine") is_fine h.1, flag_found (codes "page") is_page h.2, part_found part h.3)
   asks_by_name (Owners draws) h = (named_as _ h.0, flag_found (codes "dot") draws h.1)
   asks_by_name (Orders finds most) h =
-      (named_as _ h.0, finds_found finds h.1, most_found most h.2)
+      (named_as _ h.0, page_found false h.1, finds_found finds h.2, most_found most h.3)
+  asks_by_name (OrdersPage most) h = (named_as _ h.0, page_found true h.1, most_found most h.2)
 
 -- where none was met the words would name none
 pub asks_without : (words : List Text) (m : ArgMatches)
@@ -184,6 +188,17 @@ module _ (m : ArgMatches) (rows : List Row)
           some_none x = cc
       go (Some p) e = ap (first_of id) (same_Some _ _ e)
 
+  pub count_given_in : (id : Text) → count_of id rows ≡ count_in id (subcommand_rows_of m)
+  count_given_in id = go (subcommand_rows_of m) r
+    where
+      go : (o : Option (Text × List Row)) → Some rows ≡ option_map (λ p. p.1) o
+          → count_of id rows ≡ count_in id o
+      go None e = absurd (some_none e)
+        where
+          some_none : Some rows ≡ None → ⊥
+          some_none x = cc
+      go (Some p) e = ap (count_of id) (same_Some _ _ e)
+
   pub is_given_in : (id : Text) (has : Bool) → has ≡ is_some (first_of id rows)
       → has ≡ is_some (word_in id (subcommand_rows_of m))
   is_given_in id has e = e ∙ ap is_some (given_in id)
@@ -207,6 +222,16 @@ none_given m n id =
       where
         none_some : {X : Type 0} {x : X} → None ≡ Some x → ⊥
         none_some x = cc
+
+-- nor a line and a page
+pub no_clash : (m : ArgMatches) → None ≡ subcommand_name_of m → false ≡ finds_on_page (subcommand_rows_of m)
+no_clash m n =
+    let pages : Bool = nat_lt 0 (count_in (codes "page") (subcommand_rows_of m)) in
+    never pages ∙ ap (λ (o : Option Text). pages && is_some o) (sym (none_given m n (codes "find")))
+  where
+    never : (b : Bool) → false ≡ (b && false)
+    never true = refl
+    never false = refl
 
 pub is_some_text : (o : Option (Bor Text)) → is_some o ≡ is_some (option_map (λ s. s.now) o)
 is_some_text None = refl

@@ -1,9 +1,11 @@
 -- The command line that the program takes, and what its words ask for, by what `clap` makes of such
 -- a line. All of it is own.
-use Rattle.std.specs.Prelude.{◌≡◌, ◌≢◌, ◌⊎◌, ℕ, Bool, true, false, cond, nat_lt, List, []}
+use Rattle.std.specs.Prelude.{◌≡◌, ◌≢◌, ◌⊎◌, ◌&&◌, if◌then◌else◌, ℕ, Bool, true, false, cond, nat_lt, List, []}
 use Rattle.std.specs.Prelude.{◌∷◌, ◌++◌, slice_get, Option, Some, None, option_map, option_and_then}
 use Rattle.std.specs.Prelude.{unwrap_or, is_some, codes, decimal, IfOk, Result}
-use Rattle.clap.specs.Words.{App, Row, Rule, Shape, Text, app_of, count_of, first_of, new_rule}
+use Rattle.clap.specs.Kinds.{Kinds, or_else}
+use Rattle.clap.specs.Words.{App, Row, Rule, Shape, Text, app_of, count_of, fault_of, first_of, new_rule}
+use Rattle.clap.specs.declared.error.kind.ErrorKind.TheVariants.{ArgumentConflict}
 use Rattle.clap.specs.Words.{shape_of, subcommand_of, with_subcommand}
 use Rattle.clap.specs.declared.builder.command.Command.{Command}
 use Rattle.clap.specs.declared.builder.command.Command.TheViews.{out-Command}
@@ -14,7 +16,7 @@ use Rattle.script_picture.specs.declared.part.Part.{Part}
 use Rattle.sptr.specs.Parts.{IsPart, all_acts, most_named, most_states, part_named}
 use Rattle.sptr.specs.declared.command.Asked.{Asked}
 use Rattle.sptr.specs.declared.command.Asked.TheVariants.{Check, Convert, Draw, Fine, Left, Orders}
-use Rattle.sptr.specs.declared.command.Asked.TheVariants.{Owners, Run, Step}
+use Rattle.sptr.specs.declared.command.Asked.TheVariants.{OrdersPage, Owners, Run, Step}
 
 -- `FILE`, the script
 unfoldable pub file_word : Rule
@@ -59,10 +61,12 @@ owners_line = record (new_shape (codes "owners")) {
   rules = file_word ∷ flag_rule (codes "dot") ∷ [];
 }
 
--- `orders`, which takes a script, the line that is to be found, and how many states are seen
+-- `orders`, which takes a script, the line that is to be found, how many states are seen, and how to
+-- tell it
 unfoldable pub orders_line : Shape
 orders_line = record (new_shape (codes "orders")) {
-  rules = file_word ∷ option_rule (codes "find") ∷ option_rule (codes "most") ∷ [];
+  rules = file_word ∷ option_rule (codes "find") ∷ option_rule (codes "most")
+      ∷ flag_rule (codes "page") ∷ [];
 }
 
 -- the program's name
@@ -144,6 +148,15 @@ part_given words = part_named (word_given (codes "from") words) (word_given (cod
 abbrev pub finds_given : List Text → Bool
 finds_given words = is_some (word_given (codes "find") words)
 
+-- whether a command was given a line that is to be found, and is to write a page
+abbrev pub finds_on_page : Option (Text × List Row) → Bool
+finds_on_page found = nat_lt 0 (count_in (codes "page") found) && is_some (word_in (codes "find") found)
+
+-- the faults of words: those that `clap` finds, or else that they ask for a line and for a page
+abbrev pub faults_of : List Text → Kinds
+faults_of words = or_else (fault_of program words)
+    (if finds_on_page (subcommand_of program words) then ArgumentConflict ∷ [] else [])
+
 -- how many states are seen at most
 abbrev pub most_given : List Text → Option ℕ
 most_given words = most_named (word_given (codes "most") words)
@@ -167,7 +180,10 @@ AsksFor words (Draw is_fine is_page part) =
 AsksFor words (Owners draws) =
     (command_named words ≡ Some (codes "owners")) × (draws ≡ draws_given words)
 AsksFor words (Orders finds most) =
-    (command_named words ≡ Some (codes "orders")) × (finds ≡ finds_given words)
+    (command_named words ≡ Some (codes "orders")) × (page_given words ≡ false)
+    × (finds ≡ finds_given words) × (most ≡ most_given words)
+AsksFor words (OrdersPage most) =
+    (command_named words ≡ Some (codes "orders")) × (page_given words ≡ true)
     × (most ≡ most_given words)
 
 -- the words are the program's name, this command and these options, and then no list, or
@@ -232,7 +248,11 @@ IsAskedBy name rows (Draw is_fine is_page part) =
 IsAskedBy name rows (Owners draws) =
     (name ≡ codes "owners") × (draws ≡ nat_lt 0 (count_of (codes "dot") rows))
 IsAskedBy name rows (Orders finds most) =
-    (name ≡ codes "orders") × (finds ≡ is_some (first_of (codes "find") rows))
+    (name ≡ codes "orders") × (nat_lt 0 (count_of (codes "page") rows) ≡ false)
+    × (finds ≡ is_some (first_of (codes "find") rows))
+    × (most ≡ most_named (first_of (codes "most") rows))
+IsAskedBy name rows (OrdersPage most) =
+    (name ≡ codes "orders") × (nat_lt 0 (count_of (codes "page") rows) ≡ true)
     × (most ≡ most_named (first_of (codes "most") rows))
 
 -- the words ask for this, with this list of turns, in the manner of the program's page
@@ -250,6 +270,9 @@ AsksPlainly words (Owners draws) list =
     (name : Text) × (words ≡ name ∷ codes "owners" ∷ dot_words draws) × (list ≡ [])
 AsksPlainly words (Orders finds most) list =
     (name : Text) × IsOrdersLine finds name list words × (most ≡ Some most_states)
+AsksPlainly words (OrdersPage most) list =
+    (name : Text) × (words ≡ name ∷ codes "orders" ∷ codes "--page" ∷ []) × (list ≡ [])
+    × (most ≡ Some most_states)
 
 -- the words are the program's name and `--help`
 abbrev pub AsksHelp : List Text → Type 0

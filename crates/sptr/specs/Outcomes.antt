@@ -12,7 +12,7 @@ use Rattle.sptr.specs.declared.answers.Outcome.{Outcome}
 use Rattle.sptr.specs.declared.answers.Outcome.TheVariants.{Done, Found, Leaks, NoGraph, NoOrders}
 use Rattle.sptr.specs.declared.answers.Outcome.TheVariants.{NoPicture}
 use Rattle.sptr.specs.declared.command.Asked.{Asked}
-use Rattle.sptr.specs.declared.command.Asked.TheVariants.{Draw, Left, Orders, Owners}
+use Rattle.sptr.specs.declared.command.Asked.TheVariants.{Draw, Left, Orders, OrdersPage, Owners}
 
 -- what comes of a command that finds nothing
 abbrev pub none_found : Result Unit Fault → Result Outcome Fault
@@ -73,6 +73,7 @@ MayCome (NoGraph line cause) _ = ⊥
 MayCome Found (Orders finds most) = Unit {0}
 MayCome Found _ = ⊥
 MayCome NoOrders (Orders finds most) = Unit {0}
+MayCome NoOrders (OrdersPage most) = Unit {0}
 MayCome NoOrders _ = ⊥
 
 abbrev pub FindsAsAsked : Asked → Result Outcome Fault → Type 0

@@ -2,7 +2,7 @@
 use Rattle.std.specs.Prelude.{◌≡◌, ◌≢◌, ◌⊎◌, ℕ, Bool, true, false, List, [], length, Option, Some}
 use Rattle.std.specs.Prelude.{None, Result, Ok, Err}
 use Rattle.leak_report.specs.Left.{IsLeftText}
-use Rattle.clap.specs.Words.{IsAmong, Text, fault_of}
+use Rattle.clap.specs.Words.{IsAmong, Text}
 use Rattle.clap.specs.declared.error.kind.ErrorKind.{ErrorKind}
 use Rattle.clap.specs.declared.error.kind.ErrorKind.TheVariants as kind
 use Rattle.std.specs.Io.KnownBytes.{Appends}
@@ -21,9 +21,10 @@ use Rattle.script_text.specs.Drafts.{ScriptView}
 use Rattle.script_text.specs.Grammar.{ReadsAs, Refuses}
 use Rattle.script_text.specs.Scripts.{converted, statement_count}
 use Rattle.script_text.specs.Canonical.{canonical}
-use Rattle.sptr.specs.CommandLine.{AsksFor, names_list, names_text, program, turns_given}
+use Rattle.sptr.specs.CommandLine.{AsksFor, faults_of, names_list, names_text, turns_given}
 use Rattle.script_picture.specs.Pictures.{IsPictureText}
 use Rattle.script_picture.specs.declared.part.Part.{Part}
+use Rattle.orders_page.specs.OutcomePages.{TellsPage}
 use Rattle.script_orders.specs.Orders.{TellsOrders}
 use Rattle.sptr.specs.Lines.{limit_line, ok_line, picture_line}
 use Rattle.sptr.specs.Outcomes.{FindsAsAsked, exit_status, is_found, line_found, orders_answer}
@@ -33,7 +34,7 @@ use Rattle.sptr.specs.declared.answers.Outcome.TheVariants.{Done, Found, Leaks, 
 use Rattle.sptr.specs.declared.answers.Outcome.TheVariants.{NoPicture}
 use Rattle.sptr.specs.declared.command.Asked.{Asked}
 use Rattle.sptr.specs.declared.command.Asked.TheVariants.{Check, Convert, Draw, Fine, Left, Orders}
-use Rattle.sptr.specs.declared.command.Asked.TheVariants.{Owners, Run, Step}
+use Rattle.sptr.specs.declared.command.Asked.TheVariants.{OrdersPage, Owners, Run, Step}
 
 -- the line that counts the script which the text reads as, or the refusal that the text has
 abbrev pub CountsScript : List ℕ → Result (List ℕ) Fault → Type 0
@@ -78,6 +79,11 @@ TellsMost finds (Some most) answer bytes line =
     TellsOrders (line_found finds line) (orders_answer answer) bytes
 TellsMost finds None answer bytes line = TellsNone (is_found answer)
 
+-- the page of a script's outcomes, or nothing where no number says how many states are seen
+abbrev pub TellsPageOf : Option ℕ → Result Bool Fault → List ℕ → Result (List ℕ) Fault → Type 0
+TellsPageOf (Some most) answer bytes = TellsPage answer bytes
+TellsPageOf None answer bytes = TellsNone answer
+
 -- what is told of the graph that the bytes spell, or nothing where a line of theirs is faulty; and
 -- what comes of it
 abbrev pub IsGraphText : Bool → List ℕ → Result Outcome Fault → List ℕ → Type 0
@@ -113,6 +119,8 @@ AnswersCommand (Draw is_fine is_page part) list answer bytes =
 AnswersCommand (Owners draws) list answer bytes = UnlessInput (TellsGraph draws bytes answer)
 AnswersCommand (Orders finds most) list answer bytes =
     UnlessInput (TellsMost finds most answer bytes list)
+AnswersCommand (OrdersPage most) list answer bytes =
+    UnlessInput (TellsPageOf most (is_found answer) bytes)
 
 -- the exit status of a command that tells of no script
 abbrev pub status_of : {A : Type 0} → Result A Fault → ℕ
@@ -208,16 +216,16 @@ pub record IsTurnedAway (reason : ErrorKind)
   pub mistake : reason ≢ kind.DisplayHelp → reason ≢ kind.DisplayVersion → reason ≢ kind.OutOfMemory
       → (status ≡ 2) × IsSilent old new has_failed
 
--- the kind is one that `clap` has for the words, or want of memory
+-- the kind is one that the words' faults have, or want of memory
 abbrev pub IsReason : List Text → ErrorKind → Type 0
-IsReason words reason = (reason ≡ kind.OutOfMemory) ⊎ IsAmong reason (fault_of program words)
+IsReason words reason = (reason ≡ kind.OutOfMemory) ⊎ IsAmong reason (faults_of words)
 
 -- the words have no fault, and what they ask for is answered, of the files that they name; or they
 -- are turned away for a reason that they give
 abbrev pub Serves : List Text → Option (List ℕ) → ℕ → Option (List ℕ) → Option (List ℕ)
     → Bool → Report → Type 0
 Serves words input status old new has_failed faults =
-    ((asked : Asked) × AsksFor words asked × (fault_of program words ≡ [])
+    ((asked : Asked) × AsksFor words asked × (faults_of words ≡ [])
     × IsAnswered asked (known_unless (names_list words) (Some (turns_given words)))
     (known_unless (names_text words) input) status old new has_failed faults)
     ⊎ ((reason : ErrorKind) × IsReason words reason

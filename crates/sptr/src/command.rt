@@ -1,14 +1,15 @@
 //! What a command line asks for, as `clap` reads it.
 
-ghost use Rattle.std.specs.Prelude.{◌≡◌, IfOk, List, [], codes, is_some, map, nat_lt};
+ghost use Rattle.std.specs.Prelude.{◌≡◌, ◌&&◌, IfOk, List, [], codes, is_some, map, nat_lt};
 ghost use Rattle.std.specs.Str.Parse.{without_leading_plus};
 ghost use Rattle.clap.specs.Words.{FailsBy, Text, count_of, fault_of, first_of, found_of, rows_of};
 ghost use Rattle.clap.specs.Words.{subcommand_of, subcommand_rows_of};
-ghost use Rattle.sptr.specs.CommandLine.{AsksFor, IsAskedBy, program, turns_given, turns_in};
+ghost use Rattle.sptr.specs.CommandLine.{AsksFor, IsAskedBy, faults_of, finds_on_page, program};
+ghost use Rattle.sptr.specs.CommandLine.{turns_given, turns_in};
 ghost use Rattle.sptr.specs.CommandLine.{list_or_line, names_list, names_text, word_in};
 ghost use Rattle.sptr.specs.Parts.{most_named, number_given, number_in, part_named};
 
-use crate::commands::command;
+use crate::commands::{command, conflict};
 use clap::{ArgMatches, Error};
 use script_orders::MOST_STATES;
 use script_picture::Part;
@@ -47,6 +48,10 @@ pub(crate) enum Asked {
     /// states at most; no such number where that is faulty.
     Orders {
         finds: bool,
+        most: Option<u32>,
+    },
+    /// A page of the outcomes of all orders of a script, with so many states at most.
+    OrdersPage {
         most: Option<u32>,
     },
 }
@@ -138,6 +143,21 @@ fn word_of<'a>(given: &ArgMatches<'a>, id: &str) -> Option<&'a str>
     given.get_str(id)
 }
 
+/// What `orders` was given to do.
+fn orders_asked(given: &ArgMatches<'_>) -> Asked
+    ensures { IsAskedBy (codes "orders") (rows_of (found_of given.now)) result }
+{
+    let most = most_of(given);
+    if has_flag(given, "page") {
+        Asked::OrdersPage { most }
+    } else {
+        Asked::Orders {
+            finds: word_of(given, "find").is_some(),
+            most,
+        }
+    }
+}
+
 /// What the command of this name was given to do. Where it is none of the others, it is `check`.
 fn asked_by_name(name: &str, given: &ArgMatches<'_>) -> Asked
     ensures { IsAskedBy name.now (rows_of (found_of given.now)) result }
@@ -156,10 +176,7 @@ fn asked_by_name(name: &str, given: &ArgMatches<'_>) -> Asked
         "owners" => Asked::Owners {
             draws: has_flag(given, "dot"),
         },
-        "orders" => Asked::Orders {
-            finds: word_of(given, "find").is_some(),
-            most: most_of(given),
-        },
+        "orders" => orders_asked(given),
         "convert" => Asked::Convert,
         "run" => Asked::Run,
         _ => Asked::Check,
@@ -192,6 +209,24 @@ fn line_by<'a>(matches: &ArgMatches<'a>) -> Line<'a>
     }
 }
 
+/// Whether a command was given a line that is to be found, and is to write a page.
+fn wants_both(given: &ArgMatches<'_>) -> bool
+    ensures { let rows = rows_of (found_of given.now) in
+        result ≡ (nat_lt 0 (count_of (codes "page") rows) && is_some (first_of (codes "find") rows)) }
+{
+    has_flag(given, "page") && word_of(given, "find").is_some()
+}
+
+/// Whether the words' command was.
+fn has_conflict(matches: &ArgMatches<'_>) -> bool
+    ensures { result ≡ finds_on_page (subcommand_rows_of matches.now) }
+{
+    match matches.subcommand() {
+        Some((_, given)) => wants_both(given),
+        None => false,
+    }
+}
+
 /// What the words of a command line ask for.
 pub(crate) fn line_of<'a, S: AsStr>(alloc: Global, words: &'a [S]) -> Result<Line<'a>, Error>
     ensures asks { IfOk result (λ line. AsksFor (map S.text words.entry.now) line.asked) }
@@ -201,8 +236,14 @@ pub(crate) fn line_of<'a, S: AsStr>(alloc: Global, words: &'a [S]) -> Result<Lin
         (λ line. is_some line.text_file ≡ names_text (map S.text words.entry.now)) }
     ensures list { IfOk result
         (λ line. is_some line.list_file ≡ names_list (map S.text words.entry.now)) }
-    ensures kinds { FailsBy (fault_of program (map S.text words.entry.now)) result }
+    ensures kinds { FailsBy (faults_of (map S.text words.entry.now)) result }
 {
-    let matches = matches_of(alloc, words)?;
+    let matches = match matches_of(alloc, words) {
+        Ok(matches) => matches,
+        Err(error) => return Err(error),
+    };
+    if has_conflict(&matches) {
+        return Err(conflict(alloc)?);
+    }
     Ok(line_by(&matches))
 }

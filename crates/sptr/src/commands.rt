@@ -1,13 +1,14 @@
 //! The commands of the program, as `clap` knows them.
 
 ghost use Rattle.std.specs.Prelude.{◌≡◌, IfOk, codes, false};
-ghost use Rattle.clap.specs.Words.{app_of, rule_of, shape_of};
+ghost use Rattle.clap.specs.Words.{app_of, kind_of, rule_of, shape_of};
 ghost use Rattle.clap.specs.declared.builder.command.Command.TheViews.{out-Command};
 ghost use Rattle.sptr.specs.CommandLine.{AddsCommand, bare, draw_line, file_word, flag_rule};
 ghost use Rattle.sptr.specs.CommandLine.{left_line, option_rule, orders_line, owners_line, program};
 ghost use Rattle.sptr.specs.CommandLine.{script_line, turns_line};
 
-use clap::{Arg, ArgAction, Command};
+use clap::error::ErrorKind;
+use clap::{Arg, ArgAction, Command, Error};
 use std::alloc::{AllocError, Global};
 
 /// What `--version` tells.
@@ -113,9 +114,22 @@ fn orders_command<'a>(alloc: Global) -> Result<Command<'a>, AllocError>
 {
     let about = "Runs a script in every order of its threads, and tells each outcome once";
     let find = "A line: only the turns are told by which it is told, or never";
+    let page = "As one HTML page on which to go through the run of each outcome";
     script_command(alloc, "orders", about)?
         .arg(option(alloc, "find", "LINE", find))?
-        .arg(option(alloc, "most", "N", "How many states are seen at most"))
+        .arg(option(alloc, "most", "N", "How many states are seen at most"))?
+        .arg(flag(alloc, "page", page))
+}
+
+/// That `orders` was asked for a line and for a page.
+pub(crate) fn conflict(alloc: Global) -> Result<Error, AllocError>
+    ensures { IfOk result (λ e. kind_of e ≡ ErrorKind.ArgumentConflict) }
+{
+    let mut command = orders_command(alloc)?.bin_name("sptr orders")?;
+    command.error(
+        ErrorKind::ArgumentConflict,
+        "the argument '--find <LINE>' cannot be used with '--page'",
+    )
 }
 
 /// The program with this command too.

@@ -9,7 +9,7 @@ ghost use Rattle.sptr.specs.Sources.{OfBytes, OfList, known_unless, without_line
 
 use crate::answers::{Outcome, bytes_of, check, convert, draw, fine, left, owners, run, step};
 use crate::command::{Asked, Line};
-use crate::orders::orders;
+use crate::orders::{orders, outcome_page};
 use script_orders::Query;
 use script_picture::Order;
 use script_stepper::Output;
@@ -101,6 +101,10 @@ fn answer_bytes<R: Threads + Wait + Sync, O: Write>(
                 };
                 orders(alloc, query, output)
             }
+            None => Ok(Outcome::NoOrders),
+        },
+        Asked::OrdersPage { most } => match most {
+            Some(most) => done_or(Outcome::NoOrders, outcome_page(alloc, text, most, output)),
             None => Ok(Outcome::NoOrders),
         },
     }

@@ -1,7 +1,5 @@
-use Rattle.std.proofs.Common.{ℕ, List, [], codes}
 use Rattle.std.specs.Prelude.{string_bytes}
-use Rattle.markup.specs.Trees.{label, rendered}
-use Rattle.run_picture.specs.Pages.{run_lines}
+use Rattle.run_picture.specs.Pages.{lines_element, run_lines}
 use Rattle.run_picture.specs.declared.page_head.TheConstants.{HEAD}
 use Rattle.run_picture.specs.declared.page_reader.TheConstants.{READER}
 use Rattle.run_picture.specs.declared.page_view.TheConstants.{VIEW}
@@ -10,11 +8,8 @@ use Rattle.run_picture.proofs.step_page.run_page.Goals as goal
 
 pub returns : goal.returns
 returns c =
-    page_is (λ (s : List ℕ). rendered (label (codes "pre") [] s)) HEAD.now READER.now VIEW.now
-    (string_bytes c.new-lines.result) (string_bytes c.put_run.new.text) c.as_bytes.result.now
-    (run_lines c.args.picture.now) (string_bytes c.new-text.result)
-    (string_bytes c.push_str.new.self) (string_bytes c.put_label.new.text)
-    (string_bytes c.push_str-2.new.self) (string_bytes c.push_str-3.new.self)
-    c.new-lines.ensures.bytes c.in_ok-put_run.ensures c.as_bytes.ensures.value
-    c.new-text.ensures.bytes c.in_ok-push_str.ensures.bytes c.in_ok-put_label.ensures.text
-    c.in_ok-push_str-2.ensures.bytes c.in_ok-push_str-3.ensures.bytes
+    page_is lines_element HEAD.now READER.now VIEW.now (string_bytes c.in_ok-lines.lines) c.as_bytes.result.now
+    (run_lines c.args.picture.now) (string_bytes c.in_ok-text.text) (string_bytes c.put_lines.new.text)
+    (string_bytes c.put_scripts.new.text)
+    c.in_ok-lines.ensures c.as_bytes.ensures.value c.in_ok-text.ensures c.in_ok-put_lines.ensures
+    c.in_ok-put_scripts.ensures

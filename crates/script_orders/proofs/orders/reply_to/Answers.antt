@@ -10,8 +10,8 @@ returns-in-Some-clause-is c =
     IfOk c.turns_to.result (λ r. IsAnswerText o r.answer c.args.query.script.now r.text.items))
     (sym (ap (λ (o : Option (Bor (List ℕ))). option_copied o) c.in-Some.is)) c.turns_to.ensures.is
 
-pub returns-clause-is : goal.returns-clause-is
-returns-clause-is c =
+pub returns-in-None-clause-is : goal.returns-in-None-clause-is
+returns-in-None-clause-is c =
     subst (λ (o : Option (List ℕ)).
-    IfOk c.all_outcomes.result (λ r. IsAnswerText o r.answer c.args.query.script.now r.text.items))
-    (sym (ap (λ (o : Option (Bor (List ℕ))). option_copied o) c.in-None.is)) c.all_outcomes.ensures.is
+    IfOk c.every_outcome.result (λ r. IsAnswerText o r.answer c.args.query.script.now r.text.items))
+    (sym (ap (λ (o : Option (Bor (List ℕ))). option_copied o) c.in-None.is)) c.every_outcome.ensures.is

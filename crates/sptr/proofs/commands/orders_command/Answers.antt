@@ -10,6 +10,9 @@ returns-clause-shape c =
     argument_added c.in_ok-script_command.field-0 c.in_ok-arg.field-0 _ _ _
     (c.in_ok-arg.ensures.shape c.option.ensures.local) c.in_ok-script_command.ensures.shape
     c.option.ensures.rule in
-    IfOk-weaker c.arg-2.result _ _ (λ r h.
-    argument_added c.in_ok-arg.field-0 r _ _ _ (h.shape c.option-2.ensures.local) find
-    c.option-2.ensures.rule) c.arg-2.ensures
+    let most =
+    argument_added c.in_ok-arg.field-0 c.in_ok-arg-2.field-0 _ _ _
+    (c.in_ok-arg-2.ensures.shape c.option-2.ensures.local) find c.option-2.ensures.rule in
+    IfOk-weaker c.arg-3.result _ _ (λ r h.
+    argument_added c.in_ok-arg-2.field-0 r _ _ _ (h.shape c.flag.ensures.local) most
+    c.flag.ensures.rule) c.arg-3.ensures

@@ -1,5 +1,5 @@
 use Rattle.script_orders.proofs.Adding.{outcome_told, still_outcomes}
-use Rattle.script_orders.proofs.answers.add_outcome.Goals as goal
+use Rattle.script_orders.proofs.all_orders.add_outcome.Goals as goal
 
 pub returns-in-Ok-clause-each : goal.returns-in-Ok-clause-each
 returns-in-Ok-clause-each c all =
