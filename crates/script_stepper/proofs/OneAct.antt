@@ -94,8 +94,10 @@ module _ (s : State) (d : ℕ) where
     one_reply (Expired k) (Got b) _ e f m n u v g h = absurd n
     one_reply (Expired k) _ q e f m n u v g h = absurd m
     one_reply (Read k) (Told x) (Told y) e f m n u v g h =
-        let r = reads_once s d (inside (slot_pointer l k)) (outside (place_in l k)) x y e f m n u v in (ap (λ (a : Answer). having (l, taken) (Some a))
-        r.0, r.1)
+        let r = reads_once s d (inside (slot_pointer l k)) (outside (place_in l k)) x y e f m n u v in (
+          ap (λ (a : Answer). having (l, taken) (Some a)) r.0,
+          r.1,
+        )
     one_reply (Read k) (Told x) _ e f m n u v g h = absurd n
     one_reply (Read k) _ q e f m n u v g h = absurd m
     one_reply (FromThis k kind) (Got b) (Got c) e f m n u v g h =
