@@ -6,21 +6,27 @@ The script is run once more by `draw`, whose picture has a row for each act, in 
 import bisect
 import re
 import subprocess
+from collections.abc import Iterator
 
 # A picture has at most so many rows, so a longer run is drawn in parts.
 MOST = 2000
 ROW = re.compile(rb'<text class="statement"[^>]*>(\d+)\.')
 
 
+def pictures(program: str, turns: list[str], script: bytes, again: int = 0) -> Iterator[bytes]:
+    """The run's picture, in parts, of which each begins with so many acts of the one before; one that is
+    empty where the script or the list of turns is refused."""
+    first, drawn = 1, MOST
+    while drawn == MOST:
+        part = [f"--from={first}", f"--to={first + MOST - 1}"]
+        ran = subprocess.run([program, "draw", *turns, *part], input=script, capture_output=True)
+        yield ran.stdout
+        first, drawn = first + MOST - again, len(ROW.findall(ran.stdout))
+
+
 def order(program: str, turns: list[str], script: bytes) -> list[int]:
     """The thread of each act; none where the script or the list of turns is refused."""
-    threads, drawn = [], MOST
-    while drawn == MOST:
-        part = [f"--from={len(threads) + 1}", f"--to={len(threads) + MOST}"]
-        ran = subprocess.run([program, "draw", *turns, *part], input=script, capture_output=True)
-        rows = [int(it) for it in ROW.findall(ran.stdout)]
-        threads, drawn = threads + rows, len(rows)
-    return threads
+    return [int(it) for picture in pictures(program, turns, script) for it in ROW.findall(picture)]
 
 
 def up_to(program: str, words: list[str], number: int, script: bytes) -> int:
