@@ -14,6 +14,12 @@ def crates() -> dict[str, list[str]]:
     return {head.split()[0]: below.split() for head, _, below in parted}
 
 
+def page_programs() -> list[str]:
+    """The programs on crates' pages, each of which stands beside its C++."""
+    names = (it.stem for it in (ROOT / "examples").glob("*.cpp"))
+    return sorted(name for name in names if (ROOT / "crates" / name).is_dir())
+
+
 def has_tests(crate: str) -> bool:
     return any("#[test]" in file.read_text() for file in (ROOT / "crates" / crate / "src").rglob("*.rt"))
 
