@@ -122,7 +122,7 @@ def built_library():
     try:
         if not library.is_built() and sys.stderr.isatty():
             say("record: building its library, which takes some seconds, this once")
-        return str(library.build())
+        return library.build()
     except (OSError, subprocess.CalledProcessError) as fault:
         raise program.Refusal(f"the library could not be built: {fault}") from fault
 
@@ -130,7 +130,7 @@ def built_library():
 def run(asked: Namespace, folder: str, path: str, reports: Reports) -> int:
     """Runs the program under the library. Returns its exit status, as shells have it."""
     names = {"RECORDER_FILE": f"{folder}/record", "RECORDER_FRAMES": str(asked.frames)}
-    names["LD_PRELOAD"] = ":".join(filter(None, [built_library(), os.environ.get("LD_PRELOAD")]))
+    names["LD_PRELOAD"] = ":".join(filter(None, [str(built_library()), os.environ.get("LD_PRELOAD")]))
     if asked.children:
         names["RECORDER_CHILDREN"] = "1"
     if asked.now:
@@ -175,7 +175,7 @@ def run_and_tell(asked: Namespace, path: str, suppressed: list) -> int:
         reports = Reports(asked, folder, suppressed)
         status = REFUSED
         try:
-            program.refuse_unreadable(program.interpreter_of(path))
+            program.check(path)
             status = run(asked, folder, path, reports)
         except (program.Refusal, proved.Refusal) as why:
             reports.refuse(str(why))
@@ -190,27 +190,22 @@ def run_and_tell(asked: Namespace, path: str, suppressed: list) -> int:
 def main() -> int:
     gc.disable()
     asked = options.parse(sys.argv[1:])
-    if asked.flags:
-        try:
-            print(hook_headers.flags())
-        except hook_headers.Refusal as why:
-            say(f"record: refused: {why}")
-            return REFUSED
-        return 0
     try:
+        if asked.flags:
+            print(hook_headers.flags(built_library()))
+            return 0
         path = program.find(asked.program)
-    except program.NotFound as why:
-        say(f"record: {asked.program}: {why}")
-        return 127
-    try:
         check_writable(asked)
         suppressed = suppressions.read(asked.suppress)
         if asked.proved:
             proved.refuse_unbuilt()
+    except program.NotFound as why:
+        say(f"record: {asked.program}: {why}")
+        return 127
     except OSError as fault:
         say(f"record: refused: {fault.filename}: {fault.strerror}")
         return REFUSED
-    except (suppressions.Refusal, proved.Refusal) as why:
+    except (hook_headers.Refusal, program.Refusal, proved.Refusal, suppressions.Refusal) as why:
         say(f"record: refused: {why}")
         return REFUSED
     return run_and_tell(asked, path, suppressed)

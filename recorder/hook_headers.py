@@ -3,6 +3,7 @@ nothing is written: no header is taken over into this folder."""
 import hashlib
 import os
 import re
+import shlex
 import subprocess
 from dataclasses import dataclass
 from pathlib import Path
@@ -101,8 +102,11 @@ def with_cells(text: str) -> str:
 
 
 def folder_of(compiler: str) -> Path:
-    """Where the compiler has shared_ptr_base.h."""
-    command = [compiler, "-x", "c++", "-std=c++20", "-M", "-"]
+    """Where the compiler, which may be several words, has shared_ptr_base.h."""
+    try:
+        command = [*shlex.split(compiler), "-x", "c++", "-std=c++20", "-M", "-"]
+    except ValueError as fault:
+        raise Refusal(f"CXX is {compiler}: {fault}") from fault
     ran = subprocess.run(command, input="#include <memory>\n", text=True, capture_output=True)
     found = re.search(r"(\S+)/shared_ptr_base\.h", ran.stdout)
     if not found:
@@ -118,10 +122,10 @@ def headers(compiler):
     return with_cells(edited(base, BASE, HEADERS[0])), atomic
 
 
-def flags() -> str:
-    """Compiler and linker flags. The headers are written anew where the compiler's have changed."""
-    base, atomic = headers(os.environ.get("CXX") or "g++")
-    built = library.build()
+def flags(built: Path) -> str:
+    """Compiler and linker flags, with this library. The headers are written anew where the compiler's have
+    changed."""
+    base, atomic = headers(os.environ.get("CXX", "").strip() or "g++")
     hooks = (library.SOURCES / "hooks.h").read_text()
     key = hashlib.sha256((base + atomic + hooks).encode()).hexdigest()[:16]
     folder = library.home() / key / "sptr_recorder"

@@ -65,6 +65,14 @@ def interpreter_of(path: str) -> str:
     return words[0] if words else path
 
 
+def check(path: str):
+    """Raises Refusal for programs, and for scripts by their interpreters, of which nothing can be told."""
+    try:
+        refuse_unreadable(interpreter_of(path))
+    except OSError as fault:  # (of what isn't there, as a loader)
+        raise Refusal(f"{fault.filename}: {fault.strerror}") from fault
+
+
 def refuse_unreadable(path: str):
     """Raises Refusal for programs whose memory the library can't read."""
     with open(path, "rb") as file:

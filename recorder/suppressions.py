@@ -25,7 +25,11 @@ class Suppression:
 def read(path: str | None) -> list[Suppression]:
     """The suppressions in a file. A line that begins with # is a comment."""
     found = []
-    for number, line in enumerate(Path(path).read_text().splitlines() if path else [], 1):
+    try:
+        text = Path(path).read_text("utf-8") if path else ""
+    except UnicodeDecodeError as fault:
+        raise Refusal(f"{path}: byte {fault.start + 1} is not UTF-8") from fault
+    for number, line in enumerate(text.splitlines(), 1):
         if not line.strip() or line.lstrip().startswith("#"):
             continue
         pattern, mark, reason = line.partition(" #")

@@ -1,10 +1,11 @@
 """Programs that ./record has to refuse, with the reason; and headers that don't fit the hooks."""
+import os
 import subprocess
 import tempfile
 from pathlib import Path
 
 from recorder import hook_headers
-from tests.recorder_programs import HUNG, PROGRAMS, ROOT
+from tests.recorder_programs import HUNG, PROGRAMS, ROOT, differences
 
 REFUSED = 125
 OWN_MALLOC = """
@@ -102,6 +103,46 @@ def other_library():
         return refusal(program, "it uses libc++, and only the handles of libstdc++ are known")
 
 
+def missing_interpreter():
+    """A script's interpreter, and a program's loader, that aren't there."""
+    why = "/no/such/file: No such file or directory"
+    with tempfile.TemporaryDirectory() as folder:
+        script = Path(folder, "script")
+        script.write_text("#!/no/such/file\n")
+        script.chmod(0o755)
+        loaded = built(folder, "-Wl,--dynamic-linker=/no/such/file")
+        return "".join(refusal(it, why) for it in (script, loaded))
+
+
+def flags_by(compiler):
+    """What `./record --flags` says for a compiler."""
+    how = {"capture_output": True, "text": True, "env": {**os.environ, "CXX": compiler}}
+    return subprocess.run([ROOT / "record", "--flags"], **how)
+
+
+def compilers():
+    """One that isn't there, one with a quote that doesn't end, and one of several words."""
+    whys = {
+        "no-such-compiler -g": "no-such-compiler: No such file or directory",
+        "g++ '": "CXX is g++ ': No closing quotation",
+    }
+    found = {name: flags_by(name) for name in (*whys, "g++", "env 'g++'")}
+    lines = {name: (ran.returncode, ran.stdout + ran.stderr) for name, ran in found.items()}
+    pairs = {name: (lines[name], (REFUSED, f"record: refused: {why}\n")) for name, why in whys.items()}
+    return differences(**pairs, several=(lines["env 'g++'"], lines["g++"]), status=(lines["g++"][0], 0))
+
+
+def suppressions_that_are_no_text():
+    with tempfile.TemporaryDirectory() as folder:
+        file = Path(folder, "known")
+        file.write_bytes(b"Loop # a cache\n\xe9t\xe9 # another\n")
+        ran = record("/bin/true", f"--suppress={file}")
+    return differences(
+        said=(ran.stderr, f"record: refused: {file}: byte 16 is not UTF-8\n"),
+        status=(ran.returncode, REFUSED),
+    )
+
+
 def no_program():
     ran = record("/no/such/program")
     right = ran.returncode == 127 and ran.stderr == "record: /no/such/program: no such program\n"
@@ -144,6 +185,9 @@ CHECKS = [
     sanitizer,
     of_32_bit,
     other_library,
+    missing_interpreter,
+    compilers,
+    suppressions_that_are_no_text,
     no_program,
     changed_headers,
 ]
