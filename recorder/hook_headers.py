@@ -122,6 +122,17 @@ def headers(compiler):
     return with_cells(edited(base, BASE, HEADERS[0])), atomic
 
 
+def write_whole(path: Path, text: str):
+    """Writes a file of which others see all or nothing."""
+    part = path.with_name(f"{path.name}.{os.getpid()}.part")
+    try:
+        part.write_text(text)
+        os.replace(part, path)
+    except OSError as fault:
+        part.unlink(missing_ok=True)
+        raise Refusal(f"{path}: {fault.strerror}") from fault
+
+
 def flags(built: Path) -> str:
     """Compiler and linker flags, with this library. The headers are written anew where the compiler's have
     changed."""
@@ -137,7 +148,7 @@ def flags(built: Path) -> str:
     }
     for name, text in texts.items():
         if not (folder / name).exists():
-            (folder / name).write_text(text)
+            write_whole(folder / name, text)
     needed = "-Wl,--push-state,--no-as-needed -lrecorder -Wl,--pop-state"
     link = f"-L{built.parent} -Wl,-rpath,{built.parent} {needed}"
     return f"-isystem {folder} -g {link}"

@@ -27,6 +27,11 @@ def built(folder: str, name: str, text: str = None) -> Path:
     return to
 
 
+def at_most(kilobytes: int, words: list) -> list:
+    """A command in which files are at most so long."""
+    return ["bash", "-c", f'ulimit -f {kilobytes} && exec "$@"', "bash", *words]
+
+
 def differences(**pairs: tuple) -> str:
     """What isn't as it should be, of pairs (found, wanted)."""
     return "\n".join(

@@ -8,8 +8,9 @@ import subprocess
 import tempfile
 from pathlib import Path
 
+from recorder import library
 from tests.recorder_options import record
-from tests.recorder_programs import PROGRAMS, ROOT, built, differences
+from tests.recorder_programs import PROGRAMS, ROOT, at_most, built, differences
 
 
 def in_another_folder():
@@ -158,7 +159,29 @@ def units_of_both_kinds():
     return "\n".join(wrong)
 
 
+def half_written_headers():
+    """A header that is written in part, as where files may have 8 KB, isn't taken by the next `--flags`."""
+    out = library.build().parent
+    with tempfile.TemporaryDirectory() as folder:
+        own = Path(folder, "recorder")
+        shutil.copytree(ROOT / "recorder", own, ignore=shutil.ignore_patterns("out", "__pycache__"))
+        shutil.copy(ROOT / "record", folder)
+        (own / "out").mkdir()
+        (own / "out" / out.name).symlink_to(out)
+        words, names = [f"{folder}/record", "--flags"], {**os.environ, "PYTHONDONTWRITEBYTECODE": "1"}
+        refused = subprocess.run(at_most(8, words), env=names, capture_output=True, text=True)
+        found = subprocess.run(words, env=names, capture_output=True, text=True).stdout.split()[1]
+        wanted = record("--flags").stdout.split()[1]
+        texts = [
+            {it.relative_to(place): it.read_text() for it in Path(place).rglob("*.h")}
+            for place in (found, wanted)
+        ]
+    why = f"record: refused: {found}/bits/shared_ptr_base.h: File too large\n"
+    return differences(refused=((refused.returncode, refused.stderr), (125, why)), texts=tuple(texts))
+
+
 CHECKS = [
+    half_written_headers,
     units_of_both_kinds,
     in_another_folder,
     a_closed_plug_in,
