@@ -144,7 +144,9 @@ def run(asked: Namespace, folder: str, path: str, reports: Reports) -> int:
         status = program.wait(process, reports.look)
         receiver.finish()
     reports.look()
-    if status < 0 and not reports.is_whole:
+    if receiver.fault:
+        reports.refuse(f"its record could not be written to {folder}: {receiver.fault.strerror}")
+    elif status < 0 and not reports.is_whole:
         reports.say(
             f"record: the program was ended by {signal.Signals(-status).name}: what it left was not read"
         )

@@ -1,5 +1,6 @@
 """The socket to which programs send their records: it is open before their main, whatever limits or rights
 they take later."""
+import contextlib
 import os
 import re
 import selectors
@@ -17,6 +18,20 @@ class Sender:
     def __init__(self, connection: socket.socket, folder: Path):
         self.connection, self.folder = connection, folder
         self.text, self.file, self.name = b"", None, ""
+
+    def receive(self) -> bool:
+        """Writes a piece of what is sent. Returns whether more may come."""
+        piece = self.connection.recv(PIECE)
+        self.take(piece)
+        return bool(piece)
+
+    def close(self):
+        """What isn't whole is given up."""
+        self.connection.close()
+        if self.file:
+            with contextlib.suppress(OSError):
+                os.unlink(self.file.name)
+                self.file.close()
 
     def take(self, piece: bytes):
         self.text += piece
@@ -57,9 +72,10 @@ class Receiver:
         self.listening.bind(path)
         self.listening.listen(100)
         self.selector = selectors.DefaultSelector()
-        self.selector.register(self.listening, selectors.EVENT_READ)
+        self.selector.register(self.listening, selectors.EVENT_READ, self.listening)
         self.woken, self.waker = socket.socketpair()
         self.selector.register(self.woken, selectors.EVENT_READ)
+        self.fault = None  # the first one, for which a record was given up
         self.thread = threading.Thread(target=self.serve, daemon=True)
         self.thread.start()
 
@@ -67,22 +83,25 @@ class Receiver:
         is_ending = False
         while ready := self.selector.select(0 if is_ending else None):
             for key, _ in ready:
-                if key.fileobj is self.listening:
-                    sender = Sender(self.listening.accept()[0], self.folder)
-                    self.selector.register(sender.connection, selectors.EVENT_READ, sender)
-                elif key.fileobj is self.woken:
+                if key.fileobj is self.woken:
                     self.selector.unregister(self.woken)
                     is_ending = True
-                else:
-                    self.receive(key.data)
+                elif not self.take(key):
+                    self.selector.unregister(key.fileobj)
+                    key.data.close()
 
-    def receive(self, sender: Sender):
-        piece = sender.connection.recv(PIECE)
-        if piece:
-            sender.take(piece)
-        else:
-            self.selector.unregister(sender.connection)
-            sender.connection.close()
+    def take(self, key: selectors.SelectorKey) -> bool:
+        """Takes a connection, or a piece of what comes by it. Returns whether more may come: after a fault
+        none does, so that the program goes on."""
+        try:
+            if key.fileobj is not self.listening:
+                return key.data.receive()
+            sender = Sender(self.listening.accept()[0], self.folder)
+            self.selector.register(sender.connection, selectors.EVENT_READ, sender)
+            return True
+        except OSError as fault:
+            self.fault = self.fault or fault
+            return False
 
     def finish(self):
         """Takes all that was sent until now, and closes the socket."""

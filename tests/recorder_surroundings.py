@@ -10,7 +10,7 @@ from pathlib import Path
 
 from recorder import library
 from tests.recorder_options import record
-from tests.recorder_programs import PROGRAMS, ROOT, at_most, built, differences
+from tests.recorder_programs import HUNG, PROGRAMS, ROOT, at_most, built, differences
 
 
 def in_another_folder():
@@ -180,7 +180,39 @@ def half_written_headers():
     return differences(refused=((refused.returncode, refused.stderr), (125, why)), texts=tuple(texts))
 
 
+MANY = """
+#include <csignal>
+#include <cstdio>
+#include <memory>
+#include <vector>
+int main() {
+  auto& kept = *new std::vector<std::shared_ptr<int>>;
+  for (int number = 0; number < 50000; number++) kept.push_back(std::make_shared<int>(number));
+  std::raise(SIGUSR1);
+  std::puts("went on");
+  return 5;
+}
+"""
+
+
+def full_disk():
+    """Where files may have 64 KB: a record of many objects is refused, and the program goes on to its end."""
+    with tempfile.TemporaryDirectory() as folder:
+        program, kept = built(folder, "many", MANY), Path(folder, "kept")
+        words = at_most(64, [ROOT / "record", "--now=USR1", "--keep", kept, program])
+        names = {**os.environ, "PYTHONDONTWRITEBYTECODE": "1"}
+        ran = subprocess.run(words, env=names, capture_output=True, text=True, timeout=HUNG)
+        left = list(kept.iterdir())
+    why = f"record: refused: its record could not be written to {kept}: File too large"
+    return differences(
+        said=((ran.stdout, ran.stderr.splitlines()[1:]), ("went on\n", [why])),
+        status=(ran.returncode, 125),
+        left=(left, []),
+    )
+
+
 CHECKS = [
+    full_disk,
     half_written_headers,
     units_of_both_kinds,
     in_another_folder,
