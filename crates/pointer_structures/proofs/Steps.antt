@@ -21,7 +21,7 @@ use Rattle.pointers.specs.declared.fault.call.Call.TheVariants.{Share}
 use Rattle.pointers.specs.declared.known.Known.{Known}
 use Rattle.pointer_structures.specs.Refusals.{IsChainRefused, IsUpRefused}
 use Rattle.pointer_structures.specs.Stacks.{GoesFirst, Pops, WhyNotPushed}
-use Rattle.pointer_structures.specs.Trees.{Detaches, GoesOut, HasParent, IsChildRefused, IsNoChild, Unlinks, first_of}
+use Rattle.pointer_structures.specs.Trees.{Detaches, LeavesChildren, HasParent, IsChildRefused, IsNoChild, Unlinks, first_of}
 use Rattle.pointer_structures.specs.Watches.{ComesUp}
 
 module _ {V : Type 0} (o : DeskNow V) where
@@ -154,7 +154,7 @@ module _ {V : Type 0} (o : DeskNow V) where
   pub passed_out : (parent node child : Known V) (before : Option (Known V)) (r : Result Bool Fault)
       → Passed parent node before → owned child ≡ owned node
       → IfOk r (λ (b : Bool). IsTrue b → Unlinks o (behind before (first_of parent)) child node)
-      → IfOk r (λ (b : Bool). IsTrue b → GoesOut o parent node ⊎ IsNoChild o parent node)
+      → IfOk r (λ (b : Bool). IsTrue b → LeavesChildren o parent node ⊎ IsNoChild o parent node)
   passed_out parent node child before (Err why) passed same is = tt
   passed_out parent node child before (Ok b) passed same is = λ did. inl (record {
     at = behind before (first_of parent);
@@ -187,7 +187,7 @@ module _ {V : Type 0} (o : DeskNow V) where
       (call, subst (λ (y : Option (Known V)). WhyNotDone o o.shape.weak_cells y n call why) there not)
 
   pub leaves : {A : Type 0} (node parent : Known V) (up of : Option (Known V)) (n : ℕ) (r : Result A Fault) → HasParent o node up
-      → up ≡ Some parent → GoesOut o parent node ⊎ IsNoChild o parent node → Comes o (next_of node) None
+      → up ≡ Some parent → LeavesChildren o parent node ⊎ IsNoChild o parent node → Comes o (next_of node) None
       → of ≡ Some node → OnOk r (StoredWeakly o of (weak_cell_at o of n) None) → OnOk r (Detaches o node)
   leaves node parent up of n (Err why) has some out next there is = tt
   leaves node parent up of n (Ok done) has some out next there is = inl (record {

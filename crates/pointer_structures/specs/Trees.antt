@@ -32,7 +32,7 @@ module _ {V : Type 0} where
   Unlinks o s child node = (rest : Option (Known V)) × Leads o (next_of node) rest × Swaps o s (Some child) rest
 
   -- the node went out of a place of the children so
-  pub record GoesOut (o : DeskNow V) (parent node : Known V) : Type 0 where
+  pub record LeavesChildren (o : DeskNow V) (parent node : Known V) : Type 0 where
     pub at : Site V
     pub place : IsPlaceOf o (first_of parent) at
     pub held : Known V
@@ -51,7 +51,7 @@ module _ {V : Type 0} where
   pub record Leaves (o : DeskNow V) (node : Known V) : Type 0 where
     pub parent : Known V
     pub has : HasParent o node (Some parent)
-    pub out : GoesOut o parent node ⊎ IsNoChild o parent node
+    pub out : LeavesChildren o parent node ⊎ IsNoChild o parent node
     pub next : Comes o (next_of node) None
     pub up : ComesUp o node None
 

@@ -14,12 +14,13 @@ module _ {V : Type 0} (o : DeskNow V) where
   abbrev pub ComesUp : Known V → Option (Known V) → Type 0
   ComesUp node up = StoredWeakly o (Some node) (weak_cell_at o (Some node) 0) up
 
-  -- a new node that watches the subject came in front of the observers
-  pub record Watches (s : Site V) (subject : Known V) : Type 0 where
+  -- a new node with this value that watches the subject came in front of the observers
+  pub record Watches (s : Site V) (subject : Known V) (x : V) : Type 0 where
     pub weak : Known V
     pub same : AreOfOne o subject weak
-    pub first : list.Heads o (λ node w. ComesUp node (Some w)) s weak
+    pub first : list.Heads o (λ node w. ComesUp node (Some w)) s weak x
 
   -- or why not: there was no weak pointer to the subject, or it didn't come into the list
-  abbrev pub WhyNotAttached : Site V → Known V → Fault → Type 0
-  WhyNotAttached s subject why = WhyNotWatched o subject why ⊎ list.WhyNotPushed o (IsMemberRefused o) s why
+  abbrev pub WhyNotAttached : Site V → Known V → V → Fault → Type 0
+  WhyNotAttached s subject x why =
+      WhyNotWatched o subject why ⊎ list.WhyNotPushed o (IsMemberRefused o) s x why

@@ -2,9 +2,9 @@
 #![tactic(auto)]
 
 mod observers;
-mod scene;
 mod stack;
+mod tree;
 
 pub use crate::observers::Observers;
-pub use crate::scene::{add_child, detach};
 pub use crate::stack::Stack;
+pub use crate::tree::{add_child, detach};

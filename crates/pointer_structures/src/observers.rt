@@ -52,8 +52,8 @@ impl<'p, 't, D: Domain> Observers<'p, 't, D> {
         subject: &Shared<'t, D>,
         value: D::Value,
     ) -> Result<(), Fault>
-        ensures attached { OnOk result (Watches D.opened self.now subject.now) }
-        ensures fault { IfErr result (WhyNotAttached D.opened self.now subject.now) }
+        ensures attached { OnOk result (Watches D.opened self.now subject.now value) }
+        ensures fault { IfErr result (WhyNotAttached D.opened self.now subject.now value) }
     {
         self.list.push_front_with(rt, subject.downgrade()?, value)
     }

@@ -12,7 +12,7 @@ use std::marker::Model;
 use std::sync::Wait;
 
 /// A stack in a place for an owner, in C++ an `atomic<shared_ptr<Node>>` with the top: each object owns the one below
-/// it by its member `next`. All that have the same place share the stack. A call wants three pointers of the desk's to
+/// it by its member `next`. All that have the same place share the stack. A call wants four pointers of the desk's to
 /// be unused.
 pub struct Stack<'p, 't, D: Domain> {
     place: Member<'p, 't, D>,
@@ -68,7 +68,8 @@ impl<'p, 't, D: Domain> Stack<'p, 't, D> {
         unreachable!()
     }
 
-    /// The top node comes out (waits). None where there is none. It keeps what its `next` owns.
+    /// The top node comes out (waits). None where there is none. It keeps what its `next` owns. It may be pushed again
+    /// once each `pop` that was under way has ended: one that had looked at it takes it for the top that it saw.
     pub fn pop<R: Wait>(&self, rt: &R) -> Result<Option<Shared<'t, D>>, Fault>
         ensures popped { IfOk result (Pops D.opened self.now) }
         ensures fault { IfErr result (IsChainRefused D.opened self.now) }

@@ -4,7 +4,7 @@ use pointers::{Call, Fault, Refusal, Spot};
 use std::alloc::Global;
 
 /// Faults, and their texts.
-const ROWS: [(Fault, &str); 22] = [
+const ROWS: [(Fault, &str); 13] = [
     (Fault::Busy(Call::Read), "read: busy, within a visit"),
     (
         Fault::Crowded(Call::Share),
@@ -33,26 +33,8 @@ const ROWS: [(Fault, &str); 22] = [
     ),
     (Fault::Refused(Call::Make, Refusal::Full), "make: full"),
     (
-        Fault::Cell(Call::Stack(Spot::Shared(7))),
-        "stack of shared cell 7: no such cell",
-    ),
-    (
-        Fault::Cell(Call::Observers(Spot::Shared(7))),
-        "observers of shared cell 7: no such cell",
-    ),
-    (Fault::Refused(Call::Push, Refusal::Full), "push: full"),
-    (Fault::Refused(Call::Pop, Refusal::Limit), "pop: limit"),
-    (Fault::Refused(Call::Attach, Refusal::Full), "attach: full"),
-    (Fault::Refused(Call::Prune, Refusal::Limit), "prune: limit"),
-    (
-        Fault::Refused(Call::AddChild, Refusal::Null),
-        "add_child: null",
-    ),
-    (Fault::Refused(Call::Detach, Refusal::Null), "detach: null"),
-    (Fault::Busy(Call::Scene), "scene: busy, within a visit"),
-    (
-        Fault::Busy(Call::Teardown),
-        "teardown: busy, within a visit",
+        Fault::Busy(Call::Unshelve),
+        "unshelve: busy, within a visit",
     ),
     (Fault::Memory, "no memory"),
     (Fault::Output, "input or output failed"),

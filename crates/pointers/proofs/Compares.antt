@@ -13,7 +13,6 @@ use Rattle.atomic_cells.specs.declared.compared.Compared.{Compared}
 use Rattle.pointers.proofs.CellCalls.{block_arrived, block_given, came_to, place_arrived}
 use Rattle.pointers.proofs.CellCalls.{place_given}
 use Rattle.pointers.proofs.InHand.{bears_on, claim_ends, comes, nothing_beside, swaps}
-use Rattle.pointers.specs.Beside.{IsEmptyHandle}
 use Rattle.pointers.specs.Cells.{block_by, place_by}
 use Rattle.pointers.specs.Compares.{Finds, IsCompared}
 
@@ -74,53 +73,6 @@ module _ {V : Type 0} where
         (is_compared o d e of x y k h n hoped new false weak (block_of f) (place_of f) goes member first second same is at c)),
     came_to f e got arrives,
   )
-
-  -- an empty pointer stands for none
-  no_hoped_in : (o : DeskNow V) (of : Option (Known V)) (x : Cell) (k : Kind) (weak : Bool) (c : Known V) (new : Option (Known V)) (s : Bool)
-      (b : Option Block) (q : Option Place) (e : DeskNow V) → IsEmptyHandle c.handle → IsCompared o of x k weak (Some c) new s b q e
-      → IsCompared o of x k weak None new s b q e
-  no_hoped_in o of x k weak c new s b q e empty is =
-      let d = is.before in
-      record {
-        before = d;
-        opened = is.opened;
-        member = is.member;
-        expected = is.opened;
-        desired = is.desired;
-        compares = subst (λ (z : Option Block). Compares d x k z None (block_by new) (place_by new) s b q weak e) empty.0
-            (subst (λ (p : Option Place). Compares d x k (block_of c.handle) p (block_by new) (place_by new) s b q weak e) empty.1 is.compares);
-        told = subst (λ (z : Option Block). (s ≡ equivalent (handle_in e k b q) (handle_in d k z None)) ⊎ ((weak ≡ true) × (s ≡ false))) empty.0
-            (subst (λ (p : Option Place). (s ≡ equivalent (handle_in e k b q) (handle_in d k (block_of c.handle) p)) ⊎ ((weak ≡ true) × (s ≡ false)))
-            empty.1 is.told);
-      }
-
-  no_new_in : (o : DeskNow V) (of : Option (Known V)) (x : Cell) (k : Kind) (weak : Bool) (hoped : Option (Known V)) (c : Known V) (s : Bool)
-      (b : Option Block) (q : Option Place) (e : DeskNow V) → IsEmptyHandle c.handle → IsCompared o of x k weak hoped (Some c) s b q e
-      → IsCompared o of x k weak hoped None s b q e
-  no_new_in o of x k weak hoped c s b q e empty is =
-      let d = is.before in
-      record {
-        before = d;
-        opened = is.opened;
-        member = is.member;
-        expected = is.expected;
-        desired = is.opened;
-        compares = subst (λ (z : Option Block). Compares d x k (block_by hoped) (place_by hoped) z None s b q weak e) empty.0
-            (subst (λ (p : Option Place). Compares d x k (block_by hoped) (place_by hoped) (block_of c.handle) p s b q weak e) empty.1 is.compares);
-        told = is.told;
-      }
-
-  pub no_hoped : (o : DeskNow V) (of : Option (Known V)) (x : Cell) (k : Kind) (weak : Bool) (c : Known V) (new : Option (Known V))
-      (found : Option (Option (Known V))) → IsEmptyHandle c.handle → Finds o of x k weak (Some c) new found → Finds o of x k weak None new found
-  no_hoped o of x k weak c new None empty (b, q, e, is) = (b, q, e, no_hoped_in o of x k weak c new true b q e empty is)
-  no_hoped o of x k weak c new (Some held) empty (e, is, came) =
-      (e, no_hoped_in o of x k weak c new false (block_by held) (place_by held) e empty is, came)
-
-  pub no_new : (o : DeskNow V) (of : Option (Known V)) (x : Cell) (k : Kind) (weak : Bool) (hoped : Option (Known V)) (c : Known V)
-      (found : Option (Option (Known V))) → IsEmptyHandle c.handle → Finds o of x k weak hoped (Some c) found → Finds o of x k weak hoped None found
-  no_new o of x k weak hoped c None empty (b, q, e, is) = (b, q, e, no_new_in o of x k weak hoped c true b q e empty is)
-  no_new o of x k weak hoped c (Some held) empty (e, is, came) =
-      (e, no_new_in o of x k weak hoped c false (block_by held) (place_by held) e empty is, came)
 
   -- a claim stands in a list that is the same
   pub at_same : (cs ds : List (Option (Known V))) (i : ℕ) (c : Known V) → ds ≡ cs → slice_get ds i ≡ Some (Some c) → slice_get cs i ≡ Some (Some c)

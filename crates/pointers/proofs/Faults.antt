@@ -63,7 +63,3 @@ module _ {V P : Type 0} where
       ∙ (append_assoc a x (reverse failed)
       ∙ ap (λ (l : List Failed). a ++ l)
       (ap (λ (l : List Failed). l ++ reverse failed) (one_turned k w.done) ∙ (sym (reverse-append failed x) ∙ ap reverse (sym is)))))
-
-  pub all_noted : (all now : List (Worker V P)) (failed : List Failed)
-      → faults_from 0 (dones_of all) ≡ faults_from 0 (dones_of now) ++ reverse failed → now ≡ [] → reverse failed ≡ faults_from 0 (dones_of all)
-  all_noted all now failed was none = sym (was ∙ ap (λ (l : List (Worker V P)). faults_from 0 (dones_of l) ++ reverse failed) none)

@@ -2,11 +2,10 @@
 use Rattle.std.proofs.Common.{◌≡◌, ℕ, zero, suc, ◌+◌, ◌*◌, ◌^◌, ◌<◌, ◌≤◌, max, List, [], ◌∷◌}
 use Rattle.std.proofs.Common.{length, IfErr, OnOk, Some, None, Ok, Err, Option, Result, sym, refl}
 use Rattle.std.proofs.Common.{ap, ◌∙◌, subst, inr, arith}
-use Rattle.pointers.proofs.Prelude.{allowance_of, Answer, AreTeams, DeskNow, DomainNow, EachWorked}
-use Rattle.pointers.proofs.Prelude.{Failed, Fault, faults_from, Fits, HasShares, held_of, IsOpened}
-use Rattle.pointers.proofs.Prelude.{IsTooMuch, Led, led_by, Lends, Shape, Stay, suc-mul, Team}
-use Rattle.pointers.proofs.Runs.{fits_few, opened_shares}
-use Rattle.pointers.proofs.Staffs.{has_room}
+use Rattle.pointers.proofs.Prelude.{allowance_of, Answer, AreTeams, DeskNow, EachWorked}
+use Rattle.pointers.proofs.Prelude.{Failed, Fault, faults_from, Fits, HasShares, held_of}
+use Rattle.pointers.proofs.Prelude.{Led, led_by, Lends, Shape, Stay, suc-mul, Team}
+use Rattle.pointers.proofs.Runs.{fits_few}
 use Rattle.pointers.specs.Leading.{Ends, Follows, IsAsBefore, IsOver, Lead, LeadsOn, Starts}
 use Rattle.pointers.specs.Teams.{handles_of}
 use Rattle.pointers.specs.declared.program.teams.Teams.{Teams}
@@ -119,13 +118,6 @@ module _ {V : Type 0} where
             failed = sym same.failed i;
           };
         }
-
-  -- a leader's desk has room in a domain that fits it
-  pub room_for_leader : (shape : Shape) (y : DomainNow) (d : DeskNow V) (n h : ℕ) → IsOpened shape y d → Fits shape (record { workers = 1; pointers = n })
-      → h ≡ n + 2 → IsTooMuch d h 0 → ⊥
-  room_for_leader shape y d n h opened fits is =
-      let shares = opened_shares shape y (record { workers = 1; pointers = n }) d opened fits in let room = shares.room in
-      has_room d 1 0 h (held_of d) (omega arith) (omega (arith, is)) refl (omega (arith, is, room))
 
 -- the leader has few enough pointers
 pub few_handles : (shape : Shape) (n : ℕ) → Fits shape (record { workers = 1; pointers = n }) → n + 2 < 2 ^ 32

@@ -10,9 +10,9 @@ use Rattle.pointers.specs.Faults.{WhyNoMore}
 use Rattle.pointers.specs.ListChanges.{Appends, Comes, Follows, Heads, IsLast, IsListRefused, IsNode}
 use Rattle.pointers.specs.ListChanges.{IsNodeRefused, IsPlaceOf, IsRefusedAt, Passes, Pops, Swaps}
 use Rattle.pointers.specs.ListChanges.{Tells, WhyNotPushed}
-use Rattle.pointers.specs.Lists.{IsBrokenOff, IsCount, Leads, Site, Walks, WhyNotLed, behind, next_of}
+use Rattle.pointers.specs.Lists.{IsBrokenOff, Leads, Site, Walks, WhyNotLed, behind, next_of}
 use Rattle.pointers.specs.Lists.{somes}
-use Rattle.pointers.specs.Objects.{Makes}
+use Rattle.pointers.specs.Objects.{MakesPlain}
 use Rattle.pointers.specs.declared.fault.call.Call.TheVariants.{Share}
 
 -- a result that is this fault
@@ -98,22 +98,22 @@ module _ {V : Type 0} (o : DeskNow V) (Refused : Known V → Fault → Type 0) w
       refused_at s (next_of last) why (place_passed o s (next_of last) cs here) not
 
   -- what a refused call on a new node or on the first one is of a push
-  pub refused_follow : (s : Site V) (c : Known V) (new first : Option (Known V)) (why : Fault)
-      → Makes o (0 ∷ 0 ∷ 0 ∷ 0 ∷ []) c → new ≡ Some c → Leads o s first
+  pub refused_follow : (s : Site V) (x : V) (c : Known V) (new first : Option (Known V)) (why : Fault)
+      → MakesPlain o x c → new ≡ Some c → Leads o s first
       → IsSomeAnd new (λ (n : Known V). IsRefusedAt o (next_of n) why)
-      ⊎ IsSomeAnd first (λ (f : Known V). WhyNoMore o (Some f) Share why) → WhyNotPushed o Refused s why
-  refused_follow s c new first why made is leads (inl not) = inl (inr (
+      ⊎ IsSomeAnd first (λ (f : Known V). WhyNoMore o (Some f) Share why) → WhyNotPushed o Refused s x why
+  refused_follow s x c new first why made is leads (inl not) = inl (inr (
     c,
     made,
     inr (subst (λ (n : Option (Known V)). IsSomeAnd n (λ (m : Known V). IsRefusedAt o (next_of m) why)) is not),
   ))
-  refused_follow s c new None why made is leads (inr not) = absurd not
-  refused_follow s c new (Some f) why made is leads (inr not) = inr (refused_first s (Some f) f why leads refl (inr not))
+  refused_follow s x c new None why made is leads (inr not) = absurd not
+  refused_follow s x c new (Some f) why made is leads (inr not) = inr (refused_first s (Some f) f why leads refl (inr not))
 
 module _ {V E : Type 0} (o : DeskNow V) (GoesIn : Known V → E → Type 0) where
-  pub appends_behind : (s : Site V) (e : E) (c : Known V) (new got : Option (Known V)) (last : Known V) → IsNode o GoesIn e c
-      → new ≡ Some c → IsLast o s got → got ≡ Some last → Comes o (next_of last) new → Appends o GoesIn s e
-  appends_behind s e c new got last made is (cs, walk, ends) some comes = record {
+  pub appends_behind : (s : Site V) (e : E) (x : V) (c : Known V) (new got : Option (Known V)) (last : Known V) → IsNode o GoesIn e x c
+      → new ≡ Some c → IsLast o s got → got ≡ Some last → Comes o (next_of last) new → Appends o GoesIn s e x
+  appends_behind s e x c new got last made is (cs, walk, ends) some comes = record {
     node = c;
     made = made;
     before = cs;
@@ -123,9 +123,9 @@ module _ {V E : Type 0} (o : DeskNow V) (GoesIn : Known V → E → Type 0) wher
     comes = inl (subst (Comes o (next_of last)) is comes);
   }
 
-  pub appends_first : (s : Site V) (e : E) (c : Known V) (new got : Option (Known V)) → IsNode o GoesIn e c
-      → new ≡ Some c → IsLast o s got → got ≡ None → Swaps o s None new → Appends o GoesIn s e
-  appends_first s e c new got made is (cs, walk, ends) none swaps = record {
+  pub appends_first : (s : Site V) (e : E) (x : V) (c : Known V) (new got : Option (Known V)) → IsNode o GoesIn e x c
+      → new ≡ Some c → IsLast o s got → got ≡ None → Swaps o s None new → Appends o GoesIn s e x
+  appends_first s e x c new got made is (cs, walk, ends) none swaps = record {
     node = c;
     made = made;
     before = cs;
@@ -136,9 +136,9 @@ module _ {V E : Type 0} (o : DeskNow V) (GoesIn : Known V → E → Type 0) wher
   }
 
   -- a new node came first, before what the place held
-  pub heads : (s : Site V) (e : E) (c : Known V) (new first : Option (Known V)) (done : Bool) → IsNode o GoesIn e c → new ≡ Some c
-      → IfSome new (λ (n : Known V). Follows o n first) → (IsTrue done → Swaps o s first new) → done ≡ true → Heads o GoesIn s e
-  heads s e c new first done made is follows swaps did = record {
+  pub heads : (s : Site V) (e : E) (x : V) (c : Known V) (new first : Option (Known V)) (done : Bool) → IsNode o GoesIn e x c → new ≡ Some c
+      → IfSome new (λ (n : Known V). Follows o n first) → (IsTrue done → Swaps o s first new) → done ≡ true → Heads o GoesIn s e x
+  heads s e x c new first done made is follows swaps did = record {
     node = c;
     made = made;
     first = first;
@@ -233,18 +233,6 @@ module _ {V E : Type 0} (o : DeskNow V) (Copied : Known V → Option E → Type 
       → r ≡ Some c → Copied c x → is_some x ≡ false → Counted s (Some c) n
   counted_none_there s b r c None n counted leads some copied has = counted_past s b r c n counted leads some copied
   counted_none_there s b r c (Some e) n counted leads some copied has = absurd (cc has)
-
-  pub counted_ends : (s : Site V) (b r : Option (Known V)) (n : ℕ) → Counted s b n → Leads o (behind b s) r → r ≡ None
-      → IsCount o Copied s n
-  counted_ends s b r n counted leads none = (
-    counted.elements,
-    (behind b s, counted.walk, subst (λ (y : Option (Known V)). Leads o (behind b s) y) none leads),
-    counted.many,
-  )
-
-  pub counted_unled : (Refused : Known V → Fault → Type 0) (s : Site V) (b : Option (Known V)) (n : ℕ) (why : Fault)
-      → Counted s b n → WhyNotLed o (behind b s) why → IsBrokenOff o Copied Refused s why
-  counted_unled Refused s b n why counted unled = (counted.elements, (behind b s, counted.walk, inl unled))
 
   pub counted_refused : (Refused : Known V → Fault → Type 0) (s : Site V) (b r : Option (Known V)) (c : Known V) (n : ℕ) (why : Fault)
       → Counted s b n → Leads o (behind b s) r → r ≡ Some c → Refused c why → IsBrokenOff o Copied Refused s why

@@ -4,13 +4,14 @@ use Rattle.std.specs.Prelude.{◌≡◌, ◌⊎◌, Bool, true, false, Option, N
 use Rattle.control_word.specs.Handles.{equivalent}
 use Rattle.control_word.specs.declared.model.event.Cell.{Cell}
 use Rattle.control_word.specs.declared.model.handle.Kind.{Kind}
+use Rattle.control_word.specs.declared.model.handle.Kind.TheVariants.{Owner}
 use Rattle.control_word.specs.declared.place.Block.{Block}
 use Rattle.control_word.specs.declared.place.Place.{Place}
 use Rattle.control_block.specs.CellCalls.{handle_in}
 use Rattle.control_block.specs.Desks.{DeskNow}
 use Rattle.atomic_cells.specs.Compares.{Compares}
 use Rattle.pointers.specs.Beside.{Stays}
-use Rattle.pointers.specs.Cells.{CameTo, block_by, place_by}
+use Rattle.pointers.specs.Cells.{CameTo, Loaded, block_by, place_by}
 use Rattle.pointers.specs.Known.{GoesOn}
 use Rattle.pointers.specs.declared.known.Known.{Known}
 
@@ -38,6 +39,13 @@ module _ {V : Type 0} where
   Finds o of x k weak hoped new (Some held) =
       (after : DeskNow V) × IsCompared o of x k weak hoped new false (block_by held) (place_by held) after
       × CameTo held after
+
+  -- since the owner came, cell x held that owner, as a load told, or a compare that differed
+  abbrev pub Shows : DeskNow V → Option (Known V) → Cell → Option (Known V) → Type 0
+  Shows o of x got =
+      Loaded o of x Owner got
+      ⊎ ((weak : Bool) × (hoped : Option (Known V)) × (new : Option (Known V))
+      × Finds o of x Owner weak hoped new (Some got))
 
   -- what is desired after it: nothing where they were swapped
   abbrev pub desired_after : Option (Option (Known V)) → Option (Known V) → Option (Known V)

@@ -4,11 +4,11 @@ use Rattle.control_word.specs.declared.model.handle.Kind.TheVariants.{Owner}
 use Rattle.control_block.specs.Desks.{DeskNow}
 use Rattle.shared_handle.specs.declared.pile.Gone.{Gone}
 use Rattle.pointers.specs.Cells.{Stored, WhyNotDone, shared_cell_at}
-use Rattle.pointers.specs.Compares.{Finds}
+use Rattle.pointers.specs.Compares.{Finds, Shows}
 use Rattle.pointers.specs.Faults.{WhyNoMore, WhyNotMade}
 use Rattle.pointers.specs.Known.{AreOfOne, pointed}
 use Rattle.pointers.specs.Lists.{Leads, Site, behind, next_of}
-use Rattle.pointers.specs.Objects.{Makes}
+use Rattle.pointers.specs.Objects.{MakesPlain}
 use Rattle.pointers.specs.declared.fault.Fault.{Fault}
 use Rattle.pointers.specs.declared.fault.call.Call.{Call}
 use Rattle.pointers.specs.declared.fault.call.Call.TheVariants.{Share}
@@ -46,10 +46,7 @@ module _ {V : Type 0} where
 
   -- the place held that, as a load told, or a compare that differed
   abbrev pub Tells : DeskNow V → Site V → Option (Known V) → Type 0
-  Tells o s got =
-      Leads o s got
-      ⊎ ((weak : Bool) × (hoped : Option (Known V)) × (new : Option (Known V))
-      × Finds o s.of (shared_cell_at o s.of s.which s.number) Owner weak hoped new (Some got))
+  Tells o s got = Shows o s.of (shared_cell_at o s.of s.which s.number) got
 
   -- a place of the list: its own, or the one behind a node to which a walk came
   abbrev pub IsPlaceOf : DeskNow V → Site V → Site V → Type 0
@@ -76,14 +73,13 @@ module _ {V : Type 0} (o : DeskNow V) (Refused : Known V → Fault → Type 0) w
       × (IsRefusedAt o t why ⊎ ((c : Known V) × Leads o t (Some c) × IsNodeRefused c why))
 
   -- why there was no new node: none could be made, or a call on the one that was made was refused
-  abbrev pub WhyNoNode : Fault → Type 0
-  WhyNoNode why =
-      WhyNotMade why
-      ⊎ ((c : Known V) × Makes o (0 ∷ 0 ∷ 0 ∷ 0 ∷ []) c × (Refused c why ⊎ IsRefusedAt o (next_of c) why))
+  abbrev pub WhyNoNode : V → Fault → Type 0
+  WhyNoNode x why =
+      WhyNotMade why ⊎ ((c : Known V) × MakesPlain o x c × (Refused c why ⊎ IsRefusedAt o (next_of c) why))
 
   -- why an element didn't come: there was no new node, or a call on the list was refused
-  abbrev pub WhyNotPushed : Site V → Fault → Type 0
-  WhyNotPushed s why = WhyNoNode why ⊎ IsListRefused s why
+  abbrev pub WhyNotPushed : Site V → V → Fault → Type 0
+  WhyNotPushed s x why = WhyNoNode x why ⊎ IsListRefused s why
 
 module _ {V E : Type 0} (o : DeskNow V) (Copied : Known V → Option E → Type 0) where
   -- the first node went out, with that element
@@ -100,22 +96,22 @@ module _ {V E : Type 0} (o : DeskNow V) (Copied : Known V → Option E → Type 
   Pops s x = TakesFirst s x ⊎ (Leads o s None × (x ≡ None))
 
 module _ {V E : Type 0} (o : DeskNow V) (GoesIn : Known V → E → Type 0) where
-  -- a new node has the element
-  abbrev pub IsNode : E → Known V → Type 0
-  IsNode e c = Makes o (0 ∷ 0 ∷ 0 ∷ 0 ∷ []) c × GoesIn c e
+  -- a new node with this value has the element
+  abbrev pub IsNode : E → V → Known V → Type 0
+  IsNode e x c = MakesPlain o x c × GoesIn c e
 
-  -- a new node with the element came into the list's first place, and owns what that held
-  pub record Heads (s : Site V) (e : E) : Type 0 where
+  -- a new node with the element and this value came into the list's first place, and owns what that held
+  pub record Heads (s : Site V) (e : E) (x : V) : Type 0 where
     pub node : Known V
-    pub made : IsNode e node
+    pub made : IsNode e x node
     pub first : Option (Known V)
     pub follows : Follows o node first
     pub comes : Swaps o s first (Some node)
 
-  -- a new node with the element came behind the last one, or first where there was none
-  pub record Appends (s : Site V) (e : E) : Type 0 where
+  -- a new node with the element and this value came behind the last one, or first where there was none
+  pub record Appends (s : Site V) (e : E) (x : V) : Type 0 where
     pub node : Known V
-    pub made : IsNode e node
+    pub made : IsNode e x node
     pub before : List (Known V)
     pub at : Site V
     pub walk : Passes o s before at

@@ -1,10 +1,14 @@
 -- Objects by what is known of their handles.
-use Rattle.std.specs.Prelude.{◌≡◌, ℕ, false, List, slice_index, Option, None, Some}
+use Rattle.std.specs.Prelude.{◌≡◌, ℕ, Bool, false, true, List, [], ◌∷◌, slice_index, Option, None, Some}
+use Rattle.control_word.specs.declared.model.event.Entry.{Entry}
+use Rattle.control_word.specs.declared.model.event.Event.{Event}
+use Rattle.control_word.specs.declared.model.event.Event.TheVariants.{Make}
 use Rattle.control_word.specs.declared.place.Block.{Block}
 use Rattle.control_word.specs.declared.place.Place.{Place}
 use Rattle.control_word.specs.declared.refusal.Refusal.{Refusal}
 use Rattle.control_word.specs.declared.refusal.Refusal.TheVariants.{Null, Outside}
 use Rattle.control_word.specs.Events.{origin}
+use Rattle.control_word.specs.Histories.{entry}
 use Rattle.control_block.specs.Desks.{DeskNow}
 use Rattle.shared_handle.specs.Endings.{IsOutside}
 use Rattle.shared_handle.specs.Locks.{IsLock}
@@ -17,13 +21,29 @@ number_of_block None = 0
 number_of_block (Some b) = b.0
 
 module _ {V : Type 0} where
-  -- it is an owner of a new object with these fields, and points at the first ([util.smartptr.shared.create])
-  abbrev pub Makes : DeskNow V → List ℕ → Known V → Type 0
-  Makes o made c = (fields o c ≡ made) × ((b : Block) × (owned c ≡ Some b) × (pointed c ≡ origin b.0 false))
+  -- the handle came by this event of its desk
+  abbrev pub CameBy : DeskNow V → Event V → Known V → Type 0
+  CameBy o event c = (h : List (Entry V)) × (c.seen ≡ entry o.name event ∷ h)
 
-  -- it is an owner of a new object, and points nowhere ([util.smartptr.shared.const])
-  abbrev pub MakesNull : Known V → Type 0
-  MakesNull c = ((b : Block) × (owned c ≡ Some b)) × (pointed c ≡ None)
+  -- it is an owner of an object that was made just then, with these fields and this value, and points at the first
+  -- field ([util.smartptr.shared.create]); where the object is enabled, it gives pointers to itself
+  -- ([util.smartptr.enab])
+  abbrev pub Makes : DeskNow V → Bool → List ℕ → V → Known V → Type 0
+  Makes o enabled made x c =
+      (fields o c ≡ made)
+      × ((b : Block) × (owned c ≡ Some b) × (pointed c ≡ origin b.0 false)
+      × CameBy o (Make b enabled false made x) c)
+
+  -- the same of one with fields of 0 that gives none
+  abbrev pub MakesPlain : DeskNow V → V → Known V → Type 0
+  MakesPlain o = Makes o false (0 ∷ 0 ∷ 0 ∷ 0 ∷ [])
+
+  -- it is an owner of an object that was made just then with this value, and points nowhere
+  -- ([util.smartptr.shared.const])
+  abbrev pub MakesNull : DeskNow V → V → Known V → Type 0
+  MakesNull o x c =
+      ((b : Block) × (owned c ≡ Some b) × CameBy o (Make b false true (0 ∷ 0 ∷ 0 ∷ 0 ∷ []) x) c)
+      × (pointed c ≡ None)
 
   -- the field that the handle points at: place and object are of one block ([util.smartptr.shared.obs]; fields: own)
   abbrev pub IsField : DeskNow V → Known V → ℕ → Type 0

@@ -1,14 +1,14 @@
 -- What the calls on the values of what places hold say.
-use Rattle.std.specs.Prelude.{◌⊎◌, ℕ, false, [], ◌∷◌, Result, Ok, Err, Option, None, Some}
+use Rattle.std.specs.Prelude.{◌⊎◌, ℕ, false, Result, Ok, Err, Option, None, Some}
 use Rattle.control_word.specs.declared.model.event.Cell.{Cell}
 use Rattle.control_word.specs.declared.model.handle.Kind.TheVariants.{Owner}
 use Rattle.control_block.specs.Desks.{DeskNow}
 use Rattle.shared_handle.specs.Visits.{IsVisit}
 use Rattle.pointers.specs.Cells.{Loaded, WhyNotDone, WhyNotFound}
-use Rattle.pointers.specs.Compares.{Finds}
+use Rattle.pointers.specs.Compares.{Finds, Shows}
 use Rattle.pointers.specs.Faults.{WhyNotMade, WhyNotVisited}
 use Rattle.pointers.specs.Known.{Since, owned, pointed}
-use Rattle.pointers.specs.Objects.{Makes}
+use Rattle.pointers.specs.Objects.{MakesPlain}
 use Rattle.pointers.specs.declared.fault.Fault.{Fault}
 use Rattle.pointers.specs.declared.fault.call.Call.TheVariants.{CompareExchange, Load}
 use Rattle.pointers.specs.declared.fault.call.Spot.{Spot}
@@ -37,7 +37,7 @@ module _ {V : Type 0} where
   IsNewOf o None None = Unit {0}
   IsNewOf o None (Some c) = ⊥
   IsNewOf o (Some v) None = ⊥
-  IsNewOf o (Some v) (Some c) = Makes o (0 ∷ 0 ∷ 0 ∷ 0 ∷ []) c
+  IsNewOf o (Some v) (Some c) = MakesPlain o v c
 
   -- since the owner came, one step on cell x found a pointer, and put in its place a new object's, or an empty one, by
   -- what was answered of a copy of the value of what was found
@@ -52,12 +52,18 @@ module _ {V : Type 0} where
     pub new : IsNewOf o value made
     pub swaps : Finds o of x Owner false found made None
 
-  -- why it wasn't: no load was done, no copy was made of the value, the answer was so, or no object was made of it, or
-  -- no compare was done
-  abbrev pub WhyNotUpdated : DeskNow V → ℕ → Option (Known V) → ℕ → Spot
+  -- the cell held an owner, and a visit of its object was refused
+  pub record IsNotVisited (o : DeskNow V) (of : Option (Known V)) (x : Cell) (why : Fault) : Type 0 where
+    pub found : Known V
+    pub shows : Shows o of x (Some found)
+    pub refused : WhyNotVisited found why
+
+  -- why it wasn't: no load was done, no copy was made of the value of what the cell held, the answer was so, or no
+  -- object was made of it, or no compare was done
+  abbrev pub WhyNotUpdated : DeskNow V → ℕ → Option (Known V) → Cell → ℕ → Spot
       → (Option V → Result (Option V) Fault → Type 0) → Fault → Type 0
-  WhyNotUpdated o many of n at Answers why =
+  WhyNotUpdated o many of x n at Answers why =
       WhyNotDone o many of n (Load at) why
-      ⊎ (((c : Known V) × WhyNotVisited c why)
+      ⊎ (IsNotVisited o of x why
       ⊎ (((old : Option V) × Answers old (Err why))
       ⊎ (WhyNotMade why ⊎ WhyNotDone o many of n (CompareExchange at) why)))

@@ -23,8 +23,8 @@ mod walks;
 /// caller's.
 ///
 /// Any thread may walk over a list, and put elements at its front, at any time. All other calls are for one thread at a
-/// time; but where no thread makes another of them, each may take elements from the front. A walk needs two pointers at
-/// a time more than its caller has, a removal four.
+/// time; but where no thread makes another of them, each may take elements from the front. A walk needs three pointers
+/// at a time more than its caller has, a removal four.
 pub struct List<'p, 't, D: Domain, E> {
     pub(crate) desk: &'t Desk<'t, D>,
     /// The owner whose object's member has the first node.

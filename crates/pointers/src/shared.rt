@@ -8,6 +8,7 @@ ghost use Rattle.shared_handle.specs.Visits.{IsVisit};
 ghost use Rattle.pointers.specs.Faults.{WhyNoMore, WhyNoThis, WhyNot, WhyNotVisited};
 ghost use Rattle.pointers.specs.Known.{AreOfOne, Since, owned, pointed};
 ghost use Rattle.pointers.specs.Objects.{IsField, WhyNoField, number_of_block};
+ghost use Rattle.pointers.specs.Values.{IsCopied};
 
 use crate::claim::shared_claim::SharedClaim;
 use crate::desk::Desk;
@@ -15,7 +16,7 @@ use crate::domain::Domain;
 use crate::fault::Fault;
 use crate::fault::call::Call;
 use crate::weak::Weak;
-use control_word::{Block, Place, Refusal};
+use control_word::{Block, Place};
 use std::marker::Model;
 use std::sync::Wait;
 
@@ -246,8 +247,7 @@ impl<'t, D: Domain> Shared<'t, D> {
     pub fn snapshot<R: Wait>(&self, rt: &R) -> Result<D::Value, Fault>
     where
         D::Value: Clone,
-        ensures copy { IfOk result (λ v. Since D.opened self.now (λ d e. IsVisit (λ was r becomes.
-            D.Value.is_clone was r) v d (owned self.now) (pointed self.now) (Ok v) e)) }
+        ensures copy { IfOk result (IsCopied D.opened D.Value.is_clone self.now) }
         ensures fault { IfErr result (WhyNotVisited self.now) }
     {
         match self.visit(rt, |value| value.clone())? {

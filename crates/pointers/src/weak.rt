@@ -13,7 +13,6 @@ use crate::domain::Domain;
 use crate::fault::Fault;
 use crate::fault::call::Call;
 use crate::shared::{Shared, comes_before};
-use control_word::Refusal;
 use std::marker::Model;
 use std::sync::Wait;
 

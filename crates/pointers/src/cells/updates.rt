@@ -1,5 +1,5 @@
 //! Places that get what is made of what they hold.
-ghost use Rattle.std.specs.Prelude.{◌≡◌, IfErr, IfOk, OnOk};
+ghost use Rattle.std.specs.Prelude.{◌≡◌, IfErr, IfOk, OnOk, Some};
 ghost use Rattle.pointers.specs.Beside.{seen_by};
 ghost use Rattle.pointers.specs.Cells.{shared_cell_at, shared_spot};
 ghost use Rattle.pointers.specs.Faults.{WhyNotMade, WhyNotVisited};
@@ -20,7 +20,7 @@ fn value_of<'t, D: Domain, R: Wait>(
 where
     D::Value: Clone,
     ensures copied { IfOk result (IsValueOf D.opened D.Value.is_clone of.now) }
-    ensures refused { IfErr result (λ why. (c : Known D.Value) × WhyNotVisited c why) }
+    ensures refused { IfErr result (λ why. (c : Known D.Value) × (of.now ≡ Some c) × WhyNotVisited c why) }
 {
     match of {
         Some(of) => {
@@ -63,7 +63,9 @@ where
             (shared_cell_at D.opened (seen_by (λ x. x.now.known) self.now.of)
             self.now.which self.now.number) (λ old r. (s : F) × (t : F) × F.step s old r t)) }
         ensures refused { IfErr result (WhyNotUpdated D.opened D.opened.shape.shared_cells
-            (seen_by (λ x. x.now.known) self.now.of) self.now.number
+            (seen_by (λ x. x.now.known) self.now.of)
+            (shared_cell_at D.opened (seen_by (λ x. x.now.known) self.now.of) self.now.which self.now.number)
+            self.now.number
             (shared_spot (seen_by (λ x. x.now.known) self.now.of) self.now.which self.now.number)
             (λ old r. (s : F) × (t : F) × F.step s old r t)) }
     {

@@ -1,5 +1,5 @@
 //! Waiting for a place to hold something else.
-ghost use Rattle.std.specs.Prelude.{◌≡◌, false, IfErr, OnOk};
+ghost use Rattle.std.specs.Prelude.{false, IfErr, OnOk};
 ghost use Rattle.control_word.specs.declared.model.handle.Kind.TheVariants.{Owner};
 ghost use Rattle.pointers.specs.Beside.{seen_by};
 ghost use Rattle.pointers.specs.Cells.{LookedFor, WhyNotLooked, shared_cell_at, shared_spot};

@@ -23,7 +23,7 @@ impl<D: Domain> Context<D> {
         requires { Belongs D.opened domain.now }
         ensures refused { IfErr result (λ r. (r.why ≡ Refusal.Limit) ⊎ (r.why ≡ Refusal.Full)) }
         ensures back { IfErr result (λ r. r.back ≡ value) }
-        ensures made { IfOk result (λ r. Makes D.opened fields r.known) }
+        ensures made { IfOk result (λ r. Makes D.opened enabled fields value r.known) }
     {
         self.restock(domain);
         self.desk.assert_invariant();
@@ -40,7 +40,7 @@ impl<D: Domain> Context<D> {
         requires { Belongs D.opened domain.now }
         ensures refused { IfErr result (λ r. (r.why ≡ Refusal.Limit) ⊎ (r.why ≡ Refusal.Full)) }
         ensures back { IfErr result (λ r. r.back ≡ value) }
-        ensures made { IfOk result (λ r. MakesNull r.known) }
+        ensures made { IfOk result (λ r. MakesNull D.opened value r.known) }
     {
         self.restock(domain);
         self.desk.assert_invariant();

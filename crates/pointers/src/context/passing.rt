@@ -1,6 +1,6 @@
 //! Owners between claims and cells.
 ghost use Rattle.std.specs.Prelude.{◌≡◌, ◌↔◌, [], ◌∷◌, IfErr, IfOk, IsErr, None, true};
-ghost use Rattle.control_block.specs.Desks.{Belongs, DeskNow};
+ghost use Rattle.control_block.specs.Desks.{Belongs};
 ghost use Rattle.control_block.specs.declared.handles.Held.TheVariants as held;
 ghost use Rattle.pointers.specs.Beside.{Arrives, IsClaimed, IsEmptyHandle, IsHandleOf, IsWholeBeside, Stays, seen_by};
 ghost use Rattle.pointers.specs.Known.{IsAtAllowance};

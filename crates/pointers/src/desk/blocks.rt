@@ -67,8 +67,8 @@ impl<'d, D: Domain> Desk<'d, D> {
     /// The desk fills its reserve of `RESERVE` blocks from the shelf (own): how many blocks came.
     pub fn unshelve(&self) -> Result<u32, Fault>
         ensures filled { IfOk result (λ n. SinceOpened D.opened (Fills n)) }
-        ensures fault { IfErr result (λ why. why ≡ Fault.Busy Call.Shelve) }
+        ensures fault { IfErr result (λ why. why ≡ Fault.Busy Call.Unshelve) }
     {
-        Ok(self.open(Call::Shelve)?.fill(self.domain))
+        Ok(self.open(Call::Unshelve)?.fill(self.domain))
     }
 }

@@ -127,7 +127,7 @@ impl<'d, D: Domain> Desk<'d, D> {
         requires { F.IsAlwaysCallable f }
         ensures updated { OnOk result (IsUpdated D.opened D.Value.is_clone None (Free cell.0)
             (λ old r. (s : F) × (t : F) × F.step s old r t)) }
-        ensures refused { IfErr result (WhyNotUpdated D.opened D.opened.shape.shared_cells None cell.0
+        ensures refused { IfErr result (WhyNotUpdated D.opened D.opened.shape.shared_cells None (Free cell.0) cell.0
             (spot.Shared cell.0) (λ old r. (s : F) × (t : F) × F.step s old r t)) }
     {
         self.cell(cell).update(rt, f)

@@ -1,6 +1,6 @@
 //! Owners of new objects.
-ghost use Rattle.std.specs.Prelude.{◌≡◌, ◌∷◌, [], IfErr, IfOk};
-ghost use Rattle.pointers.specs.Objects.{Makes, MakesNull};
+ghost use Rattle.std.specs.Prelude.{◌≡◌, IfErr, IfOk, false, true};
+ghost use Rattle.pointers.specs.Objects.{Makes, MakesNull, MakesPlain};
 ghost use Rattle.pointers.specs.Faults.{WhyNotMade};
 
 use crate::desk::Desk;
@@ -19,7 +19,7 @@ impl<'d, D: Domain> Desk<'d, D> {
         fields: [u64; 4],
         value: D::Value,
     ) -> Result<Shared<'_, D>, Refused<D::Value>>
-        ensures made { IfOk result (Makes D.opened fields) }
+        ensures made { IfOk result (Makes D.opened false fields value) }
         ensures fault { IfErr result (λ r. WhyNotMade r.why) }
         ensures back { IfErr result (λ r. r.back ≡ value) }
     {
@@ -29,7 +29,7 @@ impl<'d, D: Domain> Desk<'d, D> {
     /// The same with four fields of 0, in Rust `Arc::new`.
     #[inline(always)]
     pub fn new(&self, value: D::Value) -> Result<Shared<'_, D>, Refused<D::Value>>
-        ensures made { IfOk result (Makes D.opened (0 ∷ 0 ∷ 0 ∷ 0 ∷ [])) }
+        ensures made { IfOk result (MakesPlain D.opened value) }
         ensures fault { IfErr result (λ r. WhyNotMade r.why) }
         ensures back { IfErr result (λ r. r.back ≡ value) }
     {
@@ -44,7 +44,7 @@ impl<'d, D: Domain> Desk<'d, D> {
         fields: [u64; 4],
         value: D::Value,
     ) -> Result<Shared<'_, D>, Refused<D::Value>>
-        ensures made { IfOk result (Makes D.opened fields) }
+        ensures made { IfOk result (Makes D.opened true fields value) }
         ensures fault { IfErr result (λ r. WhyNotMade r.why) }
         ensures back { IfErr result (λ r. r.back ≡ value) }
     {
@@ -58,7 +58,7 @@ impl<'d, D: Domain> Desk<'d, D> {
         enabled: bool,
         value: D::Value,
     ) -> Result<Shared<'_, D>, Refused<D::Value>>
-        ensures made { IfOk result (Makes D.opened fields) }
+        ensures made { IfOk result (Makes D.opened enabled fields value) }
         ensures fault { IfErr result (λ r. WhyNotMade r.why) }
         ensures back { IfErr result (λ r. r.back ≡ value) }
     {
@@ -78,7 +78,7 @@ impl<'d, D: Domain> Desk<'d, D> {
     /// An owner of a null pointer, with a value for its end, in C++ `shared_ptr(nullptr, d)`
     /// ([util.smartptr.shared.const]). Refused as `make` is.
     pub fn make_null(&self, value: D::Value) -> Result<Shared<'_, D>, Refused<D::Value>>
-        ensures made { IfOk result MakesNull }
+        ensures made { IfOk result (MakesNull D.opened value) }
         ensures fault { IfErr result (λ r. WhyNotMade r.why) }
         ensures back { IfErr result (λ r. r.back ≡ value) }
     {

@@ -41,11 +41,8 @@ pub enum Call {
     Lock,
     Upgrade,
     Read,
-    Place,
     UseCount,
     Expired,
-    SamePlace,
-    OwnerBefore,
     Visit,
     Load(Spot),
     Holds(Spot),
@@ -55,18 +52,8 @@ pub enum Call {
     CompareExchange(Spot),
     Settle,
     Shelve,
+    Unshelve,
     Team,
-    Stack(Spot),
-    Push,
-    Pop,
-    Observers(Spot),
-    Attach,
-    Each,
-    Prune,
-    Scene,
-    AddChild,
-    Detach,
-    Teardown,
 }
 
 impl Call {
@@ -82,11 +69,8 @@ impl Call {
             Call::Lock => "lock",
             Call::Upgrade => "upgrade",
             Call::Read => "read",
-            Call::Place => "place",
             Call::UseCount => "use_count",
             Call::Expired => "expired",
-            Call::SamePlace => "same_place",
-            Call::OwnerBefore => "owner_before",
             Call::Visit => "visit",
             Call::Load(_) => "load",
             Call::Holds(_) => "holds",
@@ -96,25 +80,8 @@ impl Call {
             Call::CompareExchange(_) => "compare_exchange",
             Call::Settle => "settle",
             Call::Shelve => "shelve",
+            Call::Unshelve => "unshelve",
             Call::Team => "team",
-            _ => self.name_of_structure(),
-        }
-    }
-
-    /// The same of a call on a structure.
-    fn name_of_structure(&self) -> &'static str {
-        match self {
-            Call::Stack(_) => "stack",
-            Call::Push => "push",
-            Call::Pop => "pop",
-            Call::Observers(_) => "observers",
-            Call::Attach => "attach",
-            Call::Each => "each",
-            Call::Prune => "prune",
-            Call::Scene => "scene",
-            Call::AddChild => "add_child",
-            Call::Detach => "detach",
-            _ => "teardown",
         }
     }
 
@@ -127,8 +94,6 @@ impl Call {
             Call::Exchange(spot) => Some(*spot),
             Call::Clear(spot) => Some(*spot),
             Call::CompareExchange(spot) => Some(*spot),
-            Call::Stack(spot) => Some(*spot),
-            Call::Observers(spot) => Some(*spot),
             _ => None,
         }
     }

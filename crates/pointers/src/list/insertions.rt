@@ -16,8 +16,8 @@ use std::sync::Wait;
 impl<'p, 't, D: Domain, E: Element<Shared<'t, D>>> List<'p, 't, D, E> {
     /// A node that has the element.
     fn node(&self, element: E, value: D::Value) -> Result<Shared<'t, D>, Fault>
-        ensures made { IfOk result (IsNode D.opened E.goes_in element) }
-        ensures refused { IfErr result (WhyNoNode D.opened E.refused) }
+        ensures made { IfOk result (IsNode D.opened E.goes_in element value) }
+        ensures refused { IfErr result (WhyNoNode D.opened E.refused value) }
     {
         let node = self.desk.new(value)?;
         element.put(&node)?;
@@ -75,8 +75,10 @@ impl<'p, 't, D: Domain, E: Element<Shared<'t, D>>> List<'p, 't, D, E> {
     pub fn push<R: Wait>(&self, rt: &R, element: E) -> Result<(), Fault>
     where
         D::Value: Default,
-        ensures pushed { OnOk result (Appends D.opened E.goes_in self.now element) }
-        ensures fault { IfErr result (WhyNotPushed D.opened E.refused self.now) }
+        ensures pushed { OnOk result ((x : D.Value) × D.Value.is_default x
+            × Appends D.opened E.goes_in self.now element x) }
+        ensures fault { IfErr result (λ why. (x : D.Value) × D.Value.is_default x
+            × WhyNotPushed D.opened E.refused self.now x why) }
     {
         self.push_with(rt, element, D::Value::default())
     }
@@ -86,16 +88,18 @@ impl<'p, 't, D: Domain, E: Element<Shared<'t, D>>> List<'p, 't, D, E> {
     pub fn push_front<R: Wait>(&self, rt: &R, element: E) -> Result<(), Fault>
     where
         D::Value: Default,
-        ensures pushed { OnOk result (Heads D.opened E.goes_in self.now element) }
-        ensures fault { IfErr result (WhyNotPushed D.opened E.refused self.now) }
+        ensures pushed { OnOk result ((x : D.Value) × D.Value.is_default x
+            × Heads D.opened E.goes_in self.now element x) }
+        ensures fault { IfErr result (λ why. (x : D.Value) × D.Value.is_default x
+            × WhyNotPushed D.opened E.refused self.now x why) }
     {
         self.push_front_with(rt, element, D::Value::default())
     }
 
     /// As `push`, in a node with this value.
     pub fn push_with<R: Wait>(&self, rt: &R, element: E, value: D::Value) -> Result<(), Fault>
-        ensures pushed { OnOk result (Appends D.opened E.goes_in self.now element) }
-        ensures fault { IfErr result (WhyNotPushed D.opened E.refused self.now) }
+        ensures pushed { OnOk result (Appends D.opened E.goes_in self.now element value) }
+        ensures fault { IfErr result (WhyNotPushed D.opened E.refused self.now value) }
     {
         let mut node = Some(self.node(element, value)?);
         for _ in rt.forever() {
@@ -114,8 +118,8 @@ impl<'p, 't, D: Domain, E: Element<Shared<'t, D>>> List<'p, 't, D, E> {
 
     /// As `push_front`, in a node with this value.
     pub fn push_front_with<R: Wait>(&self, rt: &R, element: E, value: D::Value) -> Result<(), Fault>
-        ensures pushed { OnOk result (Heads D.opened E.goes_in self.now element) }
-        ensures fault { IfErr result (WhyNotPushed D.opened E.refused self.now) }
+        ensures pushed { OnOk result (Heads D.opened E.goes_in self.now element value) }
+        ensures fault { IfErr result (WhyNotPushed D.opened E.refused self.now value) }
     {
         let mut node = Some(self.node(element, value)?);
         for _ in rt.forever() {

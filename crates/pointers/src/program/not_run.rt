@@ -52,7 +52,7 @@ impl fmt::Display for NotRun {
                 let (number, is, limit) = (at.number, at.is, at.limit);
                 write!(f, "{number} {is}, at most {limit}")
             }
-            NotRun::Memory => f.write_str("no memory"),
+            NotRun::Memory => f.write_str("no memory or no thread"),
         }
     }
 }

@@ -1,6 +1,5 @@
 //! A worker at a desk of its own.
 ghost use Rattle.std.specs.Prelude.{◌≡◌, []};
-ghost use Rattle.control_block.specs.Desks.{allowance_of};
 ghost use Rattle.shared_handle.specs.Piles.{Bears};
 ghost use Rattle.pointers.specs.Programs.{HasWorked};
 

@@ -7,7 +7,7 @@ use Rattle.pointer_structures.proofs.observers.Observers.attach.Goals as goal
 
 pub returns-clause-attached : goal.returns-clause-attached
 returns-clause-attached g c =
-    subst (λ (s : Site g.row.D-Value.Denot). OnOk c.push_front_with.result (Watches g.D.Domain.opened s c.args.subject.now)) c.self.view_is
+    subst (λ (s : Site g.row.D-Value.Denot). OnOk c.push_front_with.result (Watches g.D.Domain.opened s c.args.subject.now c.args.value)) c.self.view_is
     (on_ok c.push_front_with.result _ _ (λ heads. record {
       weak = c.in_ok-downgrade.field-0;
       same = c.in_ok-downgrade.ensures.one;
@@ -16,5 +16,5 @@ returns-clause-attached g c =
 
 pub returns-clause-fault : goal.returns-clause-fault
 returns-clause-fault g c =
-    subst (λ (s : Site g.row.D-Value.Denot). IfErr c.push_front_with.result (WhyNotAttached g.D.Domain.opened s c.args.subject.now))
+    subst (λ (s : Site g.row.D-Value.Denot). IfErr c.push_front_with.result (WhyNotAttached g.D.Domain.opened s c.args.subject.now c.args.value))
     c.self.view_is (errs_map _ _ c.push_front_with.result (λ why not. inr not) c.push_front_with.ensures.fault)

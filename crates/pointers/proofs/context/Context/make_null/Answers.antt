@@ -3,6 +3,7 @@ use Rattle.pointers.proofs.Prelude.{bears_kept, domain_of}
 use Rattle.control_block.specs.declared.handles.Held.TheVariants as held
 use Rattle.pointers.proofs.Calls.{by_make}
 use Rattle.pointers.proofs.Handles.{more}
+use Rattle.pointers.proofs.Later.{goes_then}
 use Rattle.pointers.proofs.Objects.{makes_null}
 use Rattle.pointers.proofs.context.Context.make_null.Goals as goal
 
@@ -18,5 +19,9 @@ invariant_of-self-2 g c =
 
 pub returns-clause-made : goal.returns-clause-made
 returns-clause-made g c =
-    makes_null c.self.inside.desk c.make_null.new.desk c.in_ok-handle.handle
-    c.register.result.known c.args.value c.in_ok-handle.ensures.event c.register.ensures.known
+    let o = g.D.Domain.opened in let d = c.self.inside.desk in let e = c.make_null.new.desk in
+    let h = c.in_ok-handle.handle in let says = c.in_ok-handle.ensures in
+    makes_null o d e h c.register.result.known c.args.value
+    (goes_then o d e c.self.invariant.opened
+    (by_make d false true (0 ∷ 0 ∷ 0 ∷ 0 ∷ []) c.args.value h.block h.place e says.event).goes) says.event
+    c.register.ensures.known

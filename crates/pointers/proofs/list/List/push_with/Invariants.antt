@@ -5,4 +5,4 @@ use Rattle.pointers.proofs.list.List.push_with.Given as goal
 
 abbrev pub invariant-loop : goal.invariant-loop
 invariant-loop g l =
-    (c : Known g.row.D-Value.Denot) × IsNode g.D.Domain.opened g.E.Element.goes_in l.fn.element c × (l.node ≡ Some c)
+    (c : Known g.row.D-Value.Denot) × IsNode g.D.Domain.opened g.E.Element.goes_in l.fn.element l.fn.value c × (l.node ≡ Some c)

@@ -5,7 +5,7 @@ use Rattle.pointers.specs.Lists.{behind}
 use Rattle.pointers.proofs.Handles.{errs_map}
 use Rattle.pointer_structures.specs.Trees.{first_of}
 use Rattle.pointer_structures.proofs.Steps.{refused_in}
-use Rattle.pointer_structures.proofs.scene.child_behind.Goals as goal
+use Rattle.pointer_structures.proofs.tree.child_behind.Goals as goal
 
 pub returns-in-Some-clause-fault : goal.returns-in-Some-clause-fault
 returns-in-Some-clause-fault g c =

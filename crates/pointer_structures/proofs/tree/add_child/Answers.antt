@@ -3,7 +3,7 @@ use Rattle.pointers.proofs.Handles.{errs_map}
 use Rattle.pointers.proofs.ListSteps.{fault_is, on_ok, refused_here}
 use Rattle.pointer_structures.specs.Trees.{WhyNotJoined}
 use Rattle.pointer_structures.proofs.Steps.{child_first, child_refused, comes_up, up_refused}
-use Rattle.pointer_structures.proofs.scene.add_child.Goals as goal
+use Rattle.pointer_structures.proofs.tree.add_child.Goals as goal
 
 pub returns-in_err-top-clause-fault : goal.returns-in_err-top-clause-fault
 returns-in_err-top-clause-fault g c =

@@ -3,7 +3,7 @@ use Rattle.pointers.proofs.Handles.{errs_map}
 use Rattle.pointers.proofs.ListSteps.{fault_is}
 use Rattle.pointer_structures.specs.Trees.{HasParent, WhyNotDetached}
 use Rattle.pointer_structures.proofs.Steps.{leaves, up_refused}
-use Rattle.pointer_structures.proofs.scene.detach.Goals as goal
+use Rattle.pointer_structures.proofs.tree.detach.Goals as goal
 
 pub returns-in_err-parent-clause-fault : goal.returns-in_err-parent-clause-fault
 returns-in_err-parent-clause-fault g c =

@@ -5,7 +5,7 @@ use Rattle.pointers.specs.Lists.{behind}
 use Rattle.pointers.proofs.Handles.{errs_map}
 use Rattle.pointer_structures.specs.Trees.{first_of}
 use Rattle.pointer_structures.proofs.Steps.{refused_in, unlinks}
-use Rattle.pointer_structures.proofs.scene.unlink.Goals as goal
+use Rattle.pointer_structures.proofs.tree.unlink.Goals as goal
 
 pub returns-in-Some-clause-out : goal.returns-in-Some-clause-out
 returns-in-Some-clause-out g c =

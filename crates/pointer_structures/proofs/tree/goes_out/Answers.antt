@@ -4,7 +4,7 @@ use Rattle.pointers.proofs.Handles.{errs_map}
 use Rattle.pointers.proofs.ListSteps.{fault_is}
 use Rattle.pointer_structures.specs.Trees.{IsChildRefused}
 use Rattle.pointer_structures.proofs.Steps.{passed_ends, passed_none, passed_on, passed_out, passed_refused, unlink_refused}
-use Rattle.pointer_structures.proofs.scene.goes_out.Goals as goal
+use Rattle.pointer_structures.proofs.tree.goes_out.Goals as goal
 
 pub loop-init : goal.loop-init
 loop-init g c = passed_none g.D.Domain.opened c.args.parent.now c.args.node.now

@@ -2,7 +2,7 @@
 ghost use Rattle.std.specs.Prelude.{◌⊎◌, IfErr, IfOk, IsTrue, OnOk};
 ghost use Rattle.pointers.specs.ListChanges.{IsRefusedAt};
 ghost use Rattle.pointers.specs.Lists.{Leads, behind, next_of};
-ghost use Rattle.pointer_structures.specs.Trees.{Detaches, GoesOut, IsChildRefused, IsNoChild, Joins, Unlinks};
+ghost use Rattle.pointer_structures.specs.Trees.{Detaches, LeavesChildren, IsChildRefused, IsNoChild, Joins, Unlinks};
 ghost use Rattle.pointer_structures.specs.Trees.{WhyNotDetached, WhyNotJoined, first_of};
 
 use crate::stack::{Stack, next, put_next};
@@ -11,7 +11,8 @@ use std::sync::Wait;
 
 /// The child becomes the parent's first one, and has the one that was first as its next sibling (waits). Where it has a
 /// parent, it is detached first. `Refused(_, Null)` or `Refused(_, Outside)` where a pointer isn't into the object that
-/// it owns; the child has let go then.
+/// it owns; the child has let go then. One thread at a time moves a node. A call wants five pointers of the desk's to be
+/// unused.
 pub fn add_child<'t, R: Wait, D: Domain>(
     rt: &R,
     parent: &Shared<'t, D>,
@@ -53,7 +54,7 @@ fn goes_out<'t, R: Wait, D: Domain>(
     node: &Shared<'t, D>,
 ) -> Result<bool, Fault>
     ensures out { IfOk result (λ done. IsTrue done
-        → GoesOut D.opened parent.now node.now ⊎ IsNoChild D.opened parent.now node.now) }
+        → LeavesChildren D.opened parent.now node.now ⊎ IsNoChild D.opened parent.now node.now) }
     ensures fault { IfErr result (IsChildRefused D.opened parent.now node.now) }
 {
     let mut before: Option<Shared<'t, D>> = None;
