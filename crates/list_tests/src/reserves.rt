@@ -57,7 +57,7 @@ fn is_settled<R: Wait, D: Domain<Value = u64>>(rt: &R, desk: &Desk<D>) -> Result
     })?;
     row(10, busy.0 == Some(Fault::Busy(Call::Settle)))?;
     row(11, busy.1 == Some(Fault::Busy(Call::Shelve)))?;
-    row(12, busy.2 == Some(Fault::Busy(Call::Shelve)))
+    row(12, busy.2 == Some(Fault::Busy(Call::Unshelve)))
 }
 
 #[test]
