@@ -119,7 +119,8 @@ def random_script(chance, count, plain):
     chance.shuffle(beginnings)
     threads = []
     for number, begins in enumerate(beginnings):
-        cells = SHARED if is_shared else (f"s{number}", f"w{number}")
+        # (where they share none, a cell of one kind has the number of another thread's of the other)
+        cells = SHARED if is_shared else (f"s{number}", f"w{count - 1 - number}")
         threads.append(Thread(chance, cells, plain).begin(begins[is_weak], [5, 2, 1][count - 2]))
     header = chance.choice(["", *["version 2 blocks 64\n"] * 4])
     return (header + "thread\n".join(threads)).encode(), is_shared

@@ -64,8 +64,25 @@ fn cell_of(act: Act) -> Option<CellName> {
         Act::Offer { cell, .. }
         | Act::Exchange { cell, .. }
         | Act::Load { cell }
-        | Act::Compare { cell, .. } => Some(cell),
-        _ => None,
+        | Act::Compare { cell, .. }
+        | Act::Swap { cell }
+        | Act::Holds { cell, .. } => Some(cell),
+        Act::Make { .. }
+        | Act::Share { .. }
+        | Act::Alias { .. }
+        | Act::Move { .. }
+        | Act::Downgrade { .. }
+        | Act::Lock { .. }
+        | Act::Put { .. }
+        | Act::Leave { .. }
+        | Act::Clear { .. }
+        | Act::Count { .. }
+        | Act::Expired { .. }
+        | Act::Read { .. }
+        | Act::FromThis { .. }
+        | Act::Ask { .. }
+        | Act::Drop
+        | Act::OnShelf { .. } => None,
     }
 }
 
