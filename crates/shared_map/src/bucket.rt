@@ -1,10 +1,11 @@
 //! Buckets of a map.
-ghost use Rattle.std.specs.Prelude.{IfErr, IfOk, IfSome};
+ghost use Rattle.std.specs.Prelude.{◌≡◌, IfErr, IfOk, IfSome};
 ghost use Rattle.pointers.specs.Objects.{IsField};
 ghost use Rattle.shared_map.specs.Maps.{Gets, Locks};
 ghost use Rattle.shared_map.specs.Refusals.{WhyNotFound, WhyNotPut};
+ghost use Rattle.shared_map.specs.Sweeps.{Begins, LeadsInto, node_if};
 
-use crate::entry::{get, lock};
+use crate::entry::{behind, get, lock};
 use crate::node::node_in;
 use pointers::{Desk, Domain, Fault, Shared};
 use std::sync::Wait;
@@ -27,7 +28,9 @@ impl<'t, D: Domain> Drop for Bucket<'t, D> {
 impl<'t, D: Domain> Bucket<'t, D> {
     /// The bucket's first entry is known from now on.
     #[inline(always)]
-    fn keep(&mut self, first: Shared<'t, D>) {
+    fn keep(&mut self, first: Shared<'t, D>)
+        ensures { self.new.node ≡ first.entry }
+    {
         self.node = first;
         self.is_entry = true;
     }
@@ -35,12 +38,14 @@ impl<'t, D: Domain> Bucket<'t, D> {
     /// Whether the bucket has an entry (waits). The first is known then.
     #[inline(always)]
     fn has_entry<R: Wait>(&mut self, rt: &R) -> Result<bool, Fault>
-        ensures { IfErr result WhyNotFound }
+        ensures first { IfOk result (λ has. LeadsInto D.opened self.old.node self.old.is_entry
+            (node_if has self.new.node)) }
+        ensures refused { IfErr result WhyNotFound }
     {
         if self.is_entry {
             return Ok(true);
         }
-        let first = self.node.next().load(rt)?;
+        let first = behind(rt, &self.node)?;
         match first {
             Some(first) => {
                 self.keep(first);
@@ -52,7 +57,8 @@ impl<'t, D: Domain> Bucket<'t, D> {
 
     /// The bucket's first entry, if there is one (waits).
     pub(crate) fn first<R: Wait>(&mut self, rt: &R) -> Result<Option<Shared<'t, D>>, Fault>
-        ensures { IfErr result WhyNotFound }
+        ensures begins { IfOk result (Begins D.opened self.old.node self.old.is_entry) }
+        ensures refused { IfErr result WhyNotFound }
     {
         if self.has_entry(rt)? {
             let first = self.node.share()?;

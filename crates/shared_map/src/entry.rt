@@ -5,12 +5,36 @@ ghost use Rattle.control_word.specs.declared.model.handle.Kind.TheVariants.{Owne
 ghost use Rattle.atomic_cells.specs.declared.sites.SharedMember.TheVariants.{First};
 ghost use Rattle.pointers.specs.Cells.{Exchanged, IsOwnerOf, Loaded, shared_cell_at, weak_cell_at};
 ghost use Rattle.pointers.specs.Compares.{Compared};
+ghost use Rattle.pointers.specs.Lists.{Leads, next_of};
+ghost use Rattle.pointers.specs.Objects.{IsField};
 ghost use Rattle.pointers.specs.declared.known.Known.{Known};
 ghost use Rattle.shared_map.specs.Maps.{InsertsIn, LocksIn, Replaces};
 ghost use Rattle.shared_map.specs.Refusals.{WhyNotFound};
+ghost use Rattle.shared_map.specs.Sweeps.{IsExpired, Prunes, TakesWeak};
 
 use pointers::{Domain, Fault, Shared, Weak};
 use std::sync::Wait;
+
+/// An entry's key.
+#[inline(always)]
+pub(crate) fn key_of<'t, D: Domain>(entry: &Shared<'t, D>) -> Result<u64, Fault>
+    ensures key { IfOk result (IsField D.opened entry.now) }
+    ensures refused { IfErr result WhyNotFound }
+{
+    entry.read()
+}
+
+/// The entry behind another of its bucket (waits). None where there is none.
+#[inline(always)]
+pub(crate) fn behind<'t, D: Domain, R: Wait>(
+    rt: &R,
+    entry: &Shared<'t, D>,
+) -> Result<Option<Shared<'t, D>>, Fault>
+    ensures led { IfOk result (Leads D.opened (next_of entry.now)) }
+    ensures refused { IfErr result WhyNotFound }
+{
+    entry.next().load(rt)
+}
 
 /// An owner of what a weak pointer is of, just where one remains (waits).
 #[inline(always)]
@@ -149,22 +173,37 @@ pub(crate) fn take<'t, D: Domain, R: Wait>(
     place.compare_exchange_strong(rt, &mut held, &mut none)
 }
 
-/// The weak pointer comes out of an entry if its object has ended (waits). Whether it had.
-pub(crate) fn take_expired<D: Domain, R: Wait>(rt: &R, entry: &Shared<'_, D>) -> Result<bool, Fault>
-    ensures { IfErr result WhyNotFound }
+/// The weak pointer comes out of an entry that still has it (waits). Whether it had.
+fn take_weak<'t, D: Domain, R: Wait>(
+    rt: &R,
+    entry: &Shared<'t, D>,
+    held: Option<Weak<'t, D>>,
+) -> Result<bool, Fault>
+    ensures done { IfOk result (TakesWeak D.opened entry.now held.entry) }
+    ensures refused { IfErr result WhyNotFound }
 {
-    let mut held = entry.up().load(rt)?;
-    if !is_expired(&held)? {
-        return Ok(false);
-    }
+    let mut held = held;
     let mut none = None;
     let place = entry.up();
     place.compare_exchange_strong(rt, &mut held, &mut none)
 }
 
+/// The weak pointer comes out of an entry if its object has ended (waits). Whether it came out.
+pub(crate) fn take_expired<D: Domain, R: Wait>(rt: &R, entry: &Shared<'_, D>) -> Result<bool, Fault>
+    ensures pruned { IfOk result (Prunes D.opened entry.now) }
+    ensures refused { IfErr result WhyNotFound }
+{
+    let held = get_weak(rt, entry)?;
+    if is_expired(&held)? {
+        return take_weak(rt, entry, held);
+    }
+    Ok(false)
+}
+
 /// Whether it is a weak pointer whose object has ended.
 fn is_expired<D: Domain>(weak: &Option<Weak<'_, D>>) -> Result<bool, Fault>
-    ensures { IfErr result WhyNotFound }
+    ensures looked { IfOk result (IsExpired D.opened weak.now) }
+    ensures refused { IfErr result WhyNotFound }
 {
     match weak {
         Some(weak) => weak.expired(),

@@ -1,4 +1,7 @@
 //! Keys, and where they lie.
+ghost use Rattle.std.specs.Prelude.{◌≡◌, fold};
+ghost use Rattle.std.specs.Hash.FoldHasher as folding;
+
 use std::hash::{FoldHasher, Hash, Hasher};
 
 /// 2^64 over the golden ratio: multiples of it are evenly spread.
@@ -13,7 +16,9 @@ pub(crate) fn bucket_of(key: u64, buckets: usize) -> usize {
 
 /// The key of a map for a program's own key: its hash. Two keys of one hash are one key to the map: of 10,000 keys two
 /// have one by a chance of 3 in a million million, where nobody chose them so.
-pub fn hash_of<K: Hash>(key: &K) -> u64 {
+pub fn hash_of<K: Hash>(key: &K) -> u64
+    ensures { result ≡ folding.finish (fold folding.write folding.initial (K.hash_input key.now)) }
+{
     let mut hasher = FoldHasher::default();
     key.hash(&mut hasher);
     hasher.finish()

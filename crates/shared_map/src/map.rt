@@ -1,5 +1,5 @@
 //! A worker's access to a map.
-ghost use Rattle.std.specs.Prelude.{IfErr, IfOk, IfSome};
+ghost use Rattle.std.specs.Prelude.{◌≡◌, ◌+◌, IfErr, IfOk, IfSome, min, vec_len};
 ghost use Rattle.pointers.specs.Objects.{IsField};
 ghost use Rattle.shared_map.specs.Refusals.{WhyNotFound, WhyNotPut};
 
@@ -19,6 +19,10 @@ mod weaks;
 ///
 /// An entry is made for a key when something is first put there, and stays: a key costs an object for as long as the
 /// map lives, also when what was there is removed.
+///
+/// A call answers `Busy` within a visit, `Crowded` where the desk has as many pointers as it may, and
+/// `Refused(_, Null)` or `Refused(_, Outside)` where the map's cell has an object that no map put there. An insert also
+/// answers `Refused(Make, Full)`, where no block is vacant for an entry.
 pub struct SharedMap<'t, D: Domain> {
     pub(crate) desk: &'t Desk<'t, D>,
     /// All buckets but the last one.
@@ -40,7 +44,9 @@ impl<'t, D: Domain> Drop for SharedMap<'t, D> {
 
 impl<'t, D: Domain> SharedMap<'t, D> {
     /// How many buckets it has.
-    pub fn buckets(&self) -> usize {
+    pub fn buckets(&self) -> usize
+        ensures { result ≡ min (vec_len self.now.buckets + 1) 18446744073709551615 }
+    {
         self.buckets.len().saturating_add(1)
     }
 
@@ -48,16 +54,6 @@ impl<'t, D: Domain> SharedMap<'t, D> {
     #[inline(always)]
     fn number_of(&self, key: u64) -> usize {
         bucket_of(key, self.buckets())
-    }
-
-    /// The first entry of the bucket of that number, if there is one (waits).
-    fn first<R: Wait>(&mut self, rt: &R, number: usize) -> Result<Option<Shared<'t, D>>, Fault>
-        ensures { IfErr result WhyNotFound }
-    {
-        match self.buckets.get_mut(number) {
-            Some(bucket) => bucket.first(rt),
-            None => self.last.first(rt),
-        }
     }
 
     /// The key's entry, if there is one (waits).

@@ -16,6 +16,7 @@ where
     /// The map in a free cell (waits), with so many buckets where no thread has opened it before; else with those that
     /// it has. Each thread opens it once, and keeps a pointer to each bucket. An object more is made for each bucket;
     /// all end when the cell is cleared and no thread has the map any more.
+    /// Faults: those of an insert, `Cell` where there is no such cell, and `Memory`.
     pub fn open<R: Wait>(
         rt: &R,
         desk: &'t Desk<'t, D>,

@@ -5,6 +5,7 @@ use pointers::{Desk, Domain, Fault, NotRun, Program, Team, run};
 use shared_map::SharedMap;
 use std::alloc::Global;
 use std::sync::Wait;
+use std::test::Fail;
 use std::thread::Threads;
 
 /// A map that is opened again where memory was refused for it.
@@ -29,21 +30,28 @@ impl<R: Threads + Wait> Program<u64, R> for Again {
     }
 }
 
-/// The run is made again where memory was refused for it.
-#[test]
-fn a_refused_opening_is_made_again(rt: HostRuntime) {
+/// A run of it, in which all blocks but the map's own are vacant at the end.
+fn opened<R: Threads + Wait + Sync>(rt: &R, alloc: Global) -> Result<(), Fault> {
     let team = Team {
         workers: 1,
         pointers: 8,
     };
-    let shape = team.shape(6, 2, 0);
-    let play = Again { alloc: rt.alloc() };
-    let ran = match run(&rt, rt.alloc(), shape, team, &play) {
-        Err(NotRun::Memory) => run(&rt, rt.alloc(), shape, team, &play),
-        ran => ran,
-    };
-    match ran {
-        Ok(ran) => assert_eq!(&rt; (ran.fault(), ran.census.vacant()), (None, 2)),
-        Err(why) => panic!(&rt; "not run: {why}"),
+    match run(rt, alloc, team.shape(6, 2, 0), team, &Again { alloc }) {
+        Ok(ran) => match ran.fault() {
+            None => row(3, ran.census.vacant() == 2),
+            Some(why) => Err(why),
+        },
+        Err(NotRun::Memory) => Err(Fault::Memory),
+        Err(_) => Err(Fault::Other(30)),
     }
+}
+
+/// The run is made again where memory was refused for it.
+#[test]
+fn a_refused_opening_is_made_again(rt: HostRuntime) -> Result<(), Fail> {
+    match opened(&rt, rt.alloc()) {
+        Err(Fault::Memory) => opened(&rt, rt.alloc())?,
+        done => done?,
+    }
+    Ok(())
 }

@@ -11,6 +11,7 @@ use std::sync::Wait;
 impl<'t, D: Domain> SharedMap<'t, D> {
     /// A copy of the key's owner (waits). None where it has none. Of a key that is the first of its bucket, it loads
     /// one member and goes over no chain.
+    /// Faults: `Busy`, `Crowded`, `Refused(_, Null)`, `Refused(_, Outside)`.
     #[inline(always)]
     pub fn get<R: Wait>(&mut self, rt: &R, key: u64) -> Result<Option<Shared<'t, D>>, Fault>
         ensures done { IfOk result (Gets D.opened key) }
@@ -24,6 +25,7 @@ impl<'t, D: Domain> SharedMap<'t, D> {
     }
 
     /// The key's owner comes out, and it has none then (waits).
+    /// Faults: those of `get`.
     #[tactic(auto, using(crate::proofs::Entries::removes))]
     pub fn remove<R: Wait>(&mut self, rt: &R, key: u64) -> Result<Option<Shared<'t, D>>, Fault>
         ensures done { IfOk result (Removes D.opened key) }
@@ -41,6 +43,7 @@ where
     D::Value: Default,
 {
     /// The owner is the key's from now on, and the one that it had comes out (waits).
+    /// Faults: those of `get`, and `Refused(Make, Full)`.
     #[tactic(auto, using(crate::proofs::Entries::inserts))]
     pub fn insert<R: Wait>(
         &mut self,
@@ -57,6 +60,7 @@ where
 
     /// The owner is the key's where that has none: `None`. Else a copy of the one that it has, and the new one lets go
     /// (waits).
+    /// Faults: those of `get`, and `Refused(Make, Full)`.
     #[tactic(auto, using(crate::proofs::Entries::inserts_if_absent))]
     pub fn insert_if_absent<R: Wait>(
         &mut self,

@@ -10,6 +10,7 @@ use std::sync::Wait;
 
 impl<'t, D: Domain> SharedMap<'t, D> {
     /// A copy of the key's weak pointer (waits). None where it has none.
+    /// Faults: those of `get`.
     #[tactic(auto, using(crate::proofs::Entries::gets_weak))]
     pub fn get_weak<R: Wait>(&mut self, rt: &R, key: u64) -> Result<Option<Weak<'t, D>>, Fault>
         ensures done { IfOk result (GetsWeak D.opened key) }
@@ -22,6 +23,7 @@ impl<'t, D: Domain> SharedMap<'t, D> {
     }
 
     /// An owner of what the key's weak pointer is of (waits). None where it has none, or none remains.
+    /// Faults: those of `get`.
     #[inline(always)]
     pub fn lock<R: Wait>(&mut self, rt: &R, key: u64) -> Result<Option<Shared<'t, D>>, Fault>
         ensures done { IfOk result (Locks D.opened key) }
@@ -35,6 +37,7 @@ impl<'t, D: Domain> SharedMap<'t, D> {
     }
 
     /// The key's weak pointer comes out, and it has none then (waits).
+    /// Faults: those of `get`.
     #[tactic(auto, using(crate::proofs::Entries::removes_weak))]
     pub fn remove_weak<R: Wait>(&mut self, rt: &R, key: u64) -> Result<Option<Weak<'t, D>>, Fault>
         ensures done { IfOk result (RemovesWeak D.opened key) }
@@ -52,6 +55,7 @@ where
     D::Value: Default,
 {
     /// The weak pointer is the key's from now on, and the one that it had comes out (waits).
+    /// Faults: those of `get`, and `Refused(Make, Full)`.
     #[tactic(auto, using(crate::proofs::Entries::inserts_weak))]
     pub fn insert_weak<R: Wait>(
         &mut self,
@@ -68,6 +72,7 @@ where
 
     /// The weak pointer is the key's where that has none, or an expired one: `None`. Else an owner of what the key's
     /// is of, and the new one lets go (waits).
+    /// Faults: those of `get`, and `Refused(Make, Full)`.
     #[tactic(auto, using(crate::proofs::Entries::inserts_if_expired))]
     pub fn insert_weak_if_expired<R: Wait>(
         &mut self,

@@ -1,0 +1,9 @@
+use Rattle.shared_map.specs.Sweeps.{Begins, Sifts}
+use Rattle.shared_map.proofs.Sweeps.{SweptTo}
+use Rattle.shared_map.proofs.map.sweeps.sift_buckets.Given as goal
+
+abbrev pub invariant-loop-bucket : goal.invariant-loop-bucket
+invariant-loop-bucket g l =
+    let o = g.D.Domain.opened in
+    SweptTo o (λ b. Begins o b.node b.is_entry) (Sifts g.K.Keep.judges o) l.fn.buckets l.buckets l.bucket-index
+    l.fn.keep l.removed l.keep
