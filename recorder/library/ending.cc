@@ -53,12 +53,13 @@ Lock one_at_a_time;
 void answer_question() {
   pid_t thread = static_cast<pid_t>(syscall(SYS_gettid));
   OwnRegion region;
-  LivingStack own = question.from_frame ? living_stack(thread, question.from_frame) : LivingStack{};
+  std::vector<LivingStack> own;
+  if (question.from_frame) add_living_stacks(thread, question.from_frame, own);
   Modules modules;
   Outside outside(modules);
   AllStandStill still;
   auto stacks = still.stacks();
-  if (question.from_frame) stacks.push_back(own);
+  stacks.insert(stacks.end(), own.begin(), own.end());
   Snapshot all(modules, outside, stacks);
   all.unread_threads = still.without_registers();
   write_record(question.snapshot, all, question.when);

@@ -223,25 +223,31 @@ Bounds mapping_of(Word address) {
   return {address, address};
 }
 
+// Up to the end that the thread noted; of another stack, which may be one of many in a mapping, to the mapping's end.
+LivingStack living_stack(pid_t thread, Word address, const Bounds* noted) {
+  if (noted && noted->has(address)) return {thread, address, noted->to, address};
+  Bounds mapped = mapping_of(address);
+  if (!mapped.from) return {thread, address, address + MOST_OF_A_STACK, address};  // (reading ends with the mapping)
+  return {thread, address, mapped.to, noted ? address : mapped.from};
+}
+
+LivingStack whole_stack(pid_t thread, const Bounds& noted) {
+  Word from = std::max(noted.from, mapping_of(noted.to - 1).from);
+  return {thread, from, noted.to, from};
+}
+
 }  // namespace
 
-// (a thread that noted its stack and isn't on it may be on one of many in one piece of memory)
-LivingStack living_stack(pid_t thread, Word address) {
-  Bounds* bounds = known_stacks.of(thread).find(thread);
-  if (bounds && bounds->has(address)) return {thread, address, bounds->to, address};
-  Bounds mapped = mapping_of(address);
-  // (reading it ends with the mapping)
-  if (!mapped.from) return {thread, address, address + MOST_OF_A_STACK, address};
-  return {thread, address, mapped.to, bounds ? address : mapped.from};
+void add_living_stacks(pid_t thread, Word address, std::vector<LivingStack>& to) {
+  const Bounds* noted = known_stacks.of(thread).find(thread);
+  to.push_back(living_stack(thread, address, noted));
+  if (noted && !noted->has(address)) to.push_back(whole_stack(thread, *noted));
 }
 
 // A stack is taken whole, where it is known, of a thread that goes on.
 void AllStandStill::take_whole(pid_t thread) {
   unread++;
-  Bounds* bounds = known_stacks.of(thread).find(thread);
-  if (!bounds) return;
-  Word from = std::max(bounds->from, mapping_of(bounds->to - 1).from);
-  found.push_back({thread, from, bounds->to, from});
+  if (const Bounds* noted = known_stacks.of(thread).find(thread)) found.push_back(whole_stack(thread, *noted));
 }
 
 void AllStandStill::stop_others() {
@@ -253,7 +259,7 @@ void AllStandStill::stop_others() {
     Hearing hearing = hearing_of(folder, thread);
     if (hearing == Hearing::ENDED) continue;
     if (Word stack = stack_in_a_call(folder, thread))
-      found.push_back(living_stack(thread, stack)), unread++;
+      add_living_stacks(thread, stack, found), unread++;
     else if (has_small_stack(thread) || hearing == Hearing::DEAF)
       take_whole(thread);
     else if (!syscall(SYS_tgkill, getpid(), thread, signal_to_stop()))
@@ -281,10 +287,8 @@ AllStandStill::AllStandStill() {
   sigaction(signal_to_stop(), &action, nullptr);
   unusual_process |= process_state::STOPPING;
   stop_others();
-  for (int place = 0; place < places && place < MOST_STANDING; place++) {
-    auto [thread, stack] = standing[place];
-    found.push_back(living_stack(thread, stack));
-  }
+  for (int place = 0; place < places && place < MOST_STANDING; place++)
+    add_living_stacks(standing[place].thread, standing[place].stack, found);
 }
 
 AllStandStill::~AllStandStill() { let_go(); }

@@ -34,8 +34,9 @@ inline std::size_t room_on_stack() {
 
 void keep_threads_folder();  // before main, and in a process that is new
 
-// The stack that `address` lies in, up to the end that the thread noted; else to the end of the mapping.
-LivingStack living_stack(pid_t thread, Word address);
+// Adds the stack that `address` lies in. Where the thread noted another one, as on a fiber or in a signal's handler, that
+// one waits: how deep isn't known, so that it is added whole.
+void add_living_stacks(pid_t thread, Word address, std::vector<LivingStack>& to);
 
 // Visits where each stack lies that a thread has noted, ended ones too, whose stacks are kept for the next.
 void each_known_stack(void (*visit)(Word from, Word to, void* with), void* with);
