@@ -200,7 +200,48 @@ def leaks_of_a_server_that_ends_by_a_signal() -> str:
     return differences(**found)
 
 
+THREADS = """
+#include <memory>
+#include <thread>
+#include <vector>
+#include <cstdio>
+#include <unistd.h>
+struct Node { std::shared_ptr<Node> next; };
+int main() {
+  auto leaked = std::make_shared<Node>();
+  leaked->next = leaked;
+  leaked.reset();
+  std::vector<std::shared_ptr<int>> kept;
+  for (int number = 0; number < 200000; number++) kept.push_back(std::make_shared<int>(number));
+  for (int number = 0; number < 4; number++) std::thread(pause).detach();
+  std::puts("ready"); std::fflush(stdout);
+  pause();
+}
+"""
+
+
+def signals_while_it_is_read() -> str:
+    """Where more of them come to other threads, as `timeout` sends a second one, the reading goes on."""
+    with tempfile.TemporaryDirectory() as folder:
+        command = [RECORD, built(folder, "threads", THREADS)]
+        with subprocess.Popen(command, cwd=folder, **PIPES) as ran:
+            ran.stdout.readline()
+            (child,) = Path(f"/proc/{ran.pid}/task/{ran.pid}/children").read_text().split()
+            with contextlib.suppress(ProcessLookupError):
+                while True:
+                    os.kill(int(child), signal.SIGTERM)
+                    time.sleep(0.005)
+            said = ran.communicate(timeout=HUNG)[1].splitlines()
+    wanted = [
+        "record: the program was ended by SIGTERM: no destructor has run",
+        "record: 200001 objects that shared pointers own are left, 1 leaked",
+        "leaked 1 Node, made at threads.cc:9 in main",
+    ]
+    return differences(said=(said[:3], wanted), status=(ran.returncode, LEAKED))
+
+
 CHECKS = [
+    signals_while_it_is_read,
     signals_are_the_programs,
     a_signal_at_any_time,
     a_signal_within_malloc,

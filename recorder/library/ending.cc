@@ -48,7 +48,6 @@ struct Question {
   int snapshot;
 };
 Question question;
-Lock one_at_a_time;
 
 void answer_question() {
   pid_t thread = static_cast<pid_t>(syscall(SYS_gettid));
@@ -65,10 +64,9 @@ void answer_question() {
   write_record(question.snapshot, all, question.when);
 }
 
+// Within a turn.
 void read_memory(const char* when, Word from_frame, int snapshot) {
-  std::lock_guard<Lock> guard(one_at_a_time);
   int before = errno;
-  Inside inside;
   question = {when, from_frame, snapshot};
   const char* why = refusal ? refusal.load() : read_apart(answer_question);
   if (why) {
@@ -82,7 +80,9 @@ void read_memory(const char* when, Word from_frame, int snapshot) {
 }  // namespace
 
 void read_at_end(const char* when, Word stack) {
-  if (!is_wanted || !is_asked_about() || ended.exchange(getpid()) == getpid()) return;
+  if (!is_wanted || !is_asked_about()) return;
+  Turn turn;  // (who ends the process by another thread waits until it is read)
+  if (ended.exchange(getpid()) == getpid()) return;
   if (!refusal) stop_timers();
   read_memory(when, stack, 0);
 }
@@ -122,7 +122,9 @@ void* answer(void*) {
   for (int snapshot = 1;; snapshot++) {
     while (sem_wait(&asked)) {
     }
-    if (is_recording() && is_asked_about()) read_memory("now", 0, snapshot);
+    if (!is_recording() || !is_asked_about()) continue;
+    Turn turn;
+    read_memory("now", 0, snapshot);
   }
 }
 
@@ -199,6 +201,7 @@ void unlock_in_child() {
   unlock_tables();
   is_becoming_daemon = false;
   if (with_children) {
+    Turn::let_go();
     open_way_out();
     keep_threads_folder();
   } else {

@@ -3,8 +3,10 @@
 #include <pthread.h>
 #include <signal.h>
 #include <sys/resource.h>
+#include <time.h>
 #include <ucontext.h>
 
+#include <atomic>
 #include <initializer_list>
 
 #include "own_memory.h"
@@ -77,28 +79,39 @@ private:
 };
 struct sigaction CaughtFaults::before[2];
 
-// No handler of the program runs in this thread meanwhile, on which it would find the reader's memory.
-class BlockedSignals {
-public:
-  BlockedSignals() {
-    sigset_t all;
-    sigfillset(&all);
-    for (int it : {SIGSEGV, SIGBUS, SIGILL, SIGFPE, SIGTRAP}) sigdelset(&all, it);
-    pthread_sigmask(SIG_SETMASK, &all, &before);
-  }
-  ~BlockedSignals() { pthread_sigmask(SIG_SETMASK, &before, nullptr); }
-  BlockedSignals(const BlockedSignals&) = delete;
-
-private:
-  sigset_t before;
-};
+std::atomic<bool> is_taken{false};
 
 void run_reader() { work_of_reader(); }
 
 }  // namespace
 
+Turn::Turn() {
+  timespec shortly{0, 200'000};
+  while (!take()) nanosleep(&shortly, nullptr);
+}
+
+// (what ends the process waits within the recorder's code until the turn is over)
+bool Turn::take() {
+  if (is_taken) return false;
+  inside.emplace();
+  sigset_t all;
+  sigfillset(&all);
+  for (int it : {SIGSEGV, SIGBUS, SIGILL, SIGFPE, SIGTRAP}) sigdelset(&all, it);
+  pthread_sigmask(SIG_SETMASK, &all, &before);
+  if (!is_taken.exchange(true)) return true;
+  pthread_sigmask(SIG_SETMASK, &before, nullptr);
+  inside.reset();
+  return false;
+}
+
+Turn::~Turn() {
+  let_go();
+  pthread_sigmask(SIG_SETMASK, &before, nullptr);
+}
+
+void Turn::let_go() { is_taken = false; }
+
 const char* read_apart(void (*work)()) {
-  BlockedSignals blocked;
   RaisedLimits raised;
   void* stack = own_pages(STACK_BYTES);
   if (!stack) return "no memory is left for reading it";
