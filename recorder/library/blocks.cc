@@ -134,6 +134,7 @@ namespace {
 
 // The pointer in a block with a deleter that also its handles have, else the first to the beginning of a chunk.
 Word owned_by(const ControlBlock& block, const Snapshot& all, const std::vector<Word>& stored) {
+  if (contains(block.type, "_Sp_counted_deleterIDn")) return 0;  // made of nullptr: a deleter alone
   Word found = 0;
   each_word(block.at + 2 * WORD, all.chunks[block.chunk].to, [&](Word, Word word) {
     int chunk = all.chunk_of(word);
