@@ -202,22 +202,38 @@ def function_block(address):
 
 
 def callable_in(block):
-    """(type, file, line) of the callable whose own code lies in a function, itself or inlined."""
+    """(type, file, line) of the callable whose own code lies in a function, itself or inlined: the outermost,
+    as it may call others that are inlined into it."""
     architecture, found = gdb.selected_inferior().architecture(), None
     for line in architecture.disassemble(block.start, block.end - 1):
-        at = line["addr"]
-        inner = gdb.block_for_pc(at)
-        while inner and not (inner.function and has_callable(inner)):
-            inner = inner.superblock if inner != block else None
-        if not inner:
+        functions = functions_at(line["addr"], block)
+        while functions and not has_callable(functions[0]):
+            del functions[0]
+        if not functions:
             continue
-        place = gdb.find_pc_line(at)
-        if inner == block:
-            return callable_type(inner), inner.function.symtab.filename, inner.function.line
-        if place.symtab and not re.search(r"/include/c\+\+/", place.symtab.filename):
-            if not found or place.line < found[2]:
-                found = callable_type(inner), place.symtab.filename, place.line
+        file, number = place_in(functions, line["addr"])
+        if number and not re.search(r"/include/c\+\+/", file) and (not found or number < found[2]):
+            found = callable_type(functions[0]), file, number
     return found
+
+
+def place_in(functions, address):
+    """The file and the line of an address in the first of these functions, which are inlined each into the one
+    before. (The line of one that is inlined is that of its call.)"""
+    place = functions[1].function if functions[1:] else gdb.find_pc_line(address)
+    return place.symtab.filename if place.symtab else "", place.line
+
+
+def functions_at(address, block):
+    """The blocks of the functions inlined at an address of a function, the outermost first, which is its own.
+    One around it has another range, as of the function that a lambda is written in."""
+    found, inner = [], gdb.block_for_pc(address)
+    while inner:
+        found += [inner] if inner.function else []
+        inner = inner.superblock
+    found.reverse()
+    own = [at for at, it in enumerate(found) if (it.start, it.end) == (block.start, block.end)]
+    return found[own[0] :] if own else []
 
 
 def has_callable(block):
@@ -270,7 +286,7 @@ def captured(address, is_coroutine, offsets):
     for offset in offsets:
         _, path, leaf = leaf_at(type_, offset)
         if "_ptr<" in name_of(leaf):
-            found[offset] = re.sub(r"^_+(?=\w)", "", path), name_of(leaf)
+            found[offset] = re.sub(r"^_+(?=\w)|(?<=\.)__(?=\w)", "", path), name_of(leaf)
     return {"file": file, "line": line, "captures": found}
 
 
