@@ -75,6 +75,7 @@ def ask_gdb(path: str, questions: dict) -> dict | None:
         asked.write_text(json.dumps(questions))
         names = {"RECORDER_QUESTIONS": str(asked), "RECORDER_ANSWERS": str(answered)}
         command = ["gdb", "-batch", "-nx", "-iex", "set auto-load off", "-iex", "set debuginfod enabled off"]
+        command += ["-ex", f"python import sys; sys.path.insert(0, {str(HERE.parent)!r})"]
         command += ["-ex", f"source {HERE}/members_in_gdb.py", path]
         subprocess.run(command, env={**os.environ, **names}, stdin=subprocess.DEVNULL, capture_output=True)
         return json.loads(answered.read_text()) if answered.exists() and answered.stat().st_size else None

@@ -8,6 +8,7 @@ from recorder.record_text import Block, Handle, Record
 
 MOST_MEMBERS = 12  # of those that depend on each other, to be tried in each way
 MOST_ANSWERS = 32
+MAY_CHANGE = re.compile(r"^std::variant<| or ")  # a declared type, whose members may own here and watch there
 
 
 class Counts:
@@ -109,10 +110,11 @@ def kind_by_type(declared: str) -> str:
 
 
 def member_of(handle: Handle) -> tuple:
-    """What handles of one declaration have in common."""
+    """What handles of one declaration have in common, and with no other where each may be of another kind."""
     spot = handle.spot
     name = spot.making.name if spot.making else spot.number
-    return spot.kind, name, spot.offset, spot.inner + handle.byte, spot.maker, spot.told
+    own = id(handle) if MAY_CHANGE.search(spot.declared) else 0
+    return spot.kind, name, spot.offset, spot.inner + handle.byte, spot.maker, spot.told, own
 
 
 def decided_at_once(record: Record) -> list[bool]:

@@ -12,12 +12,10 @@ import struct
 
 import gdb
 
+from recorder.callables_in_gdb import callable_at, coroutine_at
+
 CONTAINERS_OF_MEMBERS = "std::pair<", "std::array<", "std::tuple<", "std::_Tuple_impl<", "std::_Head_base<"
-OWN_CALLABLE = "__closure", "this"
-FRAMES = "frame_ptr", "__coro_frame"
 TYPES_OF_UNITS = {}
-MOST_BYTES = 1 << 16  # of a function that is looked through
-MOST_FUNCTIONS = 12  # that are looked through for a callable
 
 
 def size_of(type_):
@@ -78,6 +76,13 @@ def all_fields(type_):
     yield from direct_fields(type_)
 
 
+class Either:
+    """A type in place of several that a union may have at one place."""
+
+    def __init__(self, types):
+        self.name = " or ".join(dict.fromkeys(map(name_of, types)))
+
+
 class VirtualBase:
     """A field that is a virtual base, at any depth."""
 
@@ -100,6 +105,19 @@ def field_at(type_, offset, is_whole=False):
     return found
 
 
+def leaf_of_union(type_, offset):
+    """(path, type) of what lies at a byte of a union: of an owner before all, then of a weak pointer, then of
+    what else may hold such. Where both kinds may lie there the type names both."""
+    fields = [it for it, _ in direct_fields(type_) if offset < size_of(it.type)]
+    leaves = [(it.name, *leaf_at(it.type, offset)[1:]) for it in fields]
+    kinds = "shared_ptr<", "weak_ptr<", "std::", ""
+    ranked = [[it for it in leaves if kind in name_of(it[2])] for kind in kinds]
+    field, path, leaf = next(it[0] for it in ranked if it)
+    if ranked[0] and ranked[1]:
+        leaf = Either([ranked[0][0][2], ranked[1][0][2]])
+    return [it for it in (field, path) if it], leaf
+
+
 def leaf_at(type_, offset):
     """(declaring class, path, type) of what lies at a byte of a type."""
     type_ = type_.strip_typedefs()
@@ -114,8 +132,10 @@ def leaf_at(type_, offset):
             type_ = type_.target().strip_typedefs()
             offset %= max(type_.sizeof, 1)
             continue
-        has_fields = type_.code in (gdb.TYPE_CODE_STRUCT, gdb.TYPE_CODE_UNION)
-        field = field_at(type_, offset, is_whole) if has_fields else None
+        if type_.code == gdb.TYPE_CODE_UNION and offset < type_.sizeof:
+            inner, leaf = leaf_of_union(type_, offset)
+            return declaring, ".".join(path + inner), leaf
+        field = field_at(type_, offset, is_whole) if type_.code == gdb.TYPE_CODE_STRUCT else None
         if not field:
             return declaring, ".".join(path), type_
         (it, begin), type_ = field, field[0].type.strip_typedefs()
@@ -179,101 +199,6 @@ def types_by_unit(name, units):
         except gdb.error:
             pass
     return {address: type_ for address, type_ in found.items() if type_ and size_of(type_)}
-
-
-def calls_of(block):
-    """The functions that a function calls, by their addresses."""
-    architecture = gdb.selected_inferior().architecture()
-    for line in architecture.disassemble(block.start, block.end - 1):
-        target = re.match(r"(?:call|jmp)q?\s+(?:\*)?0x([0-9a-f]+)", line["asm"])
-        if target:
-            yield int(target[1], 16)
-
-
-def function_block(address):
-    """The block of the function that begins at an address: that of a lambda lies within its own
-    function's."""
-    blocks, block = [], gdb.block_for_pc(address)
-    while block:
-        blocks += [block] if block.function else []
-        block = block.superblock
-    begun = [it for it in blocks if it.start == address]
-    return (begun or blocks or [None])[-1]
-
-
-def callable_in(block):
-    """(type, file, line) of the callable whose own code lies in a function, itself or inlined: the outermost,
-    as it may call others that are inlined into it."""
-    architecture, found = gdb.selected_inferior().architecture(), None
-    for line in architecture.disassemble(block.start, block.end - 1):
-        functions = functions_at(line["addr"], block)
-        while functions and not has_callable(functions[0]):
-            del functions[0]
-        if not functions:
-            continue
-        file, number = place_in(functions, line["addr"])
-        if number and not re.search(r"/include/c\+\+/", file) and (not found or number < found[2]):
-            found = callable_type(functions[0]), file, number
-    return found
-
-
-def place_in(functions, address):
-    """The file and the line of an address in the first of these functions, which are inlined each into the one
-    before. (The line of one that is inlined is that of its call.)"""
-    place = functions[1].function if functions[1:] else gdb.find_pc_line(address)
-    return place.symtab.filename if place.symtab else "", place.line
-
-
-def functions_at(address, block):
-    """The blocks of the functions inlined at an address of a function, the outermost first, which is its own.
-    One around it has another range, as of the function that a lambda is written in."""
-    found, inner = [], gdb.block_for_pc(address)
-    while inner:
-        found += [inner] if inner.function else []
-        inner = inner.superblock
-    found.reverse()
-    own = [at for at, it in enumerate(found) if (it.start, it.end) == (block.start, block.end)]
-    return found[own[0] :] if own else []
-
-
-def has_callable(block):
-    name = str(block.function)
-    return re.search(r"operator\(\)", name) and not name.startswith("std::") and callable_type(block)
-
-
-def callable_type(block):
-    """The type of the object whose own function a block is."""
-    for symbol in block:
-        if symbol.is_argument and symbol.name in OWN_CALLABLE and symbol.type.code == gdb.TYPE_CODE_PTR:
-            return symbol.type.target().strip_typedefs()
-    return None
-
-
-def callable_at(address):
-    """The callable that the function at an address calls, in it or in what it calls."""
-    todo, seen = [address], set()
-    while todo and len(seen) < MOST_FUNCTIONS:
-        at = todo.pop(0)
-        block = function_block(at) if at not in seen else None
-        seen.add(at)
-        if not block or block.end - block.start > MOST_BYTES:
-            continue
-        found = callable_in(block)
-        if found:
-            return found
-        todo += calls_of(block)
-    return None
-
-
-def coroutine_at(address):
-    """The frame that the function at an address resumes, and where that is defined."""
-    block = function_block(address)
-    for symbol in block or ():
-        if symbol.name in FRAMES:
-            type_ = symbol.type.target() if symbol.type.code == gdb.TYPE_CODE_PTR else symbol.type
-            place = gdb.find_pc_line(address)
-            return type_.strip_typedefs(), place.symtab.filename, block.function.line or place.line
-    return None
 
 
 def captured(address, is_coroutine, offsets):
