@@ -187,6 +187,35 @@ def type_in_unit(name, address):
     return None
 
 
+def spellings(name):
+    """A type's name as the demangler writes it, and as compilers do in debug information: numbers among a
+    template's arguments without suffixes, characters by their signs, enumerators by their names."""
+    yield name
+    plain = re.sub(r"(?<=[<( ,-])(\d+)(?:ull|ll|ul|l|u)(?=[,>])", r"\1", name)
+    yield plain
+    plain = re.sub(r"\(char\)(\d+)", lambda it: repr(chr(int(it[1]))), plain)
+    plain = re.sub(r"\([\w:]+\)-?\d+", enumerator, plain).replace("(decltype(nullptr))0", "nullptr")
+    for null in "std::nullptr_t", "nullptr":
+        spelled = plain.replace("decltype(nullptr)", null)
+        yield from (spelled, spelled.replace(" (", "("))
+
+
+def enumerator(number):
+    try:
+        return str(gdb.parse_and_eval(number[0]))
+    except gdb.error:
+        return number[0]
+
+
+def looked_up(name):
+    for spelled in spellings(name):
+        try:
+            return gdb.lookup_type(spelled)
+        except gdb.error:
+            pass
+    return None
+
+
 def types_by_unit(name, units):
     """By unit, which is an address in it: the type of this name there. Each unit may have its own. One that
     isn't known has that of any, but in a namespace without a name, where the others' is another."""
@@ -195,7 +224,7 @@ def types_by_unit(name, units):
         try:
             found[address] = type_in_unit(name, address)
             if not found[address] and "(anonymous namespace)" not in name:
-                found[address] = gdb.lookup_type(name)
+                found[address] = looked_up(name)
         except gdb.error:
             pass
     return {address: type_ for address, type_ in found.items() if type_ and size_of(type_)}

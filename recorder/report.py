@@ -154,8 +154,9 @@ def advice_lines(findings):
     if any(len(it.weakens) > 1 for it in knots):
         yield "record: each weaken line mends its knot by itself; take the first"
     yield from missing_tools(findings)
-    labels = {label for it in knots for label in owner_graph.tied_by(it)}
-    if shutil.which("gdb") and any(" at byte " in it and not UNNAMED.search(it) for it in labels):
+    unnamed = {tie for it in knots for tie in it.ties if " at byte " in tie[2] and not UNNAMED.search(tie[2])}
+    is_without = any(not findings.blocks[it[0] - 1].making.made.startswith("at ") for it in unnamed)
+    if shutil.which("gdb") and is_without:
         yield "record: members are told by their names where the program is compiled with -g"
 
 
