@@ -1,4 +1,5 @@
 """The command line of ./record."""
+import contextlib
 import gc
 import os
 import signal
@@ -34,7 +35,8 @@ WHEN = {
 
 
 def say(line: str):
-    print(line, file=sys.stderr, flush=True)
+    with contextlib.suppress(OSError):  # (as where standard error is full)
+        print(line, file=sys.stderr, flush=True)
 
 
 NEVER_FREED = []  # what takes as long to free as to read, and is needed to the end
@@ -48,18 +50,33 @@ class Reports:
         self.seen, self.as_json, self.refused, self.leaks = set(), [], [], False
         self.is_whole = False  # a record of an end is there
         self.before = None  # the report of the snapshot before
+        self.unwritten = set()
         self.file = open(asked.report, "w") if asked.report else None
         for path in program.records(folder):
             path.unlink()  # of an earlier run
 
+    @contextlib.contextmanager
+    def written(self, path: str):
+        """Where it can't be written, as on a full disk, that is told once, and the status stays."""
+        try:
+            yield
+        except OSError as fault:
+            if path not in self.unwritten:
+                self.unwritten.add(path)
+                say(f"record: {path}: {fault.strerror}")
+
     def say(self, line: str):
-        print(line, file=self.file or sys.stderr, flush=True)
+        with self.written(self.asked.report or "standard error"):
+            print(line, file=self.file or sys.stderr, flush=True)
 
     def look(self):
         for path in program.records(self.folder):
             if path not in self.seen:
                 self.seen.add(path)
-                self.tell(path)
+                try:
+                    self.tell(path)
+                except OSError as fault:  # (the program goes on)
+                    self.refuse(program.reason(fault))
 
     def tell(self, path: Path):
         try:
@@ -96,14 +113,16 @@ class Reports:
             self.say(line)
         if when == "now":
             self.before = findings
-        for line in report.annotations(findings) if self.asked.github else ():
-            print(line, flush=True)
+        with self.written("standard output"):
+            for line in report.annotations(findings) if self.asked.github else ():
+                print(line, flush=True)
 
     def keep(self, findings: verdicts.Findings, path: Path):
         if self.asked.json:
             self.as_json.append(report_data.as_json(findings))
         if self.asked.dot:
-            Path(self.asked.dot).write_text(drawing.dot(findings))
+            with self.written(self.asked.dot):
+                Path(self.asked.dot).write_text(drawing.dot(findings))
         if self.asked.keep:
             Path(f"{path}.graph").write_text(findings.graph.text())
             Path(f"{path}.map").write_text(report.map_text(findings))
@@ -127,6 +146,12 @@ def built_library():
         raise program.Refusal(f"the library could not be built: {fault}") from fault
 
 
+def folder_of_sockets() -> str:
+    """(a socket's path has at most 107 bytes)"""
+    folder = tempfile.gettempdir()
+    return folder if len(os.fsencode(folder)) < 80 else "/tmp"
+
+
 def run(asked: Namespace, folder: str, path: str, reports: Reports) -> int:
     """Runs the program under the library. Returns its exit status, as shells have it."""
     names = {"RECORDER_FILE": f"{folder}/record", "RECORDER_FRAMES": str(asked.frames)}
@@ -135,7 +160,7 @@ def run(asked: Namespace, folder: str, path: str, reports: Reports) -> int:
         names["RECORDER_CHILDREN"] = "1"
     if asked.now:
         names["RECORDER_SIGNAL"] = str(asked.now)
-    with tempfile.TemporaryDirectory() as place, program.held_signals() as mask:
+    with tempfile.TemporaryDirectory(dir=folder_of_sockets()) as place, program.held_signals() as mask:
         names["RECORDER_SOCKET"] = f"{place}/socket"
         receiver = Receiver(names["RECORDER_SOCKET"], folder)
         process = program.start((path, [asked.program, *asked.arguments]), names, mask)
@@ -181,11 +206,14 @@ def run_and_tell(asked: Namespace, path: str, suppressed: list) -> int:
             status = run(asked, folder, path, reports)
         except (program.Refusal, proved.Refusal) as why:
             reports.refuse(str(why))
+        except OSError as fault:
+            reports.refuse(program.reason(fault))
     for it in suppressed:
         if not it.is_used and not asked.quiet:
             reports.say(f"record: nothing was left that {it.pattern} suppresses")
     if asked.json:
-        report_data.write_json(asked.json, reports.as_json, reports.refused)
+        with reports.written(asked.json):
+            report_data.write_json(asked.json, reports.as_json, reports.refused)
     return reports.status(status)
 
 
@@ -201,13 +229,13 @@ def main() -> int:
         suppressed = suppressions.read(asked.suppress)
         if asked.proved:
             proved.refuse_unbuilt()
+        return run_and_tell(asked, path, suppressed)
     except program.NotFound as why:
         say(f"record: {asked.program}: {why}")
         return 127
     except OSError as fault:
-        say(f"record: refused: {fault.filename}: {fault.strerror}")
+        say(f"record: refused: {program.reason(fault)}")
         return REFUSED
     except (hook_headers.Refusal, program.Refusal, proved.Refusal, suppressions.Refusal) as why:
         say(f"record: refused: {why}")
         return REFUSED
-    return run_and_tell(asked, path, suppressed)

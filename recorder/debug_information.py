@@ -201,7 +201,10 @@ def lines_of(path: str, addresses: set[int]) -> dict[int, list[tuple]]:
 def short_path(place: str) -> str:
     """A place, from the current folder where it lies below that."""
     path, _, line = place.split(" (")[0].rpartition(":")
-    below = os.path.relpath(path) if path.startswith("/") else path
+    try:
+        below = os.path.relpath(path) if path.startswith("/") else path
+    except FileNotFoundError:  # (of the current folder, which is gone)
+        below = path
     return f'{path if below.startswith("..") else below}:{line}'
 
 

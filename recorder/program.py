@@ -39,6 +39,10 @@ class NotFound(Exception):
     """Why there is no such program."""
 
 
+def reason(fault: OSError) -> str:
+    return ": ".join(str(it) for it in (fault.filename, fault.strerror or fault) if it)
+
+
 def find(name: str) -> str:
     """The program's path, as a shell finds it."""
     path = shutil.which(name)
@@ -70,7 +74,7 @@ def check(path: str):
     try:
         refuse_unreadable(interpreter_of(path))
     except OSError as fault:  # (of what isn't there, as a loader)
-        raise Refusal(f"{fault.filename}: {fault.strerror}") from fault
+        raise Refusal(reason(fault)) from fault
 
 
 def refuse_unreadable(path: str):

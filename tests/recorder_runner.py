@@ -23,6 +23,7 @@ from pathlib import Path
 from tests import (
     recorder_lint,
     recorder_options,
+    recorder_outputs,
     recorder_proved,
     recorder_random,
     recorder_refusals,
@@ -39,6 +40,7 @@ RANDOM_PROGRAMS = 6
 MODULES = [
     recorder_lint,
     recorder_options,
+    recorder_outputs,
     recorder_proved,
     recorder_refusals,
     recorder_signals,
