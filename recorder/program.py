@@ -26,6 +26,7 @@ NOT_PASSED_ON = {
 NOT_PASSED_ON |= {signal.SIGCHLD, signal.SIGURG, signal.SIGWINCH}
 PASSED_ON = signal.valid_signals() - NOT_PASSED_ON
 HELD = PASSED_ON | {signal.SIGCHLD}
+MOST_SCRIPTS = 5  # of which each is the interpreter of the one before, as Linux has it
 FROM_KERNEL = 0x80  # the code of signals that keys send: the program gets them too
 # What Python ignores, a program that it starts does not.
 HEARD = signal.SIGPIPE, signal.SIGXFSZ
@@ -58,15 +59,17 @@ def find(name: str) -> str:
 
 
 def interpreter_of(path: str) -> str:
-    """The program that runs a script, or the path itself."""
-    with open(path, "rb") as file:
-        first = file.readline(4096)
-    if not first.startswith(b"#!"):
-        return path
-    words = first[2:].decode(errors="replace").split()
-    if words and os.path.basename(words[0]) == "env" and len(words) > 1:
-        return shutil.which(words[1]) or words[0]
-    return words[0] if words else path
+    """The program that runs a script, or the path itself. A script may be another's interpreter."""
+    for _ in range(MOST_SCRIPTS):
+        with open(path, "rb") as file:
+            first = file.readline(4096)
+        words = first[2:].decode(errors="replace").split()
+        if not first.startswith(b"#!") or not words:
+            break
+        path = words[0]
+        if os.path.basename(path) == "env" and len(words) > 1:
+            path = shutil.which(words[1]) or path
+    return path
 
 
 def check(path: str):
@@ -80,9 +83,11 @@ def check(path: str):
 def refuse_unreadable(path: str):
     """Raises Refusal for programs whose memory the library can't read."""
     with open(path, "rb") as file:
-        start = file.read(5)
+        start = file.read(512)
     if start[:4] != b"\x7fELF":
-        raise Refusal("it is no program of this machine")
+        is_text = b"\0" not in start
+        kind = "a script without an interpreter's line" if is_text else "no program of this machine"
+        raise Refusal(f"it is {kind}")
     if start[4] != 2:
         raise Refusal("it is a 32-bit program")
     if not shutil.which("readelf"):

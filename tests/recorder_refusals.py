@@ -114,6 +114,22 @@ def missing_interpreter():
         return "".join(refusal(it, why) for it in (script, loaded))
 
 
+def scripts():
+    """One whose interpreter is a script is run by that one's interpreter; one without any is refused."""
+    with tempfile.TemporaryDirectory() as folder:
+        inner, outer, bare, other = (Path(folder, it) for it in ("inner", "outer", "bare", "other"))
+        inner.write_text("#!/bin/sh\nexec true\n")
+        outer.write_text(f"#!{inner}\n")
+        bare.write_text("exec true\n")
+        other.write_bytes(b"MZ\0\0\0")
+        for it in inner, outer, bare, other:
+            it.chmod(0o755)
+        ran = record(outer)
+        wrong = refusal(bare, "it is a script without an interpreter's line")
+        wrong += refusal(other, "it is no program of this machine")
+    return wrong + differences(status=(ran.returncode, 0))
+
+
 def flags_by(compiler):
     """What `./record --flags` says for a compiler."""
     how = {"capture_output": True, "text": True, "env": {**os.environ, "CXX": compiler}}
@@ -186,6 +202,7 @@ CHECKS = [
     of_32_bit,
     other_library,
     missing_interpreter,
+    scripts,
     compilers,
     suppressions_that_are_no_text,
     no_program,
