@@ -1,8 +1,10 @@
 """The options of ./record."""
 import argparse
 import signal
+from collections.abc import Callable
 
 LEAKED = 3
+MOST_FRAMES = 64  # (as in library/traces.h)
 VERSION = "1.2.0"
 EPILOG = """
 The exit status is 3, or that of --exit, where something leaks; 125 where it is refused; 127 where there is no
@@ -13,13 +15,18 @@ such program; 128 and the signal where one ended it; else the program's own. rec
 def signal_number(name: str) -> int:
     """The number of a signal, by its name with or without SIG, or by its number."""
     named = getattr(signal, name if name.startswith("SIG") else f"SIG{name}", None)
-    return int(named) if named else int(signal.Signals(int(name)))
+    number = int(named) if named else int(signal.Signals(int(name)))
+    if number in (signal.SIGKILL, signal.SIGSTOP):
+        raise argparse.ArgumentTypeError(f"no program hears {signal.Signals(number).name}")
+    return number
 
 
-def exit_status(text: str) -> int:
-    number = int(text)
-    if not 0 <= number <= 255:
-        raise ValueError
+def number_to(most: int) -> Callable[[str], int]:
+    def number(text: str) -> int:
+        if not text.isdecimal() or int(text) > most:
+            raise argparse.ArgumentTypeError(f"a number from 0 to {most} is wanted, and not {text}")
+        return int(text)
+
     return number
 
 
@@ -38,7 +45,7 @@ def parse(words: list[str]) -> argparse.Namespace:
     add(
         "--exit",
         metavar="N",
-        type=exit_status,
+        type=number_to(255),
         default=LEAKED,
         help="the exit status where something leaks (3)",
     )
@@ -47,7 +54,13 @@ def parse(words: list[str]) -> argparse.Namespace:
         metavar="FILE",
         help="leave out what a line `PATTERN # REASON` of FILE names, by type or by place",
     )
-    add("--frames", metavar="N", type=int, default=16, help="frames kept of each making (16; 0 is fast)")
+    add(
+        "--frames",
+        metavar="N",
+        type=number_to(MOST_FRAMES),
+        default=16,
+        help="frames kept of each making (16; 0 is fast)",
+    )
     add(
         "--now",
         metavar="SIGNAL",

@@ -82,6 +82,23 @@ def what_is_no_program():
     return differences(**found)
 
 
+def values_that_no_option_has():
+    """They are refused in a line, after how it is used."""
+    whys = {
+        "--now=KILL": "argument --now: no program hears SIGKILL",
+        "--now=STOP": "argument --now: no program hears SIGSTOP",
+        "--now=NONE": "argument --now: invalid signal_number value: 'NONE'",
+        "--frames=-3": "argument --frames: a number from 0 to 64 is wanted, and not -3",
+        "--frames=1000": "argument --frames: a number from 0 to 64 is wanted, and not 1000",
+        "--exit=256": "argument --exit: a number from 0 to 255 is wanted, and not 256",
+    }
+    found = {}
+    for word, why in whys.items():
+        ran = record(word, "/bin/true")
+        found[word] = (ran.returncode, ran.stderr.splitlines()[-1]), (2, f"record: error: {why}")
+    return differences(**found)
+
+
 def no_frames():
     with tempfile.TemporaryDirectory() as folder:
         ran = record("--frames", "0", built(folder, "circle"))
@@ -213,6 +230,7 @@ CHECKS = [
     dot_and_keep,
     what_cannot_be_written,
     what_is_no_program,
+    values_that_no_option_has,
     no_frames,
     no_debug_information,
     streams_and_status,
