@@ -2,8 +2,8 @@
 ghost use Rattle.std.specs.Prelude.{◌⊎◌, IfErr, IfOk, IsTrue, OnOk};
 ghost use Rattle.pointers.specs.ListChanges.{IsRefusedAt};
 ghost use Rattle.pointers.specs.Lists.{Leads, behind, next_of};
-ghost use Rattle.pointer_structures.specs.Trees.{Detaches, LeavesChildren, IsChildRefused, IsNoChild, Joins, Unlinks};
-ghost use Rattle.pointer_structures.specs.Trees.{WhyNotDetached, WhyNotJoined, first_of};
+ghost use Rattle.pointer_structures.specs.Trees.{Detaches, IsChildRefused, IsNoChild, Joins, LeavesChildren};
+ghost use Rattle.pointer_structures.specs.Trees.{Unlinks, WhyNotDetached, WhyNotJoined, first_of};
 
 use crate::stack::{Stack, next, put_next};
 use pointers::{Domain, Fault, Shared};
