@@ -11,8 +11,8 @@ use std::sync::Wait;
 
 /// The child becomes the parent's first one, and has the one that was first as its next sibling (waits). Where it has a
 /// parent, it is detached first. `Refused(_, Null)` or `Refused(_, Outside)` where a pointer isn't into the object that
-/// it owns; the child has let go then. One thread at a time moves a node. A call wants five pointers of the desk's to be
-/// unused.
+/// it owns; the child has let go then. One thread at a time moves a node. A call wants five pointers of the desk's to
+/// be unused.
 pub fn add_child<'t, R: Wait, D: Domain>(
     rt: &R,
     parent: &Shared<'t, D>,

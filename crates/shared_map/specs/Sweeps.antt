@@ -56,7 +56,7 @@ module _ {V : Type 0} (o : DeskNow V) where
   WeakLeaves e w false out = out ≡ false
   WeakLeaves e w true out = TakesWeak e w out
 
-  -- an entry's weak pointer came out, or it did not, as it had expired
+  -- an entry's weak pointer was looked at, and came out only if it had expired
   pub record Prunes (e : Known V) (out : Bool) : Type 0 where
     pub weak : Option (Known V)
     pub held : HasWeak e weak
@@ -69,7 +69,7 @@ module _ {V : Type 0} (o : DeskNow V) where
   PrunesAt e s out t = Prunes e out
 
 module _ {V K : Type 0} (Judges : K → ℕ → Known V → Result Bool Fault → K → Type 0) where
-  -- an entry's owner came out, or it did not, as the keeper answered of it and of the entry's key
+  -- the keeper answered of an entry's key and owner, and the owner came out only if it isn't kept
   pub record Judged (o : DeskNow V) (e : Known V) (k : K) (out : Bool) (h : K) : Type 0 where
     pub owner : Known V
     pub held : HasOwner o e (Some owner)
