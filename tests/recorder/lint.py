@@ -3,7 +3,9 @@ import shutil
 import subprocess
 from pathlib import Path
 
-LIBRARY = Path(__file__).resolve().parent.parent / "recorder/library"
+from tests.recorder.building import ROOT
+
+LIBRARY = ROOT / "recorder/library"
 # All of bugprone but one, which says of two arguments of one type that a caller might mistake them.
 CHECKS_OF_TIDY = "-*,bugprone-*,-bugprone-easily-swappable-parameters,cppcoreguidelines-init-variables"
 

@@ -10,7 +10,7 @@ import time
 from collections.abc import Iterator
 from pathlib import Path
 
-from tests.recorder_programs import HUNG, ROOT, built, built_unchanged, differences
+from tests.recorder.building import HUNG, ROOT, built, built_unchanged, differences
 
 RECORD = ROOT / "record"
 LEAKED = 3

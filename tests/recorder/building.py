@@ -2,8 +2,8 @@
 import subprocess
 from pathlib import Path
 
-ROOT = Path(__file__).resolve().parent.parent
-PROGRAMS = ROOT / "tests/recorder"
+ROOT = Path(__file__).resolve().parent.parent.parent
+PROGRAMS = ROOT / "tests/recorder/programs"
 UNCHANGED = PROGRAMS / "unchanged"
 HUNG = 1800  # seconds after which a run is taken for hung, however busy the machine is
 

@@ -9,8 +9,8 @@ import tempfile
 from pathlib import Path
 
 from recorder import library
-from tests.recorder_options import record
-from tests.recorder_programs import HUNG, PROGRAMS, ROOT, at_most, built, differences
+from tests.recorder.options import record
+from tests.recorder.building import HUNG, PROGRAMS, ROOT, at_most, built, differences
 
 
 def in_another_folder():

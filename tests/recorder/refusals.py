@@ -5,7 +5,7 @@ import tempfile
 from pathlib import Path
 
 from recorder import hook_headers
-from tests.recorder_programs import HUNG, PROGRAMS, ROOT, differences
+from tests.recorder.building import HUNG, PROGRAMS, ROOT, differences
 
 REFUSED = 125
 OWN_MALLOC = """

@@ -20,32 +20,32 @@ from concurrent.futures import ThreadPoolExecutor
 from dataclasses import dataclass
 from pathlib import Path
 
-from tests import (
-    recorder_lint,
-    recorder_options,
-    recorder_outputs,
-    recorder_proved,
-    recorder_random,
-    recorder_refusals,
-    recorder_signals,
-    recorder_surroundings,
-    recorder_unchanged,
+from tests.recorder import (
+    lint,
+    options,
+    outputs,
+    proved,
+    random_programs,
+    refusals,
+    signals,
+    surroundings,
+    unchanged,
 )
-from tests.recorder_programs import HUNG, PROGRAMS, ROOT
+from tests.recorder.building import HUNG, PROGRAMS, ROOT
 
 RECORD = str(ROOT / "record")
 MET = re.compile(r"record: the pointers found explain the counts of (\d+) of (\d+) control blocks; .*")
 ADVICE = "record: each weaken line mends its knot by itself; take the first"
 RANDOM_PROGRAMS = 6
 MODULES = [
-    recorder_lint,
-    recorder_options,
-    recorder_outputs,
-    recorder_proved,
-    recorder_refusals,
-    recorder_signals,
-    recorder_surroundings,
-    recorder_unchanged,
+    lint,
+    options,
+    outputs,
+    proved,
+    refusals,
+    signals,
+    surroundings,
+    unchanged,
 ]
 
 
@@ -165,13 +165,13 @@ def check_program(name, way):
 
 def check_random(seed):
     way = random.Random(seed).choice(ways())
-    wanted, text = recorder_random.program(seed)
+    wanted, text = random_programs.program(seed)
     with tempfile.TemporaryDirectory() as folder:
         source = Path(folder, "random.cc")
         source.write_text(text)
         build([source], Path(folder, "random"), way)
         return (
-            recorder_random.difference(wanted, RECORD, Path(folder, "random"))
+            random_programs.difference(wanted, RECORD, Path(folder, "random"))
             and f"seed {seed}, {way}\n{text}"
         )
 

@@ -6,9 +6,8 @@ import tempfile
 from pathlib import Path
 
 from recorder import owner_graph, proved
+from tests.recorder.building import PROGRAMS, ROOT
 
-ROOT = Path(__file__).resolve().parent.parent
-PROGRAMS = ROOT / "tests/recorder"
 RECORDED = "knots_in_knots", "inheritance", "two_knots", "statics", "lost_memory", "weak_cache"
 GRAPHS = 80
 

@@ -5,7 +5,7 @@ import sys
 import tempfile
 from pathlib import Path
 
-from tests.recorder_programs import HUNG, ROOT, built, differences
+from tests.recorder.building import HUNG, ROOT, built, differences
 
 LEAKED, REFUSED = 3, 125
 TEXT = """

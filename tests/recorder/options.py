@@ -6,7 +6,7 @@ import tempfile
 from pathlib import Path
 
 from recorder import options
-from tests.recorder_programs import HUNG, PROGRAMS, ROOT, built, differences
+from tests.recorder.building import HUNG, PROGRAMS, ROOT, built, differences
 
 
 def record(*words, **how):

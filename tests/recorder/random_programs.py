@@ -6,7 +6,7 @@ import subprocess
 import tempfile
 from pathlib import Path
 
-from tests.recorder_programs import HUNG
+from tests.recorder.building import HUNG
 
 # How a member of some kind is declared and filled.
 KINDS = {

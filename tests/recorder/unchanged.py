@@ -6,7 +6,7 @@ import subprocess
 import tempfile
 from pathlib import Path
 
-from tests.recorder_programs import HUNG, ROOT, UNCHANGED, built_unchanged
+from tests.recorder.building import HUNG, ROOT, UNCHANGED, built_unchanged
 
 LEAKED, REFUSED = 3, 125
 RUNS = 10  # of programs whose threads race
