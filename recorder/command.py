@@ -155,6 +155,7 @@ def folder_of_sockets() -> str:
 def run(asked: Namespace, folder: str, path: str, reports: Reports) -> int:
     """Runs the program under the library. Returns its exit status, as shells have it."""
     names = {"RECORDER_FILE": f"{folder}/record", "RECORDER_FRAMES": str(asked.frames)}
+    names["RECORDER_SECONDS"] = str(asked.limit)
     names["LD_PRELOAD"] = ":".join(filter(None, [str(built_library()), os.environ.get("LD_PRELOAD")]))
     if asked.children:
         names["RECORDER_CHILDREN"] = "1"

@@ -5,6 +5,7 @@ from collections.abc import Callable
 
 LEAKED = 3
 MOST_FRAMES = 64  # (as in library/traces.h)
+MOST_SECONDS = 24 * 3600
 VERSION = "1.2.0"
 EPILOG = """
 The exit status is 3, or that of --exit, where something leaks; 125 where it is refused; 127 where there is no
@@ -21,10 +22,10 @@ def signal_number(name: str) -> int:
     return number
 
 
-def number_to(most: int) -> Callable[[str], int]:
+def number_to(most: int, least: int = 0) -> Callable[[str], int]:
     def number(text: str) -> int:
-        if not text.isdecimal() or int(text) > most:
-            raise argparse.ArgumentTypeError(f"a number from 0 to {most} is wanted, and not {text}")
+        if not text.isdecimal() or not least <= int(text) <= most:
+            raise argparse.ArgumentTypeError(f"a number from {least} to {most} is wanted, and not {text}")
         return int(text)
 
     return number
@@ -60,6 +61,13 @@ def parse(words: list[str]) -> argparse.Namespace:
         type=number_to(MOST_FRAMES),
         default=16,
         help="frames kept of each making (16; 0 is fast)",
+    )
+    add(
+        "--limit",
+        metavar="SECONDS",
+        type=number_to(MOST_SECONDS, 1),
+        default=300,
+        help="give up reading memory after so long, and let the program end (300)",
     )
     add(
         "--now",

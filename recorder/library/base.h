@@ -11,6 +11,10 @@ namespace recorder {
 using Word = std::uintptr_t;
 constexpr std::size_t WORD = sizeof(Word);
 
+constexpr Word PAGE = 4096;
+constexpr Word page_of(Word address) { return address & ~(PAGE - 1); }
+constexpr Word whole_pages(Word bytes) { return page_of(bytes + PAGE - 1); }  // (also up to an address)
+
 // The newest byte of this thread's stack.
 inline __attribute__((always_inline)) Word stack_here() {
   Word here;

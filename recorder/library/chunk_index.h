@@ -31,7 +31,6 @@ public:
   }
 
 private:
-  static constexpr Word PAGE = 4096;
   static constexpr std::ptrdiff_t MOST_OF_A_PAGE = 1 + PAGE / 32;  // the least chunks, and one from before
 
   static Word key_of(Word page) { return (page + 1) * WORD; }

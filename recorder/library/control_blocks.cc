@@ -11,8 +11,6 @@
 namespace recorder {
 namespace {
 
-constexpr Word PAGE = 4096;
-
 // The answers given last: a word or the address of a page, and in its lowest bit the answer.
 class Answers {
 public:
@@ -40,7 +38,7 @@ int has_page(dl_phdr_info* info, std::size_t, void* page) {
   Word from = *static_cast<Word*>(page);
   for (int at = 0; at < info->dlpi_phnum; at++) {
     auto& part = info->dlpi_phdr[at];
-    Word begin = (info->dlpi_addr + part.p_vaddr) & ~(PAGE - 1);
+    Word begin = page_of(info->dlpi_addr + part.p_vaddr);
     if (part.p_type == PT_LOAD && from - begin < part.p_memsz + PAGE) return 1;
   }
   return 0;
@@ -48,7 +46,7 @@ int has_page(dl_phdr_info* info, std::size_t, void* page) {
 
 // (a page that was none of a module's may become one: then a place in code is learnt later)
 bool is_of_a_module(Word word) {
-  Word page = word & ~(PAGE - 1);
+  Word page = page_of(word);
   bool answer = false;
   return pages.find(page, answer) ? answer : pages.add(page, dl_iterate_phdr(has_page, &page) != 0);
 }

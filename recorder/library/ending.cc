@@ -27,6 +27,7 @@ namespace {
 pid_t recorded_process;
 bool with_children;
 bool is_wanted;  // this process is asked about
+int seconds_to_read;
 std::atomic<pid_t> ended{0};  // the process that has read its memory: one after vfork shares this word
 Word exit_frame;              // where exit() was called; after main's return no frame of its thread lives
 pid_t exit_thread;
@@ -68,7 +69,7 @@ void answer_question() {
 void read_memory(const char* when, Word from_frame, int snapshot) {
   int before = errno;
   question = {when, from_frame, snapshot};
-  const char* why = refusal ? refusal.load() : read_apart(answer_question);
+  const char* why = refusal ? refusal.load() : read_apart(answer_question, seconds_to_read);
   if (why) {
     AllStandStill::let_go();
     OwnRegion::give_back();
@@ -227,6 +228,7 @@ __attribute__((constructor(101))) void begin() {
   if (refusal) return read_at_end("exit", 0);
   know_program();
   frames_wanted = number_of("RECORDER_FRAMES");
+  seconds_to_read = number_of("RECORDER_SECONDS");
   pthread_atfork(lock_tables, unlock_in_parent, unlock_in_child);
   abi::__cxa_atexit(at_the_end, nullptr, nullptr);
   at_quick_exit(at_quick_exit_end);

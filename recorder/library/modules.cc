@@ -9,6 +9,7 @@
 
 #include "closed.h"
 #include "control_blocks.h"
+#include "reading.h"
 
 namespace recorder {
 namespace {
@@ -66,17 +67,19 @@ void know_program() {
 }
 
 void Modules::add_own(const dl_phdr_info& info) {
-  constexpr Word PAGE = 4096;
   own_from = info.dlpi_addr;
   for (int at = 0; at < info.dlpi_phnum; at++) {
     auto& part = info.dlpi_phdr[at];
     if (part.p_type != PT_LOAD) continue;
-    own_to = std::max(own_to, (info.dlpi_addr + part.p_vaddr + part.p_memsz + PAGE - 1) & ~(PAGE - 1));
+    own_to = std::max(own_to, whole_pages(info.dlpi_addr + part.p_vaddr + part.p_memsz));
   }
 }
 
 Modules::Modules() : thread_from(recorder::thread_from), thread_to(recorder::thread_to) {
-  dl_iterate_phdr(add_module, this);
+  {
+    HeldLock loader;
+    dl_iterate_phdr(add_module, this);
+  }
   std::sort(segments.begin(), segments.end(), [](auto& a, auto& b) { return a.from < b.from; });
 }
 

@@ -66,66 +66,52 @@ void find_epolls(std::vector<Word>& to) {
 void find_timers(std::vector<Word>& to) {
   each_line(contents("/proc/self/timers"), [&](const char* line) {
     const char* value = std::strncmp(line, "signal:", 7) ? nullptr : std::strchr(line, '/');
-    if (value) to.push_back(std::strtoul(value + 1, nullptr, 16));
+    Word word = value ? std::strtoul(value + 1, nullptr, 16) : 0;  // (the recorder's own timer has none)
+    if (word) to.push_back(word);
   });
-}
-
-// Whether it is room that the C library mapped for a thread's malloc: it begins with the address of its arena and, third,
-// its size.
-bool is_room_of_malloc(const Range& range) {
-  constexpr Word ROOM = Word(64) << 20, PAGE = 4096;
-  if (range.from % ROOM) return false;
-  auto words = reinterpret_cast<const Word*>(range.from);
-  return words[0] && words[0] % (2 * WORD) == 0 && words[2] && words[2] % PAGE == 0 && words[2] <= ROOM;
 }
 
 // Whether a mapping with this name is memory, and no file or device.
 bool is_memory(unsigned long inode, const char* name) {
   static const char* const BEGINNINGS[] = {"[anon", "/dev/zero", "/memfd:", "/dev/shm/", "/SYSV"};
-  auto begins = [&](auto it) { return !std::strncmp(name, it, std::strlen(it)); };
+  auto begins = [&](auto beginning) { return !std::strncmp(name, beginning, std::strlen(beginning)); };
   return (!inode && !*name) || std::any_of(std::begin(BEGINNINGS), std::end(BEGINNINGS), begins);
 }
 
-// Memory that may be written and is no library's, without the room of malloc's threads.
+// Memory that may be written and isn't a file's.
 std::vector<Range> writable() {
   std::vector<Range> found;
   each_line(contents("/proc/self/maps"), [&](const char* line) {
     char rights[8], name[16] = "";
     unsigned long inode = 0;
-    Range it{};
-    if (std::sscanf(line, "%lx-%lx %7s %*s %*s %lu %15s", &it.from, &it.to, rights, &inode, name) < 4) return;
-    it.is_shared = rights[3] == 's';
-    if (!std::strncmp(rights, "rw", 2) && is_memory(inode, name) && (it.is_shared || !is_room_of_malloc(it)))
-      found.push_back(it);
+    Range range{};
+    if (std::sscanf(line, "%lx-%lx %7s %*s %*s %lu %15s", &range.from, &range.to, rights, &inode, name) < 4) return;
+    range.is_shared = rights[3] == 's';
+    if (!std::strncmp(rights, "rw", 2) && is_memory(inode, name)) found.push_back(range);
   });
   return found;
 }
 
-// The parts of a large range that were ever written to, with small gaps: programs reserve more than they use.
-void add_used(const Range& range, std::vector<Range>& to) {
-  constexpr Word PAGE = 4096, SMALL = Word(1) << 20, LARGE = Word(64) << 30, GAP = 64 * PAGE;
-  constexpr std::uint64_t IN_USE = std::uint64_t(3) << 62;  // in memory, or swapped
-  int file = range.to - range.from > SMALL && range.to - range.from <= LARGE && !range.is_shared
-                 ? open("/proc/self/pagemap", O_RDONLY | O_CLOEXEC)
-                 : -1;
-  if (file < 0) return to.push_back(range);
-  std::uint64_t pages[512];
-  std::size_t first = to.size();
-  for (Word at = range.from; at < range.to;) {
-    std::size_t wanted = std::min<std::size_t>(std::size(pages), (range.to - at) / PAGE) * sizeof *pages;
-    if (pread(file, pages, wanted, static_cast<off_t>(at / PAGE * sizeof *pages)) != static_cast<ssize_t>(wanted)) {
-      to.resize(first);
-      to.push_back(range);
-      break;
-    }
-    for (std::size_t page = 0; page < wanted / sizeof *pages; page++, at += PAGE) {
-      if (!(pages[page] & IN_USE)) continue;
-      bool is_near = to.size() > first && at - to.back().to <= GAP;
-      if (is_near) to.back().to = at + PAGE;
-      else to.push_back({at, at + PAGE, false});
-    }
-  }
-  close(file);
+constexpr Word ROOM = Word(64) << 20;
+
+// How much of the room for a thread's malloc that begins here, at a multiple of ROOM, may be written; 0 where there is
+// none. Its first word is the address of its arena, which follows the beginning of such room; the third says how much of
+// it is used, and the fourth how much ever was.
+Word room_of_malloc(Word from) {
+  constexpr Word HEAD = 256;
+  auto words = reinterpret_cast<const Word*>(from);
+  auto is_size = [](Word bytes) { return bytes && bytes % PAGE == 0 && bytes <= ROOM; };
+  bool is_room = words[0] % ROOM && words[0] % ROOM < HEAD && words[0] % (2 * WORD) == 0 && is_size(words[2]);
+  return !is_room ? 0 : is_size(words[3]) ? std::max(words[2], words[3]) : words[2];
+}
+
+// (the kernel joins it with what lies below and above)
+void take_out_rooms_of_malloc(std::vector<Range>& ranges) {
+  std::vector<Range> rooms;
+  for (auto& range : ranges)
+    for (Word at = (range.from + ROOM - 1) & ~(ROOM - 1); !range.is_shared && at + PAGE <= range.to; at += ROOM)
+      if (Word used = room_of_malloc(at)) rooms.push_back({at, at + used, false});
+  for (auto& room : rooms) take_out(ranges, room.from, room.to);
 }
 
 // What the program took by sbrk lies amid the room of malloc.
@@ -134,35 +120,21 @@ std::atomic<std::size_t> broken_count{0};
 
 }  // namespace
 
-void take_out(std::vector<Range>& ranges, Word from, Word to) {
-  std::vector<Range> left;
-  for (auto& it : ranges) {
-    if (to <= it.from || from >= it.to) {
-      left.push_back(it);
-      continue;
-    }
-    if (it.from < from) left.push_back({it.from, from, it.is_shared});
-    if (to < it.to) left.push_back({to, it.to, it.is_shared});
-  }
-  ranges = left;
-}
-
 Outside::Outside(const Modules& modules) {
   find_epolls(kernel);
   find_timers(kernel);
-  mapped = writable();
-  for (auto& it : modules.segments) take_out(mapped, it.from, it.to);
-  take_out(mapped, modules.own_from, modules.own_to);
-  take_out(mapped, modules.thread_from, modules.thread_to);
+  std::vector<Range> all = writable();
+  for (auto& segment : modules.segments) take_out(all, segment.from, segment.to);
+  take_out(all, modules.own_from, modules.own_to);
+  take_out(all, modules.thread_from, modules.thread_to);
   auto take_out_stack = [](Word from, Word to, void* ranges) {
     take_out(*static_cast<std::vector<Range>*>(ranges), from, to);
   };
-  each_known_stack(take_out_stack, &mapped);
+  each_known_stack(take_out_stack, &all);
   for (std::size_t place = 0; place < own_ranges(); place++)
-    take_out(mapped, own_range(place).first, own_range(place).second);
-  std::vector<Range> all;
-  all.swap(mapped);
-  for (auto& it : all) add_used(it, mapped);
+    take_out(all, own_range(place).first, own_range(place).second);
+  take_out_rooms_of_malloc(all);
+  for (auto& range : all) add_used(range, mapped);
   for (std::size_t place = 0; place < std::min<std::size_t>(broken_count, std::size(broken)); place++)
     mapped.push_back(broken[place]);
   std::sort(mapped.begin(), mapped.end(), [](auto& a, auto& b) { return a.from < b.from; });

@@ -29,7 +29,9 @@ std::size_t room_left = 0;
 
 Word OwnRegion::from, OwnRegion::to;
 
+// (the kernel may join a mapping with the next one, so that where its last page ends is to be known)
 void* own_pages(std::size_t bytes) {
+  bytes = whole_pages(bytes);
   void* pages =
       mmap(nullptr, bytes, PROT_READ | PROT_WRITE, MAP_PRIVATE | MAP_ANONYMOUS | MAP_NORESERVE, -1, 0);
   if (pages == MAP_FAILED) return nullptr;
@@ -47,7 +49,7 @@ void give_own_pages(void* pages, std::size_t bytes) {
       own[place].from = own[place].to = 0;
       break;
     }
-  munmap(pages, bytes);
+  munmap(pages, whole_pages(bytes));
 }
 
 std::pair<Word, Word> own_range(std::size_t place) {
@@ -100,9 +102,8 @@ void* OwnRegion::take(std::size_t bytes, std::size_t alignment) {
 }
 
 void OwnRegion::give(void* memory) {
-  constexpr Word PAGE = 4096;
-  Word begin = (reinterpret_cast<Word>(memory) + PAGE - 1) & ~(PAGE - 1);
-  Word end = (reinterpret_cast<Word>(memory) + size_of(memory)) & ~(PAGE - 1);
+  Word begin = whole_pages(reinterpret_cast<Word>(memory));
+  Word end = page_of(reinterpret_cast<Word>(memory) + size_of(memory));
   if (end > begin + 16 * PAGE) madvise(reinterpret_cast<void*>(begin), end - begin, MADV_DONTNEED);
 }
 

@@ -3,10 +3,13 @@
 #include <pthread.h>
 #include <signal.h>
 #include <sys/resource.h>
+#include <sys/syscall.h>
 #include <time.h>
 #include <ucontext.h>
+#include <unistd.h>
 
 #include <atomic>
+#include <cstdio>
 #include <initializer_list>
 
 #include "own_memory.h"
@@ -28,6 +31,8 @@ ucontext_t caller, reader;  // one reading at a time
 void (*work_of_reader)();
 const char* why_given_up;
 RECORDER_THREAD bool is_reading = false;
+RECORDER_THREAD bool has_lock = false;
+char why_too_long[80];
 
 // Limits that the program set for itself, raised as far as it may.
 class RaisedLimits {
@@ -54,15 +59,18 @@ private:
   bool is_changed[COUNT];
 };
 
-// Memory that vanishes while it is read ends the reading; a fault elsewhere is the program's own affair.
+// Memory that vanishes while it is read ends the reading, and so does the timer of TimeLimit, which sends a signal of the
+// same kind; a fault elsewhere is the program's own affair.
 class CaughtFaults {
 public:
   CaughtFaults() {
     struct sigaction action {};
-    action.sa_handler = [](int) {
-      if (is_reading) give_up("memory vanished while it was read");
-      restore();
+    action.sa_sigaction = [](int, siginfo_t* what, void*) {
+      bool is_late = what->si_code == SI_TIMER;
+      if (is_reading && !(is_late && has_lock)) give_up(is_late ? why_too_long : "memory vanished while it was read");
+      if (!is_late) restore();
     };
+    action.sa_flags = SA_SIGINFO;
     sigfillset(&action.sa_mask);
     for (int at = 0; at < 2; at++) sigaction(KINDS[at], &action, &before[at]);
   }
@@ -78,6 +86,30 @@ private:
   static struct sigaction before[2];
 };
 struct sigaction CaughtFaults::before[2];
+
+// While one lives a signal comes to this thread after so many seconds, and again as long as it isn't heeded.
+class TimeLimit {
+public:
+  explicit TimeLimit(int seconds) {
+    std::snprintf(why_too_long, sizeof why_too_long, "reading its memory took more than %d s; see --limit", seconds);
+    sigevent event{};
+    event.sigev_notify = SIGEV_THREAD_ID;
+    event.sigev_signo = SIGBUS;
+    event._sigev_un._tid = static_cast<pid_t>(syscall(SYS_gettid));
+    is_set = seconds > 0 && !syscall(SYS_timer_create, CLOCK_MONOTONIC, &event, &timer);
+    itimerspec after{{0, 50'000'000}, {seconds, 0}};
+    if (is_set) syscall(SYS_timer_settime, timer, 0, &after, nullptr);
+  }
+  // (one that is on its way comes here)
+  ~TimeLimit() {
+    if (is_set) syscall(SYS_timer_delete, timer);
+  }
+  TimeLimit(const TimeLimit&) = delete;
+
+private:
+  int timer = 0;  // the kernel's number
+  bool is_set;
+};
 
 std::atomic<bool> is_taken{false};
 
@@ -111,11 +143,15 @@ Turn::~Turn() {
 
 void Turn::let_go() { is_taken = false; }
 
-const char* read_apart(void (*work)()) {
+HeldLock::HeldLock() { has_lock = true; }
+HeldLock::~HeldLock() { has_lock = false; }
+
+const char* read_apart(void (*work)(), int seconds) {
   RaisedLimits raised;
   void* stack = own_pages(STACK_BYTES);
   if (!stack) return "no memory is left for reading it";
   CaughtFaults caught;
+  TimeLimit limit(seconds);
   work_of_reader = work;
   why_given_up = nullptr;
   getcontext(&reader);

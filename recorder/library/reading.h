@@ -31,8 +31,17 @@ private:
   sigset_t before;
 };
 
-// Runs `work` on a stack of its own, as a thread's may be small, within a turn. Returns null, or why it gave up.
-const char* read_apart(void (*work)());
+// Runs `work` on a stack of its own, as a thread's may be small, within a turn. Returns null, or why it gave up: also
+// where it takes more than so many seconds, however it is held up.
+const char* read_apart(void (*work)(), int seconds);
+
+// While one lives, the reading isn't given up for its time, as it holds a lock that others want.
+class HeldLock {
+public:
+  HeldLock();
+  ~HeldLock();
+  HeldLock(const HeldLock&) = delete;
+};
 
 // Leaves read_apart() with this reason, from within its work.
 [[noreturn]] void give_up(const char* why);

@@ -112,7 +112,6 @@ namespace {
 // Ranges without what malloc mapped for a chunk, which may lie beside what the program mapped; and none where malloc has
 // room for many chunks.
 std::vector<Range> without_malloc(const std::vector<Range>& ranges, const std::vector<LiveChunk>& chunks) {
-  constexpr Word PAGE = 4096;
   std::vector<Range> left;
   for (auto& range : ranges) {
     std::vector<Range> parts{range};
@@ -120,7 +119,7 @@ std::vector<Range> without_malloc(const std::vector<Range>& ranges, const std::v
                                [](const LiveChunk& chunk, Word word) { return chunk.to <= word; });
     for (; it != chunks.end() && it->from < range.to && !parts.empty(); ++it) {
       bool is_mapped = reinterpret_cast<const Word*>(it->from)[-1] & 2;
-      if (is_mapped) take_out(parts, it->from & ~(PAGE - 1), it->to);
+      if (is_mapped) take_out(parts, page_of(it->from), it->to);
       else parts.clear();
     }
     left.insert(left.end(), parts.begin(), parts.end());

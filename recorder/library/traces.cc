@@ -22,24 +22,24 @@ constexpr int MOST_THROUGH = 8;
 Tables<TraceNumber> numbers;  // by the traces' keys
 Lock adding;
 
-constexpr std::uint32_t PAGE = 1 << 12, PAGES = 1 << 12;
-std::atomic<const Trace**> pages[PAGES];  // all traces, in the order of their numbers
+constexpr std::uint32_t OF_A_TABLE = 1 << 12, TABLES = 1 << 12;
+std::atomic<const Trace**> tables[TABLES];  // all traces, in the order of their numbers
 std::uint32_t last_number = 0;
 
 TraceNumber kept(std::uint64_t key, Word maker, const Word* frames, int count) {
   std::lock_guard<Lock> guard(adding);
   std::uint32_t number = last_number + 1;
-  if (number >= PAGE * PAGES) return 0;
-  auto& page = pages[number / PAGE];
-  if (!page) page = static_cast<const Trace**>(own_pages(PAGE * WORD));
+  if (number >= OF_A_TABLE * TABLES) return 0;
+  auto& table = tables[number / OF_A_TABLE];
+  if (!table) table = static_cast<const Trace**>(own_pages(OF_A_TABLE * WORD));
   std::size_t bytes = sizeof(Trace) + static_cast<std::size_t>(count - 1) * WORD;
-  auto trace = static_cast<Trace*>(page ? own_room(bytes) : nullptr);
+  auto trace = static_cast<Trace*>(table ? own_room(bytes) : nullptr);
   if (!trace) return 0;
   trace->key = key;
   trace->maker = maker;
   trace->count = count;
   std::memcpy(trace->frames, frames, static_cast<std::size_t>(count) * WORD);
-  page[number % PAGE] = trace;
+  table[number % OF_A_TABLE] = trace;
   return last_number = number;
 }
 
@@ -120,7 +120,7 @@ TraceNumber of_place_alone(Place& place) {
 int frames_wanted = 0;
 
 const Trace* trace_of(TraceNumber number) {
-  return number ? pages[number / PAGE].load(std::memory_order_acquire)[number % PAGE] : nullptr;
+  return number ? tables[number / OF_A_TABLE].load(std::memory_order_acquire)[number % OF_A_TABLE] : nullptr;
 }
 
 void lock_traces() {

@@ -90,6 +90,7 @@ def values_that_no_option_has():
         "--now=NONE": "argument --now: invalid signal_number value: 'NONE'",
         "--frames=-3": "argument --frames: a number from 0 to 64 is wanted, and not -3",
         "--frames=1000": "argument --frames: a number from 0 to 64 is wanted, and not 1000",
+        "--limit=0": "argument --limit: a number from 1 to 86400 is wanted, and not 0",
         "--exit=256": "argument --exit: a number from 0 to 255 is wanted, and not 256",
     }
     found = {}

@@ -21,6 +21,7 @@ from dataclasses import dataclass
 from pathlib import Path
 
 from tests.recorder import (
+    hanging,
     lint,
     options,
     outputs,
@@ -38,6 +39,7 @@ MET = re.compile(r"record: the pointers found explain the counts of (\d+) of (\d
 ADVICE = "record: each weaken line mends its knot by itself; take the first"
 RANDOM_PROGRAMS = 6
 MODULES = [
+    hanging,
     lint,
     options,
     outputs,

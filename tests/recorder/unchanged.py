@@ -39,10 +39,10 @@ def ran(*words, **how):
     return done.returncode, done.stdout, done.stderr
 
 
-def difference(*words, status=None, says="", **how):
+def difference(*words, status=None, says="", options=(), **how):
     """What `./record` changes of a program. Its status may be another one, and its report has to say
     something."""
-    native, recorded = ran(*words, **how), ran(ROOT / "record", *words, **how)
+    native, recorded = ran(*words, **how), ran(ROOT / "record", *options, *words, **how)
     wanted = native[0] if status is None else status
     wanted = 128 - wanted if wanted < 0 else wanted
     right = recorded[:2] == (wanted, native[1]) and says in recorded[2]
