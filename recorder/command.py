@@ -172,10 +172,9 @@ def run(asked: Namespace, folder: str, path: str, reports: Reports) -> int:
     reports.look()
     if receiver.fault:
         reports.refuse(f"its record could not be written to {folder}: {receiver.fault.strerror}")
-    elif status < 0 and not reports.is_whole:
-        reports.say(
-            f"record: the program was ended by {signal.Signals(-status).name}: what it left was not read"
-        )
+    elif status < 0 and (reports.refused or not reports.is_whole):
+        unread = "" if reports.refused else ": what it left was not read"
+        reports.say(f"record: the program was ended by {signal.Signals(-status).name}{unread}")
     elif not reports.seen:
         reports.refuse(
             "it wrote no record: it may have other rights than yours, or have become another program"

@@ -12,7 +12,9 @@
 namespace recorder {
 namespace {
 
-void confine() { refuse_now("it confines itself by seccomp, and its memory can't be read after that"); }
+void confine() {
+  refuse_now_and_keep_still("it confines itself by seccomp, and its memory can't be read after that");
+}
 
 }  // namespace
 }  // namespace recorder

@@ -17,6 +17,7 @@
 #include "closed.h"
 #include "ending.h"
 #include "hook_tables.h"
+#include "kept_file.h"
 #include "next_malloc.h"
 #include "reading.h"
 #include "record_file.h"
@@ -96,6 +97,27 @@ void refuse_now(const char* why) {
 
 namespace {
 
+void leave_ending_signals();
+
+// (in what this process may become, which is confined from its beginning)
+void forget_process_in_environment() {
+  char* process = std::getenv("RECORDER_PROCESS");
+  while (process && *process) *process++ = '0';
+}
+
+}  // namespace
+
+void refuse_now_and_keep_still(const char* why) {
+  refuse_now(why);
+  stop_noting();
+  if (is_wanted) leave_ending_signals();
+  is_wanted = false;
+  KeptFile::forget_all();
+  forget_process_in_environment();
+}
+
+namespace {
+
 // Whether frames of the program lie on this stack below the C library's, as where err or error ends it: more than the
 // one that called main.
 bool has_frames_of_program(Frame frame) {
@@ -112,6 +134,7 @@ bool has_frames_of_program(Frame frame) {
 }
 
 void at_the_end(void*) {
+  if (!is_wanted) return;
   bool is_deep = exit_frame && exit_thread == static_cast<pid_t>(syscall(SYS_gettid));
   bool is_within = !exit_frame && has_frames_of_program(CALLER_FRAME);
   read_at_end("exit", is_deep ? exit_frame : is_within ? frame_here() : 0);
@@ -129,7 +152,9 @@ void* answer(void*) {
   }
 }
 
-void ask(int) { sem_post(&asked); }
+void ask(int) {
+  if (is_recording()) sem_post(&asked);
+}
 
 void answer_signal(int number) {
   sem_init(&asked, 0, 0);
@@ -158,15 +183,19 @@ void read_and_end(int number) {
     end_by_signal();
 }
 
-void end_by_signals() {
+// Gives signals that end servers another handler where they have this one.
+void replace_handler(void (*from)(int), void (*to)(int)) {
   for (int number : {SIGTERM, SIGINT}) {
     struct sigaction before {}, action {};
-    if (sigaction(number, nullptr, &before) || before.sa_handler != SIG_DFL) continue;
-    action.sa_handler = read_and_end;
+    if (sigaction(number, nullptr, &before) || before.sa_handler != from) continue;
+    action.sa_handler = to;
     action.sa_flags = SA_RESTART;
     sigaction(number, &action, nullptr);
   }
 }
+
+void end_by_signals() { replace_handler(SIG_DFL, read_and_end); }
+void leave_ending_signals() { replace_handler(read_and_end, SIG_DFL); }
 
 }  // namespace
 
@@ -201,6 +230,7 @@ void unlock_in_parent() {
 void unlock_in_child() {
   unlock_tables();
   is_becoming_daemon = false;
+  if (!is_wanted) return;
   if (with_children) {
     Turn::let_go();
     open_way_out();
@@ -217,7 +247,7 @@ __attribute__((constructor(101))) void begin() {
   Inside inside;
   with_children = number_of("RECORDER_CHILDREN");
   recorded_process = number_of("RECORDER_PROCESS");
-  is_wanted = is_asked_about() && know_way_out(std::getenv("RECORDER_SOCKET"), std::getenv("RECORDER_FILE"));
+  is_wanted = recorded_process && is_asked_about() && know_way_out(std::getenv("RECORDER_SOCKET"), std::getenv("RECORDER_FILE"));
   if (!is_wanted) {
     stop_noting();
     return;
@@ -245,7 +275,7 @@ using namespace recorder;
 
 PUBLIC void exit(int status) {
   static auto next = reinterpret_cast<void (*)(int)>(dlsym(RTLD_NEXT, "exit"));
-  if (!exit_frame) {
+  if (!exit_frame && is_wanted) {
     exit_frame = frame_here();
     exit_thread = static_cast<pid_t>(syscall(SYS_gettid));
   }

@@ -10,6 +10,10 @@ void read_at_end(const char* when, Word stack);
 // Tells now that nothing will be told, and why.
 void refuse_now(const char* why);
 
+// The same. From now on the recorder does nothing that the program didn't ask for: any call of the system's may be its
+// end.
+void refuse_now_and_keep_still(const char* why);
+
 // By the signal that came, if it wasn't done yet.
 void end_by_signal();
 

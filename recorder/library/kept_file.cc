@@ -62,6 +62,8 @@ bool KeptFile::is_kept(int number) {
                      [&](auto it) { return it && it->file == number && it->number() == number; });
 }
 
+void KeptFile::forget_all() { std::fill(all, all + MOST_KEPT, nullptr); }
+
 int KeptFile::number() const {
   struct stat found;
   bool is_there = file >= 0 && !fstat(file, &found) && found.st_dev == device && found.st_ino == inode;

@@ -12,6 +12,7 @@ public:
   int number() const;  // -1 where none is kept, or the program has put another file there
 
   static bool is_kept(int number);
+  static void forget_all();  // they stay open, and are the program's as any other
 
 private:
   int file = -1;

@@ -21,8 +21,9 @@ ALWAYS_INLINE bool is_usual() { return !(unusual_thread | unusual_process.load(s
 // Whether memory has to be noted; a thread that is unusual is asked once more.
 __attribute__((noinline)) bool is_noted_after_all() {
   Inside inside;  // (it stands still here where all have to)
+  if (!is_recording()) return false;
   if (unusual_thread & thread_state::NEW) note_this_thread();
-  return is_recording() && unusual_thread == thread_state::INSIDE;
+  return unusual_thread == thread_state::INSIDE;
 }
 
 ALWAYS_INLINE bool is_noted() { return __builtin_expect(is_usual(), true) || (!Inside::is() && is_noted_after_all()); }

@@ -5,6 +5,7 @@
 #include <malloc.h>
 
 #include <cstdio>
+#include <cstdlib>
 #include <cstring>
 
 #include "reading.h"
@@ -40,6 +41,12 @@ void refuse_others() {
   }
 }
 
+// Where the process was confined before it became this program: nothing that a filter may forbid is asked there.
+bool is_to_keep_still() {
+  const char* process = std::getenv("RECORDER_PROCESS");
+  return process && !std::atoi(process);
+}
+
 // (malloc and free come first, as a name that isn't there takes memory for its message)
 void find_all() {
   find_next(next_malloc.malloc, "malloc");
@@ -49,6 +56,7 @@ void find_all() {
   find_next(next_malloc.memalign, "memalign");
   find_next(next_malloc.usable_size, "malloc_usable_size");
   refuse_others();
+  if (is_to_keep_still()) stop_noting();
 }
 
 void* first_malloc(std::size_t size) { return find_all(), next_malloc.malloc(size); }

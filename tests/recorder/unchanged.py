@@ -12,6 +12,21 @@ LEAKED, REFUSED = 3, 125
 RUNS = 10  # of programs whose threads race
 OTHER_MALLOC = "its library libother_malloc.so has a malloc of its own"
 CONFINED = "it confines itself by seccomp, and its memory can't be read after that"
+# By which call, or what it does then.
+CONFINING = (
+    "strict",
+    "filter",
+    "call",
+    "exit",
+    "quick_exit",
+    "_exit",
+    "err",
+    "term",
+    "close",
+    "thread",
+    "exec",
+    "fork",
+)
 DAEMON = "it goes on as a daemon: a process of its own, whose end nobody waits for"
 
 
@@ -87,7 +102,17 @@ def limits_that_leave_nothing():
 def confined():
     with tempfile.TemporaryDirectory() as folder:
         program = built_unchanged(folder, "confined")
-        return "".join(difference(program, how, **refused(CONFINED)) for how in ("strict", "filter", "call"))
+        return "".join(keeps_still(program, how) for how in CONFINING)
+
+
+def keeps_still(program: Path, how: str) -> str:
+    """The recorder calls nothing more, as that would be the end: a report would say by which signal."""
+    ended = how == "term"
+    signal_told = "record: the program was ended by SIGTERM\n" if ended else ""
+    wanted = {*ran(program, how)[2].splitlines(), f"record: refused: {CONFINED}", *signal_told.splitlines()}
+    found = ran(ROOT / "record", program, how)[2].splitlines()
+    is_silent = set(found) == wanted and len(found) == len(wanted)
+    return difference(program, how, **refused(CONFINED)) + ("" if is_silent else f"{how}: {found}\n")
 
 
 def a_daemon():
