@@ -37,6 +37,7 @@ namespace process_state {
 constexpr int NOT_RECORDED = 1;  // nobody asked about it, or it is refused
 constexpr int STOPPING = 2;      // all threads but one have to stand still
 constexpr int ENDING = 4;        // it ends as soon as a thread leaves the recorder's code
+constexpr int PERTURBED = 8;     // fresh memory is not to be empty
 }  // namespace process_state
 OF_ALL_UNITS std::atomic<int> unusual_process;
 

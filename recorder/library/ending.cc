@@ -16,6 +16,7 @@
 
 #include "closed.h"
 #include "ending.h"
+#include "filling.h"
 #include "hook_tables.h"
 #include "kept_file.h"
 #include "next_malloc.h"
@@ -257,6 +258,7 @@ __attribute__((constructor(101))) void begin() {
   refuse_own_malloc();
   if (refusal) return read_at_end("exit", 0);
   know_program();
+  ask_environment_for_perturbation();
   frames_wanted = number_of("RECORDER_FRAMES");
   seconds_to_read = number_of("RECORDER_SECONDS");
   pthread_atfork(lock_tables, unlock_in_parent, unlock_in_child);

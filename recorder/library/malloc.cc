@@ -6,6 +6,7 @@
 #include <cstring>
 
 #include "chunks.h"
+#include "filling.h"
 #include "next_malloc.h"
 #include "own_memory.h"
 #include "reading.h"
@@ -88,6 +89,12 @@ __attribute__((noinline)) void* taken_large(void* memory, Word code, Word stack,
   return noted(memory, code, stack, base);
 }
 
+// What malloc gave, filled as the program wants it. (Of old bytes it has none either.)
+void* taken_perturbed(void* memory, Word code, Word stack, Word base) {
+  std::memset(memory, perturbation ^ 0xFF, usable_size(memory));
+  return noted(memory, code, stack, base);
+}
+
 // What malloc gave, emptied.
 __attribute__((noinline)) void* taken(void* memory, Word code, Word stack, Word base) {
   std::size_t head = static_cast<std::size_t*>(memory)[-1];  // (what is fresh is large)
@@ -96,7 +103,10 @@ __attribute__((noinline)) void* taken(void* memory, Word code, Word stack, Word 
   return noted(memory, code, stack, base);
 }
 
-void* taken(void* memory, Frame frame) { return taken(memory, frame.code, frame.stack, frame.base); }
+void* taken_unusually(void* memory, Frame frame) {
+  return perturbation ? taken_perturbed(memory, frame.code, frame.stack, frame.base)
+                      : taken(memory, frame.code, frame.stack, frame.base);
+}
 void note(void* memory, Frame frame) { noted(memory, frame.code, frame.stack, frame.base); }
 
 __attribute__((noinline)) void forget_slowly(void* memory) {
@@ -115,7 +125,7 @@ void* aligned(std::size_t alignment, std::size_t size, Frame frame) {
   if (OwnRegion::is_used()) return OwnRegion::take(size, alignment);
   void* memory = next_malloc.memalign(alignment, size);
   if (!memory || !is_noted()) return memory;
-  taken(memory, frame);
+  taken_unusually(memory, frame);
   Inside inside;
   note_alignment(as_word(memory), alignment);
   return memory;
@@ -140,7 +150,8 @@ void* resized(void* memory, std::size_t size, Frame frame) {
     return nullptr;
   }
   std::size_t after = usable_size(other);
-  if (after > before && !is_fresh(other)) std::memset(static_cast<char*>(other) + before, 0, after - before);
+  if (after > before && (perturbation || !is_fresh(other)))
+    std::memset(static_cast<char*>(other) + before, perturbation ? perturbation ^ 0xFF : 0, after - before);
   note(other, frame);
   return other;
 }
@@ -157,7 +168,7 @@ namespace {
 __attribute__((noinline)) void* unusually_taken(std::size_t size, Word code, Word stack, Word base) {
   if (OwnRegion::is_used()) return OwnRegion::take(size, 16);
   void* memory = next_malloc.malloc(size);
-  return memory && is_noted() ? taken(memory, code, stack, base) : memory;
+  return memory && is_noted() ? taken_unusually(memory, {code, stack, base}) : memory;
 }
 
 __attribute__((noinline)) void unusually_freed(void* memory) {

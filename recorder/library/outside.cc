@@ -13,6 +13,7 @@
 #include <iterator>
 #include <string>
 
+#include "mappings.h"
 #include "own_memory.h"
 #include "threads.h"
 
@@ -71,24 +72,19 @@ void find_timers(std::vector<Word>& to) {
   });
 }
 
-// Whether a mapping with this name is memory, and no file or device.
-bool is_memory(unsigned long inode, const char* name) {
+// Whether it is memory, and no file or device.
+bool is_memory(const Mapping& mapping) {
   static const char* const BEGINNINGS[] = {"[anon", "/dev/zero", "/memfd:", "/dev/shm/", "/SYSV"};
-  auto begins = [&](auto beginning) { return !std::strncmp(name, beginning, std::strlen(beginning)); };
-  return (!inode && !*name) || std::any_of(std::begin(BEGINNINGS), std::end(BEGINNINGS), begins);
+  auto begins = [&](auto beginning) { return !std::strncmp(mapping.name, beginning, std::strlen(beginning)); };
+  return (!mapping.inode && !*mapping.name) || std::any_of(std::begin(BEGINNINGS), std::end(BEGINNINGS), begins);
 }
 
 // Memory that may be written and isn't a file's.
 std::vector<Range> writable() {
   std::vector<Range> found;
-  each_line(contents("/proc/self/maps"), [&](const char* line) {
-    char rights[8], name[16] = "";
-    unsigned long inode = 0;
-    Range range{};
-    if (std::sscanf(line, "%lx-%lx %7s %*s %*s %lu %15s", &range.from, &range.to, rights, &inode, name) < 4) return;
-    range.is_shared = rights[3] == 's';
-    if (!std::strncmp(rights, "rw", 2) && is_memory(inode, name)) found.push_back(range);
-  });
+  Mappings mappings;
+  for (Mapping mapping; mappings.next(mapping);)
+    if (mapping.is_writable && is_memory(mapping)) found.push_back({mapping.from, mapping.to, mapping.is_shared});
   return found;
 }
 

@@ -5,6 +5,7 @@
 #include <pthread.h>
 #include <sched.h>
 #include <signal.h>
+#include <sys/resource.h>
 #include <sys/syscall.h>
 #include <time.h>
 #include <unistd.h>
@@ -18,8 +19,11 @@
 
 #include "ending.h"
 #include "kept_file.h"
+#include "mappings.h"
 #include "reading.h"
 #include "table.h"
+
+extern "C" void* stack_end_of_main __asm__("__libc_stack_end");
 
 namespace recorder {
 namespace {
@@ -187,18 +191,37 @@ std::vector<pid_t> other_threads(int folder) {
 
 }  // namespace
 
-void note_this_thread() {
-  unusual_thread &= ~thread_state::NEW;
+namespace {
+
+// Where the C library says that the stack of a thread lies that it made.
+Bounds stack_of_library() {
   pthread_attr_t attributes;
   void* from = nullptr;
   std::size_t size = 0;
-  if (pthread_getattr_np(pthread_self(), &attributes)) return;
-  if (!pthread_attr_getstack(&attributes, &from, &size)) {
-    Word at = reinterpret_cast<Word>(from);
-    own_stack = {at, at + size};
-    known_stacks.put(this_thread(), own_stack);
-  }
+  if (pthread_getattr_np(pthread_self(), &attributes)) return {0, 0};
+  bool is_told = !pthread_attr_getstack(&attributes, &from, &size);
   pthread_attr_destroy(&attributes);
+  Word at = reinterpret_cast<Word>(from);
+  return is_told ? Bounds{at, at + size} : Bounds{0, 0};
+}
+
+// The stack of the thread that runs main may grow as far as its limit, or to the mapping below. (The C library would take
+// memory of malloc to tell it.)
+Bounds stack_of_main() {
+  Word to = page_of(reinterpret_cast<Word>(stack_end_of_main)) + PAGE, below = 0;
+  Mappings mappings;
+  for (Mapping mapping; mappings.next(mapping) && mapping.to < to;) below = mapping.to;
+  rlimit limit;
+  if (getrlimit(RLIMIT_STACK, &limit)) return {0, 0};
+  return {limit.rlim_cur < to - below ? page_of(to - limit.rlim_cur) : below, to};
+}
+
+}  // namespace
+
+void note_this_thread() {
+  unusual_thread &= ~thread_state::NEW;
+  own_stack = this_thread() == getpid() ? stack_of_main() : stack_of_library();
+  if (own_stack.to) known_stacks.put(this_thread(), own_stack);
 }
 
 void keep_threads_folder() { threads_folder.keep(open_threads_folder()); }
@@ -207,19 +230,10 @@ namespace {
 
 // The mapping that an address lies in: none where there is none, and all memory where that can't be told.
 Bounds mapping_of(Word address) {
-  int file = open("/proc/self/maps", O_RDONLY | O_CLOEXEC);
-  if (file < 0) return {0, ~Word(0)};
-  std::string text(1 << 20, 0);
-  for (std::size_t size = 0; (size = contents(dup(file), &text[0], text.size())) + 1 == text.size();) {
-    text.resize(2 * text.size());
-    lseek(file, 0, SEEK_SET);
-  }
-  close(file);
-  for (const char* line = text.c_str(); line && *line; line = std::strchr(line, '\n'), line += line != nullptr) {
-    char* dash = nullptr;
-    Word from = std::strtoul(line, &dash, 16), to = std::strtoul(dash + 1, nullptr, 16);
-    if (from <= address && address < to) return {from, to};
-  }
+  Mappings mappings;
+  if (!mappings.is_open()) return {0, ~Word(0)};
+  for (Mapping mapping; mappings.next(mapping);)
+    if (mapping.from <= address && address < mapping.to) return {mapping.from, mapping.to};
   return {address, address};
 }
 

@@ -115,6 +115,17 @@ def keeps_still(program: Path, how: str) -> str:
     return difference(program, how, **refused(CONFINED)) + ("" if is_silent else f"{how}: {found}\n")
 
 
+def what_malloc_tells():
+    """How much is in use, and what fresh memory is filled with where the program or its user asks for that."""
+    leaks = {"status": LEAKED, "says": "leaked 1 Node, made at"}
+    with tempfile.TemporaryDirectory() as folder:
+        program = built_unchanged(folder, "asking_malloc")
+        wrong = difference(program, **leaks)
+        for asked in {"MALLOC_PERTURB_": "165"}, {"GLIBC_TUNABLES": "glibc.malloc.perturb=0x11"}:
+            wrong += difference(program, env={**os.environ, **asked}, **leaks)
+        return wrong
+
+
 def a_daemon():
     with tempfile.TemporaryDirectory() as folder:
         return difference(built_unchanged(folder, "daemon"), **refused(DAEMON))
@@ -185,6 +196,7 @@ CHECKS = [
     limits,
     limits_that_leave_nothing,
     confined,
+    what_malloc_tells,
     a_daemon,
     probing,
     moved_away,
