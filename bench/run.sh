@@ -1,11 +1,11 @@
 #!/usr/bin/env bash
-# Prints the tables of README.md: what calls cost by the program `measure` (proved first, where it isn't) and by peers.
+# Prints the tables of README.md: what calls cost by the program `measure`, as bench/unproved builds it, and by peers.
 #
 # usage: bench/run.sh [TURNS [FOLDER [MEASURE]]]
 #
 # The programs run in turn, so that what else the machine does falls on all; a turn takes some 20 seconds, and there
 # are 20 where no number is given. With a folder, what is built there stays, is not built again, and what each turn
-# printed stays too. With a third word that program is taken for `measure`, as one of bench/unproved.
+# printed stays too. With a third word that program is taken for `measure`.
 set -euo pipefail
 turns=${1:-20} folder=${2:-} measure=${3:-}
 [ -z "$folder" ] || { mkdir -p "$folder"; folder=$(realpath "$folder"); }
@@ -15,15 +15,6 @@ if [ -z "$folder" ]; then
   folder=$(mktemp -d)
   trap 'rm -rf "$folder"' EXIT
 fi
-
-# The proved program, or the one that was given.
-build_measure() {
-  if [ -z "$measure" ]; then
-    (cd ../crates/measure && rt run -- 0) > "$folder/proof" 2>&1 || { cat "$folder/proof"; exit 1; }
-    measure=../crates/measure/out/measure
-  fi
-  cp "$measure" "$folder/measure"
-}
 
 build_arc() {
   local arc_swap=() source
@@ -36,7 +27,8 @@ build_arc() {
   rustc --edition 2024 -O --check-cfg 'cfg(arc_swap)' "${arc_swap[@]}" -o "$folder/arc" arc.rs
 }
 
-[ -f "$folder/measure" ] || build_measure
+[ -z "$measure" ] || cp "$measure" "$folder/measure"
+[ -f "$folder/measure" ] || ./unproved "$folder/measure"
 [ -f "$folder/peers" ] || g++ -std=c++20 -O2 -Wall -Wextra -o "$folder/peers" peers.cpp -lpthread
 [ -f "$folder/steps" ] || g++ -std=c++20 -O2 -Wall -Wextra -o "$folder/steps" steps.cpp -lpthread
 [ -f "$folder/gaps" ] || g++ -std=c++20 -O2 -Wall -Wextra -o "$folder/gaps" gaps.cpp

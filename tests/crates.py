@@ -2,6 +2,7 @@
 
 from pathlib import Path
 
+from crate_list import listed
 from edit_files import MUST_FAIL, edit_paths
 
 ROOT = Path(__file__).resolve().parent.parent
@@ -9,9 +10,7 @@ ROOT = Path(__file__).resolve().parent.parent
 
 def crates() -> dict[str, list[str]]:
     """The crates that crates.txt lists, in its order, each with the libraries that it stands on."""
-    lines = (ROOT / "crates.txt").read_text().splitlines()
-    parted = (line.partition(":") for line in lines if line.strip() and not line.startswith("#"))
-    return {head.split()[0]: below.split() for head, _, below in parted}
+    return listed(ROOT)
 
 
 def page_programs() -> list[str]:
