@@ -31,11 +31,9 @@ bool with_children;
 bool is_wanted;  // this process is asked about
 int seconds_to_read;
 std::atomic<pid_t> ended{0};  // the process that has read its memory: one after vfork shares this word
-Word exit_frame;              // where exit() was called; after main's return no frame of its thread lives
+Word exit_stack;              // where exit() was called; after main's return no frame of its thread lives
 pid_t exit_thread;
 sem_t asked;
-
-Word frame_here() { return reinterpret_cast<Word>(__builtin_frame_address(0)); }
 
 // What would end the process while it is read, after its own end.
 void stop_timers() {
@@ -136,12 +134,16 @@ bool has_frames_of_program(Frame frame) {
 
 void at_the_end(void*) {
   if (!is_wanted) return;
-  bool is_deep = exit_frame && exit_thread == static_cast<pid_t>(syscall(SYS_gettid));
-  bool is_within = !exit_frame && has_frames_of_program(CALLER_FRAME);
-  read_at_end("exit", is_deep ? exit_frame : is_within ? frame_here() : 0);
+  __builtin_unwind_init();  // (what its callers hold in registers lies on the stack now)
+  bool is_deep = exit_stack && exit_thread == static_cast<pid_t>(syscall(SYS_gettid));
+  bool is_within = !exit_stack && has_frames_of_program(CALLER_FRAME);
+  read_at_end("exit", is_deep ? exit_stack : is_within ? stack_here() : 0);
 }
 
-void at_quick_exit_end() { read_at_end("quick_exit", frame_here()); }
+void at_quick_exit_end() {
+  __builtin_unwind_init();
+  read_at_end("quick_exit", stack_here());
+}
 
 void* answer(void*) {
   for (int snapshot = 1;; snapshot++) {
@@ -277,8 +279,9 @@ using namespace recorder;
 
 PUBLIC void exit(int status) {
   static auto next = reinterpret_cast<void (*)(int)>(dlsym(RTLD_NEXT, "exit"));
-  if (!exit_frame && is_wanted) {
-    exit_frame = frame_here();
+  __builtin_unwind_init();
+  if (!exit_stack && is_wanted) {
+    exit_stack = stack_here();
     exit_thread = static_cast<pid_t>(syscall(SYS_gettid));
   }
   next(status);

@@ -94,8 +94,8 @@ def ways(hows=("scan", "hooks")):
 
 def ways_of(name, number, every):
     """Two of all ways for each program, in turn, and two without debug information and symbols where that has
-    a report of its own; those of C++20 or g++ alone where it wants that."""
-    wanted = re.search(r"Wants (.*)\.", (PROGRAMS / f"{name}.cc").read_text())
+    a report of its own; those of C++20, g++ or -O2 alone where it wants that."""
+    wanted = re.search(r"Wants (.*)\.\n", (PROGRAMS / f"{name}.cc").read_text())
     for hows in ("scan", "hooks"), ("stripped",):
         if hows == ("stripped",) and not (PROGRAMS / f"{name}.stripped.expected").exists():
             continue
@@ -106,7 +106,8 @@ def ways_of(name, number, every):
 
 def fits(way, wanted):
     is_compiler = way.compiler == "g++" or "g++" not in wanted
-    return is_compiler and (way.standard == "c++20" or "C++20" not in wanted)
+    is_level = way.level == "-O2" or "-O2" not in wanted
+    return is_compiler and is_level and (way.standard == "c++20" or "C++20" not in wanted)
 
 
 def build(sources, to, way):
