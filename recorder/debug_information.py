@@ -64,6 +64,11 @@ class Answers:
         found = (self.of_unit("members", name, making.unit if making else ()) or {}).get(offset, {})
         return found.get(inner) or found.get(-1, [])
 
+    def member_within(self, name: str, offset: int) -> list:
+        """The same of a type that memory seems to be of; nothing where it reaches beyond, as it is another."""
+        size = self.of_unit("sizes", name, ())
+        return self.member(name, None, offset, -1) if size and offset < size else []
+
     def size(self, making: Making) -> int | None:
         return self.of_unit("sizes", making.name, making.unit)
 
@@ -98,11 +103,11 @@ class Questions:
     def ask(self, spot: Spot):
         if spot.kind == "object":
             making = spot.making
-            self.places[making.name][spot.offset].add(spot.inner if spot.maker == "d" else -1)
+            self.places[making.name][spot.offset].add(spot.inner if spot.is_pointed else -1)
             self.units[making.name].add(making.unit)
         elif spot.kind == "static":
             self.symbols[spot.number].add(spot.offset)
-        if spot.maker == "v":
+        if spot.has_table:
             self.places[self.record.plain[spot.told]][spot.inner].add(-1)
         elif spot.maker in ("f", "c", "a"):
             module, at = self.modules.place_of(int(spot.told, 16))

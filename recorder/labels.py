@@ -55,7 +55,7 @@ class Labels:
 
     def in_object(self, spot: Spot) -> tuple[str, str, str]:
         """`Class::member`, or the type and the byte."""
-        inner = spot.inner if spot.maker == "d" else -1
+        inner = spot.inner if spot.is_pointed else -1
         found = self.answers.member(spot.making.name, spot.making, spot.offset, inner)
         is_handle = spot.is_of_handle and spot.inner < 0
         if not found or not found[1] or is_handle and NO_HANDLE.fullmatch(found[2]):
@@ -69,8 +69,8 @@ class Labels:
     def inside(self, spot: Spot, label: str) -> tuple[str, str]:
         """The declared type in a chunk that says itself of which type it is, and what to change there."""
         kind = spot.maker
-        if kind == "v":
-            found = self.answers.member(self.record.plain[spot.told], None, spot.inner, -1)
+        if spot.has_table:
+            found = self.answers.member_within(self.record.plain[spot.told], spot.inner)
             return (found[2], f"{short(found[0])}::{found[1]}") if found and found[1] else ("", "")
         if kind not in ("a", "c", "f"):
             return "", ""

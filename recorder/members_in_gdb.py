@@ -156,7 +156,10 @@ def members_at(type_, offset, inner_bytes):
     if own[2].startswith("std::unique_ptr<"):
         for inner in inner_bytes:
             try:
-                declaring, path, pointed = leaf_at(leaf.template_argument(0), inner)
+                target = leaf.template_argument(0)
+                if target.strip_typedefs().code == gdb.TYPE_CODE_STRUCT and inner >= size_of(target):
+                    continue  # (it is of a class derived from that)
+                declaring, path, pointed = leaf_at(target, inner)
                 found[inner] = *own, declaring, path, name_of(pointed)
             except (gdb.error, RuntimeError):
                 pass

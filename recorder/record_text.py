@@ -60,6 +60,16 @@ class Spot:
         return self.making is not None
 
     @property
+    def has_table(self):
+        """Whether the chunk has a table of virtual functions, of its own or of its first member."""
+        return self.maker in ("v", "w")
+
+    @property
+    def is_pointed(self):
+        """Whether it is what its holder's own pointer points to."""
+        return self.maker in ("d", "w")
+
+    @property
     def is_in_static(self):
         return self.kind in ("static", "thread-local") and self.inner < 0
 

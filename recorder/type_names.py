@@ -85,7 +85,7 @@ def name_makings(record: Record):
     names = {
         it for making in record.makings for it in (making.control_type, making.dynamic_type) if it != "-"
     }
-    names |= {it.told for it in record.spots if it.maker == "v"} | {it[-1] for it in record.unseen}
+    names |= {it.told for it in record.spots if it.has_table} | {it[-1] for it in record.unseen}
     plain = record.plain = demangled(names)
     for it in record.makings:
         if it.dynamic_type != "-":

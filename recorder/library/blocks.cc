@@ -164,6 +164,16 @@ Word in_place(const ControlBlock& block, const Snapshot& all, VirtualTables& tab
 
 }  // namespace
 
+// What `make_shared` made is of the type that it was asked for; what was made otherwise may be of a class derived from that.
+void Snapshot::take_dynamic_type(ControlBlock& block) {
+  if (block.kind == ControlBlock::IN_PLACE || block.kind == ControlBlock::ARRAY || block.object % WORD) return;
+  auto& table = tables.of(*reinterpret_cast<const Word*>(block.object));
+  if (!table.type || (block.type && !object_types.has(block.type, table))) return;
+  block.dynamic = table.type;
+  Word top = block.object + table.to_top;
+  if (chunk_of(top) == chunk_of(block.object)) block.object = top;
+}
+
 void Snapshot::place_object(ControlBlock& block, const std::vector<Word>& stored) {
   auto words = reinterpret_cast<const Word*>(block.at);
   if (block.kind == ControlBlock::ARRAY) {
@@ -184,12 +194,7 @@ void Snapshot::place_object(ControlBlock& block, const std::vector<Word>& stored
     block.object_end = block.object;
     return;
   }
-  auto& table = tables.of(*reinterpret_cast<const Word*>(block.object));
-  if (block.object % WORD == 0 && table.type) {
-    block.dynamic = table.type;
-    Word top = block.object + table.to_top;
-    if (block.kind != ControlBlock::IN_PLACE && chunk_of(top) == chunk) block.object = top;
-  }
+  take_dynamic_type(block);
   if (block.object_end <= block.object) block.object_end = chunks[chunk].to;
   auto next = block_index.first_after(block.object);
   if (next) block.object_end = std::min(block.object_end, next->first);

@@ -103,15 +103,16 @@ Maker Snapshot::maker_of(int chunk) const {
     const Segment* segment = modules.segment_of(word);
     return segment && segment->is_code;
   };
+  bool is_copied = area_of(it.pointer) >= 0 && !areas[area_of(it.pointer)].copy.empty();
+  auto pointer = reinterpret_cast<const Word*>(it.pointer);
+  bool is_pointed = pointer && !is_copied && pointer[0] == it.from;
   if (it.to - it.from >= 2 * WORD) {
     auto& table = tables.of(words[0]);
-    if (table.type && !table.is_control_block && !table.to_top) return {'v', reinterpret_cast<Word>(table.type)};
+    bool is_table = table.type && !table.is_control_block && !table.to_top;
+    if (is_table) return {is_pointed && it.before < 0 ? 'w' : 'v', reinterpret_cast<Word>(table.type)};
     if (is_code(words[0]) && is_code(words[1])) return {'c', words[0]};
   }
-  bool is_copied = area_of(it.pointer) >= 0 && !areas[area_of(it.pointer)].copy.empty();
-  if (!it.pointer || is_copied) return {};
-  auto pointer = reinterpret_cast<const Word*>(it.pointer);
-  if (pointer[0] != it.from) return {};
+  if (!is_pointed) return {};
   if (is_code(pointer[2]) && is_code(pointer[3])) return {'f', pointer[3]};
   if (is_code(pointer[-1])) return {'a', pointer[-1]};
   return {it.before < 0 ? 'd' : '-'};

@@ -109,11 +109,12 @@ VirtualTable VirtualTables::read(Word word) const {
   VirtualTable table;
   const Segment* segment = modules.segment_of(word);
   if (auto closed = segment ? nullptr : closed_table(word))
-    return {closed->type, closed->to_top, is_control_block_type(closed->type), false};
+    return {closed->type, 0, closed->to_top, is_control_block_type(closed->type), false};
   if (!segment || word - 2 * WORD < segment->from) return table;
   auto words = reinterpret_cast<const Word*>(word);
   table.to_top = static_cast<std::ptrdiff_t>(words[-2]);
   table.type = words[-1] ? name_at(words[-1]) : nullptr;
+  table.type_info = table.type ? words[-1] : 0;
   table.is_control_block = table.type && is_control_block_type(table.type);
   if (words[-1] || words[-2] || word + 5 * WORD > segment->to) return table;
   table.is_untyped = std::all_of(words, words + 5, [&](Word function) {

@@ -45,6 +45,7 @@ private:
 // What a word says that may be a pointer to a table of virtual functions.
 struct VirtualTable {
   const char* type = nullptr;  // its mangled name; null where the word is no such pointer, or has no type
+  Word type_info = 0;          // its description; 0 where its library was closed
   std::ptrdiff_t to_top = 0;
   bool is_control_block = false;
   bool is_untyped = false;  // five virtual functions and no type, as a control block has it without RTTI
@@ -54,10 +55,10 @@ class VirtualTables {
 public:
   explicit VirtualTables(const Modules& modules) : modules(modules) {}
   const VirtualTable& of(Word word);
+  const char* name_at(Word type_info) const;  // null where no type is described
 
 private:
   VirtualTable read(Word word) const;
-  const char* name_at(Word type_info) const;
 
   const Modules& modules;
   std::unordered_map<Word, VirtualTable> seen;

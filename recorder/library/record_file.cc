@@ -143,7 +143,7 @@ void write_spot(Output& out, const Spot& it) {
   static const char* const KINDS[] = {"deleter", "heap", "kernel", "mapped", "object", "stack", "static", "thread-local"};
   out.say("spot %s %d %td %td ", KINDS[it.kind], it.number, it.offset, it.inner);
   out.say("%d %d %c", it.is_uncertain, it.is_of_handle, it.maker.kind);
-  if (it.maker.kind == 'v')
+  if (it.maker.is_type())
     out.say_text(" "), out.say_text(reinterpret_cast<const char*>(it.maker.word));
   else
     out.say_address(it.maker.word);

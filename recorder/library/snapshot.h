@@ -8,6 +8,7 @@
 #include "chunk_index.h"
 #include "chunks.h"
 #include "modules.h"
+#include "object_types.h"
 #include "outside.h"
 #include "threads.h"
 
@@ -69,14 +70,15 @@ struct ControlBlock {
   bool is_live() const { return uses > 0; }
 };
 
-// What says of which type a chunk is. `v`: its own table of virtual functions; `c`, `f`, `a`: a function that knows, the
-// first of a coroutine's frame, the invoker of a std::function, the manager of an any; `d` where it is what its holder's
-// own pointer points to, `-` where nothing says it.
+// What says of which type a chunk is. `v`: its own table of virtual functions, or its first member's; `c`, `f`, `a`: a
+// function that knows, the first of a coroutine's frame, the invoker of a std::function, the manager of an any; `d` where it
+// is what its holder's own pointer points to, `w` where that is so and it has a table, `-` where nothing says it.
 struct Maker {
   char kind = '-';
   Word word = 0;  // the function, or the type's name
 
-  bool tells_of_bytes() const { return kind == 'v' || kind == 'c' || kind == 'f'; }
+  bool is_type() const { return kind == 'v' || kind == 'w'; }
+  bool tells_of_bytes() const { return is_type() || kind == 'c' || kind == 'f'; }
 };
 
 struct Handle {
@@ -137,6 +139,7 @@ private:
   friend class Spreading;
 
   mutable VirtualTables tables;
+  ObjectTypes object_types{tables};
 
   void find_blocks_in_areas();
   void make_pool(int area);
@@ -153,6 +156,7 @@ private:
   bool points_back(const LiveChunk& chunk, Word at) const;
   void find_objects();
   void place_object(ControlBlock& block, const std::vector<Word>& stored);
+  void take_dynamic_type(ControlBlock& block);
   void find_holders();
   void find_raw_pointers();
 
