@@ -96,7 +96,8 @@ class Reports:
         NEVER_FREED.append(findings)
         if self.asked.proved:
             findings.compared = proved.difference(findings.graph, findings.answer) or "the same"
-        leaks = bool(findings.alarming or self.asked.strict and findings.undecided)
+        uncertain = findings.undecided or findings.reached_and_told
+        leaks = bool(findings.alarming or self.asked.strict and uncertain)
         self.leaks |= leaks
         if leaks or not self.asked.quiet:
             self.say_all(findings, path)

@@ -42,7 +42,7 @@ def parse(words: list[str]) -> argparse.Namespace:
     add("--github", action="store_true", help="also write annotations for GitHub's pages")
     add("--stack", action="store_true", help="tell by which functions each leaked object was made")
     add("--quiet", action="store_true", help="say no word where nothing leaks")
-    add("--strict", action="store_true", help="what can't be decided counts as leaked")
+    add("--strict", action="store_true", help="what is undecided or reached counts as leaked")
     add(
         "--exit",
         metavar="N",

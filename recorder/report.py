@@ -62,7 +62,8 @@ def undecided_lines(findings, with_stack):
 
 
 def reached_lines(findings):
-    for (kind, label), numbers in by_kind(findings, findings.reached, findings.reached):
+    reached = findings.reached_and_told
+    for (kind, label), numbers in by_kind(findings, reached, reached):
         yield f"reached {len(numbers)} {kind_text(kind)}, by a raw pointer from {label}"
 
 
@@ -178,8 +179,8 @@ def lines(findings: Findings, with_stack: bool = False, before: Findings | None 
     first += f'{"is" if count == 1 else "are"} left, {len(findings.alarming)} leaked'
     if findings.undecided:
         first += f", {len(findings.undecided)} undecided"
-    if findings.reached:
-        first += f", {len(findings.reached)} that raw pointers reach"
+    if findings.reached_and_told:
+        first += f", {len(findings.reached_and_told)} that raw pointers reach"
     found = [
         first,
         *leaked_lines(findings, with_stack),
@@ -200,6 +201,8 @@ def blocks(count):
 
 def doubt_lines(findings):
     unknown, record = kept_by_unknown(findings), findings.record
+    if findings.reached_and_told:
+        yield "record: only raw pointers lead to what is reached; whether one of them owns it can't be told"
     if unknown:
         yield f"record: {unknown} kept by owners whose place is not known"
     if record.untyped:

@@ -43,6 +43,10 @@ class Findings:
     def undecided(self) -> set[int]:
         return self.graph.undecided - set(self.reached) - set(self.suppressed)
 
+    @property
+    def reached_and_told(self) -> dict[int, str]:
+        return {it: label for it, label in self.reached.items() if it not in self.suppressed}
+
     def kind(self, number: int) -> tuple[str, str]:
         """An object's type and the place of its making."""
         return kind_of(self.blocks[number - 1].making)
@@ -85,7 +89,7 @@ def findings_of(record: Record, suppressed: Iterable[Suppression] = ()) -> Findi
 def reasons(found, suppressed):
     """By object: why a user's file leaves it out."""
     left_out = {}
-    for number in sorted(found.alarming | found.undecided) if suppressed else ():
+    for number in sorted(found.alarming | found.undecided | set(found.reached)) if suppressed else ():
         for it in suppressed:
             if it.names(*found.kind(number)):
                 it.is_used = True

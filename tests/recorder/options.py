@@ -181,6 +181,8 @@ def suppressions():
         ran = record("--suppress", file, program)
         file.write_text("Loop\n")
         refused = record("--suppress", file, program)
+        file.write_text("Node # known\n")
+        reached = record("--strict", "--suppress", file, built(folder, "raw_pointer"))
     wanted = [
         "record: 52 objects that shared pointers own are left, 0 leaked",
         "suppressed 50 Loop, made at two_knots.cc:21 in main: a cache for ever",
@@ -193,17 +195,20 @@ def suppressions():
         lines=(lines[:4], wanted),
         last=(lines[-1], "record: nothing was left that None* suppresses"),
         status=(ran.returncode, 0),
+        reached=((reached.returncode, "reach" in reached.stderr), (0, False)),
         refused=((refused.stderr, refused.returncode), (why, 125)),
     )
 
 
 def what_is_undecided():
-    """It is no leak, but where --strict is given."""
+    """It is no leak, but where --strict is given, and so is what is reached."""
     with tempfile.TemporaryDirectory() as folder:
         program = Path(folder, "undecided")
         subprocess.run(["g++", "undecided.cc", "-s", "-o", program], check=True, cwd=PROGRAMS)
-        found = [record(program).returncode, record("--strict", program).returncode]
-    return differences(status=(found, [0, 3]))
+        reached = built(folder, "raw_pointer")
+        found = [record(*it).returncode for it in ([program], ["--strict", program])]
+        found += [record(*it).returncode for it in ([reached], ["--strict", reached])]
+    return differences(status=(found, [0, 3, 0, 3]))
 
 
 def the_page():
