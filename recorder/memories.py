@@ -51,11 +51,17 @@ class Memories:
             found[first + it.memory if it.memory >= 0 else self.holder(it)].append(first + it.to)
         return found
 
+    def may_own(self, link: Link) -> bool:
+        """Whether a pointer may own what it leads to. Where registers were not read, another owner may be there,
+        so that it has to be one of a type that is known."""
+        declared = link.spot.declared
+        return not is_raw(declared) and bool(declared or not self.record.unread)
+
     def found_owners(self) -> dict[int, tuple[int, str]]:
         """By memory: the object that owns it and by what, over pointers that can own, the nearest first."""
         behind, found, todo = collections.defaultdict(list), {}, collections.deque()
         for link in self.record.links:
-            if is_raw(link.spot.declared):
+            if not self.may_own(link):
                 continue
             if link.memory >= 0:
                 behind[link.memory].append(link.to)
