@@ -18,6 +18,8 @@ DAY = re.compile(r"\d{4}-\d\d-\d\d")
 # By the peer's name: its class in the style, and its mark.
 MARKS = {
     "this runtime": ("own", "disc"),
+    "this runtime, a value": ("own", "square"),
+    "this runtime, four new fields": ("own", "triangle"),
     "this runtime, cached": ("own", "ring"),
     "this runtime, structures": ("own", "cross"),
     "libstdc++, by a version": ("version", "plus"),
@@ -65,7 +67,7 @@ text { font: 12px sans-serif; fill: #1f2328; }
   .line { fill: none; }
 }
 """
-LEFT, PANEL, GAP, STEP, TOP = 310, 270, 44, 24, 130
+LEFT, PANEL, GAP, STEP, TOP = 310, 270, 44, 24, 148
 TICKS = [0.125, 0.25, 0.5, 1, 2, 4, 8]
 
 
