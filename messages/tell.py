@@ -5,7 +5,7 @@ usage: messages/tell.py PROGRAM [--explain] [WORD..]
        messages/tell.py --reason REFUSAL [WORD..]
 
 With `--reason` nothing runs: a run with these words was refused so, and why its input or output failed is
-said. What was its standard input is file 3 then.
+said, or what a line of its file means. What was its standard input is file 3 then.
 `--explain` stands before the program's own words or among them. With it, more is told on standard error once
 the run has ended: what the numbers of refused statements mean, and which statement made each block that is
 left. Standard output and the first line of a refusal are the program's, and so is the exit status."""
@@ -32,6 +32,8 @@ TAKING = (*TURNS, "--from", "--to", "--find", "--most")
 WITHOUT_TURNS = ("check", "convert", "run", "orders")
 # Those whose turns are acts.
 BY_ACTS = ("step", "left", "draw")
+# How the refusal of a faulty line begins.
+OF_A_LINE = "refused 10: line "
 # The exit statuses of what was carried out.
 CARRIED_OUT = (0, 3)
 
@@ -133,9 +135,11 @@ def failure_of(output):
 
 
 def reason_below(refusal, words):
-    """What stands below the refusal of an input or an output, of a run with these words."""
+    """What stands below the refusal of an input, an output or a line of a file, of a run with these words."""
     options, others = parted(words)
     asked = asked_by(options, others[1:], b"")
+    if refusal.startswith(OF_A_LINE):
+        return explanation(refusal, asked) if others[1:] else []
     if refusal == OUTPUT:
         asked.reason = reason_of_output()
     elif not asked.reason:
