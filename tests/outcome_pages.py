@@ -44,7 +44,7 @@ def followed(page, number):
     """What a page shows once the link of an outcome was followed."""
     page.browser.value(f"document.querySelectorAll('#outcomes a')[{number - 1}].click()")
     for _ in range(100):
-        if page.shown()["place"].startswith(f"outcome {number}, act 0 "):
+        if page.shown()["link"] == f"#{number}":
             break
     return page.shown()
 
@@ -69,7 +69,7 @@ def faults_of_outcomes(browser, folder, program, script):
     for number, (head, *_) in enumerate(outcomes, 1):
         turns = [f"--turns={it}" for it in head.split(" ")[3:]]
         came = followed(page, number)
-        if (came["link"], page.browser.value(OUTCOMES)["chosen"]) != (f"#{number}.0", number):
+        if (came["link"], page.browser.value(OUTCOMES)["chosen"]) != (f"#{number}", number):
             yield f"the link of outcome {number} leads to {came['link']}"
         rows = rows_of_svg(run(program, "draw", *turns, script))
         yield from (f"outcome {number}: {it}" for it in faults_of_acts(page, rows, True))
@@ -78,10 +78,10 @@ def faults_of_outcomes(browser, folder, program, script):
 
 
 # How many acts the runs of docs/observer.sptr have, and on its page ways, with the outcome and the act at
-# which it is then.
+# which it is then. A link that names no act leads to the first line.
 ACTS = [10, 10, 11, 11]
 WAYS = [
-    ("link", "", 1, 0),
+    ("link", "", 1, 5),
     ("link", "#2.7", 2, 7),
     ("press", "o", 3, 7),
     ("press", "ArrowRight", 3, 8),
@@ -93,7 +93,7 @@ WAYS = [
     ("slide", "3", 1, 3),
     ("link", "#4.99", 4, 0),
     ("press", "End", 4, 11),
-    ("link", "#3", 3, 0),
+    ("link", "#3", 3, 6),
     ("link", "#9.2", 1, 2),
 ]
 

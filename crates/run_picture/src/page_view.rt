@@ -142,7 +142,7 @@ function putOutcomes() {
   byId("count").textContent = closing.join("; ");
   const differ = (closing[1] || "").split(" ");
   for (const [index, { told: [head, ...lines] }] of runs.entries()) {
-    const link = put(put(byId("outcomes"), "li"), "a", { href: `#${index + 1}.0` });
+    const link = put(put(byId("outcomes"), "li"), "a", { href: `#${index + 1}` });
     put(link, "strong", {}, head);
     for (const line of lines) put(link, differ.includes(subjectOf(line)) ? "b" : "span", {}, line);
   }
@@ -246,14 +246,19 @@ function onKey(event) {
   go(to());
 }
 
-// The outcome and the act that the link names, where they are there; else the first.
+// After the first act that tells a line; where none does, as the run begins.
+function firstTold() {
+  const index = run.acts.findIndex((act, at) => at >= firstShown() && hasLine(act));
+  return index < 0 ? firstShown() : index + 1;
+}
+
+// The outcome and the act that the link names, where they are there. Where it names no act, the first line.
 function followLink() {
   const words = location.hash.slice(1).split(".");
   const outcome = hasOutcomes() ? Number(words.shift()) - 1 : 0;
   choose(runs[outcome] ? outcome : 0);
-  const number = Number(words[0] || numberOf(firstShown()));
-  const index = run.acts.findIndex((act) => act.number === number);
-  show(index < 0 ? firstShown() : index + 1);
+  const index = run.acts.findIndex((act) => act.number === Number(words[0]));
+  show(words[0] ? index + 1 : firstTold());
 }
 
 function begin() {
