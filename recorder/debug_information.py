@@ -65,7 +65,7 @@ class Answers:
         return found.get(inner) or found.get(-1, [])
 
     def member_within(self, name: str, offset: int) -> list:
-        """The same of a type that memory seems to be of; nothing where it reaches beyond, as it is another."""
+        """The same of a type that memory seems to be of; nothing where the byte lies beyond that."""
         size = self.of_unit("sizes", name, ())
         return self.member(name, None, offset, -1) if size and offset < size else []
 

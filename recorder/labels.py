@@ -10,11 +10,14 @@ from recorder.type_names import short
 NOBODY = "heap memory that nothing points to"
 PLACES = {
     "thread-local": "a thread-local variable",
+    "epoll": "an epoll that no thread waits in",
     "kernel": "the kernel, by an epoll or a timer",
     "mapped": "memory that the program mapped itself",
 }
 # Types that have no room for a handle: where one seems to lie in such a member, the object is another.
 NO_HANDLE = re.compile(r"(unsigned |signed )?(bool|short|int|long|long long|float|double|wchar_t)|[^(]*\*")
+# Declared types of a number that is no file's.
+NO_FILE = re.compile(r"unsigned .*|bool|char|short|float|double|wchar_t|[^(]*\*")
 WORD = 8  # a handle is told by its second, the first is the pointer to its object
 
 
@@ -59,7 +62,9 @@ class Labels:
         found = self.answers.member(spot.making.name, spot.making, spot.offset, inner)
         is_handle = spot.is_of_handle and spot.inner < 0
         if not found or not found[1] or is_handle and NO_HANDLE.fullmatch(found[2]):
-            return f"{short(spot.making.name)} at byte {spot.offset - WORD * is_handle}", "", ""
+            # (a base of the library's has a type and no name)
+            declared = found[2] if found and found[2].startswith("std::enable_shared_from_this<") else ""
+            return f"{short(spot.making.name)} at byte {spot.offset - WORD * is_handle}", declared, ""
         declaring, path, declared, *pointed = found
         if not pointed:
             return f"{short(declaring)}::{path}", declared, ""
@@ -97,6 +102,11 @@ def is_raw(declared: str) -> bool:
         return True
     owns = re.search(r"_ptr<|std::(function|any|optional|variant)\b|coroutine_handle|\)", declared)
     return not owns and bool(re.search(r"\*( const)?[,>]", declared))
+
+
+def drop_other_numbers(record: Record):
+    """What looks like the number of an epoll is another where its declared type says so."""
+    record.links = [it for it in record.links if not (it.is_number and NO_FILE.fullmatch(it.spot.declared))]
 
 
 def drop_beyond(record: Record, answers: Answers):

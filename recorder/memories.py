@@ -18,7 +18,7 @@ class Memories:
         self.owners = self.found_owners()
         self.pointed_from = {}
         for link in reversed(record.links):
-            if self.holder(link):
+            if self.holder(link) or link.spot.kind == "epoll":
                 self.pointed_from[link.to] = link.spot.label
 
     @functools.cached_property
@@ -52,10 +52,10 @@ class Memories:
         return found
 
     def may_own(self, link: Link) -> bool:
-        """Whether a pointer may own what it leads to. Where registers were not read, another owner may be there,
-        so that it has to be one of a type that is known."""
+        """Whether a pointer may own what it leads to. Where registers were not read, another owner may be
+        there, so that it has to be one of a type that is known."""
         declared = link.spot.declared
-        return not is_raw(declared) and bool(declared or not self.record.unread)
+        return not link.is_number and not is_raw(declared) and bool(declared or not self.record.unread)
 
     def found_owners(self) -> dict[int, tuple[int, str]]:
         """By memory: the object that owns it and by what, over pointers that can own, the nearest first."""

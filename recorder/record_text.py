@@ -104,9 +104,10 @@ class RawPointer:
 
 @dataclass(slots=True)
 class Link:
-    """A pointer to memory of which it isn't certain whose it is."""
+    """A pointer to memory of which it isn't certain whose it is; or an epoll's number, which owns nothing."""
 
     to: int
+    is_number: int
     object: int
     spot: Spot
     memory: int
@@ -177,8 +178,8 @@ def fill(record: Record, columns: Columns):
     record.handles = list(map(Handle, kinds, block, object_, map(spot_of_number, spot), *rest))
     to, to_byte, object_, spot, memory = columns.of("raw", "to to_byte object spot memory")
     record.raw_pointers = list(map(RawPointer, to, to_byte, object_, map(spot_of_number, spot), memory))
-    to, object_, spot, memory = columns.of("links", "to object spot memory")
-    record.links = list(map(Link, to, object_, map(spot_of_number, spot), memory))
+    to, is_number, object_, spot, memory = columns.of("links", "to is_number object spot memory")
+    record.links = list(map(Link, to, is_number, object_, map(spot_of_number, spot), memory))
 
 
 def read(path: Path) -> Record:

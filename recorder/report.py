@@ -202,7 +202,8 @@ def blocks(count):
 def doubt_lines(findings):
     unknown, record = kept_by_unknown(findings), findings.record
     if findings.answer.lost & findings.alarming:
-        yield "record: a pointer that was put together, as by exclusive or, is not seen: it may lead to what is lost"
+        unseen = "a pointer that was put together, as by exclusive or, is not seen"
+        yield f"record: {unseen}: it may lead to what is lost"
     if findings.reached_and_told:
         yield "record: only raw pointers lead to what is reached; whether one of them owns it can't be told"
     if unknown:

@@ -72,6 +72,7 @@ def findings_of(record: Record, suppressed: Iterable[Suppression] = ()) -> Findi
     answers = debug_information.ask_about(record)
     labels.drop_beyond(record, answers)
     labels.label_places(record, answers)
+    labels.drop_other_numbers(record)
     counts = kinds.decide_kinds(record)
     graph, memories = owner_graph.graph_of(record, counts)
     answer = owner_graph.ask(graph)

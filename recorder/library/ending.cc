@@ -57,10 +57,12 @@ void answer_question() {
   if (question.from_frame) add_living_stacks(thread, question.from_frame, own);
   Modules modules;
   Outside outside(modules);
+  KernelData kernel;
   AllStandStill still;
+  kernel.wait_in(still.epolls());
   auto stacks = still.stacks();
   stacks.insert(stacks.end(), own.begin(), own.end());
-  Snapshot all(modules, outside, stacks);
+  Snapshot all(modules, outside, kernel, stacks);
   all.unread_threads = still.without_registers();
   write_record(question.snapshot, all, question.when);
 }
@@ -260,6 +262,7 @@ __attribute__((constructor(101))) void begin() {
   refuse_own_malloc();
   if (refusal) return read_at_end("exit", 0);
   know_program();
+  know_loader();
   ask_environment_for_perturbation();
   frames_wanted = number_of("RECORDER_FRAMES");
   seconds_to_read = number_of("RECORDER_SECONDS");

@@ -129,6 +129,7 @@ void Snapshot::find_holders() {
   for (std::size_t chunk = 0; chunk < chunks.size(); chunk++)
     if (chunks[chunk].holder.kind == Holder::NOBODY) chunks[chunk].memory = static_cast<int>(chunk);
   spreading.find_links();
+  spreading.find_numbers_of_epolls();
 }
 
 void Snapshot::find_raw_pointers() {

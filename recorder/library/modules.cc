@@ -6,6 +6,7 @@
 
 #include <algorithm>
 #include <cstring>
+#include <initializer_list>
 
 #include "closed.h"
 #include "control_blocks.h"
@@ -14,7 +15,7 @@
 namespace recorder {
 namespace {
 
-Word thread_from, thread_to;
+Word thread_from, thread_to, program_thread_from, program_thread_to;
 char program_path[4096];
 
 // What glibc keeps of a thread lies above its variables, and its own pointers with it.
@@ -24,6 +25,17 @@ Word as_word(const void* pointer) { return reinterpret_cast<Word>(pointer); }
 
 std::string path_of(const dl_phdr_info& info) {
   return info.dlpi_name && *info.dlpi_name ? info.dlpi_name : program_path;
+}
+
+// Whether a file is one of these libraries.
+bool is_named(const std::string& path, std::initializer_list<const char*> names) {
+  auto slash = path.rfind('/');
+  std::string file = path.substr(slash == path.npos ? 0 : slash + 1);
+  return std::any_of(names.begin(), names.end(), [&](const char* name) { return !file.compare(0, std::strlen(name), name); });
+}
+
+bool is_of_system(const std::string& path) {
+  return is_named(path, {"libc.", "ld-", "libstdc++.", "libgcc_s.", "libm."});
 }
 
 bool has_address(const dl_phdr_info& info, Word address) {
@@ -42,6 +54,10 @@ int add_module(dl_phdr_info* info, std::size_t, void* to) {
   all.modules.push_back({path_of(*info), info->dlpi_addr});
   for (int at = 0; at < info->dlpi_phnum; at++) {
     auto& part = info->dlpi_phdr[at];
+    if (part.p_type == PT_GNU_RELRO) {
+      all.modules.back().constant_from = info->dlpi_addr + part.p_vaddr;
+      all.modules.back().constant_to = info->dlpi_addr + part.p_vaddr + part.p_memsz;
+    }
     if (part.p_type != PT_LOAD || !(part.p_flags & PF_R)) continue;
     Word from = info->dlpi_addr + part.p_vaddr;
     all.segments.push_back(
@@ -52,7 +68,14 @@ int add_module(dl_phdr_info* info, std::size_t, void* to) {
 
 int add_thread_variables(dl_phdr_info* info, std::size_t, void*) {
   Word at = as_word(info->dlpi_tls_data), self = as_word(reinterpret_cast<void*>(pthread_self()));
-  if (at && at < self && self - at < 1 << 20) thread_from = std::min(thread_from, at);
+  if (!at || at >= self || self - at >= 1 << 20) return 0;
+  thread_from = std::min(thread_from, at);
+  if (is_of_system(path_of(*info)) || has_address(*info, as_word(&thread_from))) return 0;
+  if (!program_thread_from) program_thread_from = at;
+  program_thread_from = std::min(program_thread_from, at);
+  for (int part = 0; part < info->dlpi_phnum; part++)
+    if (info->dlpi_phdr[part].p_type == PT_TLS)
+      program_thread_to = std::max(program_thread_to, at + info->dlpi_phdr[part].p_memsz);
   return 0;
 }
 
@@ -75,7 +98,14 @@ void Modules::add_own(const dl_phdr_info& info) {
   }
 }
 
-Modules::Modules() : thread_from(recorder::thread_from), thread_to(recorder::thread_to) {
+bool Module::is_libc() const { return is_named(path, {"libc."}); }
+bool Module::is_of_system() const { return recorder::is_of_system(path); }
+
+Modules::Modules()
+    : thread_from(recorder::thread_from),
+      thread_to(recorder::thread_to),
+      program_thread_from(recorder::program_thread_from),
+      program_thread_to(recorder::program_thread_to) {
   {
     HeldLock loader;
     dl_iterate_phdr(add_module, this);

@@ -13,6 +13,10 @@ namespace recorder {
 struct Module {
   std::string path;
   Word base;
+  Word constant_from = 0, constant_to = 0;  // what may be written only while it is loaded
+
+  bool is_libc() const;
+  bool is_of_system() const;  // what each program of C++ is linked with
 };
 
 struct Segment {
@@ -35,8 +39,8 @@ public:
   std::vector<Segment> segments;  // in the order of their addresses
   Word own_from = 0, own_to = 0;  // the recorder itself, which is none of them
 
-  // The thread-local variables of the main thread.
-  Word thread_from = 0, thread_to = 0;
+  // The thread-local variables of the main thread, and within these what isn't of the system's.
+  Word thread_from = 0, thread_to = 0, program_thread_from = 0, program_thread_to = 0;
 
 private:
   mutable Word gap_from = 0, gap_to = 0;  // where no segment lies: each word of memory is asked about, and most are alike

@@ -1,17 +1,10 @@
 #include "outside.h"
 
-#include <dirent.h>
 #include <dlfcn.h>
-#include <fcntl.h>
-#include <sys/syscall.h>
-#include <unistd.h>
 
 #include <algorithm>
-#include <cstdio>
-#include <cstdlib>
 #include <cstring>
 #include <iterator>
-#include <string>
 
 #include "mappings.h"
 #include "own_memory.h"
@@ -19,58 +12,6 @@
 
 namespace recorder {
 namespace {
-
-bool is_epoll(const char* number) {
-  char path[300], to[64];
-  std::snprintf(path, sizeof path, "/proc/self/fd/%s", number);
-  ssize_t size = readlink(path, to, sizeof to - 1);
-  return size > 0 && (to[size] = 0, std::strstr(to, "[eventpoll]"));
-}
-
-// All of a file, without stdio, whose locks another thread may hold.
-std::string contents(const char* path) {
-  std::string text;
-  int file = open(path, O_RDONLY | O_CLOEXEC);
-  char part[4096];
-  for (ssize_t size = 0; file >= 0 && (size = read(file, part, sizeof part)) > 0;) text.append(part, size);
-  if (file >= 0) close(file);
-  return text;
-}
-
-template <typename Visit>
-void each_line(const std::string& text, Visit visit) {
-  for (std::size_t at = 0, end = 0; (end = text.find('\n', at)) != text.npos; at = end + 1)
-    visit(text.substr(at, end - at).c_str());
-}
-
-// Each watch of an epoll is a line with its data, in hexadecimal digits.
-void add_data(const char* number, std::vector<Word>& to) {
-  char path[300];
-  std::snprintf(path, sizeof path, "/proc/self/fdinfo/%s", number);
-  each_line(contents(path), [&](const char* line) {
-    if (const char* data = std::strstr(line, "data:")) to.push_back(std::strtoul(data + 5, nullptr, 16));
-  });
-}
-
-void find_epolls(std::vector<Word>& to) {
-  int folder = open("/proc/self/fd", O_RDONLY | O_DIRECTORY | O_CLOEXEC);
-  alignas(dirent64) char entries[4096];
-  for (long size = 0; folder >= 0 && (size = syscall(SYS_getdents64, folder, entries, sizeof entries)) > 0;)
-    for (long at = 0; at < size; at += reinterpret_cast<dirent64*>(entries + at)->d_reclen) {
-      const char* number = reinterpret_cast<dirent64*>(entries + at)->d_name;
-      if (is_epoll(number)) add_data(number, to);
-    }
-  if (folder >= 0) close(folder);
-}
-
-// The value that a timer gives to whom it tells.
-void find_timers(std::vector<Word>& to) {
-  each_line(contents("/proc/self/timers"), [&](const char* line) {
-    const char* value = std::strncmp(line, "signal:", 7) ? nullptr : std::strchr(line, '/');
-    Word word = value ? std::strtoul(value + 1, nullptr, 16) : 0;  // (the recorder's own timer has none)
-    if (word) to.push_back(word);
-  });
-}
 
 // Whether it is memory, and no file or device.
 bool is_memory(const Mapping& mapping) {
@@ -110,15 +51,33 @@ void take_out_rooms_of_malloc(std::vector<Range>& ranges) {
   for (auto& room : rooms) take_out(ranges, room.from, room.to);
 }
 
+// What the loader mapped lies amid what may be the program's: it is apart, as it is full of numbers that look like a
+// file's.
+constexpr int MOST_OF_LOADER = 64;
+Range of_loader[MOST_OF_LOADER];
+int count_of_loader = 0;
+
+void tell_apart_loader(std::vector<Range>& ranges) {
+  for (int place = 0; place < count_of_loader; place++) {
+    auto parts = parts_within(ranges, of_loader[place].from, of_loader[place].to);
+    take_out(ranges, of_loader[place].from, of_loader[place].to);
+    for (auto& part : parts) part.is_of_loader = true, ranges.push_back(part);
+  }
+}
+
 // What the program took by sbrk lies amid the room of malloc.
 Range broken[256];
 std::atomic<std::size_t> broken_count{0};
 
 }  // namespace
 
+void know_loader() {
+  Mappings mappings;
+  for (Mapping mapping; mappings.next(mapping) && count_of_loader < MOST_OF_LOADER;)
+    if (mapping.is_writable && !mapping.inode && !*mapping.name) of_loader[count_of_loader++] = {mapping.from, mapping.to, false};
+}
+
 Outside::Outside(const Modules& modules) {
-  find_epolls(kernel);
-  find_timers(kernel);
   std::vector<Range> all = writable();
   for (auto& segment : modules.segments) take_out(all, segment.from, segment.to);
   take_out(all, modules.own_from, modules.own_to);
@@ -130,6 +89,7 @@ Outside::Outside(const Modules& modules) {
   for (std::size_t place = 0; place < own_ranges(); place++)
     take_out(all, own_range(place).first, own_range(place).second);
   take_out_rooms_of_malloc(all);
+  tell_apart_loader(all);
   for (auto& range : all) add_used(range, mapped);
   for (std::size_t place = 0; place < std::min<std::size_t>(broken_count, std::size(broken)); place++)
     mapped.push_back(broken[place]);

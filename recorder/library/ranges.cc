@@ -10,15 +10,28 @@ namespace recorder {
 
 void take_out(std::vector<Range>& ranges, Word from, Word to) {
   std::vector<Range> left;
-  for (auto& it : ranges) {
-    if (to <= it.from || from >= it.to) {
-      left.push_back(it);
-      continue;
-    }
-    if (it.from < from) left.push_back({it.from, from, it.is_shared});
-    if (to < it.to) left.push_back({to, it.to, it.is_shared});
+  auto keep_part = [&](Range part, Word begin, Word end) {
+    part.from = begin;
+    part.to = end;
+    left.push_back(part);
+  };
+  for (auto& range : ranges) {
+    bool is_apart = to <= range.from || from >= range.to;
+    if (is_apart) left.push_back(range);
+    if (!is_apart && range.from < from) keep_part(range, range.from, from);
+    if (!is_apart && to < range.to) keep_part(range, to, range.to);
   }
   ranges = left;
+}
+
+std::vector<Range> parts_within(const std::vector<Range>& ranges, Word from, Word to) {
+  std::vector<Range> parts;
+  for (Range range : ranges) {
+    range.from = std::max(range.from, from);
+    range.to = std::min(range.to, to);
+    if (range.from < range.to) parts.push_back(range);
+  }
+  return parts;
 }
 
 namespace {
@@ -46,7 +59,7 @@ bool add_told(int file, const Range& range, std::vector<Range>& to) {
     for (std::size_t page = 0; page < count; page++, at += PAGE) {
       if (!is_used[page]) continue;
       bool is_near = to.size() > before && at - to.back().to <= GAP;
-      if (!is_near) to.push_back({std::max(at, range.from), 0, false});
+      if (!is_near) to.push_back({std::max(at, range.from), 0, false, range.is_of_loader});
       to.back().to = std::min(at + PAGE, range.to);
     }
   }

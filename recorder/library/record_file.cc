@@ -140,7 +140,7 @@ void write_making(Output& out, const Snapshot& all, const ControlBlock& first) {
 }
 
 void write_spot(Output& out, const Spot& it) {
-  static const char* const KINDS[] = {"deleter", "heap", "kernel", "mapped", "object", "stack", "static", "thread-local"};
+  static const char* const KINDS[] = {"deleter", "epoll", "heap", "kernel", "mapped", "object", "stack", "static", "thread-local"};
   out.say("spot %s %d %td %td ", KINDS[it.kind], it.number, it.offset, it.inner);
   out.say("%d %d %c", it.is_uncertain, it.is_of_handle, it.maker.kind);
   if (it.maker.is_type())
@@ -198,6 +198,7 @@ void write_pointers(Output& out, const Snapshot& all, Spots& spots) {
   write_column(out, "raw", "to_byte", raw.size(), to_byte);
   write_rows(out, "raw", raw);
   write_column(out, "links", "to", links.size(), [&](std::size_t row) { return all.links[row].to; });
+  write_column(out, "links", "is_number", links.size(), [&](std::size_t row) { return all.links[row].is_number; });
   write_rows(out, "links", links);
 }
 

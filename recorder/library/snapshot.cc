@@ -26,19 +26,18 @@ std::vector<Word> copied(Word from, Word to) {
   return words;
 }
 
-bool is_of_libc(const std::string& path) {
-  auto name = path.rfind('/');
-  return path.compare(name == path.npos ? 0 : name + 1, 5, "libc.") == 0;
-}
-
 }  // namespace
 
-Snapshot::Snapshot(const Modules& modules, const Outside& outside, const std::vector<LivingStack>& stacks)
+Snapshot::Snapshot(const Modules& modules, const Outside& outside, const KernelData& kernel,
+                   const std::vector<LivingStack>& stacks)
     : modules(modules), tables(modules) {
-  for (auto& it : modules.segments)
-    if (it.is_writable)
-      areas.push_back(
-          {Area::STATIC, it.module, it.from, it.to, {}, is_of_libc(modules.modules[it.module].path)});
+  for (auto& segment : modules.segments) {
+    if (!segment.is_writable) continue;
+    auto& module = modules.modules[segment.module];
+    Area area{Area::STATIC, segment.module, segment.from, segment.to, {}, module.is_libc()};
+    area.is_of_system = module.is_of_system();
+    areas.push_back(std::move(area));
+  }
   if (modules.thread_from)
     areas.push_back({Area::THREAD_LOCAL, 0, modules.thread_from, modules.thread_to, {}, false});
   for (auto& it : stacks) {
@@ -52,6 +51,7 @@ Snapshot::Snapshot(const Modules& modules, const Outside& outside, const std::ve
     Word to = from + next_malloc.usable_size(reinterpret_cast<void*>(from));
     chunks.push_back({from, to, to, it.number, trace_of(it.trace), alignment_of(from, it), {}});
   });
+  add_kernel_data(kernel);
   add_outside(outside, stacks);
   find_blocks_in_areas();
   for (auto& it : chunks) chunk_index.add(it.from, it.to);
@@ -129,10 +129,21 @@ std::vector<Range> without_malloc(const std::vector<Range>& ranges, const std::v
 
 }  // namespace
 
-// What the kernel keeps, and what the program mapped itself, where it isn't very large.
+// What the kernel may give at any time is an area, the data of an epoll in which nobody waits are a chunk.
+void Snapshot::add_kernel_data(const KernelData& kernel) {
+  if (!kernel.kept.empty())
+    areas.push_back({Area::KERNEL, 0, WORD, WORD * (kernel.kept.size() + 1), kernel.kept, false});
+  for (auto& epoll : kernel.epolls) {
+    if (epoll.data.empty()) continue;
+    Word from = reinterpret_cast<Word>(epoll.data.data()), to = from + epoll.data.size() * WORD;
+    chunks.push_back({from, to, to, 0, nullptr, 0, {}});
+    chunks.back().epoll = epoll.number;
+  }
+  std::sort(chunks.begin(), chunks.end(), [](auto& a, auto& b) { return a.from < b.from; });
+}
+
+// What the program mapped itself, where it isn't very large.
 void Snapshot::add_outside(const Outside& outside, const std::vector<LivingStack>& stacks) {
-  if (!outside.kernel.empty())
-    areas.push_back({Area::KERNEL, 0, WORD, WORD * (outside.kernel.size() + 1), outside.kernel, false});
   std::vector<Range> mapped = outside.mapped;
   for (auto& it : stacks) take_out(mapped, it.lowest, it.to);
   std::size_t left = std::size_t(256) << 20;
@@ -148,6 +159,7 @@ void Snapshot::add_outside(const Outside& outside, const std::vector<LivingStack
 // Returns false where it can't be read.
 bool Snapshot::add_mapped(const Range& range) {
   Area area{Area::MAPPED, 0, range.from, range.to, {}, false};
+  area.is_of_system = range.is_of_loader;
   if (range.is_shared && (area.copy = copied_by_kernel(range.from, range.to)).empty()) return false;
   areas.push_back(std::move(area));
   return true;

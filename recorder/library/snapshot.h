@@ -7,6 +7,7 @@
 #include "block_index.h"
 #include "chunk_index.h"
 #include "chunks.h"
+#include "kernel_data.h"
 #include "modules.h"
 #include "object_types.h"
 #include "outside.h"
@@ -34,6 +35,7 @@ struct Area {
   std::vector<Word> copy;  // its words, where it may change
   bool is_of_malloc =
       false;  // where it keeps free chunks: their heads lie in the last word of the chunk before
+  bool is_of_system = false;  // of a library that C++ itself needs
 };
 
 struct LiveChunk {
@@ -52,6 +54,7 @@ struct LiveChunk {
   enum Hashed { NEITHER, BUCKETS, NODE } hashed = NEITHER;  // of a hashed container
   bool has_blocks = false;
   bool is_pool = false;  // control blocks lie in the midst of it
+  int epoll = -1;        // the number of the epoll whose data this is a copy of
 };
 
 struct ControlBlock {
@@ -95,11 +98,12 @@ struct RawPointer {
   Word word;
 };
 
-// A pointer to memory of which it isn't certain whose it is.
+// A pointer to memory of which it isn't certain whose it is; or the number of an epoll, which owns nothing.
 struct Link {
   Word at;
   int from;  // the memory of the same kind in which it lies; -1 where it lies elsewhere
   int to;
+  bool is_number = false;
 };
 
 // By the name of a control block's type.
@@ -110,7 +114,8 @@ inline Word without_tag(Word word) { return word & ((Word(1) << 48) - 1); }
 
 class Snapshot {
 public:
-  Snapshot(const Modules& modules, const Outside& outside, const std::vector<LivingStack>& stacks);
+  Snapshot(const Modules& modules, const Outside& outside, const KernelData& kernel,
+           const std::vector<LivingStack>& stacks);
 
   int chunk_of(Word address) const;   // -1 where none has it
   int object_of(Word address) const;  // a block's number; -1 where no object has the address
@@ -143,6 +148,7 @@ private:
 
   void find_blocks_in_areas();
   void make_pool(int area);
+  void add_kernel_data(const KernelData& kernel);
   void add_outside(const Outside& outside, const std::vector<LivingStack>& stacks);
   bool add_mapped(const Range& range);
   void count_closed();

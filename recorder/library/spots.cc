@@ -56,6 +56,7 @@ Row Spots::row_of(Word at, bool is_of_handle) {
   if (chunk >= 0) {
     auto& it = all.chunks[chunk];
     row.memory = it.memory;
+    if (it.epoll >= 0) spot.kind = Spot::EPOLL;
     spot.is_uncertain = it.memory >= 0;
     spot.maker = maker_of(chunk);
     if (origin != at || spot.is_uncertain) spot.inner = static_cast<std::ptrdiff_t>(inner);

@@ -11,7 +11,7 @@ namespace recorder {
 // A byte of all holders of one kind: of the objects of one making, or of the blocks of their deleters; of a module, a
 // thread's stack. `inner` is the byte in a chunk to which pointers lead from `offset`, or -1.
 struct Spot {
-  enum Kind { DELETER, HEAP, KERNEL, MAPPED, OBJECT, STACK, STATIC, THREAD_LOCAL } kind = HEAP;
+  enum Kind { DELETER, EPOLL, HEAP, KERNEL, MAPPED, OBJECT, STACK, STATIC, THREAD_LOCAL } kind = HEAP;
   int number = 0;  // of the making, the module, the thread
   std::ptrdiff_t offset = 0, inner = -1;
   bool is_uncertain = false;  // whose the chunk is

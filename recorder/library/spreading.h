@@ -44,6 +44,7 @@ public:
   }
 
   void find_links();
+  void find_numbers_of_epolls();
 
   // Visits the words of a region that are no part of a handle: neither the address of a control block nor the
   // word before.
@@ -64,6 +65,8 @@ public:
   }
 
 private:
+  bool may_have_numbers(const Region& region) const;
+  bool may_be_number(const Region& region, Word at) const;
   template <typename Visit>
   void each_region_word(const Region& region, Visit visit) const {
     if (region.holder.kind == Holder::AREA && region.chunk < 0)

@@ -139,8 +139,16 @@ std::size_t contents(int file, char* to, std::size_t most) {
   return size;
 }
 
-// The stack pointer of a thread in a system call, as the kernel tells it; 0 where it runs.
-Word stack_in_a_call(int folder, pid_t thread) {
+// The system call that a thread is in, as the kernel tells it; without a stack where it runs.
+struct Call {
+  Word number = 0, first_argument = 0, stack = 0;
+
+  bool waits_in_epoll() const {
+    return number == SYS_epoll_wait || number == SYS_epoll_pwait || number == SYS_epoll_pwait2;
+  }
+};
+
+Call call_of(int folder, pid_t thread) {
   char path[32], text[512];
   std::snprintf(path, sizeof path, "%d/syscall", thread);
   contents(openat(folder, path, O_RDONLY | O_CLOEXEC), text, sizeof text);
@@ -153,7 +161,7 @@ Word stack_in_a_call(int folder, pid_t thread) {
     words[count] = word;
     at = end;
   }
-  return count >= 3 ? words[count - 2] : 0;
+  return count >= 3 ? Call{words[0], words[1], words[count - 2]} : Call{};
 }
 
 enum class Hearing { HEARS, DEAF, ENDED };
@@ -272,8 +280,10 @@ void AllStandStill::stop_others() {
   for (pid_t thread : other_threads(folder)) {
     Hearing hearing = hearing_of(folder, thread);
     if (hearing == Hearing::ENDED) continue;
-    if (Word stack = stack_in_a_call(folder, thread))
-      add_living_stacks(thread, stack, found), unread++;
+    Call call = call_of(folder, thread);
+    if (call.stack && call.waits_in_epoll()) waited.push_back(static_cast<int>(call.first_argument));
+    if (call.stack)
+      add_living_stacks(thread, call.stack, found), unread++;
     else if (has_small_stack(thread) || hearing == Hearing::DEAF)
       take_whole(thread);
     else if (!syscall(SYS_tgkill, getpid(), thread, signal_to_stop()))

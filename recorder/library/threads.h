@@ -53,12 +53,14 @@ public:
 
   const std::vector<LivingStack>& stacks() const { return found; }
   std::size_t without_registers() const { return unread; }  // how many threads' registers are not on their stacks
+  const std::vector<int>& epolls() const { return waited; }  // the numbers of those in which threads wait
 
 private:
   void stop_others();
   void take_whole(pid_t thread);
 
   std::vector<LivingStack> found;
+  std::vector<int> waited;
   std::size_t unread = 0;
 };
 

@@ -31,6 +31,7 @@ from tests.recorder import (
     signals,
     surroundings,
     unchanged,
+    with_boost,
 )
 from tests.recorder.building import HUNG, PROGRAMS, ROOT
 
@@ -48,6 +49,7 @@ MODULES = [
     signals,
     surroundings,
     unchanged,
+    with_boost,
 ]
 
 

@@ -116,7 +116,7 @@ def keeps_still(program: Path, how: str) -> str:
 
 
 def what_malloc_tells():
-    """How much is in use, and what fresh memory is filled with where the program or its user asks for that."""
+    """How much is in use, and what fresh memory is filled with where that was asked for."""
     leaks = {"status": LEAKED, "says": "leaked 1 Node, made at"}
     with tempfile.TemporaryDirectory() as folder:
         program = built_unchanged(folder, "asking_malloc")

@@ -1,4 +1,5 @@
-// Memory that only the kernel points to: the data of an epoll.
+// Memory that only the kernel points to, the data of epolls: one whose number nobody has any more, so that nobody gets at
+// its data; and one whose number a static has.
 #include <sys/epoll.h>
 #include <sys/eventfd.h>
 
@@ -10,13 +11,27 @@ struct Connection {
 struct Watch {
   std::shared_ptr<Connection> connection;
 };
+struct Loop {
+  short kind = 2;
+  int poll = 0;
+};
 
-void watch() {
+Loop loop;
+
+int watch() {
   int poll = epoll_create1(0), event = eventfd(0, 0);
   epoll_event it{};
   it.events = EPOLLIN;
-  it.data.ptr = new Watch{std::make_shared<Connection>()};
+  auto connection = std::make_shared<Connection>();
+  it.data.ptr = new Watch{connection};
   epoll_ctl(poll, EPOLL_CTL_ADD, event, &it);
+  return poll;
 }
 
-int main() { watch(); }
+void watch_and_forget() { watch(); }
+void watch_and_keep() { loop.poll = watch(); }
+
+int main() {
+  watch_and_forget();
+  watch_and_keep();
+}
