@@ -15,7 +15,7 @@ from recorder.type_names import short
 
 HERE = Path(__file__).resolve().parent
 OF_THE_SYSTEM = "/lib/", "/lib64/", "/usr/lib/"
-NOT_OURS = re.compile(r"/include/c\+\+/|/recorder/library/|sptr_recorder|^\?\?")
+NOT_OURS = re.compile(r"^/usr/(local/)?include/|/include/c\+\+/|/recorder/library/|sptr_recorder|^\?\?")
 # What has brackets or spaces in a function's name that enclose nothing.
 WITH_BRACKETS = re.compile(
     r"operator(\(\)|[^\w\s(]+ ?| (?=\w))|\(anonymous namespace\)|\{lambda\(.*?\)#\d+\}|->"

@@ -63,7 +63,7 @@ class Labels:
         is_handle = spot.is_of_handle and spot.inner < 0
         if not found or not found[1] or is_handle and NO_HANDLE.fullmatch(found[2]):
             # (a base of the library's has a type and no name)
-            declared = found[2] if found and found[2].startswith("std::enable_shared_from_this<") else ""
+            declared = found[2] if found and "enable_shared_from_this<" in found[2] else ""
             return f"{short(spot.making.name)} at byte {spot.offset - WORD * is_handle}", declared, ""
         declaring, path, declared, *pointed = found
         if not pointed:

@@ -15,6 +15,7 @@ import gdb
 from recorder.callables_in_gdb import callable_at, coroutine_at
 
 CONTAINERS_OF_MEMBERS = "std::pair<", "std::array<", "std::tuple<", "std::_Tuple_impl<", "std::_Head_base<"
+HANDLES_OF_BOOST = "boost::shared_ptr<", "boost::weak_ptr<", "boost::enable_shared_from_this<"
 TYPES_OF_UNITS = {}
 
 
@@ -27,7 +28,9 @@ def name_of(type_):
 
 
 def is_of_the_library(name):
-    return name.startswith("std::") and not name.startswith(CONTAINERS_OF_MEMBERS)
+    """Whether it is told as a whole, and not by its own members."""
+    is_std = name.startswith("std::") and not name.startswith(CONTAINERS_OF_MEMBERS)
+    return is_std or name.startswith(HANDLES_OF_BOOST)
 
 
 def begin_of(field):

@@ -126,6 +126,19 @@ class Memories:
         is_kept = it.memory in self.kept_memories
         return owner if owner and (owner[0] in self.kept_by_owners or not is_kept) else None
 
+    @functools.cached_property
+    def sole_links(self) -> dict[int, Link]:
+        return {it.to: it for it in self.record.links if it.is_sole}
+
+    def perhaps_owner_of(self, it: Handle) -> tuple[int, str] | None:
+        """The object whose member alone leads to a handle in lost memory, and that member: it may own that, as
+        a container does that isn't std's."""
+        link, seen = self.sole_links.get(it.memory), set()
+        while link and link.memory >= 0 and link.memory not in seen:
+            seen.add(link.memory)
+            link = self.sole_links.get(link.memory)
+        return (self.holder(link), link.spot.label) if link and self.holder(link) else None
+
     def is_lost(self, it: Handle | RawPointer) -> bool:
         """Whether nothing that is kept leads to it, and no object owns it. Memory that was not looked at may
         lead there, and so may registers that were not read."""

@@ -1,6 +1,7 @@
 """The graph of owners, and its answer."""
 import collections
 import functools
+from collections.abc import Iterator
 from dataclasses import dataclass, field
 
 from recorder import owner_search
@@ -21,6 +22,7 @@ class Graph:
     weaks: list = field(default_factory=list)
     roots: list = field(default_factory=list)
     lost: list = field(default_factory=list)
+    perhaps: list = field(default_factory=list)  # of each lost: the owner that it may have, or None
     undecided: set = field(default_factory=set)
     changes: dict = field(
         default_factory=dict
@@ -42,6 +44,7 @@ class Knot:
     is_owned: bool  # by another object
     shape: owner_search.Shape
     weakens: list = field(default_factory=list)
+    conditions: tuple = ()  # the members that have to own what they point to
 
 
 @dataclass
@@ -52,6 +55,7 @@ class Answer:
     leaked: set
     lost: set  # what only an owner in lost memory keeps
     knots: list = field(default_factory=list)
+    perhaps: list = field(default_factory=list)  # knots where members own what they alone point to
 
 
 @functools.lru_cache(maxsize=None)
@@ -80,7 +84,22 @@ def ask(graph: Graph) -> Answer:
         if not is_owned and id(shape) not in weakens:
             weakens[id(shape)] = owner_search.weakens(len(objects), shape)
         answer.knots.append(Knot(objects, ties, is_owned, shape, [] if is_owned else weakens[id(shape)]))
+    answer.perhaps = list(knots_perhaps(graph)) if any(graph.perhaps) else []
     return answer
+
+
+def knots_perhaps(graph: Graph) -> Iterator[Knot]:
+    """The knots that there are where members own what they alone point to."""
+    perhaps = [it for it in graph.perhaps if it]
+    roots = [to for to, _ in graph.roots] + [to for (to, _), it in zip(graph.lost, graph.perhaps) if not it]
+    owners = graph.owners + perhaps
+    verdicts = owner_search.verdicts(len(graph.objects), owners, roots)
+    for objects, ties, is_owned in owner_search.knots(verdicts, owners):
+        conditions = tuple(dict.fromkeys(label for _, _, label in set(ties) & set(perhaps)))
+        if conditions and not is_owned:
+            shape = owner_search.shape_of(objects, ties)
+            weakens = owner_search.weakens(len(objects), shape)
+            yield Knot(objects, ties, is_owned, shape, weakens, conditions)
 
 
 def numbers_of(record: Record) -> list[int]:
@@ -117,6 +136,8 @@ def graph_of(record: Record, counts: list[Counts]) -> tuple[Graph, Memories]:
             graph.roots.append((to, label))
         elif is_owner and memories.is_lost(it):
             graph.lost.append((to, memories.root_label(it)))
+            owner = memories.perhaps_owner_of(it)
+            graph.perhaps.append((owner[0], to, plain(owner[1])) if owner else None)
         elif is_owner:
             graph.roots.append((to, plain(memories.root_label(it))))
     for number, it in zip(numbers, counts):

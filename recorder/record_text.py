@@ -108,6 +108,7 @@ class Link:
 
     to: int
     is_number: int
+    is_sole: int  # it alone leads there, to the beginning, from what was there before
     object: int
     spot: Spot
     memory: int
@@ -178,8 +179,10 @@ def fill(record: Record, columns: Columns):
     record.handles = list(map(Handle, kinds, block, object_, map(spot_of_number, spot), *rest))
     to, to_byte, object_, spot, memory = columns.of("raw", "to to_byte object spot memory")
     record.raw_pointers = list(map(RawPointer, to, to_byte, object_, map(spot_of_number, spot), memory))
-    to, is_number, object_, spot, memory = columns.of("links", "to is_number object spot memory")
-    record.links = list(map(Link, to, is_number, object_, map(spot_of_number, spot), memory))
+    to, is_number, is_sole, object_, spot, memory = columns.of(
+        "links", "to is_number is_sole object spot memory"
+    )
+    record.links = list(map(Link, to, is_number, is_sole, object_, map(spot_of_number, spot), memory))
 
 
 def read(path: Path) -> Record:

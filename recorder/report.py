@@ -127,7 +127,10 @@ def knot_texts(findings):
         knot = alike[0]
         types = collections.Counter(findings.kind(it)[0] for it in knot.objects)
         ties = ", ".join(f"{label} {count}" for label, count in owner_graph.tied_by(knot).most_common())
-        texts[f"knot {counted(types)}, tied by {ties}", *weaken_lines(findings, knot)] += len(alike)
+        condition = f'if {" and ".join(knot.conditions)} owns it: ' if knot.conditions else ""
+        texts[f"knot {condition}{counted(types)}, tied by {ties}", *weaken_lines(findings, knot)] += len(
+            alike
+        )
     for (first, *rest), count in texts.items():
         yield from [first if count == 1 else f"{first}, {count} times", *rest]
 

@@ -52,8 +52,9 @@ def knots_as_json(findings):
             ],
             "owned_by_another": knot.is_owned,
             "reached": knot.objects[0] in findings.reached,
+            "if_owning": list(knot.conditions),
         }
-        for knot in findings.answer.knots
+        for knot in [*findings.answer.knots, *findings.answer.perhaps]
     ]
 
 

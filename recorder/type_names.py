@@ -102,6 +102,6 @@ def declared_type(kind: str, control: str) -> str:
     name = given[0] if given else control
     if kind == "array":
         name = (arguments(name) or [name])[0]
-    if kind in ("plain", "deleter") and name.endswith("*"):
+    if (kind in ("plain", "deleter") or control.startswith("boost::")) and name.endswith("*"):
         name = name[:-1].strip()
     return re.sub(r"^(const|volatile) |( const| volatile)$", "", name)

@@ -57,11 +57,12 @@ class Findings:
         members."""
         makings, changes = [it.making for it in self.blocks], self.graph.changes
         found, alarming = collections.defaultdict(list), self.alarming
-        for knot in self.answer.knots:
+        for knot in [*self.answer.knots, *self.answer.perhaps]:
             if knot.objects[0] in alarming:
                 types = tuple([makings[number - 1] for number in knot.objects])
                 changed = tuple([changes.get(tie) for tie in knot.ties]) if changes else ()
-                found[types, id(knot.shape), knot.is_owned, changed].append(knot)
+                shape = knot.shape if knot.conditions else id(knot.shape)
+                found[types, shape, knot.is_owned, changed, knot.conditions].append(knot)
         return list(found.values())
 
 

@@ -3,6 +3,7 @@
 #include <cstring>
 
 #include "closed.h"
+#include "control_blocks.h"
 #include "hook_tables.h"
 #include "snapshot.h"
 
@@ -30,6 +31,8 @@ bool has_plain_allocator(const char* type) {
 }  // namespace
 
 ControlBlock::Kind kind_of(const char* type) {
+  if (contains(type, "sp_ms_deleterI")) return ControlBlock::IN_PLACE;  // (of Boost's make_shared)
+  if (contains(type, "sp_counted_impl_pd")) return ControlBlock::DELETER;
   if (contains(type, "_Sp_counted_ptr_inplaceI")) return ControlBlock::IN_PLACE;
   if (contains(type, "_Sp_counted_deleterI")) return ControlBlock::DELETER;
   if (contains(type, "_Sp_counted_arrayI")) return ControlBlock::ARRAY;
@@ -151,7 +154,16 @@ Word beginning(Word base, VirtualTables& tables) {
   return table.type && table.to_top < 0 && table.to_top > -(1 << 16) ? base + table.to_top : base;
 }
 
+// Of Boost's the object lies in a deleter, after a pointer and a mark, as far as its alignment takes it.
+Word in_place_of_boost(const ControlBlock& block, VirtualTables& tables, const std::vector<Word>& stored) {
+  Word mark = block.at + 3 * WORD, found = 0;
+  for (Word pointer : stored)
+    if (pointer > mark && pointer < mark + 64 && (!found || pointer < found)) found = pointer;
+  return found && found % WORD == 0 ? std::max(mark + WORD, beginning(found, tables)) : found ? found : mark + WORD;
+}
+
 Word in_place(const ControlBlock& block, const Snapshot& all, VirtualTables& tables, const std::vector<Word>& stored) {
+  if (block.type && is_boost_block_type(block.type)) return in_place_of_boost(block, tables, stored);
   auto& chunk = all.chunks[block.chunk];
   Word first = block.at + std::max<Word>(2 * WORD, chunk.is_pool ? 0 : chunk.alignment);
   auto& table = tables.of(*reinterpret_cast<const Word*>(first));

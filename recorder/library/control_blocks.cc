@@ -6,7 +6,7 @@
 
 #include <algorithm>
 #include <cstring>
-#include <iterator>
+#include <initializer_list>
 
 namespace recorder {
 namespace {
@@ -51,13 +51,20 @@ bool is_of_a_module(Word word) {
   return pages.find(page, answer) ? answer : pages.add(page, dl_iterate_phdr(has_page, &page) != 0);
 }
 
+bool begins_with_any(const char* text, std::initializer_list<const char*> beginnings) {
+  return std::any_of(beginnings.begin(), beginnings.end(),
+                     [&](const char* beginning) { return !std::strncmp(text, beginning, std::strlen(beginning)); });
+}
+
 // What is left of a control block whose destructor has run.
-bool is_base_of_blocks(const char* mangled) { return !std::strncmp(mangled, "St16_Sp_counted_baseI", 21); }
+bool is_base_of_blocks(const char* mangled) {
+  return begins_with_any(mangled, {"St16_Sp_counted_baseI", "N5boost6detail15sp_counted_baseE"});
+}
 
 // Before the functions lies the pointer to the type, whose second word is the pointer to its name.
 bool has_type_of_a_block(Word word) {
   Word type = 0, name = 0;
-  char text[32] = {};
+  char text[40] = {};
   return read_safely(word - WORD, &type, WORD) && read_safely(type + WORD, &name, WORD) &&
          read_safely(name, text, sizeof text - 1) && (is_control_block_type(text) || is_base_of_blocks(text));
 }
@@ -71,10 +78,14 @@ bool read_safely(Word from, void* to, std::size_t bytes) {
 }
 
 bool is_control_block_type(const char* mangled) {
-  static const char* const BEGINNINGS[] = {"St23_Sp_counted_ptr_inplaceI", "St15_Sp_counted_ptrI",
-                                           "St19_Sp_counted_deleterI", "St17_Sp_counted_arrayI"};
-  return std::any_of(std::begin(BEGINNINGS), std::end(BEGINNINGS),
-                     [&](auto it) { return !std::strncmp(mangled, it, std::strlen(it)); });
+  return begins_with_any(mangled, {"St23_Sp_counted_ptr_inplaceI", "St15_Sp_counted_ptrI", "St19_Sp_counted_deleterI",
+                                   "St17_Sp_counted_arrayI"}) ||
+         is_boost_block_type(mangled);
+}
+
+bool is_boost_block_type(const char* mangled) {
+  return begins_with_any(mangled, {"N5boost6detail17sp_counted_impl_pI", "N5boost6detail18sp_counted_impl_pdI",
+                                   "N5boost6detail19sp_counted_impl_pdaI"});
 }
 
 bool is_control_block_table(Word word) {

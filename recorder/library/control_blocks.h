@@ -4,7 +4,8 @@
 
 namespace recorder {
 
-bool is_control_block_type(const char* mangled);
+bool is_control_block_type(const char* mangled);  // std's or Boost's, which have their counts at the same place
+bool is_boost_block_type(const char* mangled);
 bool is_control_block_table(Word word);
 
 // Reads memory that may vanish meanwhile; false where it isn't there.

@@ -14,14 +14,27 @@ void Spreading::find_links() {
   divide();
   std::vector<Link> links;
   std::set<std::tuple<Holder, int, int>> seen;
+  std::vector<int> count(all.chunks.size());  // of pointers that lead to each memory
   each_link([&](const Region& region, Word at, int chunk) {
     int to = all.chunks[chunk].memory, from = region.chunk < 0 ? -1 : all.chunks[region.chunk].memory;
     if (from == to) return;
-    if (seen.insert({from < 0 ? region.holder : Holder{}, from, to}).second) links.push_back({at, from, to});
+    count[to] += region.chunk < 0 || all.chunks[region.chunk].epoll < 0;  // (an epoll owns nothing)
+    if (seen.insert({from < 0 ? region.holder : Holder{}, from, to}).second)
+      links.push_back({at, from, to, false, is_older(region, at, to)});
   });
+  for (auto& link : links) link.is_sole &= count[link.to] == 1;
   auto is_useful = useful_memory(links);
   for (auto& it : links)
     if (is_useful[it.to]) all.links.push_back(it);
+}
+
+// Whether a pointer to the beginning of memory lies in what was there before that.
+bool Spreading::is_older(const Region& region, Word at, int to) const {
+  auto& memory = all.chunks[to];
+  bool is_object = region.chunk < 0 && region.holder.kind == Holder::OBJECT;
+  if (region.chunk < 0 && !is_object) return false;
+  auto made = is_object ? all.blocks[region.holder.number].number : all.chunks[region.chunk].number;
+  return *reinterpret_cast<const Word*>(at) == memory.from && made && made < memory.number;
 }
 
 // The uncertain memory that a handle lies in; -1 where it lies in none.

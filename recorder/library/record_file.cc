@@ -199,6 +199,7 @@ void write_pointers(Output& out, const Snapshot& all, Spots& spots) {
   write_rows(out, "raw", raw);
   write_column(out, "links", "to", links.size(), [&](std::size_t row) { return all.links[row].to; });
   write_column(out, "links", "is_number", links.size(), [&](std::size_t row) { return all.links[row].is_number; });
+  write_column(out, "links", "is_sole", links.size(), [&](std::size_t row) { return all.links[row].is_sole; });
   write_rows(out, "links", links);
 }
 

@@ -104,6 +104,7 @@ struct Link {
   int from;  // the memory of the same kind in which it lies; -1 where it lies elsewhere
   int to;
   bool is_number = false;
+  bool is_sole = false;  // it alone in all of memory leads there, to the beginning, and was there before
 };
 
 // By the name of a control block's type.

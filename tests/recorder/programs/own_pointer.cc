@@ -1,4 +1,4 @@
-// A pointer of the program's own, which owns by a plain one: a circle through it has no knot, and is told as lost.
+// A pointer of the program's own, which owns by a plain one: a circle through it is told as lost, and as a knot if it owns.
 #include <memory>
 
 template <typename T>
