@@ -140,8 +140,8 @@ class Reports:
 
 def built_library():
     try:
-        if not library.is_built() and sys.stderr.isatty():
-            say("record: building its library, which takes some seconds, this once")
+        if not library.is_built():
+            say("record: building its library, this once: half a minute of processor time")
         return library.build()
     except (OSError, subprocess.CalledProcessError) as fault:
         raise program.Refusal(f"the library could not be built: {fault}") from fault

@@ -34,6 +34,7 @@ class Answers:
             {},
         )
         self.callables, self.names = {}, {}
+        self.without_types = set()  # places in units that have no types
 
     def add(self, module: int, said: dict):
         for name, units in said["members"].items():
@@ -46,6 +47,7 @@ class Answers:
                 self.sizes[name][module, int(address)] = size
         for kind, to in ("symbols", self.symbols), ("callables", self.callables), ("names", self.names):
             to.update({(module, int(at)): found for at, found in said[kind].items()})
+        self.without_types |= {(module, at) for at in said["without_types"]}
 
     @functools.lru_cache(maxsize=None)
     def of_unit(self, what: str, name: str, unit: tuple):
@@ -125,8 +127,10 @@ class Questions:
         callables = {
             at: (is_coroutine, sorted(it)) for (at, is_coroutine), it in self.callables[number].items()
         }
+        units = {at for _, (_, *of_type) in types.values() for at in of_type}
         return {
             "types": {} if is_of_the_system else types,
+            "units": [] if is_of_the_system else sorted(units),
             "symbols": sorted(self.symbols[number]),
             "callables": {} if is_of_the_system else callables,
             "names": sorted(self.names[number]),

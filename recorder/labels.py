@@ -25,6 +25,8 @@ def label_places(record: Record, answers: Answers):
     """Gives each spot its name, its declared type where that is known, and what else is to be changed where
     the named member can't be a weak pointer."""
     labels = Labels(record, answers)
+    for making in record.makings:
+        making.has_types = making.unit not in answers.without_types
     for it in record.spots:
         it.label, it.declared, it.change = labels.of(it)
 

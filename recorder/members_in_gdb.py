@@ -181,16 +181,26 @@ def declared_as(symbol):
         return ""
 
 
-def type_in_unit(name, address):
-    """The type of this name in the unit of a place of code, None where that has none."""
+def types_of_scopes(address):
+    """By name, for both scopes of the unit of a place of code: the types in them."""
     block = gdb.block_for_pc(address) if address else None
     for scope in (block.static_block, block.global_block) if block else ():
         key = scope.is_global, scope.start, scope.end
         if key not in TYPES_OF_UNITS:
             TYPES_OF_UNITS[key] = {it.name: it for it in scope if it.addr_class == gdb.SYMBOL_LOC_TYPEDEF}
-        if name in TYPES_OF_UNITS[key]:
-            return TYPES_OF_UNITS[key][name].type
-    return None
+        yield TYPES_OF_UNITS[key]
+
+
+def type_in_unit(name, address):
+    """The type of this name in the unit of a place of code, None where that has none."""
+    found = [types[name].type for types in types_of_scopes(address) if name in types]
+    return found[0] if found else None
+
+
+def has_no_types(address):
+    """Whether a unit has places and no types, as by -g1."""
+    scopes = list(types_of_scopes(address))
+    return bool(scopes) and not any(scopes)
 
 
 def spellings(name):
@@ -266,6 +276,7 @@ def answers(questions):
         "symbols": {at: (it, declared_as(it)) for at, it in symbols.items()},
         "callables": {at: captured(int(at), *asked) for at, asked in questions["callables"].items()},
         "names": {at: symbol_at(at) for at in questions["names"]},
+        "without_types": [it for it in questions["units"] if has_no_types(it)],
     }
 
 

@@ -131,8 +131,8 @@ class Memories:
         return {it.to: it for it in self.record.links if it.is_sole}
 
     def perhaps_owner_of(self, it: Handle) -> tuple[int, str] | None:
-        """The object whose member alone leads to a handle in lost memory, and that member: it may own that, as
-        a container does that isn't std's."""
+        """The object whose member alone leads to a handle in lost memory, and that member: it may own that,
+        as a container does that isn't std's."""
         link, seen = self.sole_links.get(it.memory), set()
         while link and link.memory >= 0 and link.memory not in seen:
             seen.add(link.memory)

@@ -1,5 +1,7 @@
 """The options of ./record."""
 import argparse
+import os
+import shlex
 import signal
 from collections.abc import Callable
 
@@ -31,7 +33,27 @@ def number_to(most: int, least: int = 0) -> Callable[[str], int]:
     return number
 
 
+class Refused(argparse.Action):
+    """An option that other tools have, with the reason why it isn't there."""
+
+    def __init__(self, reason: str, **how):
+        super().__init__(nargs="?", help=argparse.SUPPRESS, **how)
+        self.reason = reason
+
+    def __call__(self, parser, *_):
+        parser.error(f"{self.option_strings[0]}: {self.reason}")
+
+
+# Of debuggers and of valgrind.
+OF_OTHERS = {
+    "--pid": "what a running process took before isn't noted; start it under ./record, and ask by --now",
+    "--leak-check": "it always tells each leak, and knows no levels",
+}
+
+
 def parse(words: list[str]) -> argparse.Namespace:
+    """The options in RECORDER_OPTIONS come first, as a shell splits them."""
+    words = [*shlex.split(os.environ.get("RECORDER_OPTIONS", "")), *words]
     text = "Runs a C++ program, and tells which of its shared_ptr objects leak and which member to make weak."
     parser = argparse.ArgumentParser("record", description=text, epilog=EPILOG, allow_abbrev=False)
     add = parser.add_argument
@@ -79,6 +101,8 @@ def parse(words: list[str]) -> argparse.Namespace:
     add("--proved", action="store_true", help="ask the proved ./sptr owners too, and compare its answer")
     add("--flags", action="store_true", help="print the flags for exact handles, for CXXFLAGS")
     add("--children", action="store_true", help="tell of processes that the program starts, too")
+    for name, reason in OF_OTHERS.items():
+        add(name, action=Refused, reason=reason)
     add("program", nargs="?", metavar="PROGRAM")
     add("arguments", nargs=argparse.REMAINDER, metavar="ARG")
     options = parser.parse_args(words)

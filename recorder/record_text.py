@@ -21,6 +21,7 @@ class Making:
     made: str = ""
     stack: tuple = ()  # the places and functions of its frames
     unit: tuple = ()  # the module and the byte of the first that is the user's
+    has_types: bool = True  # where its unit has debug information
 
 
 @dataclass(slots=True)

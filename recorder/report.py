@@ -159,9 +159,13 @@ def advice_lines(findings):
         yield "record: each weaken line mends its knot by itself; take the first"
     yield from missing_tools(findings)
     unnamed = {tie for it in knots for tie in it.ties if " at byte " in tie[2] and not UNNAMED.search(tie[2])}
-    is_without = any(not findings.blocks[it[0] - 1].making.made.startswith("at ") for it in unnamed)
-    if shutil.which("gdb") and is_without:
+    makings = [findings.blocks[it[0] - 1].making for it in unnamed]
+    if not shutil.which("gdb"):
+        return
+    if any(not it.made.startswith("at ") for it in makings):
         yield "record: members are told by their names where the program is compiled with -g"
+    if not all(it.has_types for it in makings):
+        yield "record: -g1 has places and no members: these are told by their names with -g"
 
 
 def trust_line(findings):

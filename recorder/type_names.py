@@ -8,6 +8,7 @@ import subprocess
 from recorder.record_text import Record
 
 OPENING, CLOSING = "<([{", ">)]}"
+DEFAULT_ARGUMENT = re.compile(r", std::(allocator|less|hash|equal_to|char_traits|default_delete)<")
 STRING = "std::basic_string<char, std::char_traits<char>, std::allocator<char> >"
 
 
@@ -52,16 +53,22 @@ def arguments(name: str) -> list[str]:
     return found
 
 
-def without_allocators(name):
-    """A name without its `, std::allocator<..>`."""
-    while (begin := name.find(", std::allocator<")) >= 0:
-        depth, at = 0, name.index("<", begin)
+def without_defaults(name):
+    """A name without arguments that templates of the library have where none are given, as
+    `, std::allocator<..>`."""
+    begin = 0
+    while found := DEFAULT_ARGUMENT.search(name, begin):
+        depth, at = 0, found.end() - 1
         while True:
             depth += (name[at] == "<") - (name[at] == ">")
             at += 1
             if depth == 0 or at == len(name):
                 break
-        name = name[:begin] + name[at:]
+        begin = found.start()
+        if name[found.end() : at - 1].strip() == "void":  # (which is given)
+            begin = at
+        else:
+            name = name[:begin] + name[at:]
     return name
 
 
@@ -69,7 +76,7 @@ def without_allocators(name):
 def short(name: str) -> str:
     """The same type in fewer letters."""
     name = name.replace("std::__cxx11::", "std::").replace("std::__debug::", "std::")
-    name = without_allocators(name.replace(STRING, "std::string"))
+    name = without_defaults(name.replace(STRING, "std::string"))
     return re.sub(r" +>", ">", name)
 
 

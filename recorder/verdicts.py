@@ -58,7 +58,7 @@ class Findings:
         makings, changes = [it.making for it in self.blocks], self.graph.changes
         found, alarming = collections.defaultdict(list), self.alarming
         for knot in [*self.answer.knots, *self.answer.perhaps]:
-            if knot.objects[0] in alarming:
+            if any(it in alarming for it in knot.objects):  # (others may be suppressed)
                 types = tuple([makings[number - 1] for number in knot.objects])
                 changed = tuple([changes.get(tie) for tie in knot.ties]) if changes else ()
                 shape = knot.shape if knot.conditions else id(knot.shape)

@@ -1,12 +1,16 @@
 """The options of ./record, each by what it writes."""
 import json
+import os
 import re
 import subprocess
 import tempfile
 from pathlib import Path
 
-from recorder import options
+from recorder import options, type_names
 from tests.recorder.building import HUNG, PROGRAMS, ROOT, built, differences
+
+
+OSTREAM = "std::basic_ostringstream<char>"
 
 
 def record(*words, **how):
@@ -91,6 +95,8 @@ def values_that_no_option_has():
         "--frames=-3": "argument --frames: a number from 0 to 64 is wanted, and not -3",
         "--frames=1000": "argument --frames: a number from 0 to 64 is wanted, and not 1000",
         "--limit=0": "argument --limit: a number from 1 to 86400 is wanted, and not 0",
+        "--pid=1": f"--pid: {options.OF_OTHERS['--pid']}",
+        "--leak-check=full": f"--leak-check: {options.OF_OTHERS['--leak-check']}",
         "--exit=256": "argument --exit: a number from 0 to 255 is wanted, and not 256",
     }
     found = {}
@@ -121,6 +127,17 @@ def no_debug_information():
         "record: members are told by their names where the program is compiled with -g",
     ]
     return differences(lines=(lines, wanted))
+
+
+def places_alone():
+    """What -g1 lacks is told."""
+    with tempfile.TemporaryDirectory() as folder:
+        program = Path(folder, "circle")
+        subprocess.run(["g++", "-g1", "circle.cc", "-o", program], check=True, cwd=PROGRAMS)
+        lines = record(program).stderr.splitlines()
+    wanted = "record: -g1 has places and no members: these are told by their names with -g"
+    made = "leaked 1 Node, made at circle.cc:10 in main"
+    return differences(lines=((lines[1], wanted in lines), (made, True)))
 
 
 def streams_and_status():
@@ -200,6 +217,42 @@ def suppressions():
     )
 
 
+def half_of_a_knot():
+    """Where one object of a knot is suppressed, the other is told with what mends it."""
+    with tempfile.TemporaryDirectory() as folder:
+        program, file = built(folder, "two_knots"), Path(folder, "known")
+        file.write_text("Loop # known\nMan # known\n")
+        lines = record("--suppress", file, program).stderr.splitlines()
+    wanted = [
+        "record: 52 objects that shared pointers own are left, 1 leaked",
+        "leaked 1 Wife, made at two_knots.cc:17 in main",
+        "knot 1 Man, 1 Wife, tied by Man::wife 1, Wife::husband 1",
+    ]
+    return differences(lines=(lines[:3], wanted), weaken=(lines[3].startswith("weaken "), True))
+
+
+def options_in_the_environment():
+    with tempfile.TemporaryDirectory() as folder:
+        names = {**os.environ, "RECORDER_OPTIONS": f"--exit 9 --report '{folder}/a report'"}
+        ran = record(built(folder, "circle"), env=names)
+        written = Path(folder, "a report").read_text().splitlines()[0]
+    first = "record: 2 objects that shared pointers own are left, 2 leaked"
+    return differences(said=((ran.returncode, ran.stderr, written), (9, "", first)))
+
+
+def names_of_types():
+    """Without what templates of the library have where nothing is given."""
+    names = {
+        "std::map<int, A, std::less<int>, std::allocator<std::pair<int const, A> > >": "std::map<int, A>",
+        "std::unique_ptr<A, std::default_delete<A> >": "std::unique_ptr<A>",
+        "std::unordered_set<A, std::hash<A>, std::equal_to<A>, std::allocator<A> >": "std::unordered_set<A>",
+        "std::set<A, std::less<void>, std::allocator<A> >": "std::set<A, std::less<void>>",
+        "std::__cxx11::basic_ostringstream<char, std::char_traits<char>, std::allocator<char> >": OSTREAM,
+        "std::map<A, B, Later, std::allocator<std::pair<A const, B> > >": "std::map<A, B, Later>",
+    }
+    return differences(**{name: (type_names.short(name), wanted) for name, wanted in names.items()})
+
+
 def what_is_undecided():
     """It is no leak, but where --strict is given, and so is what is reached."""
     with tempfile.TemporaryDirectory() as folder:
@@ -239,9 +292,13 @@ CHECKS = [
     values_that_no_option_has,
     no_frames,
     no_debug_information,
+    places_alone,
     streams_and_status,
     the_report_goes_where_it_is_wanted,
     stacks,
     suppressions,
+    half_of_a_knot,
+    options_in_the_environment,
+    names_of_types,
     what_is_undecided,
 ]
