@@ -1,8 +1,7 @@
 """Which tests are run with each allocation refused in turn, and what tests/refuse_allocations is told of
 them."""
 
-# Tests of calls that take no memory, by crate and by the test that only opens and closes such a domain, or
-# has a worker that makes no call.
+# Tests of calls that take no memory, by crate and by the test that only opens and closes such a domain.
 NO_MEMORY = {
     "handle_tests": {
         "foundations::ledger::a_refused_opening_leaves_nothing": """
@@ -16,15 +15,6 @@ NO_MEMORY = {
             ending::this::an_enabled_object_gives_itself""",
         "memory::four_blocks_are_opened_and_closed": """
             desks::shelves::spare_blocks_go_to_the_shelf_and_come_back""",
-    },
-    "table_tests": {
-        "memory::a_worker_makes_no_call": "cells::members::objects_end_member_by_member",
-        "memory::two_blocks_are_opened_and_closed": "handles::looks::handles_tell_of_each_other",
-        "memory::three_blocks_are_opened_and_closed": """
-            cells::compares::a_compare_swaps_or_tells_what_is_there handles::limits::every_limit_is_told""",
-        "memory::four_blocks_are_opened_and_closed": """
-            handles::calls::each_call_works cells::both_kinds::cells_of_both_kinds
-            handles::slots::every_slot_is_looked_at""",
     },
 }
 
@@ -47,16 +37,6 @@ REFUSED = {
         "memory::splits::a_refused_split_hands_its_handles_back_in_order=0",
         "--",
         *as_opened("handle_tests"),
-    ],
-    "table_tests::memory": [
-        "memory::two_blocks_are_opened_and_closed=0",
-        "memory::three_blocks_are_opened_and_closed=0",
-        "memory::four_blocks_are_opened_and_closed=0",
-        "memory::a_worker_makes_no_call=0",
-        "memory::a_first_table_is_refused=0",
-        "memory::growths::a_refused_split_changes_nothing=1",
-        "--",
-        *as_opened("table_tests"),
     ],
     "pointer_tests::memory": [
         "memory::tests::a_refused_run_is_made_again=0",

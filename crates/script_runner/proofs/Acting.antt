@@ -1,15 +1,15 @@
 -- Acts that take something into the hand, as a worker does them.
-use Rattle.std.proofs.Common.{◌≡◌, ℕ, ◌+◌, ◌<◌, Bool, true, false, IfSome, Some, None, Option}
+use Rattle.std.proofs.Common.{◌≡◌, ℕ, ◌+◌, ◌<◌, Bool, true, false, [], Some, None, Option}
 use Rattle.std.proofs.Common.{option_map, sym, refl, ◌∙◌, subst, inl, inr, arith}
 use Rattle.script_runner.proofs.Prelude
-use Prelude.{Act, ActResult, Acts, aliased, Answer, as_owner, BadWeak, Call, Done, Fault, Field}
+use Prelude.{Act, ActResult, Acts, aliased, Answer, as_owner, BadWeak, Done, Field}
 use Prelude.{field_0, Form, Found, Full, Got, Handle, idle, inside, IsActed, IsEmptied, IsHand}
-use Prelude.{Kind, null_form, On, Owner, Place, place_in, Plain, Reply, row, slot_pointer, Slots}
+use Prelude.{stock_of, Kind, null_form, On, Owner, Place, place_in, Plain, Reply, row, slot_pointer, Slots}
 use Prelude.{TableNow, this_as, thread_slots, weak_slot}
 use Rattle.control_word.specs.declared.model.handle.Kind.TheVariants as kind
-use Rattle.handle_table.specs.Calls as calls
-use Rattle.handle_table.specs.Handles as handles
-use Rattle.handle_table.specs.This as this
+use Rattle.script_runner.specs.SlotCalls as calls
+use Rattle.script_runner.specs.Handles as handles
+use Rattle.script_runner.specs.This as this
 use Rattle.script_runner.proofs.Looking.{place_shown}
 use Rattle.script_runner.proofs.Lockings as locking
 use Rattle.script_runner.proofs.TableLaws as law
@@ -89,7 +89,7 @@ module _ (hand i : ℕ) (t u : TableNow ℕ) (is : IsHand (hand + 1) hand t) (lt
       let acts = locking.upgrades field_0 (hand + 1) i hand false t u is (below hand i lt) c in
       acted_as hand t u false (act.Lock i true) (Got true) (went true (Some answer.Upgraded)) refl acts (sym (got_one acts.done)) refl refl
 
-  pub upgraded_not : handles.WhyNotUpgraded t i hand (Call BadWeak) u
+  pub upgraded_not : handles.GivesNoOwner t i u
       → IsActed hand t false (act.Lock i true) (went false (Some (answer.Refused BadWeak))) u
   upgraded_not c =
       acted hand t u false (act.Lock i true) (Got false) refl
@@ -127,13 +127,7 @@ pub alias_told : (hand j : ℕ) (t : TableNow ℕ) (p : Option Place) → j < ha
 alias_told hand j t p lt at = at.2 ∙ sym (place_shown (hand + 1) j t (Owner at.0) (below hand j lt) at.1)
 
 -- there is no block for a new object
-pub no_room : (hand : ℕ) (t u : TableNow ℕ) (form : Form) (why : Fault) (x : Option ActResult)
-    → IfSome x (λ y. (why ≡ Call Full) × (y ≡ went false (Some (answer.Refused Full))))
-    → calls.WhyNotMade t hand why → u ≡ t
-    → IfSome x (λ y. IsActed hand t false (act.Make form) y u)
-no_room hand t u form why None some c same = tt
-no_room hand t u form why (Some x) some c same =
-    subst (λ v. IsActed hand t false (act.Make form) x v) (sym same)
-    (subst (λ y. IsActed hand t false (act.Make form) y t) (sym some.1)
-    (acted hand t t false (act.Make form) (Found None) refl
-    (locking.makes_not field_0 (hand + 1) hand false t form (subst (λ w. calls.WhyNotMade t hand w) some.0 c))))
+pub no_room : (hand : ℕ) (t : TableNow ℕ) (form : Form) → stock_of t.desk ≡ []
+    → IsActed hand t false (act.Make form) (went false (Some (answer.Refused Full))) t
+no_room hand t form none =
+    acted hand t t false (act.Make form) (Found None) refl (locking.makes_not field_0 (hand + 1) hand false t form none)

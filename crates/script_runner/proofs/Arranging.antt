@@ -6,7 +6,7 @@ use Rattle.script_runner.proofs.Prelude.{allowance_of, HasNoObject, HasTextCells
 use Rattle.script_runner.proofs.Prelude.{IsInHand, IsName, KeepsKinds, KeepsLimits, Kind, kind_in}
 use Rattle.script_runner.proofs.Prelude.{length-map, SetsKind, slice_get_within, slot_kinds}
 use Rattle.script_runner.proofs.Prelude.{Stance, TableNow}
-use Rattle.handle_table.specs.Tables as table
+use Rattle.script_runner.specs.Tables as table
 
 -- an element that was set, and the others
 pub set_here : {A : Type 0} (xs : List A) (i : ℕ) (v : A) → i < length xs → slice_get (slice_set xs i v) i ≡ Some v

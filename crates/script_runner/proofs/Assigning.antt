@@ -9,7 +9,7 @@ use Rattle.script_runner.proofs.Prelude.{IsSuited, IsWorked, Kind, map_more, Not
 use Rattle.script_runner.proofs.Prelude.{Said, TableId, TableNow, Task, tasks_from, Vec, Worker}
 use Rattle.std.proofs.lemmas.List.{reverse-append}
 use Rattle.std.proofs.lemmas.Slice.Zip.{all_zipped_more}
-use Rattle.handle_table.specs.Staffs.{EachDoes}
+use Rattle.script_runner.specs.Staffs.{EachDoes}
 use Rattle.step_core.proofs.Programs.{all_mapped}
 use Rattle.step_threads.specs.declared.programs.call.Call.{Call}
 

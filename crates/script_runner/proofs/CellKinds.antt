@@ -2,12 +2,11 @@
 use Rattle.std.proofs.Common.{◌≡◌, ℕ, zero, suc, ◌+◌, ◌-◌, ◌≤◌, Bool, true, false, List, [], ◌∷◌}
 use Rattle.std.proofs.Common.{length, slice_get, slice_set, Some, None, Option, sym, refl, ap, ◌∙◌}
 use Rattle.std.proofs.Common.{arith, length-set, set-set}
-use Rattle.script_runner.proofs.Prelude.{as_cell, CellName, ComparesSlots, Copies, DeskNow}
+use Rattle.script_runner.proofs.Prelude.{CellName, ComparesSlots, Copies, DeskNow}
 use Rattle.script_runner.proofs.Prelude.{ExchangesSlot, FitsSlots, HasKind, Held, IsCopy, IsSeated}
-use Rattle.script_runner.proofs.Prelude.{IsThird, KeepsKinds, Kind, kind_at, kind_in, kind_of_held}
+use Rattle.script_runner.proofs.Prelude.{KeepsKinds, Kind, kind_at, kind_in, kind_of_held}
 use Rattle.script_runner.proofs.Prelude.{length-map, LoadsIntoSlot, MovesSlot, Owner, SetsAside}
 use Rattle.script_runner.proofs.Prelude.{SetsKind, slot_kinds, Standing, TableNow, Weak}
-use Rattle.script_runner.proofs.Reaching.{kind_same}
 use Rattle.script_runner.proofs.Refusals.{comes_kind, kind_of_slot, kinds_set}
 use Rattle.script_runner.proofs.Seating.{same_some}
 
@@ -27,28 +26,28 @@ module _ (t u : TableNow ℕ) where
       comes_kind (IsCopy x.of) t u hand k x.copy
       (copy_kind x.of x.copy.handle t.desk x.copy.between x.copy.comes ∙ kind_of_slot t.slots i x.of k x.at has)
 
-  module _ (c : CellName) (small : IsThird c) where
-    pub loaded_kind : (hand : ℕ) → LoadsIntoSlot t (as_cell c) hand u → SetsKind hand (Some (kind_at c)) t u
-    loaded_kind hand x = comes_kind _ t u hand (kind_at c) x.loads (x.loads.comes.0 ∙ kind_same c small)
+  module _ (c : CellName) where
+    pub loaded_kind : (hand : ℕ) → LoadsIntoSlot t c hand u → SetsKind hand (Some (kind_at c)) t u
+    loaded_kind hand x = comes_kind _ t u hand (kind_at c) x.loads x.loads.comes.0
 
-    pub exchanged_kinds : (i : ℕ) → HasKind t.slots i (kind_at c) → ExchangesSlot t i (as_cell c) u → KeepsKinds t u
+    pub exchanged_kinds : (i : ℕ) → HasKind t.slots i (kind_at c) → ExchangesSlot t i c u → KeepsKinds t u
     exchanged_kinds i has x =
         let ks = slot_kinds t.slots in
         ap slot_kinds x.assigns.slots
         ∙ (kinds_set (slice_set t.slots i None) i (Some x.old)
         ∙ (ap (λ l. slice_set l i (kind_in (Some x.old))) (kinds_set t.slots i None)
         ∙ (set-set ks i None (kind_in (Some x.old))
-        ∙ (ap (λ k. slice_set ks i (Some k)) (x.swaps.kinds.1 ∙ kind_same c small) ∙ set_here ks i (Some (kind_at c)) has))))
+        ∙ (ap (λ k. slice_set ks i (Some k)) (x.swaps.kinds.1) ∙ set_here ks i (Some (kind_at c)) has))))
 
-    pub differed_kinds : (weak : Bool) (i hand : ℕ) → HasKind t.slots i (kind_at c) → ComparesSlots weak t (as_cell c) i hand false u → KeepsKinds t u
+    pub differed_kinds : (weak : Bool) (i hand : ℕ) → HasKind t.slots i (kind_at c) → ComparesSlots weak t c i hand false u → KeepsKinds t u
     differed_kinds weak i hand has x =
         let ks = slot_kinds t.slots in
         let f = x.follows in
         ap slot_kinds f.slots
         ∙ (kinds_set t.slots i (Some x.found)
-        ∙ (ap (λ k. slice_set ks i (Some k)) (x.kinds.2 ∙ kind_same c small) ∙ set_here ks i (Some (kind_at c)) has))
+        ∙ (ap (λ k. slice_set ks i (Some k)) (x.kinds.2) ∙ set_here ks i (Some (kind_at c)) has))
 
-    pub swapped_kind : (weak : Bool) (i hand : ℕ) → ComparesSlots weak t (as_cell c) i hand true u → SetsKind hand None t u
+    pub swapped_kind : (weak : Bool) (i hand : ℕ) → ComparesSlots weak t c i hand true u → SetsKind hand None t u
     swapped_kind weak i hand x = let f = x.follows in ap slot_kinds f.2 ∙ kinds_set t.slots hand None
 
   pub moved_aside : (hand : ℕ) → MovesSlot t hand (hand - 1) u → SetsAside hand t u

@@ -3,10 +3,10 @@ use Rattle.std.proofs.Common.{◌≡◌, ℕ, zero, suc, ◌+◌, ◌<◌, ◌�
 use Rattle.std.proofs.Common.{nat_lt, ◌==◌, slice_get, slice_set, Some, None, Option, sym, refl}
 use Rattle.std.proofs.Common.{ap, ◌∙◌, subst, inr, arith, le-ltb, lt-ltb, eq-eqb}
 use Rattle.script_runner.proofs.Prelude
-use Prelude.{Acts, AddsEvent, after, as_cell, as_slot, Block, block_kept, block_of_held, Came}
+use Prelude.{Acts, AddsEvent, after, as_slot, Block, block_kept, block_of_held, Came}
 use Prelude.{cell_of_name, CellName, cond-false, cond-true, DeskNow, entry, Event, FitsSlots, Form}
 use Prelude.{Handle, handle_in, Hands, HasHandle, inside, is_full, is_there, IsCellAtSite, IsHand}
-use Prelude.{IsIn, IsLegal, IsLoadEvent, IsOfName, IsSeated, Kind, kind_at, kind_of_cell}
+use Prelude.{IsIn, IsLegal, IsLoadEvent, IsOfName, IsSeated, Kind, kind_at}
 use Prelude.{kind_of_held, latest_of, leads, Name, on, opening_of, Owner, Place, place_of_held}
 use Prelude.{shown_held, shown_slots, Site, Slot, slot_by, slot_of, slot_pointer, Slots, sound}
 use Prelude.{State, state_of, TableNow, Where}
@@ -17,7 +17,7 @@ use Rattle.control_word.specs.State.{kind_of_free}
 use Rattle.control_word.specs.declared.model.event.Cell.TheVariants as named
 use Rattle.control_word.specs.declared.model.event.Event.TheVariants as event
 use Rattle.control_word.specs.declared.model.handle.Kind.TheVariants as kind
-use Rattle.handle_table.specs.Cells.{OwnsInto}
+use Rattle.script_runner.specs.Cells.{OwnsInto}
 use Rattle.script_runner.proofs.Calling as law
 use Rattle.script_runner.proofs.Putting.{slice_get-set_same}
 use Rattle.script_runner.proofs.Seating as seating
@@ -67,7 +67,6 @@ module _ {V : Type 0} where
   -- a cell of the thread's
   pub record IsFound (t : TableNow V) (l : Slots) (c : CellName) (at : Site) : Type 0 where
     pub there : is_there l c ≡ true
-    pub kind : kind_of_cell (as_cell c) ≡ kind_at c
     pub named : (v : Event V) (e : DeskNow V) (adds : AddsEvent t.desk v e)
         → cell_in (calls.state_before_event V adds) (cell_of_name (calls.state_before_event V adds) l c) ≡ desk_cell t.desk at
     pub kinds : (v : Event V) (e : DeskNow V) (adds : AddsEvent t.desk v e)
@@ -75,30 +74,28 @@ module _ {V : Type 0} where
 
   module _ (m : ℕ) (t : TableNow V) (fits : FitsSlots t.desk t.slots) where
     of_member : (k : ℕ) (n : ℕ) (name : Name) → name.0 ≡ k → k < m → (at : Site) (b : Block) → OwnsInto t.slots k b → at ≡ site.Member b n
-        → kind_of_cell (as_cell (cell.Member name n)) ≡ kind_at (cell.Member name n) → IsFound t (shown_slots m t.slots) (cell.Member name n) at
-    of_member k n name is lt at b owns place same =
+        → IsFound t (shown_slots m t.slots) (cell.Member name n) at
+    of_member k n name is lt at b owns place =
         let h = Owner owns.owner in
-        let has = seating.has_pointer m k t h b fits lt owns.at owns.owns in
-        let q : owns.owner.place ≡ Some owns.place = owns.points.0 in
+        let has = seating.has_pointer m k t h b fits lt owns.at owns.into.owns in
+        let q : owns.owner.place ≡ Some owns.into.place = owns.into.points.0 in
         let inside_is : inside (slot_pointer (shown_slots m t.slots) name.0) ≡ Some (calls.pointer kind.Owner b owns.owner.place) =
         ap (λ j. inside (slot_pointer (shown_slots m t.slots) j)) is
         ∙ (ap inside has.at ∙ (ap (into (calls.pointer kind.Owner b owns.owner.place)) q
-        ∙ cond-true (owns.place.block.0 == b.0) _ None (eq-eqb owns.place.block.0 b.0 (ap (λ (x : Block). x.0) owns.points.1)))) in
+        ∙ cond-true (owns.into.place.block.0 == b.0) _ None (eq-eqb owns.into.place.block.0 b.0 (ap (λ (x : Block). x.0) owns.into.points.1)))) in
         let block : block_at (shown_slots m t.slots) name.0 ≡ b = ap (λ y. on (λ (x : Handle). x.block) (record { 0 = 0 }) y) inside_is in
         record {
           there = ap is_full inside_is;
-          kind = same;
           named = λ v e adds. ap (λ (x : Block). named.Member ((calls.state_before_event V adds).latest x.0) n) block
               ∙ (ap (λ o. named.Member o n) (law.held_latest t.desk e v adds kind.Owner owns.owner.place b.0 has.has) ∙ ap (desk_cell t.desk) (sym place));
           kinds = λ v e adds. refl;
         }
 
-    pub is_found : (c : CellName) (at : Site) → IsIn t.desk.shape c → IsOfName m c → IsCellAtSite t.desk.shape t.slots (as_cell c) at
+    pub is_found : (c : CellName) (at : Site) → IsIn t.desk.shape c → IsOfName m c → IsCellAtSite t.desk.shape t.slots c at
         → IsFound t (shown_slots m t.slots) c at
     is_found (cell.Shared n) at lt of is =
         record {
           there = refl;
-          kind = refl;
           named = λ v e adds. ap (desk_cell t.desk) (sym is.1);
           kinds = λ v e adds. ap (λ z. kind_of_free z n) (shared_led (opening_of t.desk.shape) (adds.between ++ t.desk.seen))
               ∙ sym (few_kind t.desk.shape.shared_cells n is.0);
@@ -106,26 +103,22 @@ module _ {V : Type 0} where
     is_found (cell.Weak n) at lt of is =
         record {
           there = refl;
-          kind = refl;
           named = λ v e adds. ap (λ z. named.Free (z + n)) (shared_led (opening_of t.desk.shape) (adds.between ++ t.desk.seen))
               ∙ ap (desk_cell t.desk) (sym is.1);
           kinds = λ v e adds. (λ i. kind_of_free (shared_led (opening_of t.desk.shape) (adds.between ++ t.desk.seen) i)
               (shared_led (opening_of t.desk.shape) (adds.between ++ t.desk.seen) i + n)) ∙ sym (past_kind t.desk.shape.shared_cells n);
         }
-    is_found (cell.Member name zero) at lt of is = of_member name.0 0 name refl of at is.0 is.1 is.2 refl
-    is_found (cell.Member name (suc zero)) at lt of is = of_member name.0 1 name refl of at is.0 is.1 is.2 refl
-    is_found (cell.Member name (suc (suc zero))) at lt of is = of_member name.0 2 name refl of at is.0 is.1 is.2 refl
-    is_found (cell.Member name (suc (suc (suc n)))) at lt of is = let no : ⊥ = omega (arith, lt) in absurd no
+    is_found (cell.Member name n) at lt of is = of_member name.0 n name refl of at is.0 is.1 is.2
 
 module _ {V : Type 0} (worth : Form → V) (m hand : ℕ) (taken : Bool) (t u : TableNow V) (c : CellName) where
   -- what the cell holds came into the hand
   loads_in : IsHand m hand t → IsSeated m hand u → (at : Site) → IsFound t (shown_slots m t.slots) c at
-      → seating.Came (λ d h e. (kind_of_held h ≡ kind_of_cell (as_cell c))
-      × AddsEvent d (event.Load (desk_cell d at) (handle_in e (kind_of_cell (as_cell c)) (block_of_held h) (place_of_held h))) e) t hand u
+      → seating.Came (λ d h e. (kind_of_held h ≡ kind_at c)
+      × AddsEvent d (event.Load (desk_cell d at) (handle_in e (kind_at c) (block_of_held h) (place_of_held h))) e) t hand u
       → (x : Slot) × Acts worth m t taken (act.Load c) (Came x) u
   loads_in is then at found k =
       let h = k.handle in
-      let q = kind_of_cell (as_cell c) in
+      let q = kind_at c in
       let adds = k.comes.1 in
       let v : Event V = event.Load (desk_cell t.desk at) (handle_in u.desk q (block_of_held h) (place_of_held h)) in
       let s = calls.state_before_event V adds in

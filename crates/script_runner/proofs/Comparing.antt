@@ -4,10 +4,10 @@ use Rattle.std.proofs.Common.{length, slice_get, slice_set, Some, None, Option, 
 use Rattle.std.proofs.Common.{subst, inl, inr, arith, length-set, get_or-set_other}
 use Rattle.std.proofs.Common.{get_or-set_same, set-set}
 use Rattle.script_runner.proofs.Prelude
-use Prelude.{Acts, AddsEvent, after, as_cell, as_slot, bag, bag_of, Block, block_of_held}
+use Prelude.{Acts, AddsEvent, after, as_slot, bag, bag_of, Block, block_of_held}
 use Prelude.{blocks_of, by_block, cell_of_name, CellName, Compared, DeskNow, entry, Event, Form}
 use Prelude.{handle, handle_in, Has, has_map, has_part, HasHandle, held, idle, is_full, is_of}
-use Prelude.{IsLegal, IsQuiet, IsSeated, Kind, kind_at, kind_of_cell, kind_of_held, latest_of}
+use Prelude.{IsLegal, IsQuiet, IsSeated, Kind, kind_at, kind_of_held, latest_of}
 use Prelude.{leads, Leaving, names_an_object, NumberedHandle, opening_of, Place, place_of_held}
 use Prelude.{plain, pointer_of, set-get_or, set_comm, shown_slots, Slot, slot_by, slot_of}
 use Prelude.{slot_pointer, slot_value, Slots, slots_idle, sound, State, state_of, TableNow}
@@ -16,7 +16,7 @@ use Rattle.control_word.specs.State.{Held}
 use Rattle.control_word.specs.declared.model.event.Cell.TheVariants as named
 use Rattle.control_word.specs.declared.model.event.Cell.{Cell as Named}
 use Rattle.control_word.specs.declared.model.event.Event.TheVariants as event
-use Rattle.handle_table.specs.Compares as compares
+use Rattle.script_runner.specs.Compares as compares
 use Rattle.script_runner.proofs.Celled.{IsFound, came_slot, is_found}
 use Rattle.script_runner.proofs.Exchanging.{is_of_own, told_as}
 use Rattle.script_runner.proofs.Leavings.{handle_left}
@@ -68,7 +68,7 @@ module _ {V : Type 0} where
   got_handle d e v adds k c p gets = has_handle d e v adds k c p (gets (leads (opening_of d.shape) (adds.between ++ d.seen)) d.name)
 
 module _ {V : Type 0} (worth : Form → V) (m k hand other : ℕ) (t u : TableNow V) (c : CellName) (weak : Bool) (is : IsSeated m hand t)
-    (two : other + 1 ≡ hand) (lt : k < other) (none : slice_get t.slots other ≡ Some None) (x : compares.ComparesSlots weak t (as_cell c) k hand true u)
+    (two : other + 1 ≡ hand) (lt : k < other) (none : slice_get t.slots other ≡ Some None) (x : compares.ComparesSlots weak t c k hand true u)
     (found : IsFound t (shown_slots m t.slots) c x.site) where
   abbrev l : Slots
   l = shown_slots m t.slots
@@ -128,9 +128,9 @@ module _ {V : Type 0} (worth : Form → V) (m k hand other : ℕ) (t u : TableNo
       (sym (seating.shown_at m t.slots other None (let e = is.last in omega (arith, e, two)) none)) ∙ set-get_or l other plain))
       ∙ sym (ap (shown_slots m) f.2 ∙ seating.shown_set m t.slots hand None))))
 
-  got_named : (b : Block) → block_of_held x.found ≡ Some b → HasHandle x.between (kind_of_cell (as_cell c)) (place_of_held x.found) b.0
+  got_named : (b : Block) → block_of_held x.found ≡ Some b → HasHandle x.between (kind_at c) (place_of_held x.found) b.0
   got_named b e =
-      let q = kind_of_cell (as_cell c) in
+      let q = kind_at c in
       let one = handle_in t.desk q (block_of_held x.there) (place_of_held x.there) in
       let two = handle_in t.desk q (block_of_held x.new) (place_of_held x.new) in
       let adds = subst (λ y. AddsEvent t.desk (event.Compare (desk_cell t.desk x.site) one two (handle_in x.between q y (place_of_held x.found)) true
@@ -144,10 +144,10 @@ module _ {V : Type 0} (worth : Form → V) (m k hand other : ℕ) (t u : TableNo
 
   compares_in : Acts worth m t true (act.Compare k c weak) (Compared true came) between
   compares_in =
-      let q = kind_of_cell (as_cell c) in
+      let q = kind_at c in
       let adds = x.compares in
       let s = calls.state_before_event V adds in
-      let kinds : kind_there s (cell_of_name s l c) ≡ q = found.kinds _ x.between adds ∙ sym found.kind in
+      let kinds : kind_there s (cell_of_name s l c) ≡ q = found.kinds _ x.between adds in
       let held : came ≡ slot_of s (handle_in x.between q (block_of_held x.found) (place_of_held x.found)) =
       ap (λ y. slot_by y (block_of_held x.found) (place_of_held x.found)) x.kinds.2
       ∙ came_slot t.desk x.between _ adds q (place_of_held x.found) (block_of_held x.found)
@@ -208,8 +208,8 @@ module _ {V : Type 0} (worth : Form → V) (m k hand other : ℕ) (t u : TableNo
 
   busy : idle (act.Compare k c weak) l true ≡ false
   busy =
-      let own = is_of_own x.new (kind_at c) (x.kinds.1 ∙ found.kind) in
-      let its = is_of_own x.there (kind_at c) (x.kinds.0 ∙ found.kind) in
+      let own = is_of_own x.new (kind_at c) (x.kinds.1) in
+      let its = is_of_own x.there (kind_at c) (x.kinds.0) in
       let a : is_of (kind_at c) (slot_value l (hand_of l)) ≡ true =
       ap (λ n. is_of (kind_at c) (slot_value l n)) hand_is
       ∙ (ap (λ y. is_of (kind_at c) y) (seating.shown_at m t.slots hand (Some x.new) last x.at.1) ∙ own) in

@@ -4,10 +4,10 @@ use Rattle.std.proofs.Common.{◌∷◌, ◌++◌, length, slice_get, slice_set,
 use Rattle.std.proofs.Common.{refl, ap, ◌∙◌, subst, inl, inr, arith, length-set, get_or-set_other}
 use Rattle.std.proofs.Common.{get_or-set_same, set-set}
 use Rattle.script_runner.proofs.Prelude
-use Prelude.{Acts, AddsEvent, after, as_cell, as_slot, Block, block_of_held, calls_keep_latest}
+use Prelude.{Acts, AddsEvent, after, as_slot, Block, block_of_held, calls_keep_latest}
 use Prelude.{cell_of_name, CellName, Compared, DeskNow, entry, Event, Form, handle, handle_in, Has}
 use Prelude.{has_object, HasHandle, held, idle, is_full, is_of, IsLegal, IsQuiet, IsSeated, Kind}
-use Prelude.{kind_at, kind_of_cell, kind_of_held, latest_of, leads, LeavesSlot, Leaving}
+use Prelude.{kind_at, kind_of_held, latest_of, leads, LeavesSlot, Leaving}
 use Prelude.{legal_seen, MovesSlot, NumberedHandle, opening_of, Place, place_of_held, plain}
 use Prelude.{pointer_of, same_kept, set_comm, shown_held, shown_slots, Slot, slot_by, slot_of}
 use Prelude.{slot_pointer, slot_value, Slots, slots_idle, State, TableNow}
@@ -16,8 +16,8 @@ use Rattle.control_word.proofs.history.Kept.{has_same}
 use Rattle.control_word.specs.State.{Held}
 use Rattle.control_word.specs.declared.model.event.Cell.{Cell as Named}
 use Rattle.control_word.specs.declared.model.event.Event.TheVariants as event
-use Rattle.handle_table.specs.Compares as compares
-use Rattle.handle_table.specs.Tables as table
+use Rattle.script_runner.specs.Compares as compares
+use Rattle.script_runner.specs.Tables as table
 use Rattle.script_runner.proofs.Celled.{IsFound, came_slot, is_found}
 use Rattle.script_runner.proofs.Comparing.{got_handle, has_handle}
 use Rattle.script_runner.proofs.Exchanging.{is_of_own, told_as}
@@ -66,7 +66,7 @@ module _ {V : Type 0} where
 
 module _ {V : Type 0} (worth : Form → V) (m k hand other : ℕ) (t after u : TableNow V) (c : CellName) (weak : Bool) (is : IsSeated m hand t)
     (two : other + 1 ≡ hand) (lt : k < other) (none : slice_get t.slots other ≡ Some None)
-    (x : compares.ComparesSlots weak t (as_cell c) k hand false after) (v : MovesSlot after hand other u)
+    (x : compares.ComparesSlots weak t c k hand false after) (v : MovesSlot after hand other u)
     (found : IsFound t (shown_slots m t.slots) c x.site) where
   abbrev l : Slots
   l = shown_slots m t.slots
@@ -151,10 +151,10 @@ module _ {V : Type 0} (worth : Form → V) (m k hand other : ℕ) (t after u : T
 
   compares_in : Acts worth m t true (act.Compare k c weak) (Compared false came) between
   compares_in =
-      let q = kind_of_cell (as_cell c) in
+      let q = kind_at c in
       let adds = x.compares in
       let s = calls.state_before_event V adds in
-      let kinds : kind_there s (cell_of_name s l c) ≡ q = found.kinds _ x.between adds ∙ sym found.kind in
+      let kinds : kind_there s (cell_of_name s l c) ≡ q = found.kinds _ x.between adds in
       let held : came ≡ slot_of s (handle_in x.between q (block_of_held x.found) (place_of_held x.found)) =
       ap (λ y. slot_by y (block_of_held x.found) (place_of_held x.found)) x.kinds.2
       ∙ came_slot t.desk x.between _ adds q (place_of_held x.found) (block_of_held x.found)
@@ -180,9 +180,9 @@ module _ {V : Type 0} (worth : Form → V) (m k hand other : ℕ) (t after u : T
         ends = refl;
       }
     where
-      got : (b : Block) → block_of_held x.found ≡ Some b → HasHandle x.between (kind_of_cell (as_cell c)) (place_of_held x.found) b.0
+      got : (b : Block) → block_of_held x.found ≡ Some b → HasHandle x.between (kind_at c) (place_of_held x.found) b.0
       got b e =
-          let q = kind_of_cell (as_cell c) in
+          let q = kind_at c in
           let one = handle_in t.desk q (block_of_held x.there) (place_of_held x.there) in
           let new = handle_in t.desk q (block_of_held x.new) (place_of_held x.new) in
           let adds = subst (λ y. AddsEvent t.desk
@@ -202,7 +202,7 @@ module _ {V : Type 0} (worth : Form → V) (m k hand other : ℕ) (t after u : T
 
   puts : Leaving worth m between true (act.Put k) u
   puts =
-      let q = kind_of_cell (as_cell c) in
+      let q = kind_at c in
       let one = handle_in t.desk q (block_of_held x.there) (place_of_held x.there) in
       let new = handle_in t.desk q (block_of_held x.new) (place_of_held x.new) in
       let y = slot_left worth x.between u.desk l1 (act.Put k) k t.endings u.endings refl x.follows.old
@@ -234,8 +234,8 @@ module _ {V : Type 0} (worth : Form → V) (m k hand other : ℕ) (t after u : T
 
   busy : idle (act.Compare k c weak) l true ≡ false
   busy =
-      let own = is_of_own x.new (kind_at c) (x.kinds.1 ∙ found.kind) in
-      let its = is_of_own x.there (kind_at c) (x.kinds.0 ∙ found.kind) in
+      let own = is_of_own x.new (kind_at c) (x.kinds.1) in
+      let its = is_of_own x.there (kind_at c) (x.kinds.0) in
       let a : is_of (kind_at c) (slot_value l (hand_of l)) ≡ true =
       ap (λ n. is_of (kind_at c) (slot_value l n)) hand_is
       ∙ (ap (λ y. is_of (kind_at c) y) (seating.shown_at m t.slots hand (Some x.new) last x.at.1) ∙ own) in

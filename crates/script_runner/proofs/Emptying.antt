@@ -3,13 +3,12 @@ use Rattle.std.proofs.Common.{◌≡◌, ℕ, zero, suc, ◌+◌, ◌<◌, ◌�
 use Rattle.std.proofs.Common.{is_some, slice_get, slice_set, Some, None, Option, sym, refl, ap}
 use Rattle.std.proofs.Common.{◌∙◌, subst, inl, inr, arith}
 use Rattle.script_runner.proofs.Prelude
-use Prelude.{Block, block_of_held, EmptiesSlot, EmptiesSlotWeakly, Fault, Gone, HasKind}
+use Prelude.{Block, block_of_held, EmptiesSlot, EmptiesSlotWeakly, Gone, HasKind}
 use Prelude.{HasNoObject, Held, is_full, IsSeated, KeepsKinds, Kind, kind_in, kind_of_held}
 use Prelude.{SetsKind, slot_kinds, slot_pointer, TableNow, thread_slots}
 use Rattle.control_word.specs.declared.model.handle.Kind.TheVariants as kind
-use Rattle.handle_table.specs.Calls as calls
-use Rattle.handle_table.specs.Tables as table
-use Rattle.handle_table.specs.declared.fault.Fault.TheVariants as fault
+use Rattle.script_runner.specs.SlotCalls as calls
+use Rattle.script_runner.specs.Tables as table
 use Rattle.script_runner.proofs.Putting.{slice_get-set_other, slice_get-set_same}
 use Rattle.script_runner.proofs.Refusals as refusals
 use Rattle.script_runner.proofs.Seating.{same_some}
@@ -74,18 +73,8 @@ free_bare hand i t lt free (Some h) at = no_block (block_of_held h) (sym (full_s
 pub vacant_set : (t : TableNow ℕ) (i : ℕ) → slice_get t.slots i ≡ Some None → SetsKind i None t t
 vacant_set t i at = sym (set_again (slot_kinds t.slots) i None (refusals.kind_at_handle t.slots i None at))
 
--- a slot that is there gives no handle only where it is vacant
-pub only_vacant : (ss : List table.Slot) (i : ℕ) (why : Fault) → i < length ss → (why ≡ fault.Vacant → ⊥) → calls.WhyNoHandle ss i why → ⊥
-only_vacant ss i fault.Slot lt unlike c = let le : length ss ≤ i = c in omega (arith, lt, le)
-only_vacant ss i fault.Vacant lt unlike c = unlike refl
-only_vacant ss i why lt unlike c = c
-
 -- what is in hand goes to a name of its kind
 module _ (t u : TableNow ℕ) (hand i : ℕ) (k : Kind) (lt : i < hand) (full : HasKind t.slots hand k) where
-  pub not_put : (why : Fault) → IsSeated (hand + 1) hand t → calls.WhyNotMoved t hand i why → ⊥
-  not_put why is (inl x) = refusals.no_slot t.slots i why (let many = is.many in omega (arith, lt, many)) x
-  not_put why is (inr x) = refusals.no_handle t.slots hand k why full x
-
   pub put_set : HasKind t.slots i k → calls.MovesSlot t hand i u → SetsKind hand None t u
   put_set has c =
       let is : kind_of_held c.of ≡ k = refusals.kind_of_slot t.slots hand c.of k c.at full in

@@ -3,10 +3,10 @@ use Rattle.std.proofs.Common.{◌≡◌, ℕ, ◌<◌, Bool, true, false, cond, 
 use Rattle.std.proofs.Common.{slice_set, Some, None, Option, option_map, sym, refl, ap, ◌∙◌, subst}
 use Rattle.std.proofs.Common.{inl, inr, arith, length-set, set-set}
 use Rattle.script_runner.proofs.Prelude
-use Prelude.{Acts, AddsEvent, after, as_cell, as_slot, Block, block_of_held, Came, cell_of_name}
+use Prelude.{Acts, AddsEvent, after, as_slot, Block, block_of_held, Came, cell_of_name}
 use Prelude.{CellName, copy, DeskNow, Done, Event, ExchangesSlot, FitsSlots, fitting, Form, Got}
 use Prelude.{handle, handle_in, Hands, HasHandle, Held, is_of, IsAt, IsSameEvent, IsSeated}
-use Prelude.{IsSwapEvent, Kind, kind_at, kind_of_cell, kind_of_held, LeavesSlot, may_go}
+use Prelude.{IsSwapEvent, Kind, kind_at, kind_of_held, LeavesSlot, may_go}
 use Prelude.{NumberedHandle, offered, Owner, place_of_held, Plain, plain, pointer_of, shown_slots}
 use Prelude.{Site, Slot, slot_by, slot_of, slot_pointer, slot_value, State, state_of, TableNow}
 use Prelude.{TellsSlotHeld, Weak, Where}
@@ -65,12 +65,12 @@ module _ {V : Type 0} where
           (law.held_latest t.desk e v adds (kind_of_held h) (place_of_held h) b.0 (seating.has_object t.desk t.slots i h b fits at some))
 
 module _ {V : Type 0} (worth : Form → V) (m i hand : ℕ) (taken : Bool) (t u : TableNow V) (c : CellName) where
-  pub exchanges_in : IsSeated m hand t → IsSeated m hand u → i < m → (x : ExchangesSlot t i (as_cell c) u)
+  pub exchanges_in : IsSeated m hand t → IsSeated m hand u → i < m → (x : ExchangesSlot t i c u)
       → IsFound t (shown_slots m t.slots) c x.swaps.site
       → (y : Slot) × Acts worth m t taken (act.Exchange i c) (Came y) u
   exchanges_in is then below x found =
       let w = x.swaps in
-      let q = kind_of_cell (as_cell c) in
+      let q = kind_at c in
       let within : i < length t.slots = let a = is.many in omega (arith, a, below) in
       let a = x.assigns in
       let free : a.old ≡ None = seating.same_some a.old None (sym a.was ∙ slice_get-set_same t.slots i None within) in
@@ -91,7 +91,7 @@ module _ {V : Type 0} (worth : Form → V) (m i hand : ℕ) (taken : Bool) (t u 
       ap (λ y. slot_by y (block_of_held x.old) (place_of_held x.old)) w.kinds.1
       ∙ came_slot t.desk u.desk v adds q (place_of_held x.old) (block_of_held x.old)
       (swap_made V (desk_cell t.desk w.site) new (handle_in u.desk q (block_of_held x.old) (place_of_held x.old))) has in
-      let kinds : kind_there s (cell_of_name s l c) ≡ q = found.kinds v u.desk adds ∙ sym found.kind in
+      let kinds : kind_there s (cell_of_name s l c) ≡ q = found.kinds v u.desk adds in
       let makes : IsSwapEvent s l c i (as_slot (Some x.old)) (Some v) = (
         handle_in u.desk q (block_of_held x.old) (place_of_held x.old),
         (λ j. Some (event.Swap (sym (found.named v u.desk adds) j)
@@ -101,7 +101,7 @@ module _ {V : Type 0} (worth : Form → V) (m i hand : ℕ) (taken : Bool) (t u 
       ) in
       let may : may_go l c i ≡ true =
       (λ j. found.there j && is_of (kind_at c) (slot_value l i))
-      ∙ (ap (λ y. is_of (kind_at c) y) (seating.shown_at m t.slots i (Some w.of) below w.at) ∙ is_of_own w.of (kind_at c) (w.kinds.0 ∙ found.kind)) in (
+      ∙ (ap (λ y. is_of (kind_at c) y) (seating.shown_at m t.slots i (Some w.of) below w.at) ∙ is_of_own w.of (kind_at c) (w.kinds.0)) in (
         as_slot (Some x.old),
         record {
           done = inr (v, adds, subst (λ b. Where b (IsSwapEvent s l c i (as_slot (Some x.old)) (Some v)) (Some v ≡ None)) (sym may) makes);
@@ -139,21 +139,21 @@ module _ {V : Type 0} (worth : Form → V) (m i hand : ℕ) (taken : Bool) (t u 
       as_offer e (inr x) = inr (x.0, x.1, x.2 ∙ ap (λ y. option_map (copy {V = V} (calls.state_before_event V x.1)) y) (sym e))
 
   -- a cell is asked whether it holds what a slot has
-  holds_in : IsSeated m hand t → i < m → (same : Bool) (x : TellsSlotHeld t (as_cell c) i same u) → IsFound t (shown_slots m t.slots) c x.site
+  holds_in : IsSeated m hand t → i < m → (same : Bool) (x : TellsSlotHeld t c i same u) → IsFound t (shown_slots m t.slots) c x.site
       → Acts worth m t taken (act.Holds i c) (Got same) u
   holds_in is below same x found =
-      let q = kind_of_cell (as_cell c) in
+      let q = kind_at c in
       let v : Event V = event.Same (desk_cell t.desk x.site) (handle_in t.desk q (block_of_held x.of) (place_of_held x.of)) same in
       let adds : AddsEvent t.desk v u.desk = x.tells in
       let s = calls.state_before_event V adds in
       let l = shown_slots m t.slots in
-      let kinds : kind_there s (cell_of_name s l c) ≡ q = found.kinds v u.desk adds ∙ sym found.kind in
+      let kinds : kind_there s (cell_of_name s l c) ≡ q = found.kinds v u.desk adds in
       let makes : IsSameEvent s l c i same (Some v) = λ j.
       Some (event.Same (sym (found.named v u.desk adds) j)
       ((sym (ap (λ k. contents.named_handle s k (slot_value l i)) kinds ∙ told_as m i t u.desk v adds x.of q is.fits below x.at x.kind)) j) same) in
       let may : may_go l c i ≡ true =
       (λ j. found.there j && is_of (kind_at c) (slot_value l i))
-      ∙ (ap (λ y. is_of (kind_at c) y) (seating.shown_at m t.slots i (Some x.of) below x.at) ∙ is_of_own x.of (kind_at c) (x.kind ∙ found.kind)) in
+      ∙ (ap (λ y. is_of (kind_at c) y) (seating.shown_at m t.slots i (Some x.of) below x.at) ∙ is_of_own x.of (kind_at c) (x.kind)) in
       record {
         done = inr (v, adds, subst (λ b. Where b (IsSameEvent s l c i same (Some v)) ((same ≡ false) × (Some v ≡ None))) (sym may) makes);
         slots = ap (shown_slots m) x.rest.0;

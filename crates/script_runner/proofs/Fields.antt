@@ -11,8 +11,8 @@ use Rattle.control_word.specs.declared.model.event.Event.TheVariants.{Finish, Le
 use Rattle.control_word.specs.declared.model.event.Event.TheVariants.{Make, Read, Same, Share}
 use Rattle.control_word.specs.declared.model.event.Event.TheVariants.{Visit, WeakLeave, WeakShare}
 use Rattle.control_word.specs.declared.model.event.Event.TheVariants.{Shelve, Unshelve}
-use Rattle.handle_table.specs.Ends.{IsMadeAs}
-use Rattle.handle_table.specs.declared.ends.Remains.TheVariants as table
+use Rattle.script_runner.specs.Ends.{IsMadeAs}
+use Rattle.script_runner.specs.declared.table.ends.Remains.TheVariants as table
 use Rattle.script_runner.proofs.Ending.{not_none}
 use Rattle.script_runner.specs.EndCalls.{RemainsIn}
 use Rattle.step_table.specs.declared.memory.ended.Ended.TheVariants as ended

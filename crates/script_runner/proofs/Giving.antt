@@ -11,8 +11,8 @@ use Rattle.control_block.specs.declared.handles.Weak as weak_handle
 use Rattle.control_word.specs.Handles.{empty, rank, same_place}
 use Rattle.control_word.specs.declared.model.event.Event.TheVariants as event
 use Rattle.control_word.specs.declared.model.handle.Kind.TheVariants as kind
-use Rattle.handle_table.specs.Calls.{PointsTo}
-use Rattle.handle_table.specs.This.{SharesThis, SharesThisWeakly}
+use Rattle.script_runner.specs.SlotCalls.{PointsTo}
+use Rattle.script_runner.specs.This.{SharesThis, SharesThisWeakly}
 use Rattle.script_runner.proofs.Calling as law
 use Rattle.script_runner.proofs.Looking.{place_shown, within}
 use Rattle.script_runner.proofs.Seating.{has_pointer, no_pointer, came_in, in_hand, same_some}

@@ -1,29 +1,24 @@
--- What an act takes into the hand: the table doesn't refuse it, and of which kind it is.
+-- What an act takes into the hand, of which kind it is, and why it takes nothing.
 use Rattle.std.proofs.Common.{◌≡◌, ℕ, zero, suc, ◌+◌, ◌<◌, true, false, ◌≢◌, ◌⊎◌, List, [], ◌∷◌}
 use Rattle.std.proofs.Common.{length, slice_get, slice_set, Some, None, Err, Option, sym, refl, ap}
 use Rattle.std.proofs.Common.{◌∙◌, subst, inl, inr, arith, length-set, set-set}
 use Rattle.script_runner.proofs.Prelude
-use Prelude.{ActResult, aliased, BadWeak, Block, Comes, DeskNow, Fault, Field, fits_at, Form, Full}
-use Prelude.{HasKind, Held, IsActed, IsBelow, IsCopy, IsHand, IsNoSlot, IsOwner, IsPointer, IsWeak}
-use Prelude.{KeepsKinds, Kind, kind_of_held, LeavesSlot, NotGiven, Owner, Place, Refusal, set_comm}
-use Prelude.{SetsKind, Shared, slot_kinds, TableNow, TakesKind, Weak, WhyNotThis, WhyNoWeak}
+use Prelude.{ActResult, aliased, BadWeak, Comes, DeskNow, Field, fits_at, Form, Full, HasKind, Held}
+use Prelude.{IsActed, IsBelow, IsCopy, IsHand, IsOwner, IsPointer, IsWeak, KeepsKinds, Kind}
+use Prelude.{kind_of_held, LeavesSlot, Owner, Place, Refusal, set_comm, SetsKind, Shared, slot_kinds}
+use Prelude.{stock_of, TableNow, TakesKind, Weak, WhyNotThis}
 use Rattle.control_block.specs.declared.handles.Weak as weak_handle
 use Rattle.control_word.specs.declared.model.handle.Kind.TheVariants as kind
-use Rattle.control_word.specs.declared.refusal.Refusal.TheVariants.{Limit}
-use Rattle.handle_table.specs.Calls as calls
-use Rattle.handle_table.specs.Handles as handles
-use Rattle.handle_table.specs.This as this
-use Rattle.handle_table.specs.declared.fault.Fault.TheVariants as fault
+use Rattle.script_runner.specs.SlotCalls as calls
+use Rattle.script_runner.specs.Handles as handles
+use Rattle.script_runner.specs.This as this
 use Rattle.script_runner.proofs.Acting as law
 use Rattle.script_runner.proofs.Inquiring as inquiring
 use Rattle.script_runner.proofs.Putting.{slice_get-set_other}
-use Rattle.script_runner.proofs.Refusals.{comes_kind, kinds_kept, kind_of_slot, kind_within}
-use Rattle.script_runner.proofs.Refusals.{kinds_set, no_handle, no_limit, no_owner, no_slot}
-use Rattle.script_runner.proofs.Refusals.{no_weak}
+use Rattle.script_runner.proofs.Refusals.{comes_kind, kinds_kept, kind_of_slot, kinds_set, kind_within}
 use Rattle.script_runner.proofs.Seating.{same_some}
 use Rattle.script_runner.proofs.TableLaws.{as_seated}
 use Rattle.shared_handle.proofs.Owned.{points_well}
-use Rattle.shared_handle.specs.Locks.{IsUpgrade}
 use Rattle.step_table.specs.AtomicSteps.{field_number}
 use Rattle.step_table.specs.declared.memory.field.Field.TheVariants.{Zero, One, Two, Three}
 use Rattle.step_threads.specs.declared.programs.act.Act.TheVariants as act
@@ -90,90 +85,31 @@ moved_within i to t v k has m =
 pub kept_kind : (to : ℕ) (k : Kind) (t u : TableNow ℕ) (x : ActResult) → x.taken ≡ false → KeepsKinds t u → TakesKind to k x.taken t u
 kept_kind to k t u x none keeps = subst (λ b. TakesKind to k b t u) (sym none) keeps
 
--- with room for a handle a weak one gives none only since it is expired
-bad_weak : (d e : DeskNow ℕ) (b : Option Block) (p : Option Place) (r : Refusal) → IsBelow d → IsUpgrade d b p (Err r) e → r ≡ BadWeak
-bad_weak d e None p Limit below up = absurd (below up.0)
-bad_weak d e None p BadWeak below up = refl
-bad_weak d e None p r below up = absurd up
-bad_weak d e (Some b) p Limit below up = absurd (below up.0)
-bad_weak d e (Some b) p BadWeak below up = refl
-bad_weak d e (Some b) p r below up = absurd up
-
-module _ (hand : ℕ) (t : TableNow ℕ) (is : IsHand (hand + 1) hand t) (below : IsBelow t.desk) (why : Fault) where
-  there : hand < length t.slots
-  there = let many = is.many in omega (arith, many)
-
-  module _ (i : ℕ) where
-    pub copy_granted : (k : Kind) → HasKind t.slots i k → calls.WhyNoCopy t i hand why → ⊥
-    copy_granted k has (inl x) = no_slot t.slots hand why there x
-    copy_granted k has (inr (inl x)) = no_handle t.slots i k why has x
-    copy_granted k has (inr (inr x)) = no_limit t why below x
-
-    pub move_granted : (k : Kind) → HasKind t.slots i k → calls.WhyNotMoved t i hand why → ⊥
-    move_granted k has (inl x) = no_slot t.slots hand why there x
-    move_granted k has (inr x) = no_handle t.slots i k why has x
-
-    pub downgrade_granted : HasKind t.slots i kind.Owner → calls.WhyNotDowngraded t i hand why → ⊥
-    downgrade_granted has (inl x) = no_slot t.slots hand why there x
-    downgrade_granted has (inr (inl x)) = no_owner t.slots i why has x
-    downgrade_granted has (inr (inr x)) = no_limit t why below x
-
-    pub lock_granted : HasKind t.slots i kind.Weak → calls.WhyNotLocked t i hand why → ⊥
-    lock_granted has (inl x) = no_slot t.slots hand why there x
-    lock_granted has (inr (inl x)) = no_weak t.slots i why has x
-    lock_granted has (inr (inr x)) = no_limit t why below x
-
-    pub alias_granted : (p : Option Place) → HasKind t.slots i kind.Owner → IsPointer p → this.WhyNoAlias t i p hand why → ⊥
-    alias_granted p has points (inl x) = no_slot t.slots hand why there x
-    alias_granted p has points (inr (inl x)) = x.1 points
-    alias_granted p has points (inr (inr (inl x))) = no_owner t.slots i why has x
-    alias_granted p has points (inr (inr (inr x))) = no_limit t why below x
-
-    no_such : HasKind t.slots i kind.Weak → IsNoSlot t.slots hand why ⊎ WhyNoWeak t.slots i why → ⊥
-    no_such has (inl x) = no_slot t.slots hand why there x
-    no_such has (inr x) = no_weak t.slots i why has x
-
-    -- why these may be refused all the same
-    pub upgrade_refused : (u : TableNow ℕ) → HasKind t.slots i kind.Weak → handles.WhyNotUpgraded t i hand why u
-        → (why ≡ fault.Call BadWeak) × (u.slots ≡ t.slots)
-    upgrade_refused u has (inl x) = absurd (no_such has x.0)
-    upgrade_refused u has (inr x) =
-        (x.is ∙ ap fault.Call (bad_weak t.desk u.desk x.of.block x.of.place x.refusal below x.event), x.rest.0)
-
-    pub this_refused : HasKind t.slots i kind.Owner → this.WhyNoThis t i hand why → (r : Refusal) × (why ≡ fault.Call r) × (r ≢ Limit)
-    this_refused has (inl x) = absurd (no_slot t.slots hand why there x)
-    this_refused has (inr (inl x)) = absurd (no_owner t.slots i why has x)
-    this_refused has (inr (inr x)) =
-        (x.2.0, x.2.1, λ e. below (subst (λ r. WhyNotThis t.desk x.0.block x.0.place r) e x.2.2))
-
-  pub make_refused : calls.WhyNotMade t hand why → why ≡ fault.Call Full
-  make_refused (inl x) = absurd (no_slot t.slots hand why there x)
-  make_refused (inr (inl x)) = absurd (no_limit t why below x)
-  make_refused (inr (inr x)) = x.0.0
-
--- and what is done then
-module _ (hand : ℕ) (t u : TableNow ℕ) (is : IsHand (hand + 1) hand t) (below : IsBelow t.desk) (why : Fault) (x : ActResult) where
-  pub not_upgraded : (i : ℕ) → i < hand → HasKind t.slots i kind.Weak → handles.WhyNotUpgraded t i hand why u
-      → x ≡ law.went false (Some (answer.Refused BadWeak))
+-- nothing was taken, for this reason
+module _ (hand : ℕ) (t u : TableNow ℕ) (is : IsHand (hand + 1) hand t) (x : ActResult) where
+  pub not_upgraded : (i : ℕ) → i < hand → handles.GivesNoOwner t i u → x ≡ law.went false (Some (answer.Refused BadWeak))
       → IsActed hand t false (act.Lock i true) x u × TakesKind hand kind.Owner x.taken t u
-  not_upgraded i lt has c says =
-      let r = upgrade_refused hand t is below why i u has c in (
-        subst (λ y. IsActed hand t false (act.Lock i true) y u) (sym says)
-            (law.upgraded_not hand i t u is lt (subst (λ w. handles.WhyNotUpgraded t i hand w u) r.0 c)),
-        kept_kind hand kind.Owner t u x (ap (λ (y : ActResult). y.taken) says) (kinds_kept t u r.1),
-      )
-
-  pub not_given : (i : ℕ) (k : Kind) → i < hand → this.WhyNoThis t i hand why → u ≡ t → NotGiven why x
-      → IsActed hand t false (act.FromThis i k) x u × TakesKind hand k x.taken t u
-  not_given i k lt c same says = (
-    inquiring.not_given hand i t (as_seated (hand + 1) hand t is) k why (Some x) u lt says c same,
-    kept_kind hand k t u x (ap (λ (y : ActResult). y.taken) says.says) (kinds_kept t u (ap (λ (v : TableNow ℕ). v.slots) same)),
+  not_upgraded i lt c says = (
+    subst (λ y. IsActed hand t false (act.Lock i true) y u) (sym says) (law.upgraded_not hand i t u is lt c),
+    kept_kind hand kind.Owner t u x (ap (λ (y : ActResult). y.taken) says) (kinds_kept t u c.rest.0),
   )
 
-  pub not_made : (form : Form) → calls.WhyNotMade t hand why → u ≡ t → x ≡ law.went false (Some (answer.Refused Full))
+  pub not_given : (i : ℕ) (k : Kind) (why : Refusal) → IsBelow t.desk → i < hand → this.IsNoThis t i why → u ≡ t
+      → x ≡ law.went false (Some (answer.Refused why))
+      → IsActed hand t false (act.FromThis i k) x u × TakesKind hand k x.taken t u
+  not_given i k why below lt c same says = (
+    subst (λ v. IsActed hand t false (act.FromThis i k) x v) (sym same)
+        (subst (λ y. IsActed hand t false (act.FromThis i k) y t) (sym says)
+        (inquiring.gives_none hand i t (as_seated (hand + 1) hand t is) k why lt c
+        (λ e. below (subst (λ r. WhyNotThis t.desk c.0.block c.0.place r) e c.2)))),
+    kept_kind hand k t u x (ap (λ (y : ActResult). y.taken) says) (kinds_kept t u (ap (λ (v : TableNow ℕ). v.slots) same)),
+  )
+
+  pub not_made : (form : Form) → stock_of t.desk ≡ [] → u ≡ t → x ≡ law.went false (Some (answer.Refused Full))
       → IsActed hand t false (act.Make form) x u × TakesKind hand kind.Owner x.taken t u
-  not_made form c same says = (
-    law.no_room hand t u form why (Some x) (make_refused hand t is below why c, says) c same,
+  not_made form none same says = (
+    subst (λ v. IsActed hand t false (act.Make form) x v) (sym same)
+        (subst (λ y. IsActed hand t false (act.Make form) y t) (sym says) (law.no_room hand t form none)),
     kept_kind hand kind.Owner t u x (ap (λ (y : ActResult). y.taken) says) (kinds_kept t u (ap (λ (v : TableNow ℕ). v.slots) same)),
   )
 

@@ -8,7 +8,7 @@ use Rattle.script_runner.proofs.Prelude.{KeepsLimits, Kind, kind_at, kind_in, le
 use Rattle.script_runner.proofs.Prelude.{SetsAside, SetsKind, slice_get_within, slot_kinds, Stance}
 use Rattle.script_runner.proofs.Prelude.{stance_after, Suits, TableNow, TakesKind}
 use Rattle.control_word.specs.declared.model.handle.Kind.TheVariants as kind
-use Rattle.handle_table.specs.Tables as table
+use Rattle.script_runner.specs.Tables as table
 use Rattle.script_runner.proofs.Arranging as arranging
 use Rattle.script_runner.proofs.Endless.{IsTaker}
 use Rattle.script_runner.proofs.Arranging.{set_else, set_here}

@@ -1,19 +1,18 @@
 -- Acts that only tell something, as a worker does them.
-use Rattle.std.proofs.Common.{◌≡◌, ℕ, ◌+◌, ◌<◌, Bool, true, false, ◌⊎◌, IfSome, Some, None, Ok}
-use Rattle.std.proofs.Common.{Err, Option, sym, refl, ap, ◌∙◌, subst, inl, inr}
-use Rattle.script_runner.proofs.Prelude.{Act, ActResult, Answer, AreInOrder, Call, cond-true}
-use Rattle.script_runner.proofs.Prelude.{Fault, field_0, Got, idle, inside, is_full, IsActed}
-use Rattle.script_runner.proofs.Prelude.{IsAway, IsSeated, Kind, MarksAct, NotGiven, outside}
+use Rattle.std.proofs.Common.{◌≡◌, ℕ, ◌+◌, ◌<◌, Bool, true, false, ◌⊎◌, Some, None, Ok}
+use Rattle.std.proofs.Common.{Err, Option, sym, refl, ap, ◌∙◌, subst}
+use Rattle.script_runner.proofs.Prelude.{Act, ActResult, Answer, AreInOrder, cond-true}
+use Rattle.script_runner.proofs.Prelude.{field_0, Got, idle, inside, is_full, IsActed}
+use Rattle.script_runner.proofs.Prelude.{IsAway, IsSeated, Kind, MarksAct, outside}
 use Rattle.script_runner.proofs.Prelude.{Place, place_in, PointAlike, Refusal, Reply, row, Shared}
 use Rattle.script_runner.proofs.Prelude.{slot_pointer, TableNow, thread_slots, Told}
 use Rattle.control_word.specs.declared.refusal.Refusal.TheVariants as refusal
-use Rattle.handle_table.specs.Calls as calls
-use Rattle.handle_table.specs.This as this
+use Rattle.script_runner.specs.SlotCalls as calls
+use Rattle.script_runner.specs.This as this
 use Rattle.script_runner.proofs.Acting.{acted, acted_as, below, went}
 use Rattle.script_runner.proofs.Calling.{is_inside}
 use Rattle.script_runner.proofs.Looking.{within}
 use Rattle.script_runner.proofs.TableLaws as law
-use Rattle.script_runner.proofs.Takings.{same_call}
 use Rattle.shared_handle.specs.Endings.{IsRead}
 use Rattle.step_threads.specs.declared.programs.act.Act.TheVariants as act
 use Rattle.step_threads.specs.declared.programs.act.Question.TheVariants as question
@@ -78,31 +77,8 @@ module _ (hand i : ℕ) (taken : Bool) (t u : TableNow ℕ) (is : IsSeated (hand
 
 -- an object that gives no pointer to itself
 module _ (hand i : ℕ) (t : TableNow ℕ) (is : IsSeated (hand + 1) hand t) where
-  this_not : (why : Refusal) → this.WhyNoThis t i hand (Call why) → this.IsNoThis t i (Call why)
-  this_not why (inl x) = absurd cc
-  this_not why (inr (inl (inl x))) = absurd x
-  this_not why (inr (inl (inr x))) = absurd cc
-  this_not why (inr (inr x)) = x
-
-  pub gives_none : (k : Kind) (why : Refusal) → i < hand → this.WhyNoThis t i hand (Call why) → (why ≡ refusal.Limit → ⊥)
+  pub gives_none : (k : Kind) (why : Refusal) → i < hand → this.IsNoThis t i why → (why ≡ refusal.Limit → ⊥)
       → IsActed hand t false (act.FromThis i k) (went false (Some (answer.Refused why))) t
   gives_none k why lt c unlike =
       marked hand t false (act.FromThis i k) (Got false) (answer.Refused why) false refl
-      (law.gives_not field_0 (hand + 1) i hand false t t is (below hand i lt) k why (this_not why c) unlike) refl refl
-
-  pub not_given : (k : Kind) (why : Fault) (x : Option ActResult) (v : TableNow ℕ) → i < hand → IfSome x (NotGiven why)
-      → this.WhyNoThis t i hand why → v ≡ t → IfSome x (λ y. IsActed hand t false (act.FromThis i k) y v)
-  not_given k why None v lt some c same = tt
-  not_given k why (Some x) v lt some c same =
-      subst (λ w. IsActed hand t false (act.FromThis i k) x w) (sym same)
-      (subst (λ y. IsActed hand t false (act.FromThis i k) y t) (sym some.says)
-      (gives_none k some.refusal lt (subst (λ w. this.WhyNoThis t i hand w) some.is c) some.room))
-
--- a field that isn't one of the object's
-pub not_read : (hand i : ℕ) (taken : Bool) (t u : TableNow ℕ) (why : Fault) (r : Refusal) → IsSeated (hand + 1) hand t → i < hand → why ≡ Call r
-    → calls.WhyNoOwner t.slots i why ⊎ calls.IsNotRead t i why u → IsActed hand t taken (act.Read i) (went taken (Some (answer.Refused r))) u
-not_read hand i taken t u why r is lt call (inl (inl c)) = absurd (subst (λ w. calls.WhyNoHandle t.slots i w) call c)
-not_read hand i taken t u why r is lt call (inl (inr c)) = let e = sym call ∙ c.0 in absurd cc
-not_read hand i taken t u why r is lt call (inr c) =
-    let same : c.0 ≡ r = same_call c.0 r (sym c.1 ∙ call) in
-    read_not hand i taken t u is lt r (subst (λ q. calls.ReadsSlot t i (Err q) u) same c.2)
+      (law.gives_not field_0 (hand + 1) i hand false t t is (below hand i lt) k why c unlike) refl refl

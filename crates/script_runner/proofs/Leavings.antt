@@ -11,7 +11,7 @@ use Prelude.{stays_as_made, Weak}
 use Rattle.control_block.specs.declared.handles.Weak as weak_handle
 use Rattle.control_word.specs.declared.model.event.Event.TheVariants as event
 use Rattle.control_word.specs.declared.model.handle.Kind.TheVariants as kind
-use Rattle.handle_table.specs.Tables as table
+use Rattle.script_runner.specs.Tables as table
 use Rattle.script_runner.proofs.Calling as law
 use Rattle.script_runner.proofs.Seating.{quietly}
 use Rattle.script_runner.specs.Calls as calls

@@ -5,8 +5,8 @@ use Rattle.script_runner.proofs.Prelude.{All-from_recursion, AllByRecursion, All
 use Rattle.script_runner.proofs.Prelude.{HasAssignment, HasTextCells, IsFitting, Refusal, Shape}
 use Rattle.script_runner.proofs.Prelude.{shape_for, Share, TableId, TableNow, Worker}
 use Rattle.control_word.specs.declared.refusal.Refusal.TheVariants as refusal
-use Rattle.handle_table.specs.Parting.{IsNew}
-use Rattle.handle_table.specs.Staffs.{HasShares, IsLent, MeetsNeeds}
+use Rattle.script_runner.specs.Parting.{IsNew}
+use Rattle.script_runner.specs.Staffs.{HasShares, IsLent, MeetsNeeds}
 use Rattle.script_runner.proofs.Assigning.{Needs}
 
 -- a table that is lent in a domain with the cells that texts name fits

@@ -34,7 +34,6 @@ pub mod Acting
 pub mod Parting
 pub mod Emptying
 pub mod Inquiring
-pub mod Asking
 pub mod Onward
 pub mod Settles
 pub mod Playing
@@ -68,3 +67,17 @@ pub mod Speaking
 pub mod Bounding
 pub mod Askings
 pub mod Dealing
+pub mod TablePrelude
+pub mod Filling
+pub mod Wholes
+pub mod CellSites
+pub mod Compared
+pub mod Emptied
+pub mod Letting
+pub mod Absorbing
+pub mod Crews
+pub mod Manning
+pub mod Needing
+pub mod Sharing
+pub mod Regained
+pub mod Bringing

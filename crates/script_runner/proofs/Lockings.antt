@@ -3,18 +3,18 @@ use Rattle.std.proofs.Common.{◌≡◌, ℕ, ◌<◌, Bool, true, false, cond, 
 use Rattle.std.proofs.Common.{None, Ok, Err, Option, option_map, sym, refl, ap, ◌∙◌, subst, inl}
 use Rattle.std.proofs.Common.{inr, arith}
 use Rattle.script_runner.proofs.Prelude
-use Prelude.{Acts, as_owner, as_slot, BadWeak, Block, Call, Comes, Done, Event, Form, Found, Got}
-use Prelude.{Handle, IsAt, IsHand, IsNoSlot, IsOwner, null_form, On, on_latest, owned, plain}
+use Prelude.{Acts, as_owner, as_slot, BadWeak, Block, Comes, Done, Event, Form, Found, Got}
+use Prelude.{Handle, IsAt, IsHand, IsOwner, null_form, On, on_latest, owned, plain}
 use Prelude.{set-get_or, Shared, shown_slots, slot_by, slot_pointer, slot_value, state_of}
-use Prelude.{TableNow, taking, Weak, weak_of, weak_slot, WhyNoWeak}
+use Prelude.{TableNow, taking, Weak, weak_of, weak_slot}
 use Rattle.control_block.specs.declared.handles.Weak as weak_handle
 use Rattle.control_word.specs.declared.model.event.Event.TheVariants as event
 use Rattle.control_word.specs.declared.model.handle.Kind.TheVariants as kind
-use Rattle.handle_table.specs.Handles as handles
+use Rattle.script_runner.specs.Handles as handles
 use Rattle.script_runner.proofs.Calling as law
 use Rattle.script_runner.proofs.Seating.{Came, came_in, hand_is, has_pointer, in_hand, no_pointer}
 use Rattle.script_runner.proofs.Seating.{quietly, shown_at}
-use Rattle.script_runner.proofs.Takings.{below_last, same_call, stayed}
+use Rattle.script_runner.proofs.Takings.{below_last, stayed}
 use Rattle.script_runner.specs.TableCalls.{LocksIn, MakesIn, MakesNot, MakesNullIn, UpgradesIn}
 use Rattle.script_runner.specs.TableCalls.{UpgradesNot}
 use Rattle.shared_handle.specs.Calls as inner
@@ -111,14 +111,9 @@ module _ {V : Type 0} (worth : Form → V) (m i hand : ℕ) (taken : Bool) (t u 
       )
   refused_done w at (Some b) e up = locked_done w true false at (Some b) e up.1
 
-  refuses_in : handles.GivesNoOwner t i (Call BadWeak) u → Acts worth m t taken (act.Lock i true) (Got false) u
+  refuses_in : handles.GivesNoOwner t i u → Acts worth m t taken (act.Lock i true) (Got false) u
   refuses_in g =
-      let why : g.refusal ≡ BadWeak = same_call g.refusal BadWeak (sym g.is) in
-      record {
-        done = refused_done g.of g.at g.of.block refl (subst (λ r. locks.IsUpgrade t.desk g.of.block g.of.place (Err r) u.desk) why g.event);
-        slots = ap (shown_slots m) g.rest.0;
-        ends = g.rest.1;
-      }
+      record { done = refused_done g.of g.at g.of.block refl g.event; slots = ap (shown_slots m) g.rest.0; ends = g.rest.1 }
 
   -- a new object's owner
   made_in : (form : Form) (x : V) → x ≡ worth form
@@ -151,13 +146,7 @@ module _ {V : Type 0} where
       upgrades_in worth m i hand taken t u is lt c.of c.at (came_in _ t hand u is.vacant c.owner)
 
   pub upgrades_not : UpgradesNot V
-  upgrades_not worth m i hand taken t u is lt (inl x) = absurd (no_such x.0)
-    where
-      no_such : IsNoSlot t.slots hand (Call BadWeak) ⊎ WhyNoWeak t.slots i (Call BadWeak) → ⊥
-      no_such (inl y) = absurd cc
-      no_such (inr (inl y)) = y
-      no_such (inr (inr y)) = absurd cc
-  upgrades_not worth m i hand taken t u is lt (inr g) = refuses_in worth m i hand taken t u is lt g
+  upgrades_not worth m i hand taken t u is lt g = refuses_in worth m i hand taken t u is lt g
 
   pub makes : MakesIn V
   makes worth m hand taken t u is form x null same c =
@@ -172,7 +161,5 @@ module _ {V : Type 0} where
       made_in worth m hand hand taken t u is (below_last m hand t is) null_form x same k k.comes.owner.block refl k.comes.event
 
   pub makes_not : MakesNot V
-  makes_not worth m hand taken t form (inl x) = absurd cc
-  makes_not worth m hand taken t form (inr (inl x)) = absurd cc
-  makes_not worth m hand taken t form (inr (inr x)) =
-      record { done = inl (stayed t.desk t.desk refl, (x.1, refl)); slots = refl; ends = refl }
+  makes_not worth m hand taken t form none =
+      record { done = inl (stayed t.desk t.desk refl, (none, refl)); slots = refl; ends = refl }

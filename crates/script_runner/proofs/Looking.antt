@@ -12,7 +12,7 @@ use Rattle.control_block.specs.declared.handles.Weak as weak_handle
 use Rattle.control_word.specs.declared.model.event.Event.TheVariants as event
 use Rattle.control_word.specs.declared.model.handle.Kind.TheVariants as kind
 use Rattle.control_word.specs.declared.refusal.Refusal.TheVariants as refusal
-use Rattle.handle_table.specs.Calls.{CountsSlot, CountsOf, Expires, ReadsSlot}
+use Rattle.script_runner.specs.SlotCalls.{CountsSlot, CountsOf, Expires, ReadsSlot}
 use Rattle.script_runner.proofs.Calling as law
 use Rattle.script_runner.proofs.Seating.{has_pointer, no_pointer, shown_at}
 use Rattle.script_runner.proofs.Takings.{stayed}

@@ -7,7 +7,7 @@ use Prelude.{allowance_of, AllVacant, as_slot, DeskNow, FitsSlots, HasBegun, Has
 use Prelude.{IsBelow, IsEmptied, IsFitting, IsName, IsQuiet, IsVacant, Kind, kind_in, length-map}
 use Prelude.{plain, SetsKind, shown_slots, slice_get_within, slot_by, slot_kinds, TableNow}
 use Rattle.control_word.specs.declared.model.handle.Kind.TheVariants as kind
-use Rattle.handle_table.specs.Tables.{Slot}
+use Rattle.script_runner.specs.Tables.{Slot}
 use Rattle.script_runner.proofs.Arranging.{same_or, set_else, set_here}
 use Rattle.script_runner.proofs.Room.{spare_below}
 use Rattle.script_runner.proofs.Seating.{came_in, quietly}

@@ -7,7 +7,7 @@ use Prelude.{Act, ActResult, Block, block_of_held, Ended, field_0, Gone, idle, i
 use Prelude.{IsDealt, IsEmptied, IsQuiet, IsSeated, IsToldEnding, IsTop, Kind, kind_of_held}
 use Prelude.{Leaving, Left, object_in, other, Place, place_of_held, plain, pointer_of, remains}
 use Prelude.{row, shown_slots, slot_by, slot_pointer, slot_value, Slots, TableNow, thread_slots}
-use Rattle.handle_table.specs.Calls as calls
+use Rattle.script_runner.specs.SlotCalls as calls
 use Rattle.script_runner.proofs.Acting.{below}
 use Rattle.script_runner.proofs.Putting.{quiet_left}
 use Rattle.script_runner.proofs.Seating as seating

@@ -2,7 +2,7 @@
 use Rattle.std.proofs.Common.{◌≡◌, ℕ, ◌+◌, Bool, true, false, not, ◌&&◌, slice_get, Some, None}
 use Rattle.std.proofs.Common.{sym, refl, ap, ◌∙◌, arith}
 use Rattle.script_runner.proofs.Prelude
-use Prelude.{as_cell, Call, CellName, is_full, is_of, is_there, IsOfName, IsPassedOver, IsQuiet}
+use Prelude.{CellName, is_full, is_of, is_there, IsOfName, IsPassedOver, IsQuiet}
 use Prelude.{IsSeated, IsThird, kind_at, MovesSlot, nothing, placed, pointer_of, Refusal}
 use Prelude.{slot_pointer, slot_value, Slots, TableNow, thread_slots, WhyNoCell}
 use Rattle.script_runner.proofs.Offering.{absent}
@@ -12,7 +12,7 @@ use Rattle.step_threads.specs.Frames.{hand as hand_of, other as other_of}
 use Rattle.step_threads.specs.declared.programs.act.Act.TheVariants as act
 
 module _ (hand other : ℕ) (t u : TableNow ℕ) (c : CellName) (of : IsOfName hand c) (third : IsThird c) (at : other + 1 ≡ hand)
-    (is : IsSeated (hand + 1) hand t) (r : Refusal) (why : WhyNoCell t.desk.shape t.slots (as_cell c) (Call r))
+    (is : IsSeated (hand + 1) hand t) (r : Refusal) (why : WhyNoCell t.slots c r)
     (vacant : slice_get t.slots other ≡ Some None) (moves : MovesSlot t hand other u) where
   abbrev l : Slots
   l = thread_slots hand t

@@ -5,7 +5,7 @@ use Rattle.std.proofs.Common.{arith}
 use Rattle.script_runner.proofs.Prelude.{AllBare, asked_in, GoesOnWith, HasBegun, HasNoObject}
 use Rattle.script_runner.proofs.Prelude.{IsArranged, IsVacant, IsWorked, Kind, Log, MayGoOn}
 use Rattle.script_runner.proofs.Prelude.{no_slots, Notes, PlaysOn, Stance, TableNow, Task}
-use Rattle.handle_table.specs.Tables.{Slot}
+use Rattle.script_runner.specs.Tables.{Slot}
 use Rattle.script_runner.proofs.Handling.{free_hand, vacant_hand}
 use Rattle.script_runner.proofs.Refusals.{vacant_slot}
 use Rattle.script_runner.proofs.Seating.{same_some}

@@ -44,27 +44,26 @@ pub use Rattle.control_word.specs.declared.model.handle.NumberedHandle.{Numbered
 pub use Rattle.control_word.specs.declared.place.Block.{Block}
 pub use Rattle.control_word.specs.declared.place.Place.{Place}
 pub use Rattle.control_word.specs.declared.refusal.Refusal.{Refusal}
+pub use Rattle.control_block.specs.Desks.{stock_of}
 pub use Rattle.control_word.specs.declared.refusal.Refusal.TheVariants.{BadWeak, Full}
 pub use Rattle.control_word.specs.declared.shape.Shape.{Shape}
 pub use Rattle.control_word.specs.declared.site.Site.{Site}
-pub use Rattle.handle_table.proofs.Filling.{fits_at}
-pub use Rattle.handle_table.specs.Calls.{Comes, Copies, IsBelow, IsCopy, IsNoSlot, IsOwner, IsWeak}
-pub use Rattle.handle_table.specs.Calls.{LeavesSlot, LetsGo, MovesSlot, WhyNoCopy, WhyNoHandle}
-pub use Rattle.handle_table.specs.Calls.{WhyNoOwner, WhyNoWeak}
-pub use Rattle.handle_table.specs.Cells.{ExchangesSlot, IsCellAtSite, kind_of_cell, LoadsIntoSlot}
-pub use Rattle.handle_table.specs.Cells.{PointsAway, TellsSlotHeld, WhyNoCell, WhyNoneOf}
-pub use Rattle.handle_table.specs.Cells.{WhyNoObject, WhyNotLoaded, WhyNotSwapped}
-pub use Rattle.handle_table.specs.Compares.{ComparesSlots, WhyNotCompared}
-pub use Rattle.handle_table.specs.Ends.{IsToEnd, NamesCell}
-pub use Rattle.handle_table.specs.Handles.{EmptiesSlot, EmptiesSlotWeakly}
-pub use Rattle.handle_table.specs.Pairs.{AreInOrder, PointAlike}
-pub use Rattle.handle_table.specs.Parting.{AbsorbsAll, IsPartedInto}
-pub use Rattle.handle_table.specs.Parts.{block_of_held, kind_of_held, place_of_held}
-pub use Rattle.handle_table.specs.Tables.{AllVacant, FitsSlots, IsAt, TableNow}
-pub use Rattle.handle_table.specs.declared.ends.Remains.{Remains}
-pub use Rattle.handle_table.specs.declared.fault.Fault.{Fault}
-pub use Rattle.handle_table.specs.declared.fault.Fault.TheVariants.{Call}
-pub use Rattle.handle_table.specs.declared.staff.Share.{Share}
+pub use Rattle.script_runner.proofs.Filling.{fits_at}
+pub use Rattle.script_runner.specs.SlotCalls.{Comes, Copies, IsBelow, IsCopy, IsHandleAt, IsOwner, IsOwnerAt}
+pub use Rattle.script_runner.specs.SlotCalls.{IsWeak, IsWeakAt}
+pub use Rattle.script_runner.specs.SlotCalls.{LeavesSlot, LetsGo, MovesSlot}
+pub use Rattle.script_runner.specs.Cells.{ExchangesSlot, IsAway, IsCellAtSite, IsInReach, IsKindAt}
+pub use Rattle.script_runner.specs.Cells.{LoadsIntoSlot, NamesCell}
+pub use Rattle.script_runner.specs.Cells.{TellsSlotHeld, WhyNoCell}
+pub use Rattle.script_runner.specs.Compares.{ComparesSlots}
+pub use Rattle.script_runner.specs.Ends.{IsToEnd}
+pub use Rattle.script_runner.specs.Handles.{EmptiesSlot, EmptiesSlotWeakly}
+pub use Rattle.script_runner.specs.Pairs.{AreInOrder, PointAlike}
+pub use Rattle.script_runner.specs.Parting.{AbsorbsAll, IsPartedInto}
+pub use Rattle.script_runner.specs.Parts.{block_of_held, kind_of_held, place_of_held}
+pub use Rattle.script_runner.specs.Tables.{AllVacant, FitsSlots, IsAt, TableNow}
+pub use Rattle.script_runner.specs.declared.table.ends.Remains.{Remains}
+pub use Rattle.script_runner.specs.declared.table.staff.Share.{Share}
 pub use Rattle.ownership_ledger.specs.Now.{ShareNow}
 pub use Rattle.ownership_ledger.specs.declared.share.Totals.{Totals}
 pub use Rattle.script_text.specs.Beginnings.{shape_for}
@@ -119,12 +118,12 @@ pub use Rattle.script_runner.specs.Assignments.{asked_by_all, asked_by_calls, Ha
 pub use Rattle.script_runner.specs.Assignments.{IsAssignmentFor, IsNewShare, IsReadyFor}
 pub use Rattle.script_runner.specs.Beginnings.{HasBegun, IsFitting}
 pub use Rattle.script_runner.specs.Calls.{state_before_event}
-pub use Rattle.script_runner.specs.CellCalls.{as_cell, ByCompare, ByDiffering, IsOfName}
+pub use Rattle.script_runner.specs.CellCalls.{ByCompare, ByDiffering, IsOfName}
 pub use Rattle.script_runner.specs.CellCalls.{RefusesCell}
 pub use Rattle.script_runner.specs.Deals.{field_0, GoesOnWith, IsActed, IsCompared, IsDealt}
 pub use Rattle.script_runner.specs.Deals.{IsEmptied, IsHandOfTable, IsOnward, IsPartlySettled}
 pub use Rattle.script_runner.specs.Deals.{IsPassedOver, IsRoundTold, IsSettledBy, IsThird, IsTop}
-pub use Rattle.script_runner.specs.Deals.{NotGiven, statement_says, thread_slots}
+pub use Rattle.script_runner.specs.Deals.{statement_says, thread_slots}
 pub use Rattle.script_runner.specs.EndCalls.{IsAtStage, IsFour, Piled, remains_ended, RoundSays}
 pub use Rattle.script_runner.specs.EndCalls.{TakesThread}
 pub use Rattle.script_runner.specs.Goings.{task}
@@ -141,7 +140,7 @@ pub use Rattle.script_runner.specs.Reached.{IsReachable, nothing, SetsAside}
 pub use Rattle.script_runner.specs.Reports.{HasAdded, IsReport}
 pub use Rattle.script_runner.specs.Seats.{Acts, as_slot, Begun, Done, IsHand, IsQuiet, IsSeated}
 pub use Rattle.script_runner.specs.Seats.{IsToldEnding, Leaving, shown_slots}
-pub use Rattle.script_runner.specs.TableCalls.{IsAway, MarksAct, null_form}
+pub use Rattle.script_runner.specs.TableCalls.{MarksAct, null_form}
 pub use Rattle.script_runner.specs.Teams.{AllAbove, AllBare, AllMarked, AllPlay, AreRising}
 pub use Rattle.script_runner.specs.Teams.{desk_names, HasNoObject, IsInterleaved}
 pub use Rattle.script_runner.specs.Telling.{closed_block_lines, report_lines, TellsReport}

@@ -9,8 +9,8 @@ use Prelude.{IsSeated, Kind, kind_of_held, LeavesSlot, LeavesWeakly, Leaving, Le
 use Prelude.{Owner, piled, Place, place_of_held, placed, plain, pointer_of, row, set_comm}
 use Prelude.{shown_slots, slot_by, slot_pointer, slot_value, Slots, TableNow, Weak}
 use Rattle.control_word.specs.declared.model.handle.Kind.TheVariants as kind
-use Rattle.handle_table.specs.Calls.{Assigns, Resets}
-use Rattle.handle_table.specs.Tables as table
+use Rattle.script_runner.specs.SlotCalls.{Assigns, Resets}
+use Rattle.script_runner.specs.Tables as table
 use Rattle.script_runner.proofs.Leavings.{LeavesAs, slot_left}
 use Rattle.script_runner.proofs.Seating.{has_pointer, no_pointer, quietly, same_some, shown_at}
 use Rattle.script_runner.proofs.Seating.{shown_set, hand_at}

@@ -1,17 +1,13 @@
--- A call on a slot that has a handle of the asked kind isn't refused for want of one; and how calls change the kinds of
--- what slots have.
+-- What is in a slot of a kind, and how calls change the kinds of what slots have.
 use Rattle.std.proofs.Common.{◌≡◌, ℕ, zero, suc, ◌<◌, ◌≤◌, List, [], ◌∷◌, length, slice_get}
 use Rattle.std.proofs.Common.{slice_set, Some, None, option_map, sym, refl, ap, ◌∙◌, subst, inl}
 use Rattle.std.proofs.Common.{inr, arith}
-use Rattle.script_runner.proofs.Prelude.{Comes, DeskNow, Fault, HasKind, Held, IsBelow, IsNoSlot}
-use Rattle.script_runner.proofs.Prelude.{IsVacant, KeepsKinds, Kind, kind_in, kind_of_held, Owner}
-use Rattle.script_runner.proofs.Prelude.{SetsKind, slice_get_within, slot_kinds, TableNow, Weak}
-use Rattle.script_runner.proofs.Prelude.{WhyNoHandle, WhyNoneOf, WhyNoOwner, WhyNoWeak}
+use Rattle.script_runner.proofs.Prelude.{Comes, DeskNow, HasKind, Held, IsBelow, IsHandleAt, IsOwnerAt}
+use Rattle.script_runner.proofs.Prelude.{IsVacant, IsWeakAt, KeepsKinds, Kind, kind_in, kind_of_held}
+use Rattle.script_runner.proofs.Prelude.{Owner, SetsKind, slice_get_within, slot_kinds, TableNow, Weak}
 use Rattle.std.proofs.lemmas.Option.{slice_get-map}
 use Rattle.control_word.specs.declared.model.handle.Kind.TheVariants as kind
-use Rattle.handle_table.specs.Calls.{IsAtLimit}
-use Rattle.handle_table.specs.Tables as table
-use Rattle.handle_table.specs.declared.fault.Fault.TheVariants as fault
+use Rattle.script_runner.specs.Tables as table
 use Rattle.script_runner.proofs.Seating.{same_some}
 
 -- the kinds of what slots have, by the slots and back
@@ -51,39 +47,25 @@ kinds_set [] i s = refl
 kinds_set (x ∷ ss) zero s = refl
 kinds_set (x ∷ ss) (suc i) s = ap (λ l. kind_in x ∷ l) (kinds_set ss i s)
 
--- there is a handle, an owner, a weak handle, one of the kind
-pub no_handle : (ss : List table.Slot) (i : ℕ) (k : Kind) (why : Fault) → HasKind ss i k → WhyNoHandle ss i why → ⊥
-no_handle ss i k fault.Slot has x =
-    let lt : i < length ss = kind_within ss i k has in
-    let le : length ss ≤ i = x in
-    omega (arith, lt, le)
-no_handle ss i k fault.Vacant has x =
-    let e = same_some (Some k) None (sym has ∙ vacant_kind ss i x) in cc
-no_handle ss i k why has x = x
+-- there is a handle, an owner, a weak handle
+pub handle_there : (ss : List table.Slot) (i : ℕ) (k : Kind) → HasKind ss i k → IsHandleAt ss i
+handle_there ss i k has = let h = handle_of_kind ss i k has in (h.0, h.1)
 
-pub no_owner : (ss : List table.Slot) (i : ℕ) (why : Fault) → HasKind ss i kind.Owner → WhyNoOwner ss i why → ⊥
-no_owner ss i why has (inl x) = no_handle ss i kind.Owner why has x
-no_owner ss i why has (inr x) =
-    let e = same_kind ss i kind.Owner kind.Weak has (kind_at_handle ss i (Some (Weak x.1.0)) x.1.1) in cc
+pub owner_there : (ss : List table.Slot) (i : ℕ) → HasKind ss i kind.Owner → IsOwnerAt ss i
+owner_there ss i has = let x = handle_of_kind ss i kind.Owner has in go x.0 x.1 x.2
+  where
+    go : (h : Held) → slice_get ss i ≡ Some (Some h) → kind_of_held h ≡ kind.Owner → IsOwnerAt ss i
+    go (Owner o) at is = (o, at)
+    go (Weak w) at is = absurd cc
 
-pub no_weak : (ss : List table.Slot) (i : ℕ) (why : Fault) → HasKind ss i kind.Weak → WhyNoWeak ss i why → ⊥
-no_weak ss i why has (inl x) = no_handle ss i kind.Weak why has x
-no_weak ss i why has (inr x) =
-    let e = same_kind ss i kind.Weak kind.Owner has (kind_at_handle ss i (Some (Owner x.1.0)) x.1.1) in cc
-
-pub none_of : (ss : List table.Slot) (i : ℕ) (k : Kind) (why : Fault) → HasKind ss i k → WhyNoneOf k ss i why → ⊥
-none_of ss i kind.Owner why has x = no_owner ss i why has x
-none_of ss i kind.Weak why has x = no_weak ss i why has x
-
--- there is the slot
-pub no_slot : (ss : List table.Slot) (i : ℕ) (why : Fault) → i < length ss → IsNoSlot ss i why → ⊥
-no_slot ss i why lt x = let le : length ss ≤ i = x.1 in omega (arith, lt, le)
+pub weak_there : (ss : List table.Slot) (i : ℕ) → HasKind ss i kind.Weak → IsWeakAt ss i
+weak_there ss i has = let x = handle_of_kind ss i kind.Weak has in go x.0 x.1 x.2
+  where
+    go : (h : Held) → slice_get ss i ≡ Some (Some h) → kind_of_held h ≡ kind.Weak → IsWeakAt ss i
+    go (Weak w) at is = (w, at)
+    go (Owner o) at is = absurd cc
 
 module _ {V : Type 0} where
-  -- the desk isn't at its allowance
-  pub no_limit : (t : TableNow V) (why : Fault) → IsBelow t.desk → IsAtLimit t why → ⊥
-  no_limit t why below at = below at.1
-
   pub below_same : (t u : TableNow V) → u.desk ≡ t.desk → IsBelow t.desk → IsBelow u.desk
   below_same t u same below = subst (λ (d : DeskNow V). IsBelow d) (sym same) below
 

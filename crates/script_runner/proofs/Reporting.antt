@@ -9,7 +9,7 @@ use Prelude.{IsReadyFor, IsReport, IsSplitOrJoin, length-map, opening_of, part_i
 use Prelude.{recursion_from_All, Refusal, Report, Said, ScriptView, Shape, shape_for, Share}
 use Prelude.{ShareNow, sum_by-cons, TableId, Totals, Vec, Worker}
 use Rattle.control_word.specs.declared.refusal.Refusal.TheVariants.{NotSole}
-use Rattle.handle_table.specs.Staffs.{StaffsOpen}
+use Rattle.script_runner.specs.Staffs.{StaffsOpen}
 use Rattle.script_runner.proofs.Assigning.{AllShare, Does, all_play, all_share, as_many, same_many}
 use Rattle.script_runner.proofs.Assigning.{still_share}
 use Rattle.script_runner.proofs.Rooms.{all_added, all_say_few}

@@ -5,8 +5,8 @@ use Rattle.script_runner.proofs.Prelude.{allowance_of, FitsSlots, IsArranged, Is
 use Rattle.script_runner.proofs.Prelude.{Kind, kind_in, Stance, TableNow}
 use Rattle.control_block.specs.Desks.{endings_of}
 use Rattle.control_word.specs.Views.{total}
-use Rattle.handle_table.specs.Tables as table
-use Rattle.handle_table.specs.Tables.{is_filled}
+use Rattle.script_runner.specs.Tables as table
+use Rattle.script_runner.specs.Tables.{is_filled}
 
 some_kind : (s : table.Slot) (k : Option Kind) → Some (kind_in s) ≡ Some k → kind_in s ≡ k
 some_kind s k e = ap (or_else k) e

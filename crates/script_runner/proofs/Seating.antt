@@ -8,7 +8,7 @@ use Rattle.script_runner.proofs.Prelude.{place_of_held, pointer_of, shown_slots,
 use Rattle.script_runner.proofs.Prelude.{slot_pointer, slot_value, TableNow, Weak}
 use Rattle.control_block.specs.CellCalls.{HoldsHandle}
 use Rattle.control_word.specs.declared.model.handle.Kind.TheVariants as kind
-use Rattle.handle_table.specs.Tables as table
+use Rattle.script_runner.specs.Tables as table
 use Rattle.script_runner.specs.Calls.{HasPointer}
 
 abbrev or_else : {A : Type 0} → A → Option A → A

@@ -3,11 +3,11 @@ use Rattle.std.proofs.Common.{◌≡◌, ℕ, ◌+◌, ◌<◌, true, false, con
 use Rattle.std.proofs.Common.{slice_get, slice_set, Some, None, sym, refl, ap, ◌∙◌, subst, inl}
 use Rattle.std.proofs.Common.{inr, arith, get_or-set_same, set-set}
 use Rattle.script_runner.proofs.Prelude
-use Prelude.{Acts, as_cell, as_slot, Came, CellName, Done, field_0, idle, is_of, IsDealt, IsOfName}
+use Prelude.{Acts, as_slot, Came, CellName, Done, field_0, idle, is_of, IsDealt, IsOfName}
 use Prelude.{IsQuiet, IsSeated, IsThird, kind_at, LeavesSlot, may_go, plain, set_comm, shown_slots}
 use Prelude.{Slot, slot_value, Slots, TableNow, thread_slots}
-use Rattle.handle_table.specs.Calls as calls
-use Rattle.handle_table.specs.Cells as cells
+use Rattle.script_runner.specs.SlotCalls as calls
+use Rattle.script_runner.specs.Cells as cells
 use Rattle.script_runner.proofs.Acting.{acted_as, went}
 use Rattle.script_runner.proofs.Celled.{IsFound, is_found}
 use Rattle.script_runner.proofs.Exchanging.{exchanges_in, is_of_own}
@@ -27,7 +27,7 @@ swap_none hand t c =
     inr (record { free = refl; quiet = stays t; slots = refl; endings = refl; takes = refl; silent = (refl, refl) })
 
 module _ (hand other : ℕ) (t v u : TableNow ℕ) (c : CellName) (of : IsOfName hand c) (third : IsThird c) (at : other + 1 ≡ hand)
-    (is : IsSeated (hand + 1) hand t) (then : IsSeated (hand + 1) hand v) (x : cells.ExchangesSlot t hand (as_cell c) v)
+    (is : IsSeated (hand + 1) hand t) (then : IsSeated (hand + 1) hand v) (x : cells.ExchangesSlot t hand c v)
     (vacant : slice_get v.slots other ≡ Some None) (moves : calls.MovesSlot v hand other u) where
   abbrev l : Slots
   l = thread_slots hand t
@@ -54,7 +54,7 @@ module _ (hand other : ℕ) (t v u : TableNow ℕ) (c : CellName) (of : IsOfName
   own =
       ap (λ n. is_of (kind_at c) (slot_value l n)) seat
       ∙ (ap (λ y. is_of (kind_at c) y) (seating.shown_at (hand + 1) t.slots hand (Some x.swaps.of) last x.swaps.at)
-      ∙ is_of_own x.swaps.of (kind_at c) (x.swaps.kinds.0 ∙ found.kind))
+      ∙ is_of_own x.swaps.of (kind_at c) (x.swaps.kinds.0))
 
   may : may_go l c (hand_of l) ≡ true
   may = λ j. found.there j && own j

@@ -1,12 +1,11 @@
 -- Which calls of a table are which acts of a thread: the laws as they are stated.
 use Rattle.std.proofs.Common.{◌≡◌, ℕ, slice_set, sym, refl, ap, subst, inl, inr, arith}
 use Rattle.script_runner.proofs.Prelude.{IsHand, IsSeated, other, plain, shown_slots, slot_pointer}
-use Rattle.script_runner.proofs.Prelude.{TableNow, WhyNotThis}
+use Rattle.script_runner.proofs.Prelude.{TableNow}
 use Rattle.script_runner.proofs.Giving as giving
 use Rattle.script_runner.proofs.Looking as looking
 use Rattle.script_runner.proofs.Putting as putting
 use Rattle.script_runner.proofs.Seating.{shown_many}
-use Rattle.script_runner.proofs.Takings.{same_call}
 use Rattle.script_runner.specs.TableCalls.{AlikeIn, CountsIn, EmptiesIn, ExpiresIn, MarksOrder}
 use Rattle.script_runner.specs.TableCalls.{MovesIn, PlacesIn, PutsIdle, PutsIn, ReadsIn, ReadsNot}
 use Rattle.script_runner.specs.TableCalls.{ResetsIn, ThisIn, ThisNot, WeakThisIn}
@@ -62,9 +61,7 @@ module _ {V : Type 0} where
   shares_this_weakly worth m i hand taken t u is lt c = giving.shares_this_weakly worth m i hand taken t u is lt c
 
   pub gives_not : ThisNot V
-  gives_not worth m i hand taken t u is lt k why c unlike =
-      let r = same_call c.2.0 why (sym c.2.1) in
-      looking.gives_not worth m i hand taken t is lt c.0 k why c.1 (subst (λ x. WhyNotThis t.desk c.0.block c.0.place x) r c.2.2) unlike
+  gives_not worth m i hand taken t u is lt k why c unlike = looking.gives_not worth m i hand taken t is lt c.0 k why c.1 c.2 unlike
 
   pub places : PlacesIn V
   places worth m i hand taken t u is lt p c = giving.places worth m i i hand taken t is lt lt p c

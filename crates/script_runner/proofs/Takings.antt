@@ -2,7 +2,7 @@
 use Rattle.std.proofs.Common.{◌≡◌, ℕ, ◌<◌, Bool, Some, None, Option, option_map, sym, refl, ap}
 use Rattle.std.proofs.Common.{◌∙◌, subst, inl, inr, arith}
 use Rattle.script_runner.proofs.Prelude
-use Prelude.{Acts, aliased, as_slot, Block, Call, copies, copy, DeskNow, Done, Fault, Field, Form}
+use Prelude.{Acts, aliased, as_slot, Block, copies, copy, DeskNow, Done, Field, Form}
 use Prelude.{Handle, Held, IsAt, IsCopy, IsHand, IsOwner, IsQuiet, IsWeak, latest_of, on_latest}
 use Prelude.{Owner, owner_slot, Place, place_in, Plain, Refusal, Shared, shown_slots, slot_by}
 use Prelude.{slot_pointer, slot_value, state_of, TableNow, Weak}
@@ -10,7 +10,6 @@ use Rattle.control_block.specs.Handles.{IsProper}
 use Rattle.control_block.specs.declared.handles.Weak as weak_handle
 use Rattle.control_word.specs.declared.model.event.Event.TheVariants as event
 use Rattle.control_word.specs.declared.model.handle.Kind.TheVariants as kind
-use Rattle.control_word.specs.declared.refusal.Refusal.TheVariants.{Memory}
 use Rattle.script_runner.proofs.Calling as law
 use Rattle.script_runner.proofs.Seating.{Came, came_in, has_pointer, in_hand, no_pointer, quietly}
 use Rattle.script_runner.proofs.Seating.{shown_at}
@@ -28,13 +27,6 @@ weak_nowhere w none = go w.block none w.proper
     go : (b : Option Block) → b ≡ None → IsProper kind.Weak b w.place → w.place ≡ None
     go None e p = p.1
     go (Some b) e p = absurd cc
-
-abbrev call_of : Fault → Refusal
-call_of (Call why) = why
-call_of why = Memory
-
-pub same_call : (x y : Refusal) → Call x ≡ Call y → x ≡ y
-same_call x y e = ap call_of e
 
 module _ {V : Type 0} where
   pub stayed : (d e : DeskNow V) → e ≡ d → IsQuiet d e

@@ -11,8 +11,8 @@ use Prelude.{TellsThread, Up, Weak}
 use Rattle.control_block.proofs.Own.{goes_by_call, goes_by_join, goes_by_none, goes_in_turn}
 use Rattle.control_block.specs.Own as own
 use Rattle.control_word.specs.declared.model.event.Event.TheVariants as event
-use Rattle.handle_table.specs.Parting.{LeaveSlots, WindsUp}
-use Rattle.handle_table.specs.Tables as table
+use Rattle.script_runner.specs.Parting.{LeaveSlots, WindsUp}
+use Rattle.script_runner.specs.Tables as table
 use Rattle.script_runner.proofs.Ending.{by_quiet}
 use Rattle.script_runner.proofs.Logging as log
 use Rattle.script_runner.proofs.Putting.{quiet_left}

@@ -2,15 +2,13 @@
 use Rattle.std.proofs.Common.{◌≡◌, ℕ, zero, suc, ◌<◌, Bool, true, false, cond, ◌&&◌, slice_set}
 use Rattle.std.proofs.Common.{Some, None, Option, option_map, sym, refl, ap, ◌∙◌, subst, inl, inr}
 use Rattle.script_runner.proofs.Prelude
-use Prelude.{as_cell, Call, CellName, copy, Event, fitting, Form, Hands, is_full, is_of, is_there}
+use Prelude.{CellName, copy, Event, fitting, Form, Hands, is_full, is_of, is_there}
 use Prelude.{IsAway, IsLoadEvent, IsOfName, IsSameEvent, IsSeated, IsSwapEvent, kind_at, may_go}
-use Prelude.{Name, outside, place_in, plain, pointer_of, PointsAway, Refusal, refusal, RefusesCell}
+use Prelude.{Name, outside, place_in, plain, pointer_of, Refusal, refusal, RefusesCell}
 use Prelude.{Shared, shown_slots, slot_value, Slots, state_of, TableNow, unless, Where}
-use Prelude.{WhyNoObject, WhyNoOwner}
-use Rattle.control_word.specs.declared.refusal.Refusal.TheVariants as refusal_of
-use Rattle.handle_table.specs.Cells as cells
+use Rattle.script_runner.specs.Cells as cells
 use Rattle.script_runner.proofs.Looking.{is_away, outside_as}
-use Rattle.script_runner.proofs.Takings.{same_call, stayed}
+use Rattle.script_runner.proofs.Takings.{stayed}
 use Rattle.script_runner.specs.CellCalls.{CellsNot}
 use Rattle.step_threads.specs.Frames.{hand as hand_of}
 use Rattle.step_threads.specs.declared.programs.call.CellName.TheVariants as cell
@@ -73,30 +71,14 @@ module _ {V : Type 0} (worth : Form → V) (m hand : ℕ) (taken : Bool) (t : Ta
         };
       }
 
-  away_of : (h : Shared) (r : Refusal) → PointsAway h (Call r) → IsAway h.block h.place r
-  away_of h r (inl x) = subst (λ y. IsAway h.block h.place y) (sym (same_call r refusal_of.Null x.0)) x.1
-  away_of h r (inr x) = subst (λ y. IsAway h.block h.place y) (sym (same_call r refusal_of.Outside x.0)) x.1
-
-  no_owner : (k : ℕ) (r : Refusal) → WhyNoOwner t.slots k (Call r) → ⊥
-  no_owner k r (inl x) = x
-  no_owner k r (inr x) = absurd cc
-
-  no_object : (name : Name) (n : ℕ) (r : Refusal) → name.0 < m → WhyNoObject t.slots name.0 (Call r)
-      → RefusesCell V worth m t taken (cell.Member name n) r
-  no_object name n r lt (inl x) = absurd (no_owner name.0 r x)
-  no_object name n r lt (inr x) =
-      let away = away_of x.0 r x.2 in
-      let none = is_away worth m name.0 hand taken t is lt x.0 r x.1 away in
+  refused : (c : CellName) (r : Refusal) → IsOfName m c → cells.WhyNoCell t.slots c r → RefusesCell V worth m t taken c r
+  refused (cell.Shared n) r of x = absurd x
+  refused (cell.Weak n) r of x = absurd x
+  refused (cell.Member name n) r lt (h, at, away) =
+      let none = is_away worth m name.0 hand taken t is lt h r at away in
       let there : is_there l (cell.Member name n) ≡ false = ap is_full none in
       marked (cell.Member name n) r there
-      (ap (λ b. cond b None (Some (outside (place_in l name.0)))) there ∙ ap Some (outside_as worth m name.0 hand taken t is lt x.0 r x.1 away))
-
-  refused : (c : CellName) (r : Refusal) → IsOfName m c → cells.WhyNoCell t.desk.shape t.slots (as_cell c) (Call r) → RefusesCell V worth m t taken c r
-  refused (cell.Shared n) r of x = let no = x.0 in absurd cc
-  refused (cell.Weak n) r of x = let no = x.0 in absurd cc
-  refused (cell.Member name zero) r of x = no_object name 0 r of x
-  refused (cell.Member name (suc zero)) r of x = no_object name 1 r of x
-  refused (cell.Member name (suc (suc n))) r of x = no_object name (suc (suc n)) r of x
+      (ap (λ b. cond b None (Some (outside (place_in l name.0)))) there ∙ ap Some (outside_as worth m name.0 hand taken t is lt h r at away))
 
 module _ {V : Type 0} where
   pub cells_not : CellsNot V

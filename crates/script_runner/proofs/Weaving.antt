@@ -11,7 +11,7 @@ use Rattle.control_block.proofs.Own.{joins_add, splits_add}
 use Rattle.control_block.specs.Own.{events_of, own_of}
 use Rattle.control_word.specs.declared.model.event.Cell.TheVariants.{Member}
 use Rattle.control_word.specs.declared.model.event.Event.TheVariants as event
-use Rattle.handle_table.specs.Tables as table
+use Rattle.script_runner.specs.Tables as table
 use Rattle.script_runner.proofs.Summing.{KeepsAt, marked_keeps}
 use Rattle.script_runner.proofs.Teams.{quiet_wound, teams_play}
 use Rattle.script_runner.specs.Teams.{IsSplitOff, SplitsOffTo, TeamsInterleave}

@@ -1,12 +1,12 @@
 -- What a worker sees of its table's slots and of what is left to end.
-use Rattle.std.proofs.Common.{◌≡◌, ℕ, zero, suc, ◌-◌, ◌<◌, ◌≤◌, false, List, [], ◌∷◌, ◌++◌, length}
-use Rattle.std.proofs.Common.{is_some, slice_get, Some, None, Option, refl, ap, ◌∙◌, subst, arith}
+use Rattle.std.proofs.Common.{◌≡◌, ℕ, zero, suc, ◌-◌, ◌<◌, ◌≤◌, Bool, false, List, [], ◌∷◌, ◌++◌, length}
+use Rattle.std.proofs.Common.{is_some, slice_get, Some, None, Option, sym, refl, ap, ◌∙◌, subst, arith}
 use Rattle.script_runner.proofs.Prelude
-use Prelude.{AllEnd, Block, block_of_held, Fault, Held, is_full, IsFour, IsToEnd, IsTop, Kind}
+use Prelude.{AllEnd, Block, block_of_held, Held, is_full, IsFour, IsToEnd, IsTop, Kind}
 use Prelude.{kind_of_held, Place, place_of_held, plain, pointer_of, Remains, remains_ended}
-use Prelude.{shown_slots, slot_by, slot_pointer, slot_value, Standing, TableNow, WhyNoHandle}
-use Rattle.handle_table.specs.Tables as table
-use Rattle.handle_table.specs.declared.fault.Fault.TheVariants as fault
+use Prelude.{shown_slots, slot_by, slot_pointer, slot_value, Standing, TableNow}
+use Rattle.script_runner.specs.Tables as table
+use Rattle.script_runner.specs.SlotCalls.{has_block}
 use Rattle.script_runner.proofs.Fields.{remains_in}
 use Rattle.script_runner.proofs.Seating as seating
 use Rattle.script_runner.proofs.Stages.{ends_last}
@@ -27,11 +27,22 @@ beyond (suc m) [] i le = refl
 beyond (suc m) (s ∷ ss) zero le = let no : ⊥ = omega (arith, le) in absurd no
 beyond (suc m) (s ∷ ss) (suc i) le = beyond m ss i (omega (arith, le))
 
-pub none_shown : (m i : ℕ) (t : TableNow ℕ) (why : Fault) → i < m → WhyNoHandle t.slots i why
-    → is_full (slot_pointer (shown_slots m t.slots) i) ≡ false
-none_shown m i t fault.Slot lt e = ap (λ x. is_full (pointer_of x)) (beyond m t.slots i e)
-none_shown m i t fault.Vacant lt e = ap (λ x. is_full (pointer_of x)) (seating.shown_at m t.slots i None lt e)
-none_shown m i t why lt e = absurd e
+out_of : (ss : List table.Slot) (i : ℕ) → slice_get ss i ≡ None → length ss ≤ i
+out_of [] i none = omega arith
+out_of (s ∷ ss) zero none = absurd cc
+out_of (s ∷ ss) (suc i) none = let ih = out_of ss i none in omega (arith, ih)
+
+-- whether a thread's slot has an object, by what the table tells of it
+pub object_shown : (m i : ℕ) (t : TableNow ℕ) (has : Bool) → i < m → ((s : table.Slot) → slice_get t.slots i ≡ Some s → has_block s ≡ has)
+    → (length t.slots ≤ i → has ≡ false) → is_full (slot_pointer (shown_slots m t.slots) i) ≡ has
+object_shown m i t has lt there none = go (slice_get t.slots i) refl
+  where
+    go : (x : Option table.Slot) → slice_get t.slots i ≡ x → is_full (slot_pointer (shown_slots m t.slots) i) ≡ has
+    go None at =
+        let le = out_of t.slots i at in
+        ap (λ x. is_full (pointer_of x)) (beyond m t.slots i le) ∙ sym (none le)
+    go (Some None) at = ap (λ x. is_full (pointer_of x)) (seating.shown_at m t.slots i None lt at) ∙ there None at
+    go (Some (Some h)) at = full_shown m i t h lt at ∙ there (Some h) at
 
 -- the last of a list
 last_at : {A : Type 0} (xs : List A) (x : A) (n : ℕ) → length xs ≡ suc n → slice_get xs n ≡ Some x → (below : List A) × (xs ≡ below ++ x ∷ [])

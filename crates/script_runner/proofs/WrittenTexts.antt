@@ -3,7 +3,7 @@ use Rattle.std.proofs.Common.{◌≡◌, ℕ, List, IfErr, Ok, Err, Option, Resu
 use Rattle.std.proofs.Common.{inl, inr}
 use Rattle.script_runner.proofs.Prelude.{CensusNow, DeskNow, DomainNow, ended, IsReport, Report}
 use Rattle.script_runner.proofs.Prelude.{report_lines, ScriptView, Shape, TellsReport}
-use Rattle.handle_table.specs.Programs.{IsClosed}
+use Rattle.script_runner.specs.Programs.{IsClosed}
 use Rattle.std.specs.Io.KnownBytes.{Appends}
 use Rattle.script_text.specs.declared.fault.Cause.{Cause}
 use Rattle.script_text.specs.declared.fault.Fault.{Fault}

@@ -2,8 +2,8 @@
 use Rattle.std.specs.Prelude.{◌≡◌, ℕ, ◌≤◌, false, List, [], length}
 use Rattle.control_block.specs.Desks.{allowance_of}
 use Rattle.control_word.specs.declared.model.handle.Kind.{Kind}
-use Rattle.handle_table.specs.Parting.{IsNew}
-use Rattle.handle_table.specs.Tables.{TableNow}
+use Rattle.script_runner.specs.Parting.{IsNew}
+use Rattle.script_runner.specs.Tables.{TableNow}
 use Rattle.script_runner.specs.Deals.{thread_slots}
 use Rattle.script_runner.specs.Kinds.{IsArranged, first_stance}
 use Rattle.script_runner.specs.Seats.{IsQuiet}

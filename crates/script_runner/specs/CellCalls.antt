@@ -1,17 +1,12 @@
 -- Which calls of a table on cells are which acts of a thread. Events name their sections in the model; the rest is own.
-use Rattle.std.specs.Prelude.{◌≡◌, ℕ, zero, suc, ◌<◌, Bool, None, Some, ◌+◌, true, false, slice_get}
-use Rattle.atomic_cells.specs.declared.sites.SharedMember.TheVariants.{First, Next}
+use Rattle.std.specs.Prelude.{◌≡◌, ℕ, ◌<◌, Bool, None, Some, ◌+◌, true, false, slice_get}
 use Rattle.control_block.specs.declared.handles.Held.{Held}
 use Rattle.control_word.specs.declared.refusal.Refusal.{Refusal}
-use Rattle.handle_table.specs.Calls as calls
-use Rattle.handle_table.specs.Cells as cells
-use Rattle.handle_table.specs.Compares as compares
-use Rattle.handle_table.specs.Ends.{NamesCell}
-use Rattle.handle_table.specs.Parts.{kind_of_held}
-use Rattle.handle_table.specs.Tables.{IsAt, TableNow}
-use Rattle.handle_table.specs.declared.cells.Cell.TheVariants as table
-use Rattle.handle_table.specs.declared.cells.Cell.{Cell}
-use Rattle.handle_table.specs.declared.fault.Fault.TheVariants.{Call}
+use Rattle.script_runner.specs.SlotCalls as calls
+use Rattle.script_runner.specs.Cells as cells
+use Rattle.script_runner.specs.Compares as compares
+use Rattle.script_runner.specs.Parts.{kind_of_held}
+use Rattle.script_runner.specs.Tables.{IsAt, TableNow}
 use Rattle.script_runner.specs.Seats.{Acts, IsHand, IsSeated, IsQuiet, Leaving, shown_slots}
 use Rattle.script_runner.specs.TableCalls.{MarksAct}
 use Rattle.step_table.specs.Registers.{plain}
@@ -25,14 +20,6 @@ use Rattle.step_threads.specs.declared.programs.call.CellName.TheVariants as cel
 use Rattle.step_threads.specs.declared.programs.call.CellName.{CellName}
 use Rattle.step_threads.specs.declared.said.Answer.TheVariants as answer
 
--- the cell of a table that a script's cell is
-abbrev pub as_cell : CellName → Cell
-as_cell (cell.Shared n) = table.Shared n
-as_cell (cell.Weak n) = table.Weak n
-as_cell (cell.Member k zero) = table.Member k.0 First
-as_cell (cell.Member k (suc zero)) = table.Member k.0 Next
-as_cell (cell.Member k (suc (suc m))) = table.Up k.0
-
 -- the name of the object whose member the cell is, is one of so many
 abbrev pub IsOfName : ℕ → CellName → Type 0
 IsOfName n (cell.Member k m) = k.0 < n
@@ -44,7 +31,7 @@ module _ (V : Type 0) where
   LoadsIn =
       (worth : Form → V) (m hand : ℕ) (taken : Bool) (t u : TableNow V) (c : CellName)
       → IsHand m hand t → IsSeated m hand u → IsIn t.desk.shape c → IsOfName m c
-      → cells.LoadsIntoSlot t (as_cell c) hand u
+      → cells.LoadsIntoSlot t c hand u
       → (x : Slot) × Acts worth m t taken (act.Load c) (Came x) u
 
   -- what a slot has goes into a cell, and what that held comes into the slot
@@ -52,7 +39,7 @@ module _ (V : Type 0) where
   ExchangesIn =
       (worth : Form → V) (m i hand : ℕ) (taken : Bool) (t u : TableNow V) (c : CellName)
       → IsSeated m hand t → IsSeated m hand u → i < hand → IsIn t.desk.shape c → IsOfName m c
-      → cells.ExchangesSlot t i (as_cell c) u
+      → cells.ExchangesSlot t i c u
       → (x : Slot) × Acts worth m t taken (act.Exchange i c) (Came x) u
 
   -- a cell is asked whether it holds what a slot has
@@ -60,7 +47,7 @@ module _ (V : Type 0) where
   HoldsIn =
       (worth : Form → V) (m i hand : ℕ) (taken : Bool) (t u : TableNow V) (c : CellName) (same : Bool)
       → IsSeated m hand t → i < m → IsIn t.desk.shape c → IsOfName m c
-      → cells.TellsSlotHeld t (as_cell c) i same u
+      → cells.TellsSlotHeld t c i same u
       → Acts worth m t taken (act.Holds i c) (Got same) u
 
   -- a copy of what a slot has is to go into a cell that is there
@@ -68,7 +55,7 @@ module _ (V : Type 0) where
   OffersIn =
       (worth : Form → V) (m i hand : ℕ) (taken : Bool) (t u : TableNow V) (c : CellName)
       → IsHand m hand t → i < m → IsIn t.desk.shape c → IsOfName m c
-      → NamesCell t (as_cell c) → (h : Held) → IsAt t i h → kind_of_held h ≡ kind_at c
+      → cells.NamesCell t c → (h : Held) → IsAt t i h → kind_of_held h ≡ kind_at c
       → calls.Copies t i hand u
       → Acts worth m t taken (act.Offer i c) Plain u
 
@@ -93,7 +80,7 @@ module _ (V : Type 0) where
   ComparesIn =
       (worth : Form → V) (m k hand other : ℕ) (t u : TableNow V) (c : CellName) (weak : Bool)
       → IsSeated m hand t → other + 1 ≡ hand → k < other → slice_get t.slots other ≡ Some None
-      → IsIn t.desk.shape c → IsOfName m c → compares.ComparesSlots weak t (as_cell c) k hand true u
+      → IsIn t.desk.shape c → IsOfName m c → compares.ComparesSlots weak t c k hand true u
       → (idle (act.Compare k c weak) (shown_slots m t.slots) true ≡ false)
       × ByCompare worth m k t u c weak
 
@@ -115,7 +102,7 @@ module _ (V : Type 0) where
   DiffersIn =
       (worth : Form → V) (m k hand other : ℕ) (t after u : TableNow V) (c : CellName) (weak : Bool)
       → IsSeated m hand t → other + 1 ≡ hand → k < other → slice_get t.slots other ≡ Some None
-      → IsIn t.desk.shape c → IsOfName m c → compares.ComparesSlots weak t (as_cell c) k hand false after
+      → IsIn t.desk.shape c → IsOfName m c → compares.ComparesSlots weak t c k hand false after
       → calls.MovesSlot after hand other u
       → (idle (act.Compare k c weak) (shown_slots m t.slots) true ≡ false)
       × ByDiffering worth m k t u c weak
@@ -132,5 +119,5 @@ module _ (V : Type 0) where
   abbrev pub CellsNot : Type 0
   CellsNot =
       (worth : Form → V) (m hand : ℕ) (taken : Bool) (t : TableNow V) (c : CellName) (r : Refusal)
-      → IsSeated m hand t → IsOfName m c → cells.WhyNoCell t.desk.shape t.slots (as_cell c) (Call r)
+      → IsSeated m hand t → IsOfName m c → cells.WhyNoCell t.slots c r
       → RefusesCell worth m t taken c r

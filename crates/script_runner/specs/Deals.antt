@@ -3,13 +3,8 @@ use Rattle.std.specs.Prelude.{◌≡◌, ◌⊎◌, ◌<◌, ◌+◌, ◌∷◌,
 use Rattle.std.specs.Prelude.{ℕ, Bool, true, false, List, []}
 use Rattle.std.specs.Prelude.{None, IfNone, IfSome, Option, get_or, slice_get, Some}
 use Rattle.control_block.specs.Desks.{object_in}
-use Rattle.handle_table.specs.Handles.{EmptiesSlot, EmptiesSlotWeakly}
-use Rattle.handle_table.specs.Tables.{TableNow}
-use Rattle.handle_table.specs.declared.fault.Fault.TheVariants.{Call}
-use Rattle.handle_table.specs.declared.fault.Fault.{Fault}
-use Rattle.control_word.specs.declared.refusal.Refusal.TheVariants.{Limit}
-use Rattle.control_word.specs.declared.refusal.Refusal.{Refusal}
-use Rattle.step_threads.specs.declared.said.Answer.TheVariants as answer
+use Rattle.script_runner.specs.Handles.{EmptiesSlot, EmptiesSlotWeakly}
+use Rattle.script_runner.specs.Tables.{TableNow}
 use Rattle.script_runner.specs.CellCalls.{ByCompare, ByDiffering}
 use Rattle.script_runner.specs.EndCalls.{Piled, TakesThread}
 use Rattle.script_runner.specs.Seats.{Acts, IsQuiet, IsSeated, shown_slots}
@@ -131,10 +126,3 @@ abbrev pub GoesOnWith : ℕ → TableNow ℕ → Bool → List Task → List Sai
 GoesOnWith hand t taken todo log u takes rest lines =
     TakesThread field_0 t.desk (frame_settled (thread_slots hand t) taken [] todo) log u.desk
     (frame_settled (thread_slots hand u) takes [] rest) lines
-
--- an object gives no pointer to itself, for this reason
-pub record NotGiven (why : Fault) (x : ActResult) : Type 0 where
-  pub refusal : Refusal
-  pub is : why ≡ Call refusal
-  pub room : refusal ≡ Limit → ⊥
-  pub says : x ≡ record { taken = false; answer = Some (answer.Refused refusal); ended = None }

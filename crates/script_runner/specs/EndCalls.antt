@@ -3,10 +3,10 @@ use Rattle.std.specs.Prelude.{length, ◌≡◌, ℕ, zero, suc, Bool, true, fal
 use Rattle.std.specs.Prelude.{Some, None}
 use Rattle.control_block.specs.Desks.{IsEnding, DeskNow, object_in}
 use Rattle.control_block.specs.Standing.{Standing}
-use Rattle.handle_table.specs.Ends.{IsMadeAs}
-use Rattle.handle_table.specs.Tables.{TableNow}
-use Rattle.handle_table.specs.declared.ends.Remains.TheVariants as table
-use Rattle.handle_table.specs.declared.ends.Remains.{Remains}
+use Rattle.script_runner.specs.Ends.{IsMadeAs}
+use Rattle.script_runner.specs.Tables.{TableNow}
+use Rattle.script_runner.specs.declared.table.ends.Remains.TheVariants as table
+use Rattle.script_runner.specs.declared.table.ends.Remains.{Remains}
 use Rattle.script_runner.specs.Logs.{TellsThread}
 use Rattle.script_runner.specs.Seats.{IsHand, shown_slots}
 use Rattle.shared_handle.specs.Endings.{IsAllClear, IsUncleared}

@@ -1,6 +1,6 @@
 -- How a thread goes on by an act that its table made, and where an act is passed over. All of it is own.
 use Rattle.std.specs.Prelude.{◌≡◌, ℕ, Bool, true, false, List, [], ◌∷◌, ◌++◌}
-use Rattle.handle_table.specs.Tables.{TableNow}
+use Rattle.script_runner.specs.Tables.{TableNow}
 use Rattle.script_runner.specs.EndCalls.{Piled, TakesThread}
 use Rattle.script_runner.specs.Logs.{told_line}
 use Rattle.script_runner.specs.Seats.{Acts, IsQuiet, shown_slots}

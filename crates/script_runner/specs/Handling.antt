@@ -4,8 +4,8 @@ use Rattle.std.specs.Prelude.{◌∷◌, slice_get}
 use Rattle.std.specs.Prelude.{Some, None}
 use Rattle.control_word.specs.declared.model.handle.Kind.{Kind}
 use Rattle.control_word.specs.declared.model.handle.Kind.TheVariants.{Owner, Weak}
-use Rattle.handle_table.specs.Tables as table
-use Rattle.handle_table.specs.Tables.{TableNow}
+use Rattle.script_runner.specs.Tables as table
+use Rattle.script_runner.specs.Tables.{TableNow}
 use Rattle.script_runner.specs.Asked.{AsksBelow, HasAsked}
 use Rattle.script_runner.specs.CellCalls.{IsOfName}
 use Rattle.script_runner.specs.Goings.{task}

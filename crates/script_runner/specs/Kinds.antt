@@ -5,9 +5,9 @@ use Rattle.std.specs.Prelude.{Option, Some, None, slice_get, slice_set}
 use Rattle.control_block.specs.Desks.{allowance_of}
 use Rattle.control_word.specs.declared.model.handle.Kind.{Kind}
 use Rattle.control_word.specs.declared.model.handle.Kind.TheVariants.{Owner, Weak}
-use Rattle.handle_table.specs.Parts.{kind_of_held}
-use Rattle.handle_table.specs.Tables as table
-use Rattle.handle_table.specs.Tables.{TableNow}
+use Rattle.script_runner.specs.Parts.{kind_of_held}
+use Rattle.script_runner.specs.Tables as table
+use Rattle.script_runner.specs.Tables.{TableNow}
 use Rattle.script_runner.specs.Goings.{task}
 use Rattle.script_runner.specs.TableCalls.{null_form}
 use Rattle.script_runner.specs.Teams.{HasNoObject}

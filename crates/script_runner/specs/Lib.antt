@@ -21,3 +21,16 @@ pub mod Assignments
 pub mod CellCalls
 pub mod Teams
 pub mod Totals
+pub mod Tables
+pub mod SlotCalls
+pub mod Handles
+pub mod This
+pub mod Parts
+pub mod Pairs
+pub mod Cells
+pub mod Compares
+pub mod Ends
+pub mod Parting
+pub mod Openings
+pub mod Programs
+pub mod Staffs

@@ -1,7 +1,7 @@
 -- What a worker notes while its thread goes on: lines, and what it adds to its share. All of it is own.
 use Rattle.std.specs.Prelude.{◌≡◌, ◌⊎◌, ◌+◌, ◌<◌, ◌≤◌, ◌++◌, ℕ, true, false, List}
 use Rattle.std.specs.Prelude.{length, vec_capacity}
-use Rattle.handle_table.specs.Tables.{TableNow}
+use Rattle.script_runner.specs.Tables.{TableNow}
 use Rattle.script_runner.specs.Deals.{GoesOnWith, IsPartlySettled, IsSettledBy}
 use Rattle.script_runner.specs.Totals.{asked_in, refused_in, told_in}
 use Rattle.script_runner.specs.declared.workers.log.Log.{Log}

@@ -2,7 +2,7 @@
 use Rattle.std.specs.Prelude.{◌≡◌, ℕ, ◌-◌, ◌<◌, false, Option, None, slice_set}
 use Rattle.control_word.specs.declared.model.handle.Kind.{Kind}
 use Rattle.control_word.specs.declared.model.handle.Kind.TheVariants.{Owner}
-use Rattle.handle_table.specs.Tables.{TableNow}
+use Rattle.script_runner.specs.Tables.{TableNow}
 use Rattle.script_runner.specs.Kinds.{HasKind, slot_kinds}
 use Rattle.script_runner.specs.declared.acts.act_result.ActResult.{ActResult}
 use Rattle.step_threads.specs.declared.programs.call.CellName.{CellName}

@@ -5,10 +5,10 @@ use Rattle.control_block.specs.Desks.{Belongs, DeskNow, DomainNow, IsFirstDesk}
 use Rattle.control_block.specs.Rule.{opening_of}
 use Rattle.control_word.specs.declared.model.event.Entry.{Entry}
 use Rattle.control_word.specs.declared.shape.Shape.{Shape}
-use Rattle.handle_table.specs.Parting.{AbsorbsAll, IsNew, IsPartedInto, WindsUp}
-use Rattle.handle_table.specs.Programs.{CanClose}
-use Rattle.handle_table.specs.Tables.{TableNow}
-use Rattle.handle_table.specs.declared.staff.Share.{Share}
+use Rattle.script_runner.specs.Parting.{AbsorbsAll, IsNew, IsPartedInto, WindsUp}
+use Rattle.script_runner.specs.Programs.{CanClose}
+use Rattle.script_runner.specs.Tables.{TableNow}
+use Rattle.script_runner.specs.declared.table.staff.Share.{Share}
 use Rattle.ownership_ledger.specs.Now.{ShareNow}
 use Rattle.script_text.specs.Beginnings.{script_shape}
 use Rattle.script_text.specs.Drafts.{ScriptView}

@@ -7,9 +7,9 @@ use Rattle.control_block.specs.Desks.{AddsEvent, DeskNow, state_of, object_in}
 use Rattle.control_block.specs.Standing.{Standing}
 use Rattle.control_word.specs.declared.model.event.Event.{Event}
 use Rattle.control_word.specs.declared.place.Block.{Block}
-use Rattle.handle_table.specs.Parts.{kind_of_held, block_of_held, place_of_held}
-use Rattle.handle_table.specs.Tables as table
-use Rattle.handle_table.specs.Tables.{TableNow}
+use Rattle.script_runner.specs.Parts.{kind_of_held, block_of_held, place_of_held}
+use Rattle.script_runner.specs.Tables as table
+use Rattle.script_runner.specs.Tables.{TableNow}
 use Rattle.script_runner.specs.Calls.{state_before_event}
 use Rattle.shared_handle.specs.Endings.{IsUncleared}
 use Rattle.shared_handle.specs.declared.endings.Ending.{Ending}

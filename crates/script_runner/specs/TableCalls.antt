@@ -6,18 +6,17 @@ use Rattle.control_block.specs.declared.handles.Held.TheVariants.{Owner}
 use Rattle.control_block.specs.declared.handles.Shared.{Shared}
 use Rattle.control_word.specs.declared.model.handle.Kind.TheVariants as kind
 use Rattle.control_word.specs.declared.model.handle.Kind.{Kind}
-use Rattle.control_word.specs.declared.place.Block.{Block}
 use Rattle.control_word.specs.declared.place.Place.{Place}
-use Rattle.control_word.specs.declared.refusal.Refusal.TheVariants.{BadWeak, Full, Null, Outside, Limit}
+use Rattle.control_word.specs.declared.refusal.Refusal.TheVariants.{Limit}
 use Rattle.control_word.specs.declared.refusal.Refusal.{Refusal}
-use Rattle.handle_table.specs.Calls as calls
-use Rattle.handle_table.specs.Handles as handles
-use Rattle.handle_table.specs.Pairs.{AreInOrder, PointAlike}
-use Rattle.handle_table.specs.Tables.{TableNow, FitsSlots, IsAt}
-use Rattle.handle_table.specs.This as this
-use Rattle.handle_table.specs.declared.fault.Fault.TheVariants.{Call}
+use Rattle.control_block.specs.Desks.{stock_of}
+use Rattle.script_runner.specs.Cells.{IsAway}
+use Rattle.script_runner.specs.SlotCalls as calls
+use Rattle.script_runner.specs.Handles as handles
+use Rattle.script_runner.specs.Pairs.{AreInOrder, PointAlike}
+use Rattle.script_runner.specs.Tables.{TableNow, FitsSlots, IsAt}
+use Rattle.script_runner.specs.This as this
 use Rattle.script_runner.specs.Seats.{Acts, IsHand, shown_slots, IsQuiet, IsSeated, Leaving}
-use Rattle.shared_handle.specs.Endings.{IsOutside}
 use Rattle.shared_handle.specs.declared.pile.Gone.{Gone}
 use Rattle.step_table.specs.AtomicSteps.{aliased}
 use Rattle.step_table.specs.Registers.{place_in, is_full, slot_pointer}
@@ -34,12 +33,6 @@ use Rattle.step_threads.specs.declared.said.Answer.{Answer}
 -- what an owner of null is made as
 abbrev pub null_form : Form
 null_form = record { fields = 0 ∷ 0 ∷ 0 ∷ 0 ∷ []; enabled = false; null = true }
-
--- why an owner doesn't point into what it owns
-abbrev pub IsAway : Option Block → Option Place → Refusal → Type 0
-IsAway b p Null = p ≡ None
-IsAway b p Outside = IsOutside b p
-IsAway b p why = ⊥
 
 module _ (V : Type 0) where
   -- a call into the hand, from slot i
@@ -79,7 +72,7 @@ module _ (V : Type 0) where
 
   abbrev pub UpgradesNot : Type 0
   UpgradesNot = Taking (λ worth m t taken i hand u.
-      handles.WhyNotUpgraded t i hand (Call BadWeak) u → Acts worth m t taken (act.Lock i true) (Got false) u)
+      handles.GivesNoOwner t i u → Acts worth m t taken (act.Lock i true) (Got false) u)
 
   -- a new object, a new owner of null, and no block for it ([util.smartptr.shared.create],
   -- [util.smartptr.shared.const])
@@ -99,7 +92,7 @@ module _ (V : Type 0) where
   abbrev pub MakesNot : Type 0
   MakesNot =
       (worth : Form → V) (m hand : ℕ) (taken : Bool) (t : TableNow V)
-      → (form : Form) → calls.WhyNotMade t hand (Call Full) → Acts worth m t taken (act.Make form) (Found None) t
+      → (form : Form) → stock_of t.desk ≡ [] → Acts worth m t taken (act.Make form) (Found None) t
 
   -- a handle goes from the hand into a slot, and what lay there leaves ([util.smartptr.shared.assign]); where that had
   -- no object it is no act
@@ -178,7 +171,7 @@ module _ (V : Type 0) where
 
   abbrev pub ThisNot : Type 0
   ThisNot = Looking (λ worth m t taken i u.
-      (k : Kind) (why : Refusal) → this.IsNoThis t i (Call why) → why ≢ Limit
+      (k : Kind) (why : Refusal) → this.IsNoThis t i why → why ≢ Limit
       → MarksAct worth m t taken (act.FromThis i k) (Got false) (answer.Refused why))
 
   -- where a pointer points, whether two point at one place, and whether the first comes before the other

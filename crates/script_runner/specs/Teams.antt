@@ -8,10 +8,10 @@ use Rattle.control_word.specs.State.{Has, Opening}
 use Rattle.control_word.specs.declared.model.event.Entry.{Entry}
 use Rattle.control_word.specs.declared.model.event.Event.{Event}
 use Rattle.control_word.specs.declared.model.event.Event.TheVariants.{Split}
-use Rattle.handle_table.specs.Parting.{AbsorbsAll, IsNew, IsPartedInto, WindsUp}
-use Rattle.handle_table.specs.Parts.{block_of_held}
-use Rattle.handle_table.specs.Tables as table
-use Rattle.handle_table.specs.Tables.{TableNow}
+use Rattle.script_runner.specs.Parting.{AbsorbsAll, IsNew, IsPartedInto, WindsUp}
+use Rattle.script_runner.specs.Parts.{block_of_held}
+use Rattle.script_runner.specs.Tables as table
+use Rattle.script_runner.specs.Tables.{TableNow}
 use Rattle.script_runner.specs.EndCalls.{TakesThread}
 use Rattle.step_table.specs.declared.memory.form.Form.{Form}
 use Rattle.step_threads.specs.Frames.{FrameView}

@@ -5,7 +5,7 @@ use Rattle.std.specs.List.{flat_map}
 use Rattle.std.specs.Global.{Vec}
 use Rattle.control_block.specs.Census.{CensusNow, is_free, owners_in, weaks_in}
 use Rattle.control_block.specs.Desks.{DeskNow, DomainNow}
-use Rattle.handle_table.specs.Programs.{IsClosed}
+use Rattle.script_runner.specs.Programs.{IsClosed}
 use Rattle.step_threads.specs.declared.said.Said.{Said}
 use Rattle.step_threads.specs.Stocks.{from}
 use Rattle.script_text.specs.Drafts.{ScriptView}

@@ -1,6 +1,6 @@
 -- What a worker makes of its thread, from its table's first state to its last. All of it is own.
 use Rattle.std.specs.Prelude.{◌≡◌, ℕ, List, length}
-use Rattle.handle_table.specs.Tables.{TableNow}
+use Rattle.script_runner.specs.Tables.{TableNow}
 use Rattle.script_runner.specs.Deals.{field_0}
 use Rattle.script_runner.specs.Notes.{Notes}
 use Rattle.script_runner.specs.Teams.{PlaysThread}

@@ -41,7 +41,7 @@ pub fn desk_calls<V>()
     ensures gone_weakly { GoneWeakly V }
 {}
 
-/// Which calls of a handle table are which acts of a thread that has the table's first slots: a call makes the act's
+/// Which calls of a worker's table are which acts of a thread that has the table's first slots: a call makes the act's
 /// event, or none where the act is a mark, and the thread has then what the table has (own).
 pub fn table_calls<V>()
     ensures copies { CopiesIn V }

@@ -2,11 +2,11 @@
 #![tactic(auto)]
 
 mod acts;
-mod closing;
 mod gate;
 mod laws;
 mod reports;
 mod runs;
+mod table;
 mod workers;
 
 pub use gate::{Gate, Open};

@@ -9,13 +9,13 @@ ghost use Rattle.script_runner.specs.Reports.{IsCounted, IsReport};
 
 use crate::gate::Gate;
 use crate::reports::report::Report;
+use crate::table::staff::{Share as TableShare, run_workers_open};
 use crate::workers::assignment::Assignment;
 use crate::workers::requirements::{assign, assignments_of, collect};
 use crate::workers::worker::{SLOTS, Worker};
 use control_block::desk::Desk;
 use control_block::domain::Domain;
 use control_word::{Refusal, Shape};
-use handle_table::run_workers_open;
 use ownership_ledger::{Book, Share};
 use script_text::Script;
 use std::alloc::Global;
@@ -75,7 +75,7 @@ fn perform<'a, R: Threads + Wait + Sync, G: Gate + Sync>(
     };
     assign(&mut assignments, shares, &mut workers, book, gate);
     let threads = script.threads();
-    let share = handle_table::Share {
+    let share = TableShare {
         slots: SLOTS,
         allowance: WORKER_ALLOWANCE,
         blocks: script.blocks() / threads,

@@ -1,74 +1,33 @@
 //! Acts on cells.
 ghost use Rattle.std.specs.Prelude.{◌≡◌, ◌<◌, ◌+◌, ◌-◌, false, true};
 ghost use Rattle.control_word.specs.declared.model.handle.Kind.{Kind as KindOf};
-ghost use Rattle.control_word.specs.declared.refusal.Refusal.{Refusal as RefusalOf};
-ghost use Rattle.handle_table.specs.Calls.{IsBelow, MovesSlot};
-ghost use Rattle.handle_table.specs.declared.fault.Fault.TheVariants as fault;
+ghost use Rattle.script_runner.specs.SlotCalls.{IsBelow, MovesSlot};
 ghost use Rattle.step_threads.specs.declared.programs.act.Act.TheVariants as act;
 ghost use Rattle.step_threads.specs.Programs.{kind_at};
-ghost use Rattle.script_runner.specs.CellCalls.{IsOfName, as_cell};
+ghost use Rattle.script_runner.specs.CellCalls.{IsOfName};
 ghost use Rattle.script_runner.specs.Deals.{IsActed, IsDealt};
 ghost use Rattle.script_runner.specs.Kinds.{HasKind, IsVacant, KeepsKinds, TakesKind};
 ghost use Rattle.script_runner.specs.Reached.{IsReachable, SetsAside, nothing};
 ghost use Rattle.script_runner.specs.Seats.{IsHand, IsSeated};
 
 use crate::acts::act_result::{ActResult, refused};
-use control_word::Refusal;
-use handle_table::{Cell, Fault, HandleTable, Home, SharedMember};
+use crate::table::{Home, WorkerTable};
 use std::sync::Wait;
 use step_core::{Answer, CellName};
 
-/// The cell of a table that a script's cell is.
-pub(crate) fn cell_of(cell: CellName) -> Cell
-    ensures { result ≡ as_cell cell }
-{
-    match cell {
-        CellName::Shared(number) => Cell::Shared(u32::from(number)),
-        CellName::Weak(number) => Cell::Weak(u32::from(number)),
-        CellName::Member { name, member } => {
-            let of = usize::from(name.0);
-            match member {
-                0 => Cell::Member {
-                    of,
-                    which: SharedMember::First,
-                },
-                1 => Cell::Member {
-                    of,
-                    which: SharedMember::Next,
-                },
-                _ => Cell::Up { of },
-            }
-        }
-    }
-}
-
-/// The refusal that a table tells of a cell that isn't there.
-fn refusal_of(why: Fault) -> Refusal
-    requires { (r : RefusalOf) × (why ≡ fault.Call r) }
-    ensures { why ≡ fault.Call result }
-{
-    match why {
-        Fault::Call(refusal) => refusal,
-        _ => unreachable!(),
-    }
-}
-
 /// What is in hand is to be dropped.
-pub(crate) fn set_aside<H: Home>(table: &mut HandleTable<'_, u64, H>, hand: usize)
+pub(crate) fn set_aside<H: Home>(table: &mut WorkerTable<'_, u64, H>, hand: usize)
     requires hand { 0 < hand }
     requires full { (k : KindOf) × HasKind table.old.slots hand k }
     ensures moved { MovesSlot table.old hand (hand - 1) table.new }
     ensures kinds { SetsAside hand table.old table.new }
 {
-    match table.move_to(hand, hand - 1) {
-        Ok(()) => {}
-        Err(_) => unreachable!(),
-    }
+    table.move_to(hand, hand - 1);
 }
 
 /// A copy of what a name holds, which is to go into a cell.
 pub(crate) fn offer<H: Home>(
-    table: &mut HandleTable<'_, u64, H>,
+    table: &mut WorkerTable<'_, u64, H>,
     hand: usize,
     name: u8,
     cell: CellName,
@@ -82,24 +41,22 @@ pub(crate) fn offer<H: Home>(
     ensures acts { IsActed hand table.old false (act.Offer name cell) result table.new }
     ensures kinds { TakesKind hand (kind_at cell) result.taken table.old table.new }
 {
-    match table.reaches(cell_of(cell)) {
+    match table.reaches(cell) {
         Ok(()) => {}
-        Err(why) => return refused(refusal_of(why)),
+        Err(why) => return refused(why),
     }
-    match table.copy(usize::from(name), hand) {
-        Ok(()) => ActResult {
-            taken: true,
-            answer: None,
-            ended: None,
-        },
-        Err(_) => unreachable!(),
+    table.copy(usize::from(name), hand);
+    ActResult {
+        taken: true,
+        answer: None,
+        ended: None,
     }
 }
 
 /// A copy of what a cell holds.
 pub(crate) fn load<H: Home, R: Wait>(
     rt: &R,
-    table: &mut HandleTable<'_, u64, H>,
+    table: &mut WorkerTable<'_, u64, H>,
     hand: usize,
     cell: CellName,
 ) -> ActResult
@@ -110,7 +67,7 @@ pub(crate) fn load<H: Home, R: Wait>(
     ensures acts { IsActed hand table.old false (act.Load cell) result table.new }
     ensures kinds { TakesKind hand (kind_at cell) result.taken table.old table.new }
 {
-    match table.load(rt, cell_of(cell), hand) {
+    match table.load(rt, cell, hand) {
         Ok(()) => {
             table.assert_invariant();
             ActResult {
@@ -119,13 +76,13 @@ pub(crate) fn load<H: Home, R: Wait>(
                 ended: None,
             }
         }
-        Err(why) => refused(refusal_of(why)),
+        Err(why) => refused(why),
     }
 }
 
 /// What a name holds goes into a cell, and what that held comes to the name.
 pub(crate) fn exchange<H: Home>(
-    table: &mut HandleTable<'_, u64, H>,
+    table: &mut WorkerTable<'_, u64, H>,
     hand: usize,
     taken: bool,
     name: u8,
@@ -140,7 +97,7 @@ pub(crate) fn exchange<H: Home>(
     ensures taken { result.taken ≡ taken }
     ensures kinds { KeepsKinds table.old table.new }
 {
-    match table.exchange(usize::from(name), cell_of(cell)) {
+    match table.exchange(usize::from(name), cell) {
         Ok(()) => {
             table.assert_invariant();
             ActResult {
@@ -151,7 +108,7 @@ pub(crate) fn exchange<H: Home>(
         }
         Err(why) => ActResult {
             taken,
-            answer: Some(Answer::Refused(refusal_of(why))),
+            answer: Some(Answer::Refused(why)),
             ended: None,
         },
     }
@@ -159,7 +116,7 @@ pub(crate) fn exchange<H: Home>(
 
 /// Whether a cell holds what a name does.
 pub(crate) fn holds<H: Home>(
-    table: &mut HandleTable<'_, u64, H>,
+    table: &mut WorkerTable<'_, u64, H>,
     hand: usize,
     taken: bool,
     name: u8,
@@ -174,7 +131,7 @@ pub(crate) fn holds<H: Home>(
     ensures taken { result.taken ≡ taken }
     ensures same { table.new.slots ≡ table.old.slots }
 {
-    match table.holds(cell_of(cell), usize::from(name)) {
+    match table.holds(cell, usize::from(name)) {
         Ok(holds) => ActResult {
             taken,
             answer: Some(Answer::Holds(holds)),
@@ -182,7 +139,7 @@ pub(crate) fn holds<H: Home>(
         },
         Err(why) => ActResult {
             taken,
-            answer: Some(Answer::Refused(refusal_of(why))),
+            answer: Some(Answer::Refused(why)),
             ended: None,
         },
     }
@@ -190,7 +147,7 @@ pub(crate) fn holds<H: Home>(
 
 /// What is in hand goes into a cell, and what that held is to be dropped; or what was in hand is, where the cell isn't
 /// there.
-fn swap_taken<H: Home>(table: &mut HandleTable<'_, u64, H>, hand: usize, cell: CellName)
+fn swap_taken<H: Home>(table: &mut WorkerTable<'_, u64, H>, hand: usize, cell: CellName)
     requires seated { IsSeated (hand + 1) hand table.old }
     requires hand { 0 < hand }
     requires named { IsOfName hand cell }
@@ -200,7 +157,7 @@ fn swap_taken<H: Home>(table: &mut HandleTable<'_, u64, H>, hand: usize, cell: C
     ensures acts { IsDealt hand table.old true (act.Swap cell) nothing table.new }
     ensures kinds { SetsAside hand table.old table.new }
 {
-    match table.exchange(hand, cell_of(cell)) {
+    match table.exchange(hand, cell) {
         Ok(()) => {
             table.assert_invariant();
             set_aside(table, hand);
@@ -211,7 +168,7 @@ fn swap_taken<H: Home>(table: &mut HandleTable<'_, u64, H>, hand: usize, cell: C
 
 /// The same, where something is in hand.
 pub(crate) fn swap<H: Home>(
-    table: &mut HandleTable<'_, u64, H>,
+    table: &mut WorkerTable<'_, u64, H>,
     hand: usize,
     taken: bool,
     cell: CellName,

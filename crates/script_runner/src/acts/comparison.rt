@@ -1,8 +1,6 @@
 //! A comparison of a cell with what a name holds.
-ghost use Rattle.std.specs.Prelude.{◌≡◌, ◌≢◌, ◌<◌, ◌+◌, ◌-◌, true, IfErr, IfNone};
-ghost use Rattle.std.specs.Prelude.{IfOk, IfSome, None, Some};
-ghost use Rattle.handle_table.specs.Calls.{IsBelow};
-ghost use Rattle.handle_table.specs.Compares.{ComparesSlots, WhyNotCompared};
+ghost use Rattle.std.specs.Prelude.{◌≡◌, ◌≢◌, ◌<◌, ◌+◌, ◌-◌, true, IfNone, IfSome, None, Some};
+ghost use Rattle.script_runner.specs.SlotCalls.{IsBelow};
 ghost use Rattle.step_threads.specs.declared.programs.act.Act.TheVariants as act;
 ghost use Rattle.step_threads.specs.Programs.{kind_at};
 ghost use Rattle.script_runner.specs.CellCalls.{IsOfName};
@@ -11,36 +9,17 @@ ghost use Rattle.script_runner.specs.Kinds.{HasKind, IsVacant, SetsKind};
 ghost use Rattle.script_runner.specs.Reached.{IsReachable, SetsAside, nothing};
 ghost use Rattle.script_runner.specs.Seats.{IsSeated};
 
-use crate::acts::cells::{cell_of, set_aside};
-use handle_table::{Cell, Fault, HandleTable, Home};
+use crate::acts::cells::set_aside;
+use crate::table::{Home, WorkerTable};
 use std::sync::Wait;
 use step_core::CellName;
-
-/// A cell is compared with what a name holds, to get what is in hand.
-fn compare_either<H: Home, R: Wait>(
-    rt: &R,
-    table: &mut HandleTable<'_, u64, H>,
-    cell: Cell,
-    name: usize,
-    hand: usize,
-    weak: bool,
-) -> Result<bool, Fault>
-    ensures compared { IfOk result (λ swapped. ComparesSlots weak table.old cell name hand swapped table.new) }
-    ensures refused { IfErr result
-        (λ why. WhyNotCompared table.old cell name hand why × (table.new ≡ table.old)) }
-{
-    if weak {
-        return table.compare_exchange_weak(rt, cell, name, hand);
-    }
-    table.compare_exchange_strong(rt, cell, name, hand)
-}
 
 /// What is in hand goes into a cell that is equivalent to a name, and what that held leaves: true. Or else the name
 /// gets what the cell holds, and what was in hand is to be dropped: false. Where the cell isn't there it is to be
 /// dropped as well, and there is no answer.
 pub(crate) fn compare<H: Home, R: Wait>(
     rt: &R,
-    table: &mut HandleTable<'_, u64, H>,
+    table: &mut WorkerTable<'_, u64, H>,
     hand: usize,
     name: u8,
     cell: CellName,
@@ -59,7 +38,7 @@ pub(crate) fn compare<H: Home, R: Wait>(
     ensures swapped { result ≡ Some true → SetsKind hand None table.old table.new }
     ensures aside { result ≢ Some true → SetsAside hand table.old table.new }
 {
-    match compare_either(rt, table, cell_of(cell), usize::from(name), hand, weak) {
+    match table.compare(rt, cell, usize::from(name), hand, weak) {
         Ok(true) => Some(true),
         Ok(false) => {
             set_aside(table, hand);

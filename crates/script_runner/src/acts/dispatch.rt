@@ -1,6 +1,6 @@
 //! What a worker does for an act of its thread.
 ghost use Rattle.std.specs.Prelude.{◌≡◌, [], None};
-ghost use Rattle.handle_table.specs.Calls.{IsBelow};
+ghost use Rattle.script_runner.specs.SlotCalls.{IsBelow};
 ghost use Rattle.script_runner.specs.Deals.{IsDealt, IsHandOfTable};
 ghost use Rattle.script_runner.specs.Handling.{Asks, Changes, IsAlone, MayDo, MaySettle};
 ghost use Rattle.script_runner.specs.Handling.{StaysArranged};
@@ -11,7 +11,7 @@ use crate::acts::leaves::{clear, leave, let_drop, put};
 use crate::acts::makes::make_any;
 use crate::acts::questions::{ask, count, expire, read};
 use crate::acts::takes::{alias, downgrade, from_this, lock, move_out, share, upgrade};
-use handle_table::{HandleTable, Home};
+use crate::table::{Home, WorkerTable};
 use std::sync::Wait;
 use step_core::Kind;
 use step_threads::programs::act::Act;
@@ -30,7 +30,7 @@ fn nothing(taken: bool) -> ActResult
 /// The act, which finds what it asks for; a comparison is passed over here.
 fn carry_out<H: Home, R: Wait>(
     rt: &R,
-    table: &mut HandleTable<'_, u64, H>,
+    table: &mut WorkerTable<'_, u64, H>,
     hand: usize,
     taken: bool,
     kinds: &Vec<Kind>,
@@ -73,7 +73,7 @@ fn carry_out<H: Home, R: Wait>(
 /// Any act that suits the thread's names but a comparison of what is in hand, which goes on at once.
 pub(crate) fn deal<H: Home, R: Wait>(
     rt: &R,
-    table: &mut HandleTable<'_, u64, H>,
+    table: &mut WorkerTable<'_, u64, H>,
     hand: usize,
     taken: bool,
     kinds: &Vec<Kind>,

@@ -3,9 +3,9 @@ ghost use Rattle.std.specs.Prelude.{◌≡◌, ◌⊎◌, ◌<◌, ◌+◌, ◌-
 ghost use Rattle.std.specs.Prelude.{None, Some, slice_get, slice_set};
 ghost use Rattle.control_block.specs.declared.handles.Held.{Held};
 ghost use Rattle.control_word.specs.declared.model.handle.Kind.{Kind};
-ghost use Rattle.handle_table.specs.Calls.{IsBelow};
-ghost use Rattle.handle_table.specs.Parts.{block_of_held};
-ghost use Rattle.handle_table.specs.Tables.{Slot};
+ghost use Rattle.script_runner.specs.SlotCalls.{IsBelow};
+ghost use Rattle.script_runner.specs.Parts.{block_of_held};
+ghost use Rattle.script_runner.specs.Tables.{Slot};
 ghost use Rattle.step_threads.specs.declared.programs.act.Act.TheVariants as act;
 ghost use Rattle.script_runner.specs.Deals.{IsActed, IsDealt};
 ghost use Rattle.script_runner.specs.Kinds.{HasKind, KeepsKinds, SetsKind};
@@ -13,13 +13,13 @@ ghost use Rattle.script_runner.specs.Seats.{IsSeated};
 ghost use Rattle.script_runner.specs.Teams.{HasNoObject};
 
 use crate::acts::act_result::ActResult;
+use crate::table::{Home, WorkerTable};
 use crate::workers::seats::{empty, is_full, top_of};
-use handle_table::{Fault, HandleTable, Home};
 use step_core::Kind;
 
 /// What is in hand goes to a name, and what that held leaves.
 pub(crate) fn put<H: Home>(
-    table: &mut HandleTable<'_, u64, H>,
+    table: &mut WorkerTable<'_, u64, H>,
     hand: usize,
     taken: bool,
     name: u8,
@@ -43,10 +43,7 @@ pub(crate) fn put<H: Home>(
         };
     }
     let busy = is_full(table, usize::from(name));
-    match table.move_to(hand, usize::from(name)) {
-        Ok(()) => {}
-        Err(_) => unreachable!(),
-    }
+    table.move_to(hand, usize::from(name));
     let top = top_of(table);
     ActResult {
         taken: false,
@@ -57,7 +54,7 @@ pub(crate) fn put<H: Home>(
 
 /// What a name holds leaves.
 pub(crate) fn leave<H: Home>(
-    table: &mut HandleTable<'_, u64, H>,
+    table: &mut WorkerTable<'_, u64, H>,
     hand: usize,
     taken: bool,
     kinds: &Vec<Kind>,
@@ -85,7 +82,7 @@ pub(crate) fn leave<H: Home>(
 
 /// The same at the end of a thread, where a name without an object is passed over.
 pub(crate) fn clear<H: Home>(
-    table: &mut HandleTable<'_, u64, H>,
+    table: &mut WorkerTable<'_, u64, H>,
     hand: usize,
     taken: bool,
     kinds: &Vec<Kind>,
@@ -121,7 +118,7 @@ pub(crate) fn clear<H: Home>(
 
 /// What is to be dropped leaves.
 pub(crate) fn let_drop<H: Home>(
-    table: &mut HandleTable<'_, u64, H>,
+    table: &mut WorkerTable<'_, u64, H>,
     hand: usize,
     taken: bool,
 ) -> ActResult
@@ -134,17 +131,14 @@ pub(crate) fn let_drop<H: Home>(
 {
     let busy = is_full(table, hand - 1);
     match table.reset(hand - 1) {
-        Ok(_) => {}
-        Err(why) => match why {
-            Fault::Vacant => {
-                return ActResult {
-                    taken,
-                    answer: None,
-                    ended: None,
-                };
-            }
-            _ => unreachable!(),
-        },
+        Some(_) => {}
+        None => {
+            return ActResult {
+                taken,
+                answer: None,
+                ended: None,
+            };
+        }
     }
     let top = top_of(table);
     ActResult {

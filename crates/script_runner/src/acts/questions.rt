@@ -10,13 +10,13 @@ ghost use Rattle.script_runner.specs.Kinds.{HasKind};
 ghost use Rattle.script_runner.specs.Seats.{IsSeated};
 
 use crate::acts::act_result::ActResult;
-use handle_table::{Fault, HandleTable, Home};
+use crate::table::{Home, WorkerTable};
 use step_core::Answer;
 use step_threads::programs::act::Question;
 
 /// How many owners the object of a name has.
 pub(crate) fn count<H: Home>(
-    table: &mut HandleTable<'_, u64, H>,
+    table: &mut WorkerTable<'_, u64, H>,
     hand: usize,
     taken: bool,
     name: u8,
@@ -28,19 +28,17 @@ pub(crate) fn count<H: Home>(
     ensures taken { result.taken ≡ taken }
     ensures same { table.new.slots ≡ table.old.slots }
 {
-    match table.use_count(usize::from(name)) {
-        Ok(owners) => ActResult {
-            taken,
-            answer: Some(Answer::Count(owners)),
-            ended: None,
-        },
-        Err(_) => unreachable!(),
+    let owners = table.use_count(usize::from(name));
+    ActResult {
+        taken,
+        answer: Some(Answer::Count(owners)),
+        ended: None,
     }
 }
 
 /// Whether the object of a weak name has no owner.
 pub(crate) fn expire<H: Home>(
-    table: &mut HandleTable<'_, u64, H>,
+    table: &mut WorkerTable<'_, u64, H>,
     hand: usize,
     taken: bool,
     name: u8,
@@ -52,19 +50,17 @@ pub(crate) fn expire<H: Home>(
     ensures taken { result.taken ≡ taken }
     ensures same { table.new.slots ≡ table.old.slots }
 {
-    match table.expired(usize::from(name)) {
-        Ok(expired) => ActResult {
-            taken,
-            answer: Some(Answer::Expired(expired)),
-            ended: None,
-        },
-        Err(_) => unreachable!(),
+    let expired = table.expired(usize::from(name));
+    ActResult {
+        taken,
+        answer: Some(Answer::Expired(expired)),
+        ended: None,
     }
 }
 
 /// The field that a name points at.
 pub(crate) fn read<H: Home>(
-    table: &mut HandleTable<'_, u64, H>,
+    table: &mut WorkerTable<'_, u64, H>,
     hand: usize,
     taken: bool,
     name: u8,
@@ -82,20 +78,17 @@ pub(crate) fn read<H: Home>(
             answer: Some(Answer::Read(field)),
             ended: None,
         },
-        Err(why) => match why {
-            Fault::Call(why) => ActResult {
-                taken,
-                answer: Some(Answer::Refused(why)),
-                ended: None,
-            },
-            _ => unreachable!(),
+        Err(why) => ActResult {
+            taken,
+            answer: Some(Answer::Refused(why)),
+            ended: None,
         },
     }
 }
 
 /// What the pointers of names tell.
 pub(crate) fn ask<H: Home>(
-    table: &mut HandleTable<'_, u64, H>,
+    table: &mut WorkerTable<'_, u64, H>,
     hand: usize,
     taken: bool,
     question: Question,
@@ -116,7 +109,7 @@ pub(crate) fn ask<H: Home>(
 
 /// Where a name points.
 fn place<H: Home>(
-    table: &mut HandleTable<'_, u64, H>,
+    table: &mut WorkerTable<'_, u64, H>,
     hand: usize,
     taken: bool,
     name: u8,
@@ -128,19 +121,17 @@ fn place<H: Home>(
     ensures taken { result.taken ≡ taken }
     ensures same { table.new.slots ≡ table.old.slots }
 {
-    match table.place(usize::from(name)) {
-        Ok(place) => ActResult {
-            taken,
-            answer: Some(Answer::Place(place)),
-            ended: None,
-        },
-        Err(_) => unreachable!(),
+    let place = table.place(usize::from(name));
+    ActResult {
+        taken,
+        answer: Some(Answer::Place(place)),
+        ended: None,
     }
 }
 
 /// Whether two names point at one place.
 fn same<H: Home>(
-    table: &mut HandleTable<'_, u64, H>,
+    table: &mut WorkerTable<'_, u64, H>,
     hand: usize,
     taken: bool,
     first: u8,
@@ -153,19 +144,17 @@ fn same<H: Home>(
     ensures taken { result.taken ≡ taken }
     ensures same { table.new.slots ≡ table.old.slots }
 {
-    match table.same_place(usize::from(first), usize::from(second)) {
-        Ok(same) => ActResult {
-            taken,
-            answer: Some(Answer::Same(same)),
-            ended: None,
-        },
-        Err(_) => unreachable!(),
+    let same = table.same_place(usize::from(first), usize::from(second));
+    ActResult {
+        taken,
+        answer: Some(Answer::Same(same)),
+        ended: None,
     }
 }
 
 /// Whether the first name comes before the second.
 fn before<H: Home>(
-    table: &mut HandleTable<'_, u64, H>,
+    table: &mut WorkerTable<'_, u64, H>,
     hand: usize,
     taken: bool,
     first: u8,
@@ -179,12 +168,10 @@ fn before<H: Home>(
     ensures taken { result.taken ≡ taken }
     ensures same { table.new.slots ≡ table.old.slots }
 {
-    match table.owner_before(usize::from(first), usize::from(second)) {
-        Ok(before) => ActResult {
-            taken,
-            answer: Some(Answer::Before(before)),
-            ended: None,
-        },
-        Err(_) => unreachable!(),
+    let before = table.owner_before(usize::from(first), usize::from(second));
+    ActResult {
+        taken,
+        answer: Some(Answer::Before(before)),
+        ended: None,
     }
 }

@@ -3,26 +3,23 @@
 ghost use Rattle.std.specs.Prelude.{◌≡◌, ◌≢◌, ◌+◌, ◌<◌, true, false, slice_get, Some};
 ghost use Rattle.control_word.specs.declared.model.handle.Kind.{Kind};
 ghost use Rattle.control_word.specs.declared.model.handle.Kind.TheVariants as kind;
-ghost use Rattle.control_word.specs.declared.refusal.Refusal.{Refusal};
-ghost use Rattle.control_word.specs.declared.refusal.Refusal.TheVariants.{Limit};
-ghost use Rattle.handle_table.specs.Calls.{IsBelow};
-ghost use Rattle.handle_table.specs.declared.fault.Fault.TheVariants as fault;
+ghost use Rattle.script_runner.specs.SlotCalls.{IsBelow};
 ghost use Rattle.step_threads.specs.declared.programs.act.Act.TheVariants as act;
 ghost use Rattle.step_table.specs.AtomicSteps.{aliased as alias_place};
-ghost use Rattle.script_runner.specs.Deals.{IsActed, NotGiven};
+ghost use Rattle.script_runner.specs.Deals.{IsActed};
 ghost use Rattle.script_runner.specs.Kinds.{HasKind, TakesKind};
 ghost use Rattle.script_runner.specs.Seats.{IsHand};
 
 use crate::acts::act_result::{ActResult, refused};
+use crate::table::{Home, WorkerTable};
 use crate::workers::seats::empty;
 use control_word::{Place, Refusal};
-use handle_table::{Fault, HandleTable, Home};
 use std::sync::Wait;
 use step_core::{Answer, Field, Kind};
 
 /// A copy of what a name holds.
 pub(crate) fn share<H: Home>(
-    table: &mut HandleTable<'_, u64, H>,
+    table: &mut WorkerTable<'_, u64, H>,
     hand: usize,
     name: u8,
 ) -> ActResult
@@ -34,19 +31,17 @@ pub(crate) fn share<H: Home>(
     ensures kinds { (k : Kind) → HasKind table.old.slots name k
         → TakesKind hand k result.taken table.old table.new }
 {
-    match table.copy(usize::from(name), hand) {
-        Ok(()) => ActResult {
-            taken: true,
-            answer: None,
-            ended: None,
-        },
-        Err(_) => unreachable!(),
+    table.copy(usize::from(name), hand);
+    ActResult {
+        taken: true,
+        answer: None,
+        ended: None,
     }
 }
 
 /// A weak handle of the object of what a name holds.
 pub(crate) fn downgrade<H: Home>(
-    table: &mut HandleTable<'_, u64, H>,
+    table: &mut WorkerTable<'_, u64, H>,
     hand: usize,
     name: u8,
 ) -> ActResult
@@ -57,19 +52,17 @@ pub(crate) fn downgrade<H: Home>(
     ensures acts { IsActed hand table.old false (act.Downgrade name) result table.new }
     ensures kinds { TakesKind hand kind.Weak result.taken table.old table.new }
 {
-    match table.downgrade(usize::from(name), hand) {
-        Ok(()) => ActResult {
-            taken: true,
-            answer: None,
-            ended: None,
-        },
-        Err(_) => unreachable!(),
+    table.downgrade(usize::from(name), hand);
+    ActResult {
+        taken: true,
+        answer: None,
+        ended: None,
     }
 }
 
 /// What a name holds, which becomes empty.
 pub(crate) fn move_out<H: Home>(
-    table: &mut HandleTable<'_, u64, H>,
+    table: &mut WorkerTable<'_, u64, H>,
     hand: usize,
     kinds: &Vec<Kind>,
     name: u8,
@@ -83,10 +76,7 @@ pub(crate) fn move_out<H: Home>(
     ensures kinds { (k : Kind) → HasKind table.old.slots name k
         → TakesKind hand k result.taken table.old table.new }
 {
-    match table.move_to(usize::from(name), hand) {
-        Ok(()) => {}
-        Err(_) => unreachable!(),
-    }
+    table.move_to(usize::from(name), hand);
     empty(table, kinds, usize::from(name));
     ActResult {
         taken: true,
@@ -113,7 +103,7 @@ fn aliased(place: Option<Place>, field: Option<Field>) -> Option<Place>
 
 /// A pointer that shares what a name owns, and points at a field of what another points into.
 pub(crate) fn alias<H: Home>(
-    table: &mut HandleTable<'_, u64, H>,
+    table: &mut WorkerTable<'_, u64, H>,
     hand: usize,
     name: u8,
     of: u8,
@@ -126,24 +116,19 @@ pub(crate) fn alias<H: Home>(
     ensures acts { IsActed hand table.old false (act.Alias name of field) result table.new }
     ensures kinds { TakesKind hand kind.Owner result.taken table.old table.new }
 {
-    let place = match table.place(usize::from(of)) {
-        Ok(place) => place,
-        Err(_) => unreachable!(),
-    };
-    match table.alias(usize::from(name), aliased(place, field), hand) {
-        Ok(()) => ActResult {
-            taken: true,
-            answer: None,
-            ended: None,
-        },
-        Err(_) => unreachable!(),
+    let place = table.place(usize::from(of));
+    table.alias(usize::from(name), aliased(place, field), hand);
+    ActResult {
+        taken: true,
+        answer: None,
+        ended: None,
     }
 }
 
 /// An owner of what a weak name watches, if one is left; or else an empty one.
 pub(crate) fn lock<H: Home, R: Wait>(
     rt: &R,
-    table: &mut HandleTable<'_, u64, H>,
+    table: &mut WorkerTable<'_, u64, H>,
     hand: usize,
     name: u8,
 ) -> ActResult
@@ -154,20 +139,18 @@ pub(crate) fn lock<H: Home, R: Wait>(
     ensures acts { IsActed hand table.old false (act.Lock name false) result table.new }
     ensures kinds { TakesKind hand kind.Owner result.taken table.old table.new }
 {
-    match table.lock(rt, usize::from(name), hand) {
-        Ok(got) => ActResult {
-            taken: true,
-            answer: Some(Answer::Locked(got)),
-            ended: None,
-        },
-        Err(_) => unreachable!(),
+    let got = table.lock(rt, usize::from(name), hand);
+    ActResult {
+        taken: true,
+        answer: Some(Answer::Locked(got)),
+        ended: None,
     }
 }
 
 /// An owner of what a weak name watches; it is refused where none is left.
 pub(crate) fn upgrade<H: Home, R: Wait>(
     rt: &R,
-    table: &mut HandleTable<'_, u64, H>,
+    table: &mut WorkerTable<'_, u64, H>,
     hand: usize,
     name: u8,
 ) -> ActResult
@@ -178,29 +161,18 @@ pub(crate) fn upgrade<H: Home, R: Wait>(
     ensures acts { IsActed hand table.old false (act.Lock name true) result table.new }
     ensures kinds { TakesKind hand kind.Owner result.taken table.old table.new }
 {
-    match table.upgrade(rt, usize::from(name), hand) {
-        Ok(()) => ActResult {
+    if table.upgrade(rt, usize::from(name), hand) {
+        return ActResult {
             taken: true,
             answer: Some(Answer::Upgraded),
             ended: None,
-        },
-        Err(_) => refused(Refusal::BadWeak),
+        };
     }
-}
-
-/// What is said where an object gives no pointer to itself.
-fn not_given(why: Fault) -> ActResult
-    requires { (r : Refusal) × (why ≡ fault.Call r) × (r ≢ Limit) }
-    ensures { NotGiven why result }
-{
-    match why {
-        Fault::Call(why) => refused(why),
-        _ => unreachable!(),
-    }
+    refused(Refusal::BadWeak)
 }
 
 /// A pointer from the object that a name owns and points into.
-fn shared_this<H: Home>(table: &mut HandleTable<'_, u64, H>, hand: usize, name: u8) -> ActResult
+fn shared_this<H: Home>(table: &mut WorkerTable<'_, u64, H>, hand: usize, name: u8) -> ActResult
     requires hand { IsHand (hand + 1) hand table.old }
     requires name { name < hand }
     requires below { IsBelow table.old.desk }
@@ -214,12 +186,12 @@ fn shared_this<H: Home>(table: &mut HandleTable<'_, u64, H>, hand: usize, name: 
             answer: None,
             ended: None,
         },
-        Err(why) => not_given(why),
+        Err(why) => refused(why),
     }
 }
 
 /// And a weak one.
-fn weak_this<H: Home>(table: &mut HandleTable<'_, u64, H>, hand: usize, name: u8) -> ActResult
+fn weak_this<H: Home>(table: &mut WorkerTable<'_, u64, H>, hand: usize, name: u8) -> ActResult
     requires hand { IsHand (hand + 1) hand table.old }
     requires name { name < hand }
     requires below { IsBelow table.old.desk }
@@ -233,13 +205,13 @@ fn weak_this<H: Home>(table: &mut HandleTable<'_, u64, H>, hand: usize, name: u8
             answer: None,
             ended: None,
         },
-        Err(why) => not_given(why),
+        Err(why) => refused(why),
     }
 }
 
 /// A pointer of either kind.
 pub(crate) fn from_this<H: Home>(
-    table: &mut HandleTable<'_, u64, H>,
+    table: &mut WorkerTable<'_, u64, H>,
     hand: usize,
     name: u8,
     which: Kind,

@@ -6,9 +6,9 @@ ghost use Rattle.script_text.specs.declared.fault.Fault.TheVariants.{Syntax};
 ghost use Rattle.script_stepper.specs.Runs.{Delivers, is_output, text_in};
 ghost use Rattle.script_runner.specs.Telling.{TellsReport};
 
-use crate::closing::close_sole;
 use crate::gate::Open;
 use crate::runs::run_script;
+use crate::table::closing::close_sole;
 use script_stepper::{Sink, write_text};
 use script_text::{Fault, parse};
 use std::alloc::Global;

@@ -12,9 +12,9 @@ ghost use Rattle.script_runner.specs.Notes.{PlaysOn, Settles, SettlesPartly};
 use crate::acts::act_result::ActResult;
 use crate::acts::comparison::compare;
 use crate::acts::dispatch::deal;
+use crate::table::{Home, WorkerTable};
 use crate::workers::log::Log;
 use crate::workers::seats::{told_of, top_of};
-use handle_table::{HandleTable, Home};
 use std::sync::Wait;
 use step_core::{CellName, Kind};
 use step_threads::programs::act::{Act, Task};
@@ -23,7 +23,7 @@ impl<'a> Log<'a> {
     /// One round of what an act left to end, if there is something.
     fn round<H: Home>(
         &mut self,
-        table: &mut HandleTable<'_, u64, H>,
+        table: &mut WorkerTable<'_, u64, H>,
         hand: usize,
         statement: u32,
     ) -> bool
@@ -51,7 +51,7 @@ impl<'a> Log<'a> {
     fn settle<H: Home, R: Wait>(
         &mut self,
         rt: &R,
-        table: &mut HandleTable<'_, u64, H>,
+        table: &mut WorkerTable<'_, u64, H>,
         hand: usize,
         statement: u32,
     )
@@ -74,7 +74,7 @@ impl<'a> Log<'a> {
     fn act<H: Home, R: Wait>(
         &mut self,
         rt: &R,
-        table: &mut HandleTable<'_, u64, H>,
+        table: &mut WorkerTable<'_, u64, H>,
         hand: usize,
         kinds: &Vec<Kind>,
         task: Task,
@@ -106,7 +106,7 @@ impl<'a> Log<'a> {
     fn compare<H: Home, R: Wait>(
         &mut self,
         rt: &R,
-        table: &mut HandleTable<'_, u64, H>,
+        table: &mut WorkerTable<'_, u64, H>,
         hand: usize,
         kinds: &Vec<Kind>,
         statement: u32,
@@ -150,7 +150,7 @@ impl<'a> Log<'a> {
     fn compare_at<H: Home, R: Wait>(
         &mut self,
         rt: &R,
-        table: &mut HandleTable<'_, u64, H>,
+        table: &mut WorkerTable<'_, u64, H>,
         hand: usize,
         kinds: &Vec<Kind>,
         tasks: &Vec<Task>,
@@ -177,7 +177,7 @@ impl<'a> Log<'a> {
     fn act_at<H: Home, R: Wait>(
         &mut self,
         rt: &R,
-        table: &mut HandleTable<'_, u64, H>,
+        table: &mut WorkerTable<'_, u64, H>,
         hand: usize,
         kinds: &Vec<Kind>,
         tasks: &Vec<Task>,
@@ -202,7 +202,7 @@ impl<'a> Log<'a> {
     pub(crate) fn step<H: Home, R: Wait>(
         &mut self,
         rt: &R,
-        table: &mut HandleTable<'_, u64, H>,
+        table: &mut WorkerTable<'_, u64, H>,
         hand: usize,
         kinds: &Vec<Kind>,
         tasks: &Vec<Task>,

@@ -5,8 +5,8 @@ ghost use Rattle.script_runner.specs.Kinds.{KeepsLimits};
 ghost use Rattle.script_runner.specs.Notes.{PlaysOn};
 
 use crate::gate::Gate;
+use crate::table::{Home, WorkerTable};
 use crate::workers::log::Log;
-use handle_table::{HandleTable, Home};
 use std::sync::Wait;
 use step_core::Kind;
 use step_threads::programs::act::Task;
@@ -27,7 +27,7 @@ fn tell<G: Gate>(gate: &G, number: usize, last: u32, next: u32) {
 /// Runs a thread from its first task to its end.
 pub(crate) fn play<H: Home, R: Wait, G: Gate>(
     rt: &R,
-    table: &mut HandleTable<'_, u64, H>,
+    table: &mut WorkerTable<'_, u64, H>,
     kinds: &Vec<Kind>,
     tasks: &Vec<Task>,
     log: &mut Log<'_>,

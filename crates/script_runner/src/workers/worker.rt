@@ -1,13 +1,14 @@
-//! A thread of a script on a real worker: its names are slots of a handle table.
+//! A thread of a script on a real worker: its names are slots of the worker's table.
 ghost use Rattle.std.specs.Prelude.{◌≤◌, length};
 ghost use Rattle.script_runner.specs.Facts.{suit_fact};
 ghost use Rattle.script_runner.specs.Kinds.{AllSuit, first_stance};
 
 use crate::gate::Gate;
+use crate::table::staff::Work;
+use crate::table::{Home, WorkerTable};
 use crate::workers::log::Log;
 use crate::workers::start::begin;
 use crate::workers::turns::play;
-use handle_table::{HandleTable, Home, Work};
 use std::sync::Wait;
 use std::thread::Threads;
 use step_core::Kind;
@@ -44,7 +45,7 @@ impl<'a, R: Threads + Wait + Sync, G: Gate + Sync> Work<u64, R> for Worker<'a, G
         × (allowance_of u.desk ≡ allowance_of t.desk)
         × IsWorked w.kinds.items w.tasks.items w.log t w'.log u };
 
-    fn work<H: Home>(&mut self, rt: &R, table: &mut HandleTable<'_, u64, H>) {
+    fn work<H: Home>(&mut self, rt: &R, table: &mut WorkerTable<'_, u64, H>) {
         table.assert_invariant();
         begin(table, &self.kinds);
         play(

@@ -1,6 +1,6 @@
 use Rattle.std.proofs.Common.{sym, subst}
 use Rattle.script_runner.proofs.Prelude.{IsToEnd, IsTop}
-use Rattle.handle_table.specs.declared.ends.Remains.TheVariants as table
+use Rattle.script_runner.specs.declared.table.ends.Remains.TheVariants as table
 use Rattle.script_runner.proofs.WorldStates.{top_is}
 use Rattle.script_runner.proofs.workers.seats.top_of.Goals as goal
 

@@ -1,6 +1,0 @@
-use Rattle.std.proofs.Common.{false}
-use Rattle.handle_table.proofs.Prelude.{cell_of_site, empty}
-use Rattle.handle_table.proofs.cells.held.load_held.Given as goal
-
-abbrev pub ghosts-load : goal.ghosts-load
-ghosts-load g a = record { cell = cell_of_site a.desk.now a.cell.site; new = empty a.cell.kind; expected = empty a.cell.kind; weak = false }

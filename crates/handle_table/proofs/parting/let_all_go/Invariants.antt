@@ -1,9 +1,0 @@
-use Rattle.std.proofs.Common.{length}
-use Rattle.handle_table.proofs.Letting.{Letting}
-use Rattle.handle_table.proofs.parting.let_all_go.Given as goal
-
-abbrev pub invariant-loop-slot : goal.invariant-loop-slot
-invariant-loop-slot g l = Letting l.domain l.initial.desk l.desk l.initial.pile l.pile l.initial.slots.items l.slots.items
-
-abbrev pub decreases-loop-slot : goal.decreases-loop-slot
-decreases-loop-slot g l = length l.slots.items

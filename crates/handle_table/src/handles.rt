@@ -1,8 +1,0 @@
-//! Handles that come into slots, and those that leave them.
-mod copies;
-mod empties;
-mod locks;
-mod makes;
-mod resets;
-mod this;
-mod upgrades;

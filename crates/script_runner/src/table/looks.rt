@@ -1,0 +1,4 @@
+//! What handles in slots tell.
+mod counts;
+mod invariant;
+mod pairs;
