@@ -53,6 +53,15 @@ def arguments(name: str) -> list[str]:
     return found
 
 
+def template_of(name, at):
+    """The template among whose arguments a place in a name lies."""
+    depth = 0
+    while at and (depth or name[at] != "<"):
+        depth += (name[at] == ">") - (name[at] == "<")
+        at -= 1
+    return re.search(r"[\w:]*$", name[:at])[0]
+
+
 def without_defaults(name):
     """A name without arguments that templates of the library have where none are given, as
     `, std::allocator<..>`."""
@@ -65,8 +74,10 @@ def without_defaults(name):
             if depth == 0 or at == len(name):
                 break
         begin = found.start()
-        if name[found.end() : at - 1].strip() == "void":  # (which is given)
-            begin = at
+        is_given = name[found.end() : at - 1].strip() == "void"
+        is_own = found[1] != "allocator" and not template_of(name, begin - 1).startswith("std::")
+        if is_given or is_own:
+            begin = found.end()
         else:
             name = name[:begin] + name[at:]
     return name

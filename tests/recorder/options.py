@@ -248,6 +248,7 @@ def names_of_types():
         "std::unordered_set<A, std::hash<A>, std::equal_to<A>, std::allocator<A> >": "std::unordered_set<A>",
         "std::set<A, std::less<void>, std::allocator<A> >": "std::set<A, std::less<void>>",
         "std::__cxx11::basic_ostringstream<char, std::char_traits<char>, std::allocator<char> >": OSTREAM,
+        "Index<A, std::map<A, B, std::less<A> >, std::less<A> >": "Index<A, std::map<A, B>, std::less<A>>",
         "std::map<A, B, Later, std::allocator<std::pair<A const, B> > >": "std::map<A, B, Later>",
     }
     return differences(**{name: (type_names.short(name), wanted) for name, wanted in names.items()})

@@ -8,7 +8,7 @@ struct Picture {
 };
 
 struct Item {
-  std::shared_ptr<Picture> picture = std::make_shared<Picture>();
+  std::shared_ptr<Picture> picture;
   std::uintptr_t both = 0;  // the item before and the next, by exclusive or
 };
 
@@ -17,8 +17,8 @@ Item *first, *last;
 std::uintptr_t number(Item* item) { return reinterpret_cast<std::uintptr_t>(item); }
 
 void add() {
-  auto item = new Item;
-  item->both = number(last);
+  auto picture = std::make_shared<Picture>();
+  auto item = new Item{picture, number(last)};
   if (last) last->both ^= number(item);
   if (!first) first = item;
   last = item;
