@@ -20,7 +20,7 @@ void Spreading::find_links() {
     if (from == to) return;
     count[to] += region.chunk < 0 || all.chunks[region.chunk].epoll < 0;  // (an epoll owns nothing)
     if (seen.insert({from < 0 ? region.holder : Holder{}, from, to}).second)
-      links.push_back({at, from, to, false, is_older(region, at, to)});
+      links.push_back({at, from, to, false, is_older(at, to)});
   });
   for (auto& link : links) link.is_sole &= count[link.to] == 1;
   auto is_useful = useful_memory(links);
@@ -29,12 +29,11 @@ void Spreading::find_links() {
 }
 
 // Whether a pointer to the beginning of memory lies in what was there before that.
-bool Spreading::is_older(const Region& region, Word at, int to) const {
+bool Spreading::is_older(Word at, int to) const {
   auto& memory = all.chunks[to];
-  bool is_object = region.chunk < 0 && region.holder.kind == Holder::OBJECT;
-  if (region.chunk < 0 && !is_object) return false;
-  auto made = is_object ? all.blocks[region.holder.number].number : all.chunks[region.chunk].number;
-  return *reinterpret_cast<const Word*>(at) == memory.from && made && made < memory.number;
+  int chunk = all.chunk_of(at);
+  if (chunk < 0 || !all.chunks[chunk].number) return false;  // (pools and epolls have none)
+  return *reinterpret_cast<const Word*>(at) == memory.from && all.chunks[chunk].number < memory.number;
 }
 
 // The uncertain memory that a handle lies in; -1 where it lies in none.

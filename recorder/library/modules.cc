@@ -23,18 +23,19 @@ constexpr Word OF_A_THREAD = 2304;
 
 Word as_word(const void* pointer) { return reinterpret_cast<Word>(pointer); }
 
-std::string path_of(const dl_phdr_info& info) {
+const char* path_of(const dl_phdr_info& info) {
   return info.dlpi_name && *info.dlpi_name ? info.dlpi_name : program_path;
 }
 
-// Whether a file is one of these libraries.
-bool is_named(const std::string& path, std::initializer_list<const char*> names) {
-  auto slash = path.rfind('/');
-  std::string file = path.substr(slash == path.npos ? 0 : slash + 1);
-  return std::any_of(names.begin(), names.end(), [&](const char* name) { return !file.compare(0, std::strlen(name), name); });
+// Whether a file is one of these libraries. (It takes no memory, as it is asked before main.)
+bool is_named(const char* path, std::initializer_list<const char*> names) {
+  const char* slash = std::strrchr(path, '/');
+  const char* file = slash ? slash + 1 : path;
+  return std::any_of(names.begin(), names.end(),
+                     [&](const char* name) { return !std::strncmp(file, name, std::strlen(name)); });
 }
 
-bool is_of_system(const std::string& path) {
+bool is_of_system(const char* path) {
   return is_named(path, {"libc.", "ld-", "libstdc++.", "libgcc_s.", "libm."});
 }
 
@@ -98,8 +99,8 @@ void Modules::add_own(const dl_phdr_info& info) {
   }
 }
 
-bool Module::is_libc() const { return is_named(path, {"libc."}); }
-bool Module::is_of_system() const { return recorder::is_of_system(path); }
+bool Module::is_libc() const { return is_named(path.c_str(), {"libc."}); }
+bool Module::is_of_system() const { return recorder::is_of_system(path.c_str()); }
 
 Modules::Modules()
     : thread_from(recorder::thread_from),

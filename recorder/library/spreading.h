@@ -94,7 +94,7 @@ private:
   int memory_of(int chunk, bool is_apart) const;
   void divide();
   int uncertain_memory(const Handle& it) const;
-  bool is_older(const Region& region, Word at, int to) const;
+  bool is_older(Word at, int to) const;
   std::vector<bool> useful_memory(const std::vector<Link>& links) const;
   template <typename Visit>
   void each_link(Visit visit) const;
