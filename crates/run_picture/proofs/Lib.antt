@@ -1,2 +1,3 @@
+pub mod Elements
 pub mod Paging
 pub mod Showing

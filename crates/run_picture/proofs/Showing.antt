@@ -1,11 +1,11 @@
 -- What is shown, piece by piece.
-pub use Rattle.markup.proofs.Trees.{shows_more, shows_none}
-pub use Rattle.markup.proofs.Trees.{shows_then}
+pub use Rattle.run_picture.proofs.Elements.{shows_more, shows_none}
+pub use Rattle.run_picture.proofs.Elements.{shows_then}
 use Rattle.std.proofs.Common.{◌≡◌, ℕ, suc, ◌+◌, ◌<◌, List, [], ◌∷◌, ◌++◌, ap, arith, codes, decimal}
 use Rattle.std.proofs.Common.{get_or, length, map, refl, subst, sym, take}
 use Rattle.std.specs.List.{flat_map}
 use Rattle.std.proofs.lemmas.List.{append-nil}
-use Rattle.markup.specs.Trees.{Shows}
+use Rattle.run_picture.specs.Elements.{Shows}
 use Rattle.run_picture.specs.declared.lanes.Lane.{Lane}
 use Rattle.run_picture.specs.declared.picture.Picture.{Picture}
 use Rattle.run_picture.specs.Shown.{ShowsPicture, block_words, cell_words, lane_words, left_words}

@@ -1,2 +1,4 @@
+pub mod ElementTexts
+pub mod Elements
 pub mod Pages
 pub mod Shown

@@ -5,7 +5,7 @@ use Rattle.std.specs.Global.{Global}
 use Rattle.std.specs.List.{flat_map}
 use Rattle.control_word.specs.declared.site.Site.{Site}
 use Rattle.control_word.specs.declared.site.Site.TheVariants.{Free, Member}
-use Rattle.markup.specs.Trees.{label, rendered}
+use Rattle.run_picture.specs.Elements.{label, rendered}
 use Rattle.run_picture.specs.declared.page_head.TheConstants.{HEAD}
 use Rattle.run_picture.specs.declared.page_reader.TheConstants.{READER}
 use Rattle.run_picture.specs.declared.page_view.TheConstants.{VIEW}

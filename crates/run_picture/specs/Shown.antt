@@ -4,7 +4,7 @@ use Rattle.std.specs.Prelude.{None, String, if◌then◌else◌, nat_lt, string_
 use Rattle.std.specs.Global.{Global}
 use Rattle.std.specs.List.{flat_map}
 use Rattle.control_word.specs.declared.packed.counts.Counts.{Counts}
-use Rattle.markup.specs.Trees.{Shows}
+use Rattle.run_picture.specs.Elements.{Shows}
 use Rattle.run_picture.specs.declared.document.TheConstants.{ARROWS_LEGEND, BOXES_LEGEND, COUNTS_LEGEND}
 use Rattle.run_picture.specs.declared.document.TheConstants.{LANES_LEGEND, STYLE}
 use Rattle.run_picture.specs.declared.lanes.Lane.{Lane}

@@ -2,7 +2,7 @@
 
 ghost use Rattle.std.specs.Prelude.{◌≡◌, ◌∷◌, [], OnOk, decimal, string_bytes};
 ghost use Rattle.std.specs.List.{flat_map};
-ghost use Rattle.markup.specs.Trees.{Shows};
+ghost use Rattle.run_picture.specs.Elements.{Shows};
 ghost use Rattle.run_picture.specs.Shown.{line_words, row_words, touch_words};
 
 use crate::changes::put_changes;

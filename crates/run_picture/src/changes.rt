@@ -3,7 +3,7 @@
 
 ghost use Rattle.std.specs.Prelude.{◌≡◌, ◌∷◌, ◌++◌, [], OnOk, codes, decimal, string_bytes};
 ghost use Rattle.std.specs.List.{flat_map};
-ghost use Rattle.markup.specs.Trees.{Shows};
+ghost use Rattle.run_picture.specs.Elements.{Shows};
 ghost use Rattle.run_picture.specs.Shown.{change_words, counts_text};
 
 use crate::lanes::{Lane, Lanes};

@@ -2,15 +2,15 @@
 
 ghost use Rattle.std.specs.Prelude.{ℕ, ◌++◌, List, [], IfOk, OnOk, string_bytes};
 ghost use Rattle.std.specs.List.{flat_map};
-ghost use Rattle.markup.specs.Trees.{Shows};
+ghost use Rattle.run_picture.specs.Elements.{Shows};
 ghost use Rattle.run_picture.specs.Shown.{ShowsPicture, cell_words, lane_words, left_words, top_words};
 
 use crate::acts::put_rows;
+use crate::element::{put_group, put_label};
 use crate::ends::{put_blocks, put_cells, put_end, put_threads};
 use crate::page::{Page, page_of};
 use crate::picture::{Left, Picture};
 use crate::sheet::{LEFT, LINE, at, number, put_words, word};
-use markup::{put_group, put_label};
 use std::alloc::{AllocError, Global};
 use std::fmt::Write;
 

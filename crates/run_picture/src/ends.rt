@@ -3,7 +3,7 @@
 
 ghost use Rattle.std.specs.Prelude.{OnOk, Some, string_bytes};
 ghost use Rattle.std.specs.List.{flat_map};
-ghost use Rattle.markup.specs.Trees.{Shows};
+ghost use Rattle.run_picture.specs.Elements.{Shows};
 ghost use Rattle.run_picture.specs.Shown.{cell_words, lane_words, left_block_words};
 ghost use Rattle.run_picture.specs.Shown.{left_words, thread_titles};
 

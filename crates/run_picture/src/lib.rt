@@ -5,6 +5,9 @@
 mod acts;
 mod changes;
 mod document;
+mod element;
+#[cfg(test)]
+mod element_tests;
 mod ends;
 mod lanes;
 mod page;

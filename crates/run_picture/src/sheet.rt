@@ -2,10 +2,10 @@
 
 ghost use Rattle.std.specs.Prelude.{◌≡◌, ◌∷◌, ◌++◌, [], OnOk, codes, decimal, string_bytes};
 ghost use Rattle.std.specs.List.{flat_map};
-ghost use Rattle.markup.specs.Trees.{Shows};
+ghost use Rattle.run_picture.specs.Elements.{Shows};
 ghost use Rattle.run_picture.specs.Shown.{block_words};
 
-use markup::{Attribute, Value, put_label, put_shape};
+use crate::element::{Attribute, Value, put_label, put_shape};
 use std::alloc::{AllocError, Global};
 use std::fmt::Write;
 

@@ -4,12 +4,12 @@ ghost use Rattle.std.specs.Prelude.{◌≡◌, ◌++◌, IfOk, OnOk, string_byte
 ghost use Rattle.run_picture.specs.Pages.{head_text, lines_element, page_text, run_lines};
 ghost use Rattle.run_picture.specs.Pages.{with_scripts};
 
+use crate::element::put_label;
 use crate::page_head::HEAD;
 use crate::page_reader::READER;
 use crate::page_view::VIEW;
 use crate::picture::Picture;
 use crate::run_lines::put_run;
-use markup::put_label;
 use std::alloc::{AllocError, Global};
 
 /// The lines of a picture's run, as they stand on a page (own): those of the script, of each row just

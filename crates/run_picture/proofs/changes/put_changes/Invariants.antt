@@ -1,7 +1,7 @@
 use Rattle.std.proofs.Common.{take}
 use Rattle.std.specs.Prelude.{string_bytes}
 use Rattle.std.specs.List.{flat_map}
-use Rattle.markup.specs.Trees.{Shows}
+use Rattle.run_picture.specs.Elements.{Shows}
 use Rattle.run_picture.specs.Shown.{change_words}
 use Rattle.run_picture.proofs.changes.put_changes.Given as goal
 

@@ -1,6 +1,6 @@
 use Rattle.std.proofs.Common.{ℕ, ◌+◌, ◌++◌, ◌∷◌, [], codes, decimal, subst}
 use Rattle.std.specs.Prelude.{string_bytes}
-use Rattle.markup.specs.Trees.{Shows}
+use Rattle.run_picture.specs.Elements.{Shows}
 use Rattle.run_picture.proofs.Showing.{shows_none, titles_more}
 use Rattle.run_picture.proofs.ends.put_threads.Goals as goal
 

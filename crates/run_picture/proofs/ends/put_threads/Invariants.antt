@@ -1,5 +1,5 @@
 use Rattle.std.specs.Prelude.{string_bytes}
-use Rattle.markup.specs.Trees.{Shows}
+use Rattle.run_picture.specs.Elements.{Shows}
 use Rattle.run_picture.specs.Shown.{thread_titles}
 use Rattle.run_picture.proofs.ends.put_threads.Given as goal
 

@@ -1,6 +1,6 @@
 use Rattle.std.specs.Prelude.{string_bytes}
-use Rattle.markup.proofs.Trees.{shows_group}
-use Rattle.markup.proofs.element.put_group.Goals as goal
+use Rattle.run_picture.proofs.Elements.{shows_group}
+use Rattle.run_picture.proofs.element.put_group.Goals as goal
 
 pub returns-clause-shows : goal.returns-clause-shows
 returns-clause-shows c = λ shown within.

@@ -4,9 +4,9 @@ use Rattle.std.proofs.lemmas.Grind.{flat_map-append}
 use Rattle.std.proofs.lemmas.List.{append-nil, take_more}
 use Rattle.std.proofs.lemmas.List.Concat.{flat_map-cons}
 use Rattle.std.specs.List.{flat_map}
-use Rattle.markup.specs.declared.element.Attribute.{Attribute}
-use Rattle.markup.specs.Texts.{closing, escaped, opening}
-use Rattle.markup.specs.Trees.{Draws, Markup, Shows, nothing, bytes, element, followed, label, rendered, shape, words}
+use Rattle.run_picture.specs.declared.element.Attribute.{Attribute}
+use Rattle.run_picture.specs.ElementTexts.{closing, escaped, opening}
+use Rattle.run_picture.specs.Elements.{Draws, Markup, Shows, nothing, bytes, element, followed, label, rendered, shape, words}
 
 pub rendered-followed : (m n : Markup) → rendered (followed m n) ≡ rendered m ++ rendered n
 rendered-followed nothing n = refl

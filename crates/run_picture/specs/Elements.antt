@@ -1,8 +1,8 @@
 -- Trees of elements, and their text. All of it is own.
 use Rattle.std.specs.Prelude.{◌≡◌, ℕ, ◌++◌, List, [], ◌∷◌}
 use Rattle.std.specs.List.{flat_map}
-use Rattle.markup.specs.declared.element.Attribute.{Attribute}
-use Rattle.markup.specs.Texts.{closing, escaped, opening}
+use Rattle.run_picture.specs.declared.element.Attribute.{Attribute}
+use Rattle.run_picture.specs.ElementTexts.{closing, escaped, opening}
 
 -- nothing; or bytes that are shown, and what follows them; or an element with its attributes, what is in it, and what
 -- follows it

@@ -1,6 +1,6 @@
 //! Elements of each kind, with what stands for markup in what they show.
 
-use crate::{Attribute, Value, put_group, put_label, put_shape};
+use crate::element::{Attribute, Value, put_group, put_label, put_shape};
 use std::alloc::{AllocError, Global};
 
 fn text_of(alloc: Global) -> Result<String, AllocError> {

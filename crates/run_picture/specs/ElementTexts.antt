@@ -1,9 +1,9 @@
 -- The text of elements' parts. All of it is own.
 use Rattle.std.specs.Prelude.{ℕ, Bool, ◌++◌, ◌==◌, ◌||◌, ◌&&◌, cond, List, [], ◌∷◌, codes, decimal, nat_le}
 use Rattle.std.specs.List.{flat_map}
-use Rattle.markup.specs.declared.element.Attribute.{Attribute}
-use Rattle.markup.specs.declared.element.Value.{Value}
-use Rattle.markup.specs.declared.element.Value.TheVariants.{Number, Word}
+use Rattle.run_picture.specs.declared.element.Attribute.{Attribute}
+use Rattle.run_picture.specs.declared.element.Value.{Value}
+use Rattle.run_picture.specs.declared.element.Value.TheVariants.{Number, Word}
 
 -- a line feed, or one of the bytes from space to `~`
 abbrev pub is_printable : ℕ → Bool

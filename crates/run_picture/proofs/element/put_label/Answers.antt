@@ -1,6 +1,6 @@
 use Rattle.std.specs.Prelude.{string_bytes}
-use Rattle.markup.proofs.Trees.{shows_label}
-use Rattle.markup.proofs.element.put_label.Goals as goal
+use Rattle.run_picture.proofs.Elements.{shows_label}
+use Rattle.run_picture.proofs.element.put_label.Goals as goal
 
 pub returns-clause-shows : goal.returns-clause-shows
 returns-clause-shows c =

@@ -1,8 +1,8 @@
 use Rattle.std.proofs.Common.{◌≡◌, ◌++◌, take}
 use Rattle.std.specs.Prelude.{string_bytes}
 use Rattle.std.specs.List.{flat_map}
-use Rattle.markup.specs.Texts.{escaped}
-use Rattle.markup.proofs.element.put_bytes.Given as goal
+use Rattle.run_picture.specs.ElementTexts.{escaped}
+use Rattle.run_picture.proofs.element.put_bytes.Given as goal
 
 abbrev pub invariant-loop-byte : goal.invariant-loop-byte
 invariant-loop-byte l = string_bytes l.text ≡ string_bytes l.fn.text ++ flat_map escaped (take l.byte-index l.bytes)

@@ -1,24 +1,24 @@
 //! Elements as text (own).
 ghost use Rattle.std.specs.Prelude.{◌≡◌, ℕ, ◌∷◌, ◌++◌, List, [], OnOk, codes, decimal, string_bytes};
 ghost use Rattle.std.specs.List.{flat_map};
-ghost use Rattle.markup.specs.Texts.{attribute_text, closing, escaped, opening, plain_or_number, value_text};
-ghost use Rattle.markup.specs.Trees.{Markup, Shows, element, label, rendered, shape};
+ghost use Rattle.run_picture.specs.ElementTexts.{attribute_text, closing, escaped, opening, plain_or_number, value_text};
+ghost use Rattle.run_picture.specs.Elements.{Markup, Shows, element, label, rendered, shape};
 
 use std::alloc::AllocError;
 use std::fmt::Write;
 
 /// What an attribute says.
 #[derive(Clone, Copy)]
-pub enum Value<'a> {
+pub(crate) enum Value<'a> {
     Word(&'a str),
     Number(u32),
 }
 
 /// An attribute of an element.
 #[derive(Clone, Copy)]
-pub struct Attribute<'a> {
-    pub name: &'static str,
-    pub value: Value<'a>,
+pub(crate) struct Attribute<'a> {
+    pub(crate) name: &'static str,
+    pub(crate) value: Value<'a>,
 }
 
 /// Adds a byte, or the number of one that isn't printable.
@@ -118,7 +118,7 @@ fn put_closing(text: &mut String, name: &str) -> Result<(), AllocError>
 }
 
 /// Adds an element with nothing in it (own). Refused where a growth was.
-pub fn put_shape(
+pub(crate) fn put_shape(
     text: &mut String,
     name: &str,
     attributes: &[Attribute<'_>],
@@ -134,7 +134,7 @@ pub fn put_shape(
 
 /// Adds an element that shows these bytes (own): `&`, `<`, `>` and `"` stand as their entities. What isn't printable
 /// stands as a backslash and its number. Refused where a growth was.
-pub fn put_label(
+pub(crate) fn put_label(
     text: &mut String,
     name: &str,
     attributes: &[Attribute<'_>],
@@ -151,7 +151,7 @@ pub fn put_label(
 }
 
 /// Adds an element with these elements in it, which are text already (own). Refused where a growth was.
-pub fn put_group(
+pub(crate) fn put_group(
     text: &mut String,
     name: &str,
     attributes: &[Attribute<'_>],
