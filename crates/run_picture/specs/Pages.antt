@@ -3,7 +3,6 @@ use Rattle.std.specs.Prelude.{ℕ, ◌++◌, Bool, true, false, List, [], codes,
 use Rattle.std.specs.Prelude.{String, string_bytes}
 use Rattle.std.specs.Global.{Global}
 use Rattle.std.specs.List.{flat_map}
-use Rattle.control_word.specs.declared.site.Site.{Site}
 use Rattle.control_word.specs.declared.site.Site.TheVariants.{Free, Member}
 use Rattle.run_picture.specs.Elements.{label, rendered}
 use Rattle.run_picture.specs.declared.page_head.TheConstants.{HEAD}

@@ -1,7 +1,8 @@
 //! Elements as text (own).
 ghost use Rattle.std.specs.Prelude.{◌≡◌, ℕ, ◌∷◌, ◌++◌, List, [], OnOk, codes, decimal, string_bytes};
 ghost use Rattle.std.specs.List.{flat_map};
-ghost use Rattle.run_picture.specs.ElementTexts.{attribute_text, closing, escaped, opening, plain_or_number, value_text};
+ghost use Rattle.run_picture.specs.ElementTexts.{attribute_text, closing, escaped, opening};
+ghost use Rattle.run_picture.specs.ElementTexts.{plain_or_number, value_text};
 ghost use Rattle.run_picture.specs.Elements.{Markup, Shows, element, label, rendered, shape};
 
 use std::alloc::AllocError;
