@@ -5,7 +5,8 @@ use Rattle.std.specs.Fn.{CalledAt, Mut}
 use denote.Ref.{Bor}
 use Rattle.control_block.specs.Desks.{DeskNow}
 use Rattle.pointers.specs.ListRemovals.{Judges, Retains, Sifted, Sifts, WhyNotRetained, next_if}
-use Rattle.pointers.specs.Lists.{IsMemberRefused, Site}
+use Rattle.pointers.specs.Lists.{IsMemberRefused}
+use Rattle.pointers.specs.Sites.{Site}
 use Rattle.pointers.specs.declared.fault.Fault.{Fault}
 use Rattle.pointers.specs.declared.fault.Fault.TheVariants.{Busy}
 use Rattle.pointers.specs.declared.fault.call.Call.TheVariants.{Expired}

@@ -8,13 +8,14 @@ use Rattle.control_block.specs.Desks.{DeskNow}
 use Rattle.atomic_cells.specs.declared.sites.SharedMember.{SharedMember}
 use Rattle.atomic_cells.specs.declared.sites.SharedMember.TheVariants.{First}
 use Rattle.pointers.proofs.ListSteps.{passes_on, place_passed, refused_at, refused_first, swaps_of}
-use Rattle.pointers.specs.Cells.{StoredWeakly, WhyNotDone, shared_cell_at, weak_cell_at}
-use Rattle.pointers.specs.Compares.{Compared}
+use Rattle.pointers.specs.Cells.{StoredWeaklyAt, WhyNotDoneAt, shared_cell_at, weak_cell_at}
+use Rattle.pointers.specs.Compares.{ComparedAt}
 use Rattle.pointers.specs.Faults.{WhyNoMore}
 use Rattle.pointers.specs.Known.{owned}
 use Rattle.pointers.specs.ListChanges.{AreAlike, Comes, IsPlaceOf, IsRefusedAt, Passes, Swaps}
 use Rattle.pointers.specs.ListRemovals.{IsOther}
-use Rattle.pointers.specs.Lists.{Leads, Site, behind, next_of, site}
+use Rattle.pointers.specs.Lists.{Leads, behind, next_of}
+use Rattle.pointers.specs.Sites.{Site, site}
 use Rattle.pointers.specs.declared.fault.Fault.{Fault}
 use Rattle.pointers.specs.declared.fault.call.Call.{Call}
 use Rattle.pointers.specs.declared.fault.call.Call.TheVariants.{Share}
@@ -97,7 +98,7 @@ module _ {V : Type 0} (o : DeskNow V) where
   pub unlinks : (s : Site V) (c : Known V) (m : SharedMember) (of : Option (Known V)) (which : SharedMember) (n : ℕ)
       (child node : Known V) (rest hoped new : Option (Known V)) (r : Result Bool Fault)
       → s ≡ record { of = Some c; which = m; number = 0 } → of ≡ Some c → which ≡ m → Leads o (next_of node) rest
-      → IfOk r (λ (b : Bool). Compared o of (shared_cell_at o of which n) Owner false (Some child) rest b hoped new)
+      → IfOk r (λ (b : Bool). ComparedAt o of (shared_cell_at o of which n) Owner false (Some child) rest b hoped new)
       → IfOk r (λ (b : Bool). IsTrue b → Unlinks o s child node)
   unlinks s c m of which n child node rest hoped new (Err why) here there that leads is = tt
   unlinks s c m of which n child node rest hoped new (Ok b) here there that leads is = λ did.
@@ -110,10 +111,10 @@ module _ {V : Type 0} (o : DeskNow V) where
   -- a refused call on a member of a node
   pub refused_in : (s : Site V) (c : Known V) (m : SharedMember) (of : Option (Known V)) (n : ℕ) (call : Call) (why : Fault)
       → s ≡ record { of = Some c; which = m; number = 0 } → of ≡ Some c
-      → WhyNotDone o o.shape.shared_cells of n call why → IsRefusedAt o s why
+      → WhyNotDoneAt o o.shape.shared_cells of n call why → IsRefusedAt o s why
   refused_in s c m of n call why here there not =
-      let in_node : WhyNotDone o o.shape.shared_cells (Some c) n call why =
-      subst (λ (y : Option (Known V)). WhyNotDone o o.shape.shared_cells y n call why) there not in
+      let in_node : WhyNotDoneAt o o.shape.shared_cells (Some c) n call why =
+      subst (λ (y : Option (Known V)). WhyNotDoneAt o o.shape.shared_cells y n call why) there not in
       subst (λ (y : Site V). IsRefusedAt o y why) (sym here) (call, in_node)
 
   -- the children up to the one that was passed last, none of which is the node
@@ -178,17 +179,17 @@ module _ {V : Type 0} (o : DeskNow V) where
 
   -- a pointer came into `up` of a node, or none
   pub comes_up : (node : Known V) (of up : Option (Known V)) (n : ℕ) → of ≡ Some node
-      → StoredWeakly o of (weak_cell_at o of n) up → ComesUp o node up
-  comes_up node of up n there is = subst (λ (y : Option (Known V)). StoredWeakly o y (weak_cell_at o y n) up) there is
+      → StoredWeaklyAt o of (weak_cell_at o of n) up → ComesUp o node up
+  comes_up node of up n there is = subst (λ (y : Option (Known V)). StoredWeaklyAt o y (weak_cell_at o y n) up) there is
 
   pub up_refused : (node : Known V) (of : Option (Known V)) (n : ℕ) (call : Call) (why : Fault) → of ≡ Some node
-      → WhyNotDone o o.shape.weak_cells of n call why → IsUpRefused o node why
+      → WhyNotDoneAt o o.shape.weak_cells of n call why → IsUpRefused o node why
   up_refused node of n call why there not =
-      (call, subst (λ (y : Option (Known V)). WhyNotDone o o.shape.weak_cells y n call why) there not)
+      (call, subst (λ (y : Option (Known V)). WhyNotDoneAt o o.shape.weak_cells y n call why) there not)
 
   pub leaves : {A : Type 0} (node parent : Known V) (up of : Option (Known V)) (n : ℕ) (r : Result A Fault) → HasParent o node up
       → up ≡ Some parent → LeavesChildren o parent node ⊎ IsNoChild o parent node → Comes o (next_of node) None
-      → of ≡ Some node → OnOk r (StoredWeakly o of (weak_cell_at o of n) None) → OnOk r (Detaches o node)
+      → of ≡ Some node → OnOk r (StoredWeaklyAt o of (weak_cell_at o of n) None) → OnOk r (Detaches o node)
   leaves node parent up of n (Err why) has some out next there is = tt
   leaves node parent up of n (Ok done) has some out next there is = inl (record {
     parent = parent;

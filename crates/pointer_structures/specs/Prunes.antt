@@ -3,11 +3,12 @@ use Rattle.std.specs.Prelude.{◌≡◌, ◌⊎◌, ℕ, Bool, false, not, List,
 use Rattle.control_word.specs.declared.model.handle.Kind.TheVariants.{Weak}
 use Rattle.control_block.specs.Desks.{DeskNow}
 use Rattle.shared_handle.specs.Calls.{IsExpiry}
-use Rattle.pointers.specs.Cells.{Loaded, weak_cell_at}
 use Rattle.pointers.specs.Known.{Since, owned, pointed}
 use Rattle.pointers.specs.ListChanges.{IsListRefused}
 use Rattle.pointers.specs.ListRemovals.{IsSifted, Sifted, next_if, outs}
-use Rattle.pointers.specs.Lists.{IsMemberRefused, Leads, Site}
+use Rattle.pointers.specs.Lists.{IsMemberRefused, Leads}
+use Rattle.pointers.specs.SiteCalls.{Loaded}
+use Rattle.pointers.specs.Sites.{Site, up_site}
 use Rattle.pointers.specs.declared.fault.Fault.{Fault}
 use Rattle.pointers.specs.declared.fault.Fault.TheVariants.{Busy}
 use Rattle.pointers.specs.declared.fault.call.Call.TheVariants.{Expired}
@@ -16,7 +17,7 @@ use Rattle.pointers.specs.declared.known.Known.{Known}
 module _ {V : Type 0} (o : DeskNow V) where
   -- a copy of a node's weak pointer was that
   abbrev pub Watched : Known V → Option (Known V) → Type 0
-  Watched node w = Loaded o (Some node) (weak_cell_at o (Some node) 0) Weak w
+  Watched node w = Loaded o Weak (up_site node) w
 
   -- one look told whether the subject had an owner
   abbrev pub IsAlive : Known V → Bool → Type 0

@@ -2,7 +2,8 @@
 use Rattle.std.specs.Prelude.{◌⊎◌, Option, None, Some}
 use Rattle.control_block.specs.Desks.{DeskNow}
 use Rattle.pointers.specs.ListChanges.{AreAlike, Follows, Swaps}
-use Rattle.pointers.specs.Lists.{Leads, Site, next_of}
+use Rattle.pointers.specs.Lists.{Leads, next_of}
+use Rattle.pointers.specs.Sites.{Site}
 use Rattle.pointers.specs.declared.fault.Fault.{Fault}
 use Rattle.pointers.specs.declared.known.Known.{Known}
 use Rattle.pointer_structures.specs.Refusals.{IsChainRefused, IsNextRefused}

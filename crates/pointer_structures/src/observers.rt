@@ -1,6 +1,5 @@
 //! Observers in a place, each of which watches a subject by a weak pointer.
 ghost use Rattle.std.specs.Prelude.{◌≡◌, IfErr, IfOk, OnOk};
-ghost use Rattle.pointers.specs.Beside.{seen_by};
 ghost use Rattle.pointer_structures.specs.Prunes.{IsAlive, Prunes, WhyNotPruned};
 ghost use Rattle.pointer_structures.specs.Watches.{Watches, WhyNotAttached};
 
@@ -18,7 +17,7 @@ impl<'p, 't, D: Domain> Model for Observers<'p, 't, D> {
     ghost use Rattle.control_block.specs.contracts.handles.Shared as shared_handle;
     ghost use Rattle.control_block.specs.contracts.handles.Weak as weak_handle;
     ghost use Rattle.std.specs.Coded.{codes};
-    ghost use Rattle.pointers.specs.Lists.{Site};
+    ghost use Rattle.pointers.specs.Sites.{Site};
 
     ghost Value = { Site D.Value };
 
@@ -37,7 +36,7 @@ impl<'p, 't, D: Domain> Drop for Observers<'p, 't, D> {
 impl<'p, 't, D: Domain> Observers<'p, 't, D> {
     /// The observers whose first node a place owns.
     pub fn at(place: Member<'p, 't, D>) -> Observers<'p, 't, D>
-        ensures of { result.of ≡ seen_by (λ x. x.now.known) place.entry.of }
+        ensures of { result.of ≡ place.entry.of }
         ensures place { (result.which ≡ place.entry.which) × (result.number ≡ place.entry.number) }
     {
         Observers {

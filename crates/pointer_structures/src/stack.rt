@@ -1,6 +1,5 @@
 //! A stack in a place, which threads push on and pop from without a lock.
 ghost use Rattle.std.specs.Prelude.{◌≡◌, IfErr, IfOk, IsFalse, IsSomeAnd, IsTrue, OnOk, Some};
-ghost use Rattle.pointers.specs.Beside.{seen_by};
 ghost use Rattle.pointers.specs.Faults.{WhyNoMore};
 ghost use Rattle.pointers.specs.ListChanges.{AreAlike, Comes, IsRefusedAt, Swaps};
 ghost use Rattle.pointers.specs.Lists.{Leads, next_of};
@@ -22,18 +21,13 @@ impl<'p, 't, D: Domain> Model for Stack<'p, 't, D> {
     ghost use Rattle.control_block.specs.contracts.handles.Shared as shared_handle;
     ghost use Rattle.control_block.specs.contracts.handles.Weak as weak_handle;
     ghost use Rattle.std.specs.Coded.{codes};
-    ghost use Rattle.pointers.specs.Beside.{seen_by};
-    ghost use Rattle.pointers.specs.Lists.{Site};
+    ghost use Rattle.pointers.specs.Sites.{Site};
 
     ghost Value = { Site D.Value };
 
     ghost coded = { Prim.hlevel (codes, shared_handle.the_row.coded, weak_handle.the_row.coded) };
 
-    ghost view = { λ s. record {
-      of = seen_by (λ x. x.now.known) s.place.of;
-      which = s.place.which;
-      number = s.place.number;
-    } };
+    ghost view = { λ s. s.place };
 }
 
 impl<'p, 't, D: Domain> Drop for Stack<'p, 't, D> {
@@ -46,7 +40,7 @@ impl<'p, 't, D: Domain> Drop for Stack<'p, 't, D> {
 impl<'p, 't, D: Domain> Stack<'p, 't, D> {
     /// The stack whose top a place owns.
     pub fn at(top: Member<'p, 't, D>) -> Stack<'p, 't, D>
-        ensures of { result.of ≡ seen_by (λ x. x.now.known) top.entry.of }
+        ensures of { result.of ≡ top.entry.of }
         ensures place { (result.which ≡ top.entry.which) × (result.number ≡ top.entry.number) }
     {
         Stack { place: top }

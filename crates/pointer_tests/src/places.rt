@@ -1,19 +1,16 @@
 //! What callers of cells prove with no proof file.
-ghost use Rattle.std.specs.Prelude.{◌≡◌, IfOk, OnOk, None, Some, false};
-ghost use Rattle.control_word.specs.declared.model.event.Cell.TheVariants.{Free};
+ghost use Rattle.std.specs.Prelude.{◌≡◌, IfOk, OnOk, Some, false};
 ghost use Rattle.control_word.specs.declared.model.handle.Kind.TheVariants.{Owner};
 ghost use Rattle.atomic_cells.specs.declared.sites.SharedMember.TheVariants.{First};
-ghost use Rattle.shared_handle.specs.declared.pile.Gone.{Gone};
-ghost use Rattle.pointers.specs.Cells.{Exchanged, Stored, shared_cell_at};
-ghost use Rattle.pointers.specs.Compares.{Compared};
+ghost use Rattle.pointers.specs.SiteCalls.{Compared, Exchanged, Stored};
+ghost use Rattle.pointers.specs.Sites.{free_site, member_site};
 
 use pointers::{Desk, Domain, Fault, Shared, SharedCell};
 use std::sync::Wait;
 
 /// A child is hung under its parent.
 pub fn hangs<'t, D: Domain>(parent: &Shared<'t, D>, child: Shared<'t, D>) -> Result<(), Fault>
-    ensures { OnOk result ((gone : Gone) × Stored D.opened (Some parent.now)
-        (shared_cell_at D.opened (Some parent.now) First 0) (Some child.entry) gone) }
+    ensures { OnOk result (Stored D.opened Owner (member_site parent.now First) (Some child.entry)) }
 {
     parent.first().store(Some(child))
 }
@@ -24,7 +21,7 @@ pub fn replaces<'t, D: Domain>(
     cell: SharedCell,
     new: Shared<'t, D>,
 ) -> Result<Option<Shared<'t, D>>, Fault>
-    ensures { IfOk result (Exchanged D.opened None (Free cell.0) Owner (Some new.entry)) }
+    ensures { IfOk result (Exchanged D.opened Owner (free_site cell.0) (Some new.entry)) }
 {
     desk.cell(cell).exchange(Some(new))
 }
@@ -37,7 +34,7 @@ pub fn swaps<'t, D: Domain, R: Wait>(
     expected: &mut Option<Shared<'t, D>>,
     new: &mut Option<Shared<'t, D>>,
 ) -> Result<bool, Fault>
-    ensures { IfOk result (λ swapped. Compared D.opened None (Free cell.0) Owner false expected.old new.old swapped
+    ensures { IfOk result (λ swapped. Compared D.opened Owner (free_site cell.0) false expected.old new.old swapped
         expected.new new.new) }
 {
     desk.cell(cell).compare_exchange_strong(rt, expected, new)

@@ -27,13 +27,13 @@ use Rattle.pointers.proofs.InHand.{has_beside}
 use Rattle.pointers.specs.Beside.{Arrives, IsClaimed, IsHandleOf, IsWholeBeside, Stays}
 use Rattle.pointers.specs.Cells.{
   CameTo,
-  Exchanged,
+  ExchangedAt,
   IsSharedSite,
   IsWeakSite,
-  Loaded,
+  LoadedAt,
   OwnsBlock,
-  Stored,
-  StoredWeakly,
+  StoredAt,
+  StoredWeaklyAt,
   block_by,
   place_by,
   shared_cell_of,
@@ -100,7 +100,7 @@ module _ {V : Type 0} where
   came_to h e (Some r) is = ap (λ (x : Known V). x.seen) is
 
   pub loaded : (o d e : DeskNow V) (of : Option (Known V)) (x y : Cell) (k : Kind) (h : Held) (got : Option (Known V)) → Stays o of d → y ≡ x
-      → Loads d y k (block_of h) (place_of h) e → Arrives h e got → Loaded o of x k got
+      → Loads d y k (block_of h) (place_of h) e → Arrives h e got → LoadedAt o of x k got
   loaded o d e of x y k h got stays same loads is =
       record {
         before = d;
@@ -130,7 +130,7 @@ module _ {V : Type 0} where
 
   pub exchanged : (o d e : DeskNow V) (of : Option (Known V)) (x y : Cell) (k : Kind) (h f : Held) (new got : Option (Known V)) → Stays o of d
       → Stays o new d → y ≡ x → IsHandleOf new h → Exchanges d y k (block_of h) (place_of h) (block_of f) (place_of f) e → Arrives f e got
-      → Exchanged o of x k new got
+      → ExchangedAt o of x k new got
   exchanged o d e of x y k h f new got stays pointer same given ex is =
       record {
         before = d;
@@ -145,7 +145,7 @@ module _ {V : Type 0} where
 
   pub stored : (o d e : DeskNow V) (of : Option (Known V)) (x y : Cell) (h : Held) (new : Option (Known V)) (left : Left V) (gone : Gone)
       → Stays o of d → Stays o new d → y ≡ x → IsHandleOf new h → Stores d y (block_of h) (place_of h) left e → gone ≡ gone_of left
-      → Stored o of x new gone
+      → StoredAt o of x new gone
   stored o d e of x y h new left gone stays pointer same given s told =
       record {
         before = d;
@@ -164,7 +164,7 @@ module _ {V : Type 0} where
       }
 
   pub stored_weakly : (o d e : DeskNow V) (of : Option (Known V)) (x y : Cell) (h : Held) (new : Option (Known V)) (left : Left V)
-      → Stays o of d → Stays o new d → y ≡ x → IsHandleOf new h → StoresWeakly d y (block_of h) (place_of h) left e → StoredWeakly o of x new
+      → Stays o of d → Stays o new d → y ≡ x → IsHandleOf new h → StoresWeakly d y (block_of h) (place_of h) left e → StoredWeaklyAt o of x new
   stored_weakly o d e of x y h new left stays pointer same given s =
       record {
         before = d;

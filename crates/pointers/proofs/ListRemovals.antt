@@ -8,7 +8,8 @@ use Rattle.pointers.proofs.Walks.{walks_on}
 use Rattle.pointers.specs.ListChanges.{Comes, IsPlaceOf, Passes, Swaps, Tells}
 use Rattle.pointers.specs.ListRemovals.{Differs, GoesOut, HasNot, IsFound, IsMissing, IsNotBehind, IsOther}
 use Rattle.pointers.specs.ListRemovals.{IsThatNode, TakesOut}
-use Rattle.pointers.specs.Lists.{Leads, Site, Walks, behind, next_of}
+use Rattle.pointers.specs.Lists.{Leads, Walks, behind, next_of}
+use Rattle.pointers.specs.Sites.{Site}
 
 module _ {V : Type 0} (o : DeskNow V) where
   -- a node went out of a place by a swap, or by a store

@@ -55,7 +55,8 @@ pub use Rattle.pointers.specs.Known.{AllLive, AreOfOne, block_of, desk_at, field
 pub use Rattle.pointers.specs.Known.{KeepsObject, known_now, Later, Lives, living, owned, place_of}
 pub use Rattle.pointers.specs.Known.{pointed, Since}
 pub use Rattle.pointers.specs.Leading.{AreTeams, Led, led_by, Stay}
-pub use Rattle.pointers.specs.Lists.{site, WhyEnded}
+pub use Rattle.pointers.specs.Lists.{WhyEnded}
+pub use Rattle.pointers.specs.Sites.{site}
 pub use Rattle.pointers.specs.Objects.{IsField}
 pub use Rattle.pointers.specs.Pools.{cells_from}
 pub use Rattle.pointers.specs.Programs.{Answer, EachWorked, faults_from, IsOpened, Lends}

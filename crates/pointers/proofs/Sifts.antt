@@ -9,7 +9,8 @@ use Rattle.pointers.proofs.ListSteps.{place_on, refused_node}
 use Rattle.pointers.specs.ListChanges.{IsPlaceOf}
 use Rattle.pointers.specs.ListRemovals.{IsSifted, IsUnlinked, Judges, Retains, Sifted, Sifts, WhyNotRetained}
 use Rattle.pointers.specs.ListRemovals.{next_if, number_if, outs}
-use Rattle.pointers.specs.Lists.{Leads, Site, behind}
+use Rattle.pointers.specs.Lists.{Leads, behind}
+use Rattle.pointers.specs.Sites.{Site}
 
 outs_on : {E : Type 0} → (xs : List (Sifted E)) (x : Sifted E) → outs (xs ++ (x ∷ [])) ≡ outs xs + number_if x.out
 outs_on [] x = omega arith

@@ -3,10 +3,10 @@ use Rattle.std.proofs.Common.{◌≡◌, inr, ℕ, Bool, false, true, Option, So
 use Rattle.control_word.specs.declared.model.event.Cell.{Cell}
 use Rattle.control_word.specs.declared.model.handle.Kind.TheVariants.{Owner}
 use Rattle.control_block.specs.Desks.{DeskNow}
-use Rattle.pointers.specs.Cells.{Loaded}
-use Rattle.pointers.specs.Compares.{Compared, Shows}
+use Rattle.pointers.specs.Cells.{LoadedAt}
+use Rattle.pointers.specs.Compares.{ComparedAt, Shows}
 use Rattle.pointers.specs.Faults.{WhyNotVisited}
-use Rattle.pointers.specs.Values.{WhyNoValue}
+use Rattle.pointers.specs.Values.{WhyNoValueAt}
 use Rattle.pointers.specs.declared.fault.Fault.{Fault}
 use Rattle.pointers.specs.declared.fault.call.Spot.{Spot}
 use Rattle.pointers.specs.declared.known.Known.{Known}
@@ -18,13 +18,13 @@ fault_as r why Why same is = subst (λ (s : Result _ Fault). IfErr s Why) (sym s
 -- the value of what was loaded wasn't copied
 pub why_not_copied : {V : Type 0} (o : DeskNow V) (many : ℕ) (of : Option (Known V)) (x : Cell) (n : ℕ) (at : Spot)
     (got : Option (Known V)) (c : Known V) (why : Fault)
-    → Loaded o of x Owner got → got ≡ Some c → WhyNotVisited c why → WhyNoValue o many of x n at why
+    → LoadedAt o of x Owner got → got ≡ Some c → WhyNotVisited c why → WhyNoValueAt o many of x n at why
 why_not_copied o many of x n at got c why loaded is refused =
-    inr (c, subst (λ (y : Option (Known _)). Loaded o of x Owner y) is loaded, refused)
+    inr (c, subst (λ (y : Option (Known _)). LoadedAt o of x Owner y) is loaded, refused)
 
 -- a compare that differed shows what the cell held
 pub shows_by : {V : Type 0} (o : DeskNow V) (of : Option (Known V)) (x : Cell) (weak : Bool)
     (hoped new hoped' new' : Option (Known V)) (done : Bool) → done ≡ false
-    → Compared o of x Owner weak hoped new done hoped' new' → Shows o of x hoped'
+    → ComparedAt o of x Owner weak hoped new done hoped' new' → Shows o of x hoped'
 shows_by o of x weak hoped new hoped' new' true differs is = absurd (cc differs)
 shows_by o of x weak hoped new hoped' new' false differs is = inr (weak, hoped, new, is.0)

@@ -3,7 +3,8 @@ use Rattle.std.proofs.Common.{◌≡◌, List, [], ◌∷◌, ◌++◌, Some, No
 use Rattle.std.proofs.Common.{sym, refl, subst, inl, inr, Bor}
 use Rattle.pointers.proofs.Prelude.{CalledAt, DeskNow, Fault, Known, WhyEnded}
 use Rattle.std.specs.Fn.{Mut}
-use Rattle.pointers.specs.Lists.{Answers, Ends, Leads, Site, Stops, Walks, WhyNotLed, behind}
+use Rattle.pointers.specs.Lists.{Answers, Ends, Leads, Stops, Walks, WhyNotLed, behind}
+use Rattle.pointers.specs.Sites.{Site}
 use Rattle.pointers.specs.Lists.{next_of}
 
 module _ {V E : Type 0} (o : DeskNow V) (Copied : Known V → Option E → Type 0) where

@@ -78,7 +78,7 @@ module _ {V : Type 0} where
   CameTo (Some r) e = r.seen ≡ e.seen
 
   -- since the owner came, the desk had a copy of what cell x holds, by one step on it
-  pub record Loaded (o : DeskNow V) (of : Option (Known V)) (x : Cell) (k : Kind) (got : Option (Known V)) : Type 0
+  pub record LoadedAt (o : DeskNow V) (of : Option (Known V)) (x : Cell) (k : Kind) (got : Option (Known V)) : Type 0
     where
       pub before : DeskNow V
       pub after : DeskNow V
@@ -87,12 +87,12 @@ module _ {V : Type 0} where
       pub came : CameTo got after
 
   -- since the owner and the pointer came, the desk looked whether cell x holds a pointer equivalent to this one
-  abbrev pub LookedFor : DeskNow V → Option (Known V) → Cell → Kind → Known V → Bool → Type 0
-  LookedFor o of x k mine same =
+  abbrev pub LookedForAt : DeskNow V → Option (Known V) → Cell → Kind → Known V → Bool → Type 0
+  LookedForAt o of x k mine same =
       Since o mine (λ d e. Stays o of d × TellsHeld d x k (owned mine) (pointed mine) same e)
 
   -- since the owner and the pointer came, the pointer went into the cell and what that held came out, by one step on it
-  pub record Exchanged (o : DeskNow V) (of : Option (Known V)) (x : Cell) (k : Kind) (new got : Option (Known V))
+  pub record ExchangedAt (o : DeskNow V) (of : Option (Known V)) (x : Cell) (k : Kind) (new got : Option (Known V))
       : Type 0 where
     pub before : DeskNow V
     pub after : DeskNow V
@@ -102,7 +102,7 @@ module _ {V : Type 0} where
     pub came : CameTo got after
 
   -- the same, and then what came out left
-  pub record Stored (o : DeskNow V) (of : Option (Known V)) (x : Cell) (new : Option (Known V)) (gone : Gone) : Type 0
+  pub record StoredAt (o : DeskNow V) (of : Option (Known V)) (x : Cell) (new : Option (Known V)) (gone : Gone) : Type 0
     where
       pub before : DeskNow V
       pub after : DeskNow V
@@ -112,7 +112,7 @@ module _ {V : Type 0} where
       pub stores : Stores before x (block_by new) (place_by new) left after
       pub told : gone ≡ gone_of left
 
-  pub record StoredWeakly (o : DeskNow V) (of : Option (Known V)) (x : Cell) (new : Option (Known V)) : Type 0 where
+  pub record StoredWeaklyAt (o : DeskNow V) (of : Option (Known V)) (x : Cell) (new : Option (Known V)) : Type 0 where
     pub before : DeskNow V
     pub after : DeskNow V
     pub left : Left V
@@ -151,26 +151,26 @@ module _ {V : Type 0} where
 
   -- why a call on a place wasn't done: there is no cell, or else it came within a visit, or the desk had as many
   -- handles as it may have
-  abbrev pub WhyNotDone : DeskNow V → ℕ → Option (Known V) → ℕ → Call → Fault → Type 0
-  WhyNotDone o many of n call why = WhyNoCell many of n call why ⊎ WhyNoMore o of call why
+  abbrev pub WhyNotDoneAt : DeskNow V → ℕ → Option (Known V) → ℕ → Call → Fault → Type 0
+  WhyNotDoneAt o many of n call why = WhyNoCell many of n call why ⊎ WhyNoMore o of call why
 
   -- why a look at a place wasn't done: there is no cell, or else it came within a visit
-  abbrev pub WhyNotLooked : ℕ → Option (Known V) → ℕ → Call → Fault → Type 0
-  WhyNotLooked many of n call why = WhyNoCell many of n call why ⊎ (why ≡ fault.Busy call)
+  abbrev pub WhyNotLookedAt : ℕ → Option (Known V) → ℕ → Call → Fault → Type 0
+  WhyNotLookedAt many of n call why = WhyNoCell many of n call why ⊎ (why ≡ fault.Busy call)
 
   -- since the owner came, the place held this pointer: by a load, or by a look where it was known before
-  abbrev pub Found : DeskNow V → Option (Known V) → Cell → Option (Known V) → Type 0
-  Found o of x got = Loaded o of x Owner got ⊎ ((c : Known V) × (got ≡ Some c) × LookedFor o of x Owner c true)
+  abbrev pub FoundAt : DeskNow V → Option (Known V) → Cell → Option (Known V) → Type 0
+  FoundAt o of x got = LoadedAt o of x Owner got ⊎ ((c : Known V) × (got ≡ Some c) × LookedForAt o of x Owner c true)
 
   -- why nothing was found there: neither the look nor the load was done
-  abbrev pub WhyNotFound : DeskNow V → ℕ → Option (Known V) → ℕ → Spot → Fault → Type 0
-  WhyNotFound o many of n at why = WhyNotLooked many of n (Holds at) why ⊎ WhyNotDone o many of n (Load at) why
+  abbrev pub WhyNotFoundAt : DeskNow V → ℕ → Option (Known V) → ℕ → Spot → Fault → Type 0
+  WhyNotFoundAt o many of n at why = WhyNotLookedAt many of n (Holds at) why ⊎ WhyNotDoneAt o many of n (Load at) why
 
   -- why no owner came of a place for weak pointers: there was no load, or, of what was loaded, no lock
-  abbrev pub WhyNotLocked : DeskNow V → ℕ → Option (Known V) → ℕ → Call → Fault → Type 0
-  WhyNotLocked o many of n call why =
-      WhyNotDone o many of n call why
-      ⊎ ((w : Known V) × Loaded o of (weak_cell_at o of n) Weak (Some w) × WhyNoMore o (Some w) Lock why)
+  abbrev pub WhyNotLockedAt : DeskNow V → ℕ → Option (Known V) → ℕ → Call → Fault → Type 0
+  WhyNotLockedAt o many of n call why =
+      WhyNotDoneAt o many of n call why
+      ⊎ ((w : Known V) × LoadedAt o of (weak_cell_at o of n) Weak (Some w) × WhyNoMore o (Some w) Lock why)
 
   -- what messages call the place
   abbrev pub shared_spot : Option (Known V) → SharedMember → ℕ → Spot

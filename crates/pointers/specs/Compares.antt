@@ -11,7 +11,7 @@ use Rattle.control_block.specs.CellCalls.{handle_in}
 use Rattle.control_block.specs.Desks.{DeskNow}
 use Rattle.atomic_cells.specs.Compares.{Compares}
 use Rattle.pointers.specs.Beside.{Stays}
-use Rattle.pointers.specs.Cells.{CameTo, Loaded, block_by, place_by}
+use Rattle.pointers.specs.Cells.{CameTo, LoadedAt, block_by, place_by}
 use Rattle.pointers.specs.Known.{GoesOn}
 use Rattle.pointers.specs.declared.known.Known.{Known}
 
@@ -43,7 +43,7 @@ module _ {V : Type 0} where
   -- since the owner came, cell x held that owner, as a load told, or a compare that differed
   abbrev pub Shows : DeskNow V → Option (Known V) → Cell → Option (Known V) → Type 0
   Shows o of x got =
-      Loaded o of x Owner got
+      LoadedAt o of x Owner got
       ⊎ ((weak : Bool) × (hoped : Option (Known V)) × (new : Option (Known V))
       × Finds o of x Owner weak hoped new (Some got))
 
@@ -54,8 +54,8 @@ module _ {V : Type 0} where
 
   -- the same, by what it answers: where they were swapped, nothing is desired any more, and what was expected stays;
   -- else what is expected now is the copy, and what was desired stays
-  abbrev pub Compared : DeskNow V → Option (Known V) → Cell → Kind → Bool → Option (Known V) → Option (Known V) → Bool
+  abbrev pub ComparedAt : DeskNow V → Option (Known V) → Cell → Kind → Bool → Option (Known V) → Option (Known V) → Bool
       → Option (Known V) → Option (Known V) → Type 0
-  Compared o of x k weak hoped new true hoped' new' =
+  ComparedAt o of x k weak hoped new true hoped' new' =
       Finds o of x k weak hoped new None × (hoped' ≡ hoped) × (new' ≡ None)
-  Compared o of x k weak hoped new false hoped' new' = Finds o of x k weak hoped new (Some hoped') × (new' ≡ new)
+  ComparedAt o of x k weak hoped new false hoped' new' = Finds o of x k weak hoped new (Some hoped') × (new' ≡ new)

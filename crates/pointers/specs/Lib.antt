@@ -13,6 +13,8 @@ pub mod Programs
 pub mod Teams
 pub mod Staffs
 pub mod Leading
+pub mod Sites
+pub mod SiteCalls
 pub mod Lists
 pub mod ListChanges
 pub mod ListRemovals

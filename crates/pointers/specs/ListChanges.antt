@@ -2,12 +2,13 @@
 use Rattle.std.specs.Prelude.{◌≡◌, ◌⊎◌, Bool, List, [], ◌∷◌, Option, None, Some}
 use Rattle.control_word.specs.declared.model.handle.Kind.TheVariants.{Owner}
 use Rattle.control_block.specs.Desks.{DeskNow}
-use Rattle.shared_handle.specs.declared.pile.Gone.{Gone}
-use Rattle.pointers.specs.Cells.{Stored, WhyNotDone, shared_cell_at}
+use Rattle.pointers.specs.Cells.{WhyNotDoneAt, shared_cell_at}
+use Rattle.pointers.specs.SiteCalls.{Stored}
 use Rattle.pointers.specs.Compares.{Finds, Shows}
 use Rattle.pointers.specs.Faults.{WhyNoMore, WhyNotMade}
 use Rattle.pointers.specs.Known.{AreOfOne, pointed}
-use Rattle.pointers.specs.Lists.{Leads, Site, behind, next_of}
+use Rattle.pointers.specs.Lists.{Leads, behind, next_of}
+use Rattle.pointers.specs.Sites.{Site}
 use Rattle.pointers.specs.Objects.{MakesPlain}
 use Rattle.pointers.specs.declared.fault.Fault.{Fault}
 use Rattle.pointers.specs.declared.fault.call.Call.{Call}
@@ -22,7 +23,7 @@ module _ {V : Type 0} where
 
   -- that pointer, or an empty one, came into the place, whatever it held
   abbrev pub Comes : DeskNow V → Site V → Option (Known V) → Type 0
-  Comes o s new = (gone : Gone) × Stored o s.of (shared_cell_at o s.of s.which s.number) new gone
+  Comes o s new = Stored o Owner s new
 
   -- the place, whatever it held, is empty since
   abbrev pub Empties : DeskNow V → Site V → Type 0
@@ -59,7 +60,7 @@ module _ {V : Type 0} where
 
   -- why a call on a place was refused
   abbrev pub IsRefusedAt : DeskNow V → Site V → Fault → Type 0
-  IsRefusedAt o s why = (call : Call) × WhyNotDone o o.shape.shared_cells s.of s.number call why
+  IsRefusedAt o s why = (call : Call) × WhyNotDoneAt o o.shape.shared_cells s.of s.number call why
 
 module _ {V : Type 0} (o : DeskNow V) (Refused : Known V → Fault → Type 0) where
   -- why a call on a node was refused: on its element, or one for an owner more of it

@@ -6,7 +6,8 @@ use denote.Ref.{Bor}
 use Rattle.control_block.specs.Desks.{DeskNow}
 use Rattle.pointers.specs.Known.{owned}
 use Rattle.pointers.specs.ListChanges.{Comes, IsListRefused, IsPlaceOf, Passes, Swaps, Tells}
-use Rattle.pointers.specs.Lists.{Leads, Site, Walks, next_of}
+use Rattle.pointers.specs.Lists.{Leads, Walks, next_of}
+use Rattle.pointers.specs.Sites.{Site}
 use Rattle.pointers.specs.declared.fault.Fault.{Fault}
 use Rattle.pointers.specs.declared.known.Known.{Known}
 

@@ -4,27 +4,19 @@ use Rattle.std.specs.Fn.{CalledAt, Mut}
 use denote.Ref.{Bor}
 use Rattle.control_word.specs.declared.model.handle.Kind.TheVariants.{Owner}
 use Rattle.control_block.specs.Desks.{DeskNow}
-use Rattle.atomic_cells.specs.declared.sites.SharedMember.{SharedMember}
 use Rattle.atomic_cells.specs.declared.sites.SharedMember.TheVariants.{Next}
-use Rattle.pointers.specs.Cells.{Loaded, WhyNotDone, shared_cell_at, shared_spot}
+use Rattle.pointers.specs.Cells.{WhyNotDoneAt}
+use Rattle.pointers.specs.SiteCalls.{Loaded, WhyNotDone}
+use Rattle.pointers.specs.Sites.{Site, member_site}
 use Rattle.pointers.specs.declared.fault.Fault.{Fault}
 use Rattle.pointers.specs.declared.fault.call.Call.{Call}
 use Rattle.pointers.specs.declared.fault.call.Call.TheVariants.{Load}
 use Rattle.pointers.specs.declared.known.Known.{Known}
 
--- a place for an owner: a member of what the owner is of, or a free cell by its number
-pub record Site (V : Type 0) : Type 0 where
-  pub of : Option (Known V)
-  pub which : SharedMember
-  pub number : ℕ
-
 module _ {V : Type 0} where
-  abbrev pub site : Option (Known V) → SharedMember → ℕ → Site V
-  site of which number = record { of = of; which = which; number = number }
-
   -- the place behind a node
   abbrev pub next_of : Known V → Site V
-  next_of c = record { of = Some c; which = Next; number = 0 }
+  next_of c = member_site c Next
 
   -- the same, or this one where there is no node
   abbrev pub behind : Option (Known V) → Site V → Site V
@@ -33,16 +25,15 @@ module _ {V : Type 0} where
 
   -- a load of the place gave that
   abbrev pub Leads : DeskNow V → Site V → Option (Known V) → Type 0
-  Leads o s got = Loaded o s.of (shared_cell_at o s.of s.which s.number) Owner got
+  Leads o s got = Loaded o Owner s got
 
   -- or was refused for this
   abbrev pub WhyNotLed : DeskNow V → Site V → Fault → Type 0
-  WhyNotLed o s why =
-      WhyNotDone o o.shape.shared_cells s.of s.number (Load (shared_spot s.of s.which s.number)) why
+  WhyNotLed o s why = WhyNotDone o Owner s Load why
 
   -- why a call on a member of a node was refused
   abbrev pub IsMemberRefused : DeskNow V → Known V → Fault → Type 0
-  IsMemberRefused o c why = (call : Call) × WhyNotDone o 0 (Some c) 0 call why
+  IsMemberRefused o c why = (call : Call) × WhyNotDoneAt o 0 (Some c) 0 call why
 
 -- how many elements there are
 abbrev pub somes : {E : Type 0} → List (Option E) → ℕ

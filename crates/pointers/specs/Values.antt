@@ -4,7 +4,7 @@ use Rattle.control_word.specs.declared.model.event.Cell.{Cell}
 use Rattle.control_word.specs.declared.model.handle.Kind.TheVariants.{Owner}
 use Rattle.control_block.specs.Desks.{DeskNow}
 use Rattle.shared_handle.specs.Visits.{IsVisit}
-use Rattle.pointers.specs.Cells.{Loaded, WhyNotDone, WhyNotFound}
+use Rattle.pointers.specs.Cells.{LoadedAt, WhyNotDoneAt, WhyNotFoundAt}
 use Rattle.pointers.specs.Compares.{Finds, Shows}
 use Rattle.pointers.specs.Faults.{WhyNotMade, WhyNotVisited}
 use Rattle.pointers.specs.Known.{Since, owned, pointed}
@@ -27,10 +27,10 @@ module _ {V : Type 0} where
   IsValueOf o copies (Some c) (Some v) = IsCopied o copies c v
 
   -- why no value was found at a place: no pointer was, or the value of the one that was loaded wasn't copied
-  abbrev pub WhyNoValue : DeskNow V → ℕ → Option (Known V) → Cell → ℕ → Spot → Fault → Type 0
-  WhyNoValue o many of x n at why =
-      WhyNotFound o many of n at why
-      ⊎ ((c : Known V) × Loaded o of x Owner (Some c) × WhyNotVisited c why)
+  abbrev pub WhyNoValueAt : DeskNow V → ℕ → Option (Known V) → Cell → ℕ → Spot → Fault → Type 0
+  WhyNoValueAt o many of x n at why =
+      WhyNotFoundAt o many of n at why
+      ⊎ ((c : Known V) × LoadedAt o of x Owner (Some c) × WhyNotVisited c why)
 
   -- an owner of a new object, of what there is a value for, and none where there is none
   abbrev pub IsNewOf : DeskNow V → Option V → Option (Known V) → Type 0
@@ -41,7 +41,7 @@ module _ {V : Type 0} where
 
   -- since the owner came, one step on cell x found a pointer, and put in its place a new object's, or an empty one, by
   -- what was answered of a copy of the value of what was found
-  pub record IsUpdated (o : DeskNow V) (copies : V → V → Type 0) (of : Option (Known V)) (x : Cell)
+  pub record IsUpdatedAt (o : DeskNow V) (copies : V → V → Type 0) (of : Option (Known V)) (x : Cell)
       (Answers : Option V → Result (Option V) Fault → Type 0) : Type 0 where
     pub found : Option (Known V)
     pub made : Option (Known V)
@@ -60,10 +60,10 @@ module _ {V : Type 0} where
 
   -- why it wasn't: no load was done, no copy was made of the value of what the cell held, the answer was so, or no
   -- object was made of it, or no compare was done
-  abbrev pub WhyNotUpdated : DeskNow V → ℕ → Option (Known V) → Cell → ℕ → Spot
+  abbrev pub WhyNotUpdatedAt : DeskNow V → ℕ → Option (Known V) → Cell → ℕ → Spot
       → (Option V → Result (Option V) Fault → Type 0) → Fault → Type 0
-  WhyNotUpdated o many of x n at Answers why =
-      WhyNotDone o many of n (Load at) why
+  WhyNotUpdatedAt o many of x n at Answers why =
+      WhyNotDoneAt o many of n (Load at) why
       ⊎ (IsNotVisited o of x why
       ⊎ (((old : Option V) × Answers old (Err why))
-      ⊎ (WhyNotMade why ⊎ WhyNotDone o many of n (CompareExchange at) why)))
+      ⊎ (WhyNotMade why ⊎ WhyNotDoneAt o many of n (CompareExchange at) why)))

@@ -1,15 +1,10 @@
 //! A list of pointers in an object: a chain of nodes, each with one element.
 ghost use Rattle.std.specs.Prelude.{◌≡◌};
-ghost use Rattle.pointers.specs.Beside.{seen_by};
-ghost use Rattle.pointers.specs.Lists.{site};
 
 use crate::cells::member::Member;
-use crate::claim::shared_claim::SharedClaim;
-use crate::desk::Desk;
 use crate::domain::Domain;
 use crate::shared::Shared;
 use crate::weak::Weak;
-use atomic_cells::SharedMember;
 use std::marker::{Model, PhantomData};
 
 pub mod element;
@@ -26,13 +21,8 @@ mod walks;
 /// time; but where no thread makes another of them, each may take elements from the front. A walk needs three pointers
 /// at a time more than its caller has, a removal four.
 pub struct List<'p, 't, D: Domain, E> {
-    pub(crate) desk: &'t Desk<'t, D>,
-    /// The owner whose object's member has the first node.
-    of: Option<&'p SharedClaim<D>>,
-    /// Which member.
-    which: SharedMember,
-    /// The number of a free cell that has it.
-    number: u32,
+    /// The place that owns its first node.
+    head: Member<'p, 't, D>,
     element: PhantomData<E>,
 }
 
@@ -40,24 +30,20 @@ impl<'p, 't, D: Domain, E> Model for List<'p, 't, D, E> {
     ghost use Rattle.control_block.specs.contracts.handles.Shared as shared_handle;
     ghost use Rattle.control_block.specs.contracts.handles.Weak as weak_handle;
     ghost use Rattle.std.specs.Coded.{codes};
-    ghost use Rattle.pointers.specs.Beside.{seen_by};
-    ghost use Rattle.pointers.specs.Lists.{Site, site};
+    ghost use Rattle.pointers.specs.Sites.{Site};
 
     ghost Value = { Site D.Value };
 
     ghost coded = { Prim.hlevel (codes, shared_handle.the_row.coded, weak_handle.the_row.coded) };
 
-    ghost view = { λ l. site (seen_by (λ x. x.now.known) l.of) l.which l.number };
+    ghost view = { λ l. l.head };
 }
 
 impl<'p, 't, D: Domain, E> Drop for List<'p, 't, D, E> {
     #[inline(always)]
     fn drop(self) {
         let Self {
-            desk: _,
-            of: _,
-            which: _,
-            number: _,
+            head: _,
             element: _,
         } = self;
     }
@@ -67,28 +53,11 @@ impl<'p, 't, D: Domain, E> List<'p, 't, D, E> {
     /// The list in a place.
     #[inline(always)]
     fn at(place: Member<'p, 't, D>) -> List<'p, 't, D, E>
-        ensures of { result.of ≡ seen_by (λ x. x.now.known) place.entry.of }
-        ensures place { (result.which ≡ place.entry.which) × (result.number ≡ place.entry.number) }
+        ensures { result ≡ place.entry }
     {
         List {
-            desk: place.desk,
-            of: place.of,
-            which: place.which,
-            number: place.number,
+            head: place,
             element: PhantomData,
-        }
-    }
-
-    /// The place that owns its first node.
-    #[inline(always)]
-    pub(crate) fn head(&self) -> Member<'p, 't, D>
-        ensures { site (seen_by (λ x. x.now.known) result.of) result.which result.number ≡ self.now }
-    {
-        Member {
-            desk: self.desk,
-            of: self.of,
-            which: self.which,
-            number: self.number,
         }
     }
 }
@@ -97,8 +66,7 @@ impl<'p, 't, D: Domain> Member<'p, 't, D> {
     /// The list of owners whose first node it owns.
     #[inline(always)]
     pub fn list(self) -> List<'p, 't, D, Shared<'t, D>>
-        ensures of { result.of ≡ seen_by (λ x. x.now.known) self.entry.of }
-        ensures place { (result.which ≡ self.entry.which) × (result.number ≡ self.entry.number) }
+        ensures { result ≡ self.entry }
     {
         List::at(self)
     }
@@ -106,8 +74,7 @@ impl<'p, 't, D: Domain> Member<'p, 't, D> {
     /// The list of weak pointers whose first node it owns.
     #[inline(always)]
     pub fn weak_list(self) -> List<'p, 't, D, Weak<'t, D>>
-        ensures of { result.of ≡ seen_by (λ x. x.now.known) self.entry.of }
-        ensures place { (result.which ≡ self.entry.which) × (result.number ≡ self.entry.number) }
+        ensures { result ≡ self.entry }
     {
         List::at(self)
     }

@@ -3,14 +3,15 @@ ghost use Rattle.std.specs.Prelude.{IfErr, IfOk, None, Option, Some, false};
 ghost use Rattle.control_word.specs.declared.model.handle.Kind.TheVariants as kind;
 ghost use Rattle.control_word.specs.declared.model.handle.Kind.TheVariants.{Owner};
 ghost use Rattle.atomic_cells.specs.declared.sites.SharedMember.TheVariants.{First};
-ghost use Rattle.pointers.specs.Cells.{Exchanged, IsOwnerOf, Loaded, shared_cell_at, weak_cell_at};
-ghost use Rattle.pointers.specs.Compares.{Compared};
 ghost use Rattle.pointers.specs.Lists.{Leads, next_of};
 ghost use Rattle.pointers.specs.Objects.{IsField};
 ghost use Rattle.pointers.specs.declared.known.Known.{Known};
 ghost use Rattle.shared_map.specs.Maps.{InsertsIn, LocksIn, Replaces};
 ghost use Rattle.shared_map.specs.Refusals.{WhyNotFound};
 ghost use Rattle.shared_map.specs.Sweeps.{IsExpired, Prunes, TakesWeak};
+ghost use Rattle.pointers.specs.Cells.{IsOwnerOf};
+ghost use Rattle.pointers.specs.SiteCalls.{Compared, Exchanged, Loaded};
+ghost use Rattle.pointers.specs.Sites.{member_site, up_site};
 
 use pointers::{Domain, Fault, Shared, Weak};
 use std::sync::Wait;
@@ -71,7 +72,7 @@ pub(crate) fn get<'t, D: Domain, R: Wait>(
     entry: &Shared<'t, D>,
 ) -> Result<Option<Shared<'t, D>>, Fault>
     ensures done { IfOk result
-        (Loaded D.opened (Some entry.now) (shared_cell_at D.opened (Some entry.now) First 0) Owner) }
+        (Loaded D.opened Owner (member_site entry.now First)) }
     ensures refused { IfErr result WhyNotFound }
 {
     entry.first().load(rt)
@@ -84,7 +85,7 @@ pub(crate) fn exchange<'t, D: Domain>(
     new: Option<Shared<'t, D>>,
 ) -> Result<Option<Shared<'t, D>>, Fault>
     ensures done { IfOk result
-        (Exchanged D.opened (Some entry.now) (shared_cell_at D.opened (Some entry.now) First 0) Owner new.entry) }
+        (Exchanged D.opened Owner (member_site entry.now First) new.entry) }
     ensures refused { IfErr result WhyNotFound }
 {
     entry.first().exchange(new)
@@ -113,7 +114,7 @@ pub(crate) fn get_weak<'t, D: Domain, R: Wait>(
     entry: &Shared<'t, D>,
 ) -> Result<Option<Weak<'t, D>>, Fault>
     ensures done { IfOk result
-        (Loaded D.opened (Some entry.now) (weak_cell_at D.opened (Some entry.now) 0) kind.Weak) }
+        (Loaded D.opened kind.Weak (up_site entry.now)) }
     ensures refused { IfErr result WhyNotFound }
 {
     entry.up().load(rt)
@@ -126,7 +127,7 @@ pub(crate) fn exchange_weak<'t, D: Domain>(
     new: Option<Weak<'t, D>>,
 ) -> Result<Option<Weak<'t, D>>, Fault>
     ensures done { IfOk result
-        (Exchanged D.opened (Some entry.now) (weak_cell_at D.opened (Some entry.now) 0) kind.Weak new.entry) }
+        (Exchanged D.opened kind.Weak (up_site entry.now) new.entry) }
     ensures refused { IfErr result WhyNotFound }
 {
     entry.up().exchange(new)
@@ -163,8 +164,8 @@ pub(crate) fn take<'t, D: Domain, R: Wait>(
     entry: &Shared<'t, D>,
     held: Shared<'t, D>,
 ) -> Result<bool, Fault>
-    ensures done { IfOk result (λ b. (after : Option (Known D.Value)) × Compared D.opened (Some entry.now)
-        (shared_cell_at D.opened (Some entry.now) First 0) Owner false (Some held.entry) None b after None) }
+    ensures done { IfOk result (λ b. (after : Option (Known D.Value))
+        × Compared D.opened Owner (member_site entry.now First) false (Some held.entry) None b after None) }
     ensures refused { IfErr result WhyNotFound }
 {
     let mut held = Some(held);

@@ -1,8 +1,7 @@
 //! Objects of a map.
 ghost use Rattle.std.specs.Prelude.{IfErr, IfOk, Some};
 ghost use Rattle.control_word.specs.declared.model.handle.Kind.TheVariants.{Owner};
-ghost use Rattle.pointers.specs.Beside.{seen_by};
-ghost use Rattle.pointers.specs.Cells.{Loaded, shared_cell_at};
+ghost use Rattle.pointers.specs.SiteCalls.{Loaded};
 ghost use Rattle.shared_map.specs.Refusals.{WhyNoNode};
 
 use pointers::{Desk, Domain, Fault, Member, Shared};
@@ -18,10 +17,8 @@ pub(crate) fn node_in<'t, D: Domain, R: Wait>(
 ) -> Result<Shared<'t, D>, Fault>
 where
     D::Value: Default,
-    ensures loaded { IfOk result (λ r. Loaded D.opened (seen_by (λ x. x.now.known) place.now.of)
-        (shared_cell_at D.opened (seen_by (λ x. x.now.known) place.now.of) place.now.which place.now.number)
-        Owner (Some r)) }
-    ensures refused { IfErr result (WhyNoNode (seen_by (λ x. x.now.known) place.now.of)) }
+    ensures loaded { IfOk result (λ r. Loaded D.opened Owner place.now (Some r)) }
+    ensures refused { IfErr result (WhyNoNode place.now.of) }
 {
     for _ in rt.forever() {
         if let Some(node) = place.load(rt)? {

@@ -2,9 +2,9 @@
 ghost use Rattle.std.specs.Prelude.{◌≡◌, true, IfErr, IfOk, None, OnOk, Some};
 ghost use Rattle.control_word.specs.declared.model.handle.Kind.TheVariants.{Owner};
 ghost use Rattle.pointers.specs.Beside.{seen_by};
-ghost use Rattle.pointers.specs.Cells.{Found, LookedFor, WhyNotFound, WhyNotLooked, shared_cell_at, shared_spot};
-ghost use Rattle.pointers.specs.declared.fault.call.Call.TheVariants.{Holds};
 ghost use Rattle.pointers.specs.declared.known.Known.{Known};
+ghost use Rattle.pointers.specs.declared.fault.call.Call.TheVariants.{Holds};
+ghost use Rattle.pointers.specs.SiteCalls.{Found, LookedFor, WhyNotFound, WhyNotLooked};
 
 use crate::cells::member::Member;
 use crate::domain::Domain;
@@ -32,8 +32,7 @@ impl<'p, 't, D: Domain> Member<'p, 't, D> {
     /// The place, to be read again and again. Nothing is looked at yet.
     #[inline(always)]
     pub fn cached(self) -> Cached<'p, 't, D>
-        ensures of { seen_by (λ x. x.now.known) result.place.of ≡ seen_by (λ x. x.now.known) self.entry.of }
-        ensures which { (result.place.which ≡ self.entry.which) × (result.place.number ≡ self.entry.number) }
+        ensures place { result.place ≡ self.entry }
         ensures none { result.found ≡ None }
     {
         Cached {
@@ -48,13 +47,8 @@ impl<'p, 't, D: Domain> Cached<'p, 't, D> {
     /// else a copy of what is there, by a load. None where that is empty. At a fault what was found last stays.
     #[inline(always)]
     pub fn get<R: Wait>(&mut self, rt: &R) -> Result<Option<&Shared<'t, D>>, Fault>
-        ensures found { IfOk result (λ r. Found D.opened (seen_by (λ x. x.now.known) self.old.place.of)
-            (shared_cell_at D.opened (seen_by (λ x. x.now.known) self.old.place.of)
-            self.old.place.which self.old.place.number) (seen_by (λ x. x.now) r)) }
-        ensures refused { IfErr result (WhyNotFound D.opened D.opened.shape.shared_cells
-            (seen_by (λ x. x.now.known) self.old.place.of) self.old.place.number
-            (shared_spot (seen_by (λ x. x.now.known) self.old.place.of) self.old.place.which
-            self.old.place.number)) }
+        ensures found { IfOk result (λ r. Found D.opened self.old.place (seen_by (λ x. x.now) r)) }
+        ensures refused { IfErr result (WhyNotFound D.opened self.old.place) }
     {
         self.look(rt)?;
         Ok(self.found())
@@ -63,15 +57,10 @@ impl<'p, 't, D: Domain> Cached<'p, 't, D> {
     /// The same, for a caller that reads it by `found`.
     #[inline(always)]
     pub fn look<R: Wait>(&mut self, rt: &R) -> Result<(), Fault>
-        ensures found { OnOk result (Found D.opened (seen_by (λ x. x.now.known) self.old.place.of)
-            (shared_cell_at D.opened (seen_by (λ x. x.now.known) self.old.place.of)
-            self.old.place.which self.old.place.number) self.new.found) }
+        ensures found { OnOk result (Found D.opened self.old.place self.new.found) }
         ensures stays { IfErr result (λ _. self.new.found ≡ self.old.found) }
         ensures place { self.new.place ≡ self.old.place }
-        ensures refused { IfErr result (WhyNotFound D.opened D.opened.shape.shared_cells
-            (seen_by (λ x. x.now.known) self.old.place.of) self.old.place.number
-            (shared_spot (seen_by (λ x. x.now.known) self.old.place.of) self.old.place.which
-            self.old.place.number)) }
+        ensures refused { IfErr result (WhyNotFound D.opened self.old.place) }
     {
         if self.holds_still()? {
             return Ok(());
@@ -92,14 +81,8 @@ impl<'p, 't, D: Domain> Cached<'p, 't, D> {
     #[inline(always)]
     fn holds_still(&self) -> Result<bool, Fault>
         ensures found { IfOk result (λ same. same ≡ true → (c : Known D.Value) × (self.now.found ≡ Some c)
-            × LookedFor D.opened (seen_by (λ x. x.now.known) self.now.place.of)
-            (shared_cell_at D.opened (seen_by (λ x. x.now.known) self.now.place.of)
-            self.now.place.which self.now.place.number) Owner c true) }
-        ensures refused { IfErr result
-            (WhyNotLooked D.opened.shape.shared_cells (seen_by (λ x. x.now.known) self.now.place.of)
-            self.now.place.number (Holds
-            (shared_spot (seen_by (λ x. x.now.known) self.now.place.of) self.now.place.which
-            self.now.place.number))) }
+            × LookedFor D.opened Owner self.now.place c true) }
+        ensures refused { IfErr result (WhyNotLooked D.opened Owner self.now.place Holds) }
     {
         match &self.found {
             Some(found) => self.place.holds(found),

@@ -2,10 +2,10 @@
 ghost use Rattle.std.specs.Prelude.{◌≡◌, true, IfErr, IfOk, None, OnOk, Option, Some};
 ghost use Rattle.control_word.specs.declared.model.handle.Kind.TheVariants.{Owner};
 ghost use Rattle.pointers.specs.Beside.{seen_by};
-ghost use Rattle.pointers.specs.Cells.{Found, Loaded, LookedFor, WhyNotLooked, shared_cell_at, shared_spot};
-ghost use Rattle.pointers.specs.Values.{IsCopied, IsValueOf, WhyNoValue};
-ghost use Rattle.pointers.specs.declared.fault.call.Call.TheVariants.{Holds};
+ghost use Rattle.pointers.specs.Values.{IsCopied, IsValueOf};
 ghost use Rattle.pointers.specs.declared.known.Known.{Known};
+ghost use Rattle.pointers.specs.declared.fault.call.Call.TheVariants.{Holds};
+ghost use Rattle.pointers.specs.SiteCalls.{Found, Loaded, LookedFor, WhyNoValue, WhyNotLooked};
 
 use crate::cells::member::Member;
 use crate::domain::Domain;
@@ -65,8 +65,7 @@ where
     /// The place, whose value is to be read again and again. Nothing is looked at yet.
     #[inline(always)]
     pub fn cached_value(self) -> CachedValue<'p, 't, D>
-        ensures of { seen_by (λ x. x.now.known) result.place.of ≡ seen_by (λ x. x.now.known) self.entry.of }
-        ensures which { (result.place.which ≡ self.entry.which) × (result.place.number ≡ self.entry.number) }
+        ensures place { result.place ≡ self.entry }
         ensures none { result.kept ≡ None }
     {
         CachedValue {
@@ -86,16 +85,9 @@ where
     #[inline(always)]
     pub fn get<R: Wait>(&mut self, rt: &R) -> Result<Option<&D::Value>, Fault>
         ensures found { IfOk result (λ r. (c : Option (Known D.Value))
-            × Found D.opened (seen_by (λ x. x.now.known) self.old.place.of)
-            (shared_cell_at D.opened (seen_by (λ x. x.now.known) self.old.place.of)
-            self.old.place.which self.old.place.number) c
+            × Found D.opened self.old.place c
             × ∥ IsValueOf D.opened D.Value.is_clone c (seen_by (λ x. x.now) r) ∥₁) }
-        ensures refused { IfErr result (WhyNoValue D.opened D.opened.shape.shared_cells
-            (seen_by (λ x. x.now.known) self.old.place.of)
-            (shared_cell_at D.opened (seen_by (λ x. x.now.known) self.old.place.of)
-            self.old.place.which self.old.place.number) self.old.place.number
-            (shared_spot (seen_by (λ x. x.now.known) self.old.place.of) self.old.place.which
-            self.old.place.number)) }
+        ensures refused { IfErr result (WhyNoValue D.opened self.old.place) }
     {
         self.look(rt)?;
         Ok(self.value())
@@ -104,17 +96,10 @@ where
     /// The same, for a caller that reads it by `value`.
     #[inline(always)]
     pub fn look<R: Wait>(&mut self, rt: &R) -> Result<(), Fault>
-        ensures found { OnOk result (Found D.opened (seen_by (λ x. x.now.known) self.old.place.of)
-            (shared_cell_at D.opened (seen_by (λ x. x.now.known) self.old.place.of)
-            self.old.place.which self.old.place.number) (seen_by (λ k. k.owner) self.new.kept)) }
+        ensures found { OnOk result (Found D.opened self.old.place (seen_by (λ k. k.owner) self.new.kept)) }
         ensures stays { IfErr result (λ _. self.new.kept ≡ self.old.kept) }
         ensures place { self.new.place ≡ self.old.place }
-        ensures refused { IfErr result (WhyNoValue D.opened D.opened.shape.shared_cells
-            (seen_by (λ x. x.now.known) self.old.place.of)
-            (shared_cell_at D.opened (seen_by (λ x. x.now.known) self.old.place.of)
-            self.old.place.which self.old.place.number) self.old.place.number
-            (shared_spot (seen_by (λ x. x.now.known) self.old.place.of) self.old.place.which
-            self.old.place.number)) }
+        ensures refused { IfErr result (WhyNoValue D.opened self.old.place) }
     {
         if self.holds_still()? {
             return Ok(());
@@ -152,14 +137,8 @@ where
     fn holds_still(&self) -> Result<bool, Fault>
         ensures found { IfOk result (λ same. same ≡ true → (c : Known D.Value)
             × (seen_by (λ k. k.owner) self.now.kept ≡ Some c)
-            × LookedFor D.opened (seen_by (λ x. x.now.known) self.now.place.of)
-            (shared_cell_at D.opened (seen_by (λ x. x.now.known) self.now.place.of)
-            self.now.place.which self.now.place.number) Owner c true) }
-        ensures refused { IfErr result
-            (WhyNotLooked D.opened.shape.shared_cells (seen_by (λ x. x.now.known) self.now.place.of)
-            self.now.place.number (Holds
-            (shared_spot (seen_by (λ x. x.now.known) self.now.place.of) self.now.place.which
-            self.now.place.number))) }
+            × LookedFor D.opened Owner self.now.place c true) }
+        ensures refused { IfErr result (WhyNotLooked D.opened Owner self.now.place Holds) }
     {
         match &self.kept {
             Some(kept) => self.place.holds(&kept.owner),
@@ -171,15 +150,8 @@ where
     #[cold]
     #[inline(never)]
     fn take<R: Wait>(&self, rt: &R) -> Result<Option<Kept<'t, D>>, Fault>
-        ensures loaded { IfOk result (λ r. Loaded D.opened (seen_by (λ x. x.now.known) self.now.place.of)
-            (shared_cell_at D.opened (seen_by (λ x. x.now.known) self.now.place.of)
-            self.now.place.which self.now.place.number) Owner (seen_by (λ k. k.owner) r)) }
-        ensures refused { IfErr result (WhyNoValue D.opened D.opened.shape.shared_cells
-            (seen_by (λ x. x.now.known) self.now.place.of)
-            (shared_cell_at D.opened (seen_by (λ x. x.now.known) self.now.place.of)
-            self.now.place.which self.now.place.number) self.now.place.number
-            (shared_spot (seen_by (λ x. x.now.known) self.now.place.of) self.now.place.which
-            self.now.place.number)) }
+        ensures loaded { IfOk result (λ r. Loaded D.opened Owner self.now.place (seen_by (λ k. k.owner) r)) }
+        ensures refused { IfErr result (WhyNoValue D.opened self.now.place) }
     {
         let Some(owner) = self.place.load(rt)? else {
             return Ok(None);

@@ -2,10 +2,11 @@
 ghost use Rattle.std.specs.Prelude.{◌≡◌, true, false, IfErr, IfOk, IfSome, Some};
 ghost use Rattle.control_word.specs.declared.model.handle.Kind.TheVariants.{Owner};
 ghost use Rattle.pointers.specs.Beside.{IsEmptyHandle, seen_by};
-ghost use Rattle.pointers.specs.Cells.{IsSharedSite, WhyNotDone, shared_cell_at, shared_cell_of};
-ghost use Rattle.pointers.specs.Cells.{shared_spot};
-ghost use Rattle.pointers.specs.Compares.{Compared, Finds, desired_after};
+ghost use Rattle.pointers.specs.Claims.{known_by};
+ghost use Rattle.pointers.specs.Compares.{Finds, desired_after};
 ghost use Rattle.pointers.specs.Faults.{WhyNoMore};
+ghost use Rattle.pointers.specs.Cells.{IsSharedSite, shared_cell_of};
+ghost use Rattle.pointers.specs.SiteCalls.{Compared, WhyNotDone};
 
 use crate::cells::member::Member;
 use crate::claim::shared_claim::SharedClaim;
@@ -25,7 +26,7 @@ impl<'d, D: Domain> Desk<'d, D> {
     #[inline(always)]
     fn empty_owner(&self, call: Call, of: Option<&SharedClaim<D>>) -> Result<Shared<'_, D>, Fault>
         ensures empty { IfOk result (λ r. IsEmptyHandle r.handle) }
-        ensures refused { IfErr result (WhyNoMore D.opened (seen_by (λ x. x.now.known) of.entry) call) }
+        ensures refused { IfErr result (WhyNoMore D.opened (known_by of.entry) call) }
     {
         match self.open(call)?.empty_owner(self.domain, of) {
             Ok(owner) => Ok(Shared { desk: self, owner }),
@@ -42,14 +43,13 @@ impl<'d, D: Domain> Desk<'d, D> {
         hoped: &Shared<'t, D>,
         new: Shared<'t, D>,
     ) -> Result<Option<Differs<Shared<'t, D>>>, Refused<Shared<'t, D>>>
-        requires { IsSharedSite D.opened how.now.at.site (seen_by (λ x. x.now.known) how.now.of) }
-        ensures compared { IfOk result (λ r. Finds D.opened (seen_by (λ x. x.now.known) how.now.of)
-            (shared_cell_of D.opened (seen_by (λ x. x.now.known) how.now.of) how.now.at.site) Owner how.now.weak
+        requires { IsSharedSite D.opened how.now.at.site (known_by how.now.of) }
+        ensures compared { IfOk result (λ r. Finds D.opened (known_by how.now.of)
+            (shared_cell_of D.opened (known_by how.now.of) how.now.at.site) Owner how.now.weak
             (Some hoped.now) (Some new.entry) (seen_by (λ d. d.held) r)) }
         ensures stays { IfOk result (λ r. IfSome r (λ d. d.desired ≡ new.entry)) }
         ensures back { IfErr result (λ r. r.back ≡ new.entry) }
-        ensures refused { IfErr result
-            (λ r. WhyNoMore D.opened (seen_by (λ x. x.now.known) how.now.of) how.now.call r.why) }
+        ensures refused { IfErr result (λ r. WhyNoMore D.opened (known_by how.now.of) how.now.call r.why) }
     {
         let mut context = match self.open(how.call) {
             Ok(context) => context,
@@ -93,14 +93,13 @@ impl<'d, D: Domain> Desk<'d, D> {
         hoped: &Shared<'t, D>,
         desired: &mut Option<Shared<'t, D>>,
     ) -> Result<Option<Option<Shared<'t, D>>>, Fault>
-        requires { IsSharedSite D.opened how.now.at.site (seen_by (λ x. x.now.known) how.now.of) }
-        ensures compared { IfOk result (Finds D.opened (seen_by (λ x. x.now.known) how.now.of)
-            (shared_cell_of D.opened (seen_by (λ x. x.now.known) how.now.of) how.now.at.site) Owner how.now.weak
+        requires { IsSharedSite D.opened how.now.at.site (known_by how.now.of) }
+        ensures compared { IfOk result (Finds D.opened (known_by how.now.of)
+            (shared_cell_of D.opened (known_by how.now.of) how.now.at.site) Owner how.now.weak
             (Some hoped.now) desired.old) }
         ensures stays { IfOk result (λ found. desired.new ≡ desired_after found desired.old) }
         ensures stay { IfErr result (λ _. desired.new ≡ desired.old) }
-        ensures refused { IfErr result
-            (WhyNoMore D.opened (seen_by (λ x. x.now.known) how.now.of) how.now.call) }
+        ensures refused { IfErr result (WhyNoMore D.opened (known_by how.now.of) how.now.call) }
     {
         match desired.take() {
             Some(new) => match self.compare_both(rt, how, hoped, new) {
@@ -145,14 +144,13 @@ impl<'d, D: Domain> Desk<'d, D> {
         expected: &Option<Shared<'t, D>>,
         desired: &mut Option<Shared<'t, D>>,
     ) -> Result<Option<Option<Shared<'t, D>>>, Fault>
-        requires { IsSharedSite D.opened how.now.at.site (seen_by (λ x. x.now.known) how.now.of) }
-        ensures compared { IfOk result (Finds D.opened (seen_by (λ x. x.now.known) how.now.of)
-            (shared_cell_of D.opened (seen_by (λ x. x.now.known) how.now.of) how.now.at.site) Owner how.now.weak
+        requires { IsSharedSite D.opened how.now.at.site (known_by how.now.of) }
+        ensures compared { IfOk result (Finds D.opened (known_by how.now.of)
+            (shared_cell_of D.opened (known_by how.now.of) how.now.at.site) Owner how.now.weak
             expected.now desired.old) }
         ensures stays { IfOk result (λ found. desired.new ≡ desired_after found desired.old) }
         ensures stay { IfErr result (λ _. desired.new ≡ desired.old) }
-        ensures refused { IfErr result
-            (WhyNoMore D.opened (seen_by (λ x. x.now.known) how.now.of) how.now.call) }
+        ensures refused { IfErr result (WhyNoMore D.opened (known_by how.now.of) how.now.call) }
     {
         match expected {
             Some(hoped) => self.compare_with(rt, how, hoped, desired),
@@ -175,13 +173,9 @@ impl<'p, 't, D: Domain> Member<'p, 't, D> {
         expected: &mut Option<Shared<'t, D>>,
         desired: &mut Option<Shared<'t, D>>,
     ) -> Result<bool, Fault>
-        ensures compared { IfOk result (λ swapped. Compared D.opened (seen_by (λ x. x.now.known) self.now.of)
-            (shared_cell_at D.opened (seen_by (λ x. x.now.known) self.now.of)
-            self.now.which self.now.number) Owner false expected.old desired.old swapped expected.new desired.new) }
-        ensures refused { IfErr result
-            (WhyNotDone D.opened D.opened.shape.shared_cells (seen_by (λ x. x.now.known) self.now.of)
-            self.now.number (Call.CompareExchange
-            (shared_spot (seen_by (λ x. x.now.known) self.now.of) self.now.which self.now.number))) }
+        ensures compared { IfOk result (λ swapped. Compared D.opened Owner self.now false expected.old desired.old
+            swapped expected.new desired.new) }
+        ensures refused { IfErr result (WhyNotDone D.opened Owner self.now Call.CompareExchange) }
         ensures stay { IfErr result (λ _. (expected.new ≡ expected.old) × (desired.new ≡ desired.old)) }
     {
         self.compare(rt, false, expected, desired)
@@ -195,13 +189,9 @@ impl<'p, 't, D: Domain> Member<'p, 't, D> {
         expected: &mut Option<Shared<'t, D>>,
         desired: &mut Option<Shared<'t, D>>,
     ) -> Result<bool, Fault>
-        ensures compared { IfOk result (λ swapped. Compared D.opened (seen_by (λ x. x.now.known) self.now.of)
-            (shared_cell_at D.opened (seen_by (λ x. x.now.known) self.now.of)
-            self.now.which self.now.number) Owner true expected.old desired.old swapped expected.new desired.new) }
-        ensures refused { IfErr result
-            (WhyNotDone D.opened D.opened.shape.shared_cells (seen_by (λ x. x.now.known) self.now.of)
-            self.now.number (Call.CompareExchange
-            (shared_spot (seen_by (λ x. x.now.known) self.now.of) self.now.which self.now.number))) }
+        ensures compared { IfOk result (λ swapped. Compared D.opened Owner self.now true expected.old desired.old
+            swapped expected.new desired.new) }
+        ensures refused { IfErr result (WhyNotDone D.opened Owner self.now Call.CompareExchange) }
         ensures stay { IfErr result (λ _. (expected.new ≡ expected.old) × (desired.new ≡ desired.old)) }
     {
         self.compare(rt, true, expected, desired)
@@ -215,13 +205,9 @@ impl<'p, 't, D: Domain> Member<'p, 't, D> {
         expected: &mut Option<Shared<'t, D>>,
         desired: &mut Option<Shared<'t, D>>,
     ) -> Result<bool, Fault>
-        ensures compared { IfOk result (λ swapped. Compared D.opened (seen_by (λ x. x.now.known) self.now.of)
-            (shared_cell_at D.opened (seen_by (λ x. x.now.known) self.now.of)
-            self.now.which self.now.number) Owner weak expected.old desired.old swapped expected.new desired.new) }
-        ensures refused { IfErr result
-            (WhyNotDone D.opened D.opened.shape.shared_cells (seen_by (λ x. x.now.known) self.now.of)
-            self.now.number (Call.CompareExchange
-            (shared_spot (seen_by (λ x. x.now.known) self.now.of) self.now.which self.now.number))) }
+        ensures compared { IfOk result (λ swapped. Compared D.opened Owner self.now weak expected.old desired.old
+            swapped expected.new desired.new) }
+        ensures refused { IfErr result (WhyNotDone D.opened Owner self.now Call.CompareExchange) }
         ensures stay { IfErr result (λ _. (expected.new ≡ expected.old) × (desired.new ≡ desired.old)) }
     {
         let desk = self.desk;
@@ -229,7 +215,7 @@ impl<'p, 't, D: Domain> Member<'p, 't, D> {
         let how = Compare {
             call,
             at: self.at(call)?,
-            of: self.of,
+            of: self.owner(),
             weak,
         };
         let found = desk.compare_any(rt, &how, expected, desired)?;

@@ -2,10 +2,11 @@
 ghost use Rattle.std.specs.Prelude.{◌≡◌, true, false, IfErr, IfOk, IfSome, Some};
 ghost use Rattle.control_word.specs.declared.model.handle.Kind.TheVariants as kind;
 ghost use Rattle.pointers.specs.Beside.{IsEmptyHandle, seen_by};
-ghost use Rattle.pointers.specs.Cells.{IsWeakSite, WhyNotDone, weak_cell_at, weak_cell_of};
-ghost use Rattle.pointers.specs.Cells.{weak_spot};
-ghost use Rattle.pointers.specs.Compares.{Compared, Finds, desired_after};
+ghost use Rattle.pointers.specs.Claims.{known_by};
+ghost use Rattle.pointers.specs.Compares.{Finds, desired_after};
 ghost use Rattle.pointers.specs.Faults.{WhyNoMore};
+ghost use Rattle.pointers.specs.Cells.{IsWeakSite, weak_cell_of};
+ghost use Rattle.pointers.specs.SiteCalls.{Compared, WhyNotDone};
 
 use crate::cells::up::Up;
 use crate::claim::shared_claim::SharedClaim;
@@ -24,7 +25,7 @@ impl<'d, D: Domain> Desk<'d, D> {
     #[inline(always)]
     fn empty_weak(&self, call: Call, of: Option<&SharedClaim<D>>) -> Result<Weak<'_, D>, Fault>
         ensures empty { IfOk result (λ r. IsEmptyHandle r.handle) }
-        ensures refused { IfErr result (WhyNoMore D.opened (seen_by (λ x. x.now.known) of.entry) call) }
+        ensures refused { IfErr result (WhyNoMore D.opened (known_by of.entry) call) }
     {
         match self.open(call)?.empty_weak(self.domain, of) {
             Ok(weak) => Ok(Weak { desk: self, weak }),
@@ -41,14 +42,13 @@ impl<'d, D: Domain> Desk<'d, D> {
         hoped: &Weak<'t, D>,
         new: Weak<'t, D>,
     ) -> Result<Option<Differs<Weak<'t, D>>>, Refused<Weak<'t, D>>>
-        requires { IsWeakSite D.opened how.now.at.site (seen_by (λ x. x.now.known) how.now.of) }
-        ensures compared { IfOk result (λ r. Finds D.opened (seen_by (λ x. x.now.known) how.now.of)
-            (weak_cell_of D.opened (seen_by (λ x. x.now.known) how.now.of) how.now.at.site) kind.Weak how.now.weak
+        requires { IsWeakSite D.opened how.now.at.site (known_by how.now.of) }
+        ensures compared { IfOk result (λ r. Finds D.opened (known_by how.now.of)
+            (weak_cell_of D.opened (known_by how.now.of) how.now.at.site) kind.Weak how.now.weak
             (Some hoped.now) (Some new.entry) (seen_by (λ d. d.held) r)) }
         ensures stays { IfOk result (λ r. IfSome r (λ d. d.desired ≡ new.entry)) }
         ensures back { IfErr result (λ r. r.back ≡ new.entry) }
-        ensures refused { IfErr result
-            (λ r. WhyNoMore D.opened (seen_by (λ x. x.now.known) how.now.of) how.now.call r.why) }
+        ensures refused { IfErr result (λ r. WhyNoMore D.opened (known_by how.now.of) how.now.call r.why) }
     {
         let mut context = match self.open(how.call) {
             Ok(context) => context,
@@ -90,14 +90,13 @@ impl<'d, D: Domain> Desk<'d, D> {
         hoped: &Weak<'t, D>,
         desired: &mut Option<Weak<'t, D>>,
     ) -> Result<Option<Option<Weak<'t, D>>>, Fault>
-        requires { IsWeakSite D.opened how.now.at.site (seen_by (λ x. x.now.known) how.now.of) }
-        ensures compared { IfOk result (Finds D.opened (seen_by (λ x. x.now.known) how.now.of)
-            (weak_cell_of D.opened (seen_by (λ x. x.now.known) how.now.of) how.now.at.site) kind.Weak how.now.weak
+        requires { IsWeakSite D.opened how.now.at.site (known_by how.now.of) }
+        ensures compared { IfOk result (Finds D.opened (known_by how.now.of)
+            (weak_cell_of D.opened (known_by how.now.of) how.now.at.site) kind.Weak how.now.weak
             (Some hoped.now) desired.old) }
         ensures stays { IfOk result (λ found. desired.new ≡ desired_after found desired.old) }
         ensures stay { IfErr result (λ _. desired.new ≡ desired.old) }
-        ensures refused { IfErr result
-            (WhyNoMore D.opened (seen_by (λ x. x.now.known) how.now.of) how.now.call) }
+        ensures refused { IfErr result (WhyNoMore D.opened (known_by how.now.of) how.now.call) }
     {
         match desired.take() {
             Some(new) => match self.compare_weaks(rt, how, hoped, new) {
@@ -142,14 +141,13 @@ impl<'d, D: Domain> Desk<'d, D> {
         expected: &Option<Weak<'t, D>>,
         desired: &mut Option<Weak<'t, D>>,
     ) -> Result<Option<Option<Weak<'t, D>>>, Fault>
-        requires { IsWeakSite D.opened how.now.at.site (seen_by (λ x. x.now.known) how.now.of) }
-        ensures compared { IfOk result (Finds D.opened (seen_by (λ x. x.now.known) how.now.of)
-            (weak_cell_of D.opened (seen_by (λ x. x.now.known) how.now.of) how.now.at.site) kind.Weak how.now.weak
+        requires { IsWeakSite D.opened how.now.at.site (known_by how.now.of) }
+        ensures compared { IfOk result (Finds D.opened (known_by how.now.of)
+            (weak_cell_of D.opened (known_by how.now.of) how.now.at.site) kind.Weak how.now.weak
             expected.now desired.old) }
         ensures stays { IfOk result (λ found. desired.new ≡ desired_after found desired.old) }
         ensures stay { IfErr result (λ _. desired.new ≡ desired.old) }
-        ensures refused { IfErr result
-            (WhyNoMore D.opened (seen_by (λ x. x.now.known) how.now.of) how.now.call) }
+        ensures refused { IfErr result (WhyNoMore D.opened (known_by how.now.of) how.now.call) }
     {
         match expected {
             Some(hoped) => self.compare_weak_with(rt, how, hoped, desired),
@@ -170,13 +168,9 @@ impl<'p, 't, D: Domain> Up<'p, 't, D> {
         expected: &mut Option<Weak<'t, D>>,
         desired: &mut Option<Weak<'t, D>>,
     ) -> Result<bool, Fault>
-        ensures compared { IfOk result (λ swapped. Compared D.opened (seen_by (λ x. x.now.known) self.now.of)
-            (weak_cell_at D.opened (seen_by (λ x. x.now.known) self.now.of)
-            self.now.number) kind.Weak false expected.old desired.old swapped expected.new desired.new) }
-        ensures refused { IfErr result
-            (WhyNotDone D.opened D.opened.shape.weak_cells (seen_by (λ x. x.now.known) self.now.of)
-            self.now.number (Call.CompareExchange
-            (weak_spot (seen_by (λ x. x.now.known) self.now.of) self.now.number))) }
+        ensures compared { IfOk result (λ swapped. Compared D.opened kind.Weak self.now false expected.old desired.old
+            swapped expected.new desired.new) }
+        ensures refused { IfErr result (WhyNotDone D.opened kind.Weak self.now Call.CompareExchange) }
         ensures stay { IfErr result (λ _. (expected.new ≡ expected.old) × (desired.new ≡ desired.old)) }
     {
         self.compare(rt, false, expected, desired)
@@ -190,13 +184,9 @@ impl<'p, 't, D: Domain> Up<'p, 't, D> {
         expected: &mut Option<Weak<'t, D>>,
         desired: &mut Option<Weak<'t, D>>,
     ) -> Result<bool, Fault>
-        ensures compared { IfOk result (λ swapped. Compared D.opened (seen_by (λ x. x.now.known) self.now.of)
-            (weak_cell_at D.opened (seen_by (λ x. x.now.known) self.now.of)
-            self.now.number) kind.Weak true expected.old desired.old swapped expected.new desired.new) }
-        ensures refused { IfErr result
-            (WhyNotDone D.opened D.opened.shape.weak_cells (seen_by (λ x. x.now.known) self.now.of)
-            self.now.number (Call.CompareExchange
-            (weak_spot (seen_by (λ x. x.now.known) self.now.of) self.now.number))) }
+        ensures compared { IfOk result (λ swapped. Compared D.opened kind.Weak self.now true expected.old desired.old
+            swapped expected.new desired.new) }
+        ensures refused { IfErr result (WhyNotDone D.opened kind.Weak self.now Call.CompareExchange) }
         ensures stay { IfErr result (λ _. (expected.new ≡ expected.old) × (desired.new ≡ desired.old)) }
     {
         self.compare(rt, true, expected, desired)
@@ -210,13 +200,9 @@ impl<'p, 't, D: Domain> Up<'p, 't, D> {
         expected: &mut Option<Weak<'t, D>>,
         desired: &mut Option<Weak<'t, D>>,
     ) -> Result<bool, Fault>
-        ensures compared { IfOk result (λ swapped. Compared D.opened (seen_by (λ x. x.now.known) self.now.of)
-            (weak_cell_at D.opened (seen_by (λ x. x.now.known) self.now.of)
-            self.now.number) kind.Weak weak expected.old desired.old swapped expected.new desired.new) }
-        ensures refused { IfErr result
-            (WhyNotDone D.opened D.opened.shape.weak_cells (seen_by (λ x. x.now.known) self.now.of)
-            self.now.number (Call.CompareExchange
-            (weak_spot (seen_by (λ x. x.now.known) self.now.of) self.now.number))) }
+        ensures compared { IfOk result (λ swapped. Compared D.opened kind.Weak self.now weak expected.old desired.old
+            swapped expected.new desired.new) }
+        ensures refused { IfErr result (WhyNotDone D.opened kind.Weak self.now Call.CompareExchange) }
         ensures stay { IfErr result (λ _. (expected.new ≡ expected.old) × (desired.new ≡ desired.old)) }
     {
         let desk = self.desk;
@@ -224,7 +210,7 @@ impl<'p, 't, D: Domain> Up<'p, 't, D> {
         let how = Compare {
             call,
             at: self.at(call)?,
-            of: self.of,
+            of: self.owner(),
             weak,
         };
         let found = desk.compare_any_weak(rt, &how, expected, desired)?;

@@ -1,9 +1,8 @@
 //! Members that keep their object.
 ghost use Rattle.std.specs.Prelude.{◌≡◌, IfErr, IfOk, None, OnOk, Some};
 ghost use Rattle.control_word.specs.declared.model.handle.Kind.TheVariants.{Owner};
-ghost use Rattle.shared_handle.specs.declared.pile.Gone.{Gone};
-ghost use Rattle.pointers.specs.Beside.{seen_by};
-ghost use Rattle.pointers.specs.Cells.{Exchanged, Loaded, Stored, WhyNotDone, shared_cell_at, shared_spot};
+ghost use Rattle.pointers.specs.SiteCalls.{Exchanged, Loaded, Stored, WhyNotDone};
+ghost use Rattle.pointers.specs.Sites.{member_site};
 
 use crate::cells::member::Member;
 use crate::domain::Domain;
@@ -32,7 +31,7 @@ impl<'t, D: Domain> Link<'t, D> {
     /// The member, for its other calls.
     #[inline(always)]
     pub fn member(&self) -> Member<'_, 't, D>
-        ensures of { seen_by (λ x. x.now.known) result.of ≡ Some self.now.of }
+        ensures of { result.of ≡ Some self.now.of }
         ensures which { result.which ≡ self.now.which }
     {
         self.of.member(self.which)
@@ -50,10 +49,8 @@ impl<'t, D: Domain> Link<'t, D> {
     /// As `Member::load` (waits).
     #[inline(always)]
     pub fn load<R: Wait>(&self, rt: &R) -> Result<Option<Shared<'t, D>>, Fault>
-        ensures loaded { IfOk result (Loaded D.opened (Some self.now.of)
-            (shared_cell_at D.opened (Some self.now.of) self.now.which 0) Owner) }
-        ensures refused { IfErr result (WhyNotDone D.opened D.opened.shape.shared_cells (Some self.now.of) 0
-            (Call.Load (shared_spot (Some self.now.of) self.now.which 0))) }
+        ensures loaded { IfOk result (Loaded D.opened Owner (member_site self.now.of self.now.which)) }
+        ensures refused { IfErr result (WhyNotDone D.opened Owner (member_site self.now.of self.now.which) Call.Load) }
     {
         self.member().load(rt)
     }
@@ -61,10 +58,8 @@ impl<'t, D: Domain> Link<'t, D> {
     /// As `Member::store`.
     #[inline(always)]
     pub fn store(&self, new: Option<Shared<'t, D>>) -> Result<(), Fault>
-        ensures stored { OnOk result ((gone : Gone) × Stored D.opened (Some self.now.of)
-            (shared_cell_at D.opened (Some self.now.of) self.now.which 0) new.entry gone) }
-        ensures refused { IfErr result (WhyNotDone D.opened D.opened.shape.shared_cells (Some self.now.of) 0
-            (Call.Store (shared_spot (Some self.now.of) self.now.which 0))) }
+        ensures stored { OnOk result (Stored D.opened Owner (member_site self.now.of self.now.which) new.entry) }
+        ensures refused { IfErr result (WhyNotDone D.opened Owner (member_site self.now.of self.now.which) Call.Store) }
     {
         self.member().store(new)
     }
@@ -72,10 +67,9 @@ impl<'t, D: Domain> Link<'t, D> {
     /// As `Member::exchange`.
     #[inline(always)]
     pub fn exchange(&self, new: Option<Shared<'t, D>>) -> Result<Option<Shared<'t, D>>, Fault>
-        ensures exchanged { IfOk result (Exchanged D.opened (Some self.now.of)
-            (shared_cell_at D.opened (Some self.now.of) self.now.which 0) Owner new.entry) }
-        ensures refused { IfErr result (WhyNotDone D.opened D.opened.shape.shared_cells (Some self.now.of) 0
-            (Call.Exchange (shared_spot (Some self.now.of) self.now.which 0))) }
+        ensures exchanged { IfOk result (Exchanged D.opened Owner (member_site self.now.of self.now.which) new.entry) }
+        ensures refused { IfErr result (WhyNotDone D.opened Owner (member_site self.now.of self.now.which)
+            Call.Exchange) }
     {
         self.member().exchange(new)
     }
@@ -83,10 +77,9 @@ impl<'t, D: Domain> Link<'t, D> {
     /// As `Member::take`.
     #[inline(always)]
     pub fn take(&self) -> Result<Option<Shared<'t, D>>, Fault>
-        ensures taken { IfOk result (Exchanged D.opened (Some self.now.of)
-            (shared_cell_at D.opened (Some self.now.of) self.now.which 0) Owner None) }
-        ensures refused { IfErr result (WhyNotDone D.opened D.opened.shape.shared_cells (Some self.now.of) 0
-            (Call.Exchange (shared_spot (Some self.now.of) self.now.which 0))) }
+        ensures taken { IfOk result (Exchanged D.opened Owner (member_site self.now.of self.now.which) None) }
+        ensures refused { IfErr result (WhyNotDone D.opened Owner (member_site self.now.of self.now.which)
+            Call.Exchange) }
     {
         self.member().take()
     }

@@ -1,10 +1,9 @@
 //! Places for owners.
 ghost use Rattle.std.specs.Prelude.{◌≡◌, IfErr, IfOk, None, OnOk};
 ghost use Rattle.control_word.specs.declared.model.handle.Kind.TheVariants.{Owner};
-ghost use Rattle.shared_handle.specs.declared.pile.Gone.{Gone};
-ghost use Rattle.pointers.specs.Beside.{seen_by};
-ghost use Rattle.pointers.specs.Cells.{Exchanged, IsSharedSite, Loaded, LookedFor, Stored, WhyNoCell, WhyNotDone};
-ghost use Rattle.pointers.specs.Cells.{WhyNotLooked, shared_cell_at, shared_site_of, shared_spot};
+ghost use Rattle.pointers.specs.Cells.{IsSharedSite, WhyNoCell, WhyNotDoneAt, shared_site_of, shared_spot};
+ghost use Rattle.pointers.specs.Claims.{known_by};
+ghost use Rattle.pointers.specs.SiteCalls.{Exchanged, Loaded, LookedFor, Stored, WhyNotDone, WhyNotLooked, spot_of};
 
 use crate::claim::shared_claim::SharedClaim;
 use crate::desk::Desk;
@@ -15,6 +14,7 @@ use crate::shared::Shared;
 use crate::shared::cells::{claim, pointer};
 use atomic_cells::{SharedAt, SharedMember};
 use shared_handle::Gone;
+use std::marker::Model;
 use std::sync::Wait;
 
 /// A place for an owner: a member of an object, or a free cell, in C++ `atomic<shared_ptr>`
@@ -31,6 +31,20 @@ pub struct Member<'p, 't, D: Domain> {
     pub(crate) number: u32,
 }
 
+impl<'p, 't, D: Domain> Model for Member<'p, 't, D> {
+    ghost use Rattle.control_block.specs.contracts.handles.Shared as shared_handle;
+    ghost use Rattle.control_block.specs.contracts.handles.Weak as weak_handle;
+    ghost use Rattle.std.specs.Coded.{codes};
+    ghost use Rattle.pointers.specs.Claims.{known_by};
+    ghost use Rattle.pointers.specs.Sites.{Site, site};
+
+    ghost Value = { Site D.Value };
+
+    ghost coded = { Prim.hlevel (codes, shared_handle.the_row.coded, weak_handle.the_row.coded) };
+
+    ghost view = { λ c. site (known_by c.of) c.which c.number };
+}
+
 impl<'p, 't, D: Domain> Drop for Member<'p, 't, D> {
     #[inline(always)]
     fn drop(self) {
@@ -43,59 +57,84 @@ impl<'p, 't, D: Domain> Drop for Member<'p, 't, D> {
     }
 }
 
+/// What messages call a cell for owners: a member of what an owner is of, or a free one by its number.
+#[inline(always)]
+fn spot_at<D: Domain>(of: Option<&SharedClaim<D>>, which: SharedMember, number: u32) -> Spot
+    ensures { result ≡ shared_spot (known_by of.entry) which number }
+{
+    match of {
+        None => Spot::Shared(number),
+        Some(_) => match which {
+            SharedMember::First => Spot::First,
+            SharedMember::Next => Spot::Next,
+        },
+    }
+}
+
+/// The cell, for a call.
+#[inline(always)]
+fn cell_at<'p, D: Domain>(
+    desk: &Desk<'_, D>,
+    of: Option<&'p SharedClaim<D>>,
+    which: SharedMember,
+    number: u32,
+    call: Call,
+) -> Result<SharedAt<'p>, Fault>
+    ensures cell { IfOk result (λ a. IsSharedSite D.opened a.site (known_by of.entry)) }
+    ensures there { IfOk result (λ a. a.site ≡ shared_site_of (known_by of.entry) which number) }
+    ensures refused { IfErr result (WhyNoCell D.opened.shape.shared_cells (known_by of.entry) number call) }
+{
+    match of {
+        Some(of) => match of.member(which) {
+            Ok(at) => Ok(at),
+            Err(why) => Err(Fault::of(call, why)),
+        },
+        None => {
+            if number >= desk.domain.shared_cells() {
+                return Err(Fault::Cell(call));
+            }
+            Ok(SharedAt::free(number))
+        }
+    }
+}
+
 impl<'p, 't, D: Domain> Member<'p, 't, D> {
+    /// The owner whose object's member it is.
+    #[inline(always)]
+    pub(crate) fn owner(&self) -> Option<&'p SharedClaim<D>>
+        ensures { known_by result ≡ self.now.of }
+    {
+        self.of
+    }
+
     /// What messages call it.
     #[inline(always)]
     pub(crate) fn spot(&self) -> Spot
-        ensures { result ≡ shared_spot (seen_by (λ x. x.now.known) self.now.of) self.now.which self.now.number }
+        ensures { result ≡ spot_of Owner self.now }
     {
-        match self.of {
-            None => Spot::Shared(self.number),
-            Some(_) => match self.which {
-                SharedMember::First => Spot::First,
-                SharedMember::Next => Spot::Next,
-            },
-        }
+        spot_at(self.of, self.which, self.number)
     }
 
     /// The cell, for a call.
     #[inline(always)]
     pub(crate) fn at(&self, call: Call) -> Result<SharedAt<'p>, Fault>
-        ensures cell { IfOk result (λ a. IsSharedSite D.opened a.site (seen_by (λ x. x.now.known) self.now.of)) }
-        ensures there { IfOk result (λ a. a.site ≡ shared_site_of (seen_by (λ x. x.now.known) self.now.of)
-            self.now.which self.now.number) }
-        ensures refused { IfErr result
-            (WhyNoCell D.opened.shape.shared_cells (seen_by (λ x. x.now.known) self.now.of) self.now.number call) }
+        ensures cell { IfOk result (λ a. IsSharedSite D.opened a.site self.now.of) }
+        ensures there { IfOk result (λ a. a.site ≡ shared_site_of self.now.of self.now.which self.now.number) }
+        ensures refused { IfErr result (WhyNoCell D.opened.shape.shared_cells self.now.of self.now.number call) }
     {
-        match self.of {
-            Some(of) => match of.member(self.which) {
-                Ok(at) => Ok(at),
-                Err(why) => Err(Fault::of(call, why)),
-            },
-            None => {
-                if self.number >= self.desk.domain.shared_cells() {
-                    return Err(Fault::Cell(call));
-                }
-                Ok(SharedAt::free(self.number))
-            }
-        }
+        cell_at(self.desk, self.of, self.which, self.number, call)
     }
 
     /// A copy of what it holds, in C++ `load()` (waits). None where that is empty.
     #[inline(always)]
     pub fn load<R: Wait>(&self, rt: &R) -> Result<Option<Shared<'t, D>>, Fault>
-        ensures loaded { IfOk result (Loaded D.opened (seen_by (λ x. x.now.known) self.now.of)
-            (shared_cell_at D.opened (seen_by (λ x. x.now.known) self.now.of)
-            self.now.which self.now.number) Owner) }
-        ensures refused { IfErr result
-            (WhyNotDone D.opened D.opened.shape.shared_cells (seen_by (λ x. x.now.known) self.now.of)
-            self.now.number
-            (Call.Load (shared_spot (seen_by (λ x. x.now.known) self.now.of) self.now.which self.now.number))) }
+        ensures loaded { IfOk result (Loaded D.opened Owner self.now) }
+        ensures refused { IfErr result (WhyNotDone D.opened Owner self.now Call.Load) }
     {
         let desk = self.desk;
         let call = Call::Load(self.spot());
         let at = self.at(call)?;
-        let came = desk.open(call)?.load(rt, desk.domain, at, self.of);
+        let came = desk.open(call)?.load(rt, desk.domain, at, self.owner());
         match came {
             Ok(owner) => Ok(pointer(desk, owner)),
             Err(why) => Err(Fault::of(call, why)),
@@ -106,48 +145,39 @@ impl<'p, 't, D: Domain> Member<'p, 't, D> {
     /// and the same object. It is one look, which changes nothing and waits for nobody.
     #[inline(always)]
     pub fn holds(&self, mine: &Shared<'t, D>) -> Result<bool, Fault>
-        ensures told { IfOk result (LookedFor D.opened (seen_by (λ x. x.now.known) self.now.of)
-            (shared_cell_at D.opened (seen_by (λ x. x.now.known) self.now.of)
-            self.now.which self.now.number) Owner mine.now) }
-        ensures refused { IfErr result
-            (WhyNotLooked D.opened.shape.shared_cells (seen_by (λ x. x.now.known) self.now.of) self.now.number
-            (Call.Holds (shared_spot (seen_by (λ x. x.now.known) self.now.of) self.now.which self.now.number))) }
+        ensures told { IfOk result (LookedFor D.opened Owner self.now mine.now) }
+        ensures refused { IfErr result (WhyNotLooked D.opened Owner self.now Call.Holds) }
     {
         let desk = self.desk;
         let call = Call::Holds(self.spot());
         let at = self.at(call)?;
         Ok(
             desk.open(call)?
-                .holds(desk.domain, at, self.of, &mine.owner),
+                .holds(desk.domain, at, self.owner(), &mine.owner),
         )
     }
 
     /// The pointer, or an empty one, goes into it, in C++ `store(std::move(p))`, and what it held lets go.
     #[inline(always)]
     pub fn store(&self, new: Option<Shared<'t, D>>) -> Result<(), Fault>
-        ensures stored { OnOk result ((gone : Gone) × Stored D.opened (seen_by (λ x. x.now.known) self.now.of)
-            (shared_cell_at D.opened (seen_by (λ x. x.now.known) self.now.of)
-            self.now.which self.now.number) new.entry gone) }
-        ensures refused { IfErr result
-            (WhyNotDone D.opened D.opened.shape.shared_cells (seen_by (λ x. x.now.known) self.now.of)
-            self.now.number
-            (Call.Store (shared_spot (seen_by (λ x. x.now.known) self.now.of) self.now.which self.now.number))) }
+        ensures stored { OnOk result (Stored D.opened Owner self.now new.entry) }
+        ensures refused { IfErr result (WhyNotDone D.opened Owner self.now Call.Store) }
     {
         self.put(Call::Store(self.spot()), new)
     }
 
     #[inline(always)]
     fn put(&self, call: Call, new: Option<Shared<'t, D>>) -> Result<(), Fault>
-        ensures stored { OnOk result ((gone : Gone) × Stored D.opened (seen_by (λ x. x.now.known) self.now.of)
-            (shared_cell_at D.opened (seen_by (λ x. x.now.known) self.now.of)
-            self.now.which self.now.number) new.entry gone) }
+        ensures stored { OnOk result (Stored D.opened Owner self.now new.entry) }
         ensures refused { IfErr result
-            (WhyNotDone D.opened D.opened.shape.shared_cells (seen_by (λ x. x.now.known) self.now.of)
+            (WhyNotDoneAt D.opened D.opened.shape.shared_cells self.now.of
             self.now.number call) }
     {
         let desk = self.desk;
         let at = self.at(call)?;
-        let came = desk.open(call)?.store(desk.domain, at, self.of, claim(new));
+        let came = desk
+            .open(call)?
+            .store(desk.domain, at, self.owner(), claim(new));
         match came {
             Ok(gone) => {
                 if let Gone::Last = gone {
@@ -162,20 +192,15 @@ impl<'p, 't, D: Domain> Member<'p, 't, D> {
     /// The pointer, or an empty one, goes into it, and what it held comes out, in C++ `exchange(std::move(p))`.
     #[inline(always)]
     pub fn exchange(&self, new: Option<Shared<'t, D>>) -> Result<Option<Shared<'t, D>>, Fault>
-        ensures exchanged { IfOk result (Exchanged D.opened (seen_by (λ x. x.now.known) self.now.of)
-            (shared_cell_at D.opened (seen_by (λ x. x.now.known) self.now.of)
-            self.now.which self.now.number) Owner new.entry) }
-        ensures refused { IfErr result
-            (WhyNotDone D.opened D.opened.shape.shared_cells (seen_by (λ x. x.now.known) self.now.of)
-            self.now.number
-            (Call.Exchange (shared_spot (seen_by (λ x. x.now.known) self.now.of) self.now.which self.now.number))) }
+        ensures exchanged { IfOk result (Exchanged D.opened Owner self.now new.entry) }
+        ensures refused { IfErr result (WhyNotDone D.opened Owner self.now Call.Exchange) }
     {
         let desk = self.desk;
         let call = Call::Exchange(self.spot());
         let at = self.at(call)?;
         let came = desk
             .open(call)?
-            .exchange(desk.domain, at, self.of, claim(new));
+            .exchange(desk.domain, at, self.owner(), claim(new));
         match came {
             Ok(owner) => Ok(pointer(desk, owner)),
             Err(why) => Err(Fault::of(call, why)),
@@ -185,13 +210,8 @@ impl<'p, 't, D: Domain> Member<'p, 't, D> {
     /// What it holds comes out, and an empty pointer stays, in C++ `exchange(nullptr)` or `std::move(member)`.
     #[inline(always)]
     pub fn take(&self) -> Result<Option<Shared<'t, D>>, Fault>
-        ensures taken { IfOk result (Exchanged D.opened (seen_by (λ x. x.now.known) self.now.of)
-            (shared_cell_at D.opened (seen_by (λ x. x.now.known) self.now.of)
-            self.now.which self.now.number) Owner None) }
-        ensures refused { IfErr result
-            (WhyNotDone D.opened D.opened.shape.shared_cells (seen_by (λ x. x.now.known) self.now.of)
-            self.now.number
-            (Call.Exchange (shared_spot (seen_by (λ x. x.now.known) self.now.of) self.now.which self.now.number))) }
+        ensures taken { IfOk result (Exchanged D.opened Owner self.now None) }
+        ensures refused { IfErr result (WhyNotDone D.opened Owner self.now Call.Exchange) }
     {
         self.exchange(None)
     }
@@ -199,13 +219,8 @@ impl<'p, 't, D: Domain> Member<'p, 't, D> {
     /// What it holds lets go, in C++ `store(nullptr)` or `reset()`.
     #[inline(always)]
     pub fn clear(&self) -> Result<(), Fault>
-        ensures cleared { OnOk result ((gone : Gone) × Stored D.opened (seen_by (λ x. x.now.known) self.now.of)
-            (shared_cell_at D.opened (seen_by (λ x. x.now.known) self.now.of)
-            self.now.which self.now.number) None gone) }
-        ensures refused { IfErr result
-            (WhyNotDone D.opened D.opened.shape.shared_cells (seen_by (λ x. x.now.known) self.now.of)
-            self.now.number
-            (Call.Clear (shared_spot (seen_by (λ x. x.now.known) self.now.of) self.now.which self.now.number))) }
+        ensures cleared { OnOk result (Stored D.opened Owner self.now None) }
+        ensures refused { IfErr result (WhyNotDone D.opened Owner self.now Call.Clear) }
     {
         self.put(Call::Clear(self.spot()), None)
     }

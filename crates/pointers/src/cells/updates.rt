@@ -1,10 +1,9 @@
 //! Places that get what is made of what they hold.
 ghost use Rattle.std.specs.Prelude.{◌≡◌, IfErr, IfOk, OnOk, Some};
-ghost use Rattle.pointers.specs.Beside.{seen_by};
-ghost use Rattle.pointers.specs.Cells.{shared_cell_at, shared_spot};
 ghost use Rattle.pointers.specs.Faults.{WhyNotMade, WhyNotVisited};
-ghost use Rattle.pointers.specs.Values.{IsNewOf, IsUpdated, IsValueOf, WhyNotUpdated};
+ghost use Rattle.pointers.specs.Values.{IsNewOf, IsValueOf};
 ghost use Rattle.pointers.specs.declared.known.Known.{Known};
+ghost use Rattle.pointers.specs.SiteCalls.{IsUpdated, WhyNotUpdated};
 
 use crate::cells::member::Member;
 use crate::domain::Domain;
@@ -59,14 +58,9 @@ where
         f: F,
     ) -> Result<(), Fault>
         requires { F.IsAlwaysCallable f }
-        ensures updated { OnOk result (IsUpdated D.opened D.Value.is_clone (seen_by (λ x. x.now.known) self.now.of)
-            (shared_cell_at D.opened (seen_by (λ x. x.now.known) self.now.of)
-            self.now.which self.now.number) (λ old r. (s : F) × (t : F) × F.step s old r t)) }
-        ensures refused { IfErr result (WhyNotUpdated D.opened D.opened.shape.shared_cells
-            (seen_by (λ x. x.now.known) self.now.of)
-            (shared_cell_at D.opened (seen_by (λ x. x.now.known) self.now.of) self.now.which self.now.number)
-            self.now.number
-            (shared_spot (seen_by (λ x. x.now.known) self.now.of) self.now.which self.now.number)
+        ensures updated { OnOk result (IsUpdated D.opened D.Value.is_clone self.now
+            (λ old r. (s : F) × (t : F) × F.step s old r t)) }
+        ensures refused { IfErr result (WhyNotUpdated D.opened self.now
             (λ old r. (s : F) × (t : F) × F.step s old r t)) }
     {
         let mut f = f;

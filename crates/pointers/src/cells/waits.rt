@@ -1,9 +1,8 @@
 //! Waiting for a place to hold something else.
 ghost use Rattle.std.specs.Prelude.{false, IfErr, OnOk};
 ghost use Rattle.control_word.specs.declared.model.handle.Kind.TheVariants.{Owner};
-ghost use Rattle.pointers.specs.Beside.{seen_by};
-ghost use Rattle.pointers.specs.Cells.{LookedFor, WhyNotLooked, shared_cell_at, shared_spot};
 ghost use Rattle.pointers.specs.declared.fault.call.Call.TheVariants.{Holds};
+ghost use Rattle.pointers.specs.SiteCalls.{LookedFor, WhyNotLooked};
 
 use crate::cells::member::Member;
 use crate::domain::Domain;
@@ -18,12 +17,8 @@ impl<'p, 't, D: Domain> Member<'p, 't, D> {
     /// Returns once a look tells that it no longer holds what this pointer is, in C++ `wait(p)` (waits). It looks,
     /// spins, and then yields the processor between two looks. Nobody has to notify, and nothing is promised of when.
     pub fn wait_while<R: Wait>(&self, rt: &R, mine: &Shared<'t, D>) -> Result<(), Fault>
-        ensures changed { OnOk result (LookedFor D.opened (seen_by (λ x. x.now.known) self.now.of)
-            (shared_cell_at D.opened (seen_by (λ x. x.now.known) self.now.of)
-            self.now.which self.now.number) Owner mine.now false) }
-        ensures refused { IfErr result
-            (WhyNotLooked D.opened.shape.shared_cells (seen_by (λ x. x.now.known) self.now.of) self.now.number
-            (Holds (shared_spot (seen_by (λ x. x.now.known) self.now.of) self.now.which self.now.number))) }
+        ensures changed { OnOk result (LookedFor D.opened Owner self.now mine.now false) }
+        ensures refused { IfErr result (WhyNotLooked D.opened Owner self.now Holds) }
     {
         let mut looks = 0;
         for _ in rt.forever() {

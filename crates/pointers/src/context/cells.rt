@@ -5,7 +5,8 @@ ghost use Rattle.control_block.specs.Desks.{Belongs};
 ghost use Rattle.pointers.specs.Beside.{seen_by};
 ghost use Rattle.pointers.specs.Faults.{Was};
 ghost use Rattle.pointers.specs.Known.{IsAtAllowance};
-ghost use Rattle.pointers.specs.Cells.{Exchanged, IsSharedSite, Loaded, LookedFor, Stored, shared_cell_of};
+ghost use Rattle.pointers.specs.Claims.{known_by};
+ghost use Rattle.pointers.specs.Cells.{ExchangedAt, IsSharedSite, LoadedAt, LookedForAt, StoredAt, shared_cell_of};
 
 use crate::claim::shared_claim::SharedClaim;
 use crate::context::Context;
@@ -28,13 +29,13 @@ impl<D: Domain> Context<D> {
         of: Option<&SharedClaim<D>>,
     ) -> Result<Option<SharedClaim<D>>, Refusal>
         requires domain { Belongs D.opened domain.now }
-        requires cell { IsSharedSite D.opened at.site (seen_by (λ x. x.now.known) of) }
-        ensures loaded { IfOk result (λ r. Loaded D.opened (seen_by (λ x. x.now.known) of.entry)
-            (shared_cell_of D.opened (seen_by (λ x. x.now.known) of.entry) at.entry.site) Owner
+        requires cell { IsSharedSite D.opened at.site (known_by of) }
+        ensures loaded { IfOk result (λ r. LoadedAt D.opened (known_by of.entry)
+            (shared_cell_of D.opened (known_by of.entry) at.entry.site) Owner
             (seen_by (λ x. x.known) r)) }
         ensures limit { IsErr result ↔ IsAtAllowance self.old.desk }
         ensures refused { IfErr result
-            (λ why. (why ≡ Refusal.Limit) × Was D.opened (seen_by (λ x. x.now.known) of.entry) IsAtAllowance) }
+            (λ why. (why ≡ Refusal.Limit) × Was D.opened (known_by of.entry) IsAtAllowance) }
     {
         self.desk.assert_invariant();
         look_at(of, &mut self.claims);
@@ -58,9 +59,9 @@ impl<D: Domain> Context<D> {
         mine: &SharedClaim<D>,
     ) -> bool
         requires domain { Belongs D.opened domain.now }
-        requires cell { IsSharedSite D.opened at.site (seen_by (λ x. x.now.known) of) }
-        ensures { LookedFor D.opened (seen_by (λ x. x.now.known) of.entry)
-            (shared_cell_of D.opened (seen_by (λ x. x.now.known) of.entry) at.entry.site) Owner
+        requires cell { IsSharedSite D.opened at.site (known_by of) }
+        ensures { LookedForAt D.opened (known_by of.entry)
+            (shared_cell_of D.opened (known_by of.entry) at.entry.site) Owner
             mine.now.known result }
     {
         look_at(of, &mut self.claims);
@@ -78,13 +79,13 @@ impl<D: Domain> Context<D> {
         new: Option<SharedClaim<D>>,
     ) -> Result<Option<SharedClaim<D>>, Refusal>
         requires domain { Belongs D.opened domain.now }
-        requires cell { IsSharedSite D.opened at.site (seen_by (λ x. x.now.known) of) }
-        ensures exchanged { IfOk result (λ r. Exchanged D.opened (seen_by (λ x. x.now.known) of.entry)
-            (shared_cell_of D.opened (seen_by (λ x. x.now.known) of.entry) at.entry.site) Owner
+        requires cell { IsSharedSite D.opened at.site (known_by of) }
+        ensures exchanged { IfOk result (λ r. ExchangedAt D.opened (known_by of.entry)
+            (shared_cell_of D.opened (known_by of.entry) at.entry.site) Owner
             (seen_by (λ x. x.known) new) (seen_by (λ x. x.known) r)) }
         ensures limit { IsErr result ↔ ((new ≡ None) × IsAtAllowance self.old.desk) }
         ensures refused { IfErr result
-            (λ why. (why ≡ Refusal.Limit) × Was D.opened (seen_by (λ x. x.now.known) of.entry) IsAtAllowance) }
+            (λ why. (why ≡ Refusal.Limit) × Was D.opened (known_by of.entry) IsAtAllowance) }
     {
         look_at(of, &mut self.claims);
         let handle = given(domain, &mut self.desk, &self.pile, &mut self.claims, new)?;
@@ -110,13 +111,13 @@ impl<D: Domain> Context<D> {
         new: Option<SharedClaim<D>>,
     ) -> Result<Gone, Refusal>
         requires domain { Belongs D.opened domain.now }
-        requires cell { IsSharedSite D.opened at.site (seen_by (λ x. x.now.known) of) }
-        ensures stored { IfOk result (λ gone. Stored D.opened (seen_by (λ x. x.now.known) of.entry)
-            (shared_cell_of D.opened (seen_by (λ x. x.now.known) of.entry) at.entry.site)
+        requires cell { IsSharedSite D.opened at.site (known_by of) }
+        ensures stored { IfOk result (λ gone. StoredAt D.opened (known_by of.entry)
+            (shared_cell_of D.opened (known_by of.entry) at.entry.site)
             (seen_by (λ x. x.known) new) gone) }
         ensures limit { IsErr result ↔ ((new ≡ None) × IsAtAllowance self.old.desk) }
         ensures refused { IfErr result
-            (λ why. (why ≡ Refusal.Limit) × Was D.opened (seen_by (λ x. x.now.known) of.entry) IsAtAllowance) }
+            (λ why. (why ≡ Refusal.Limit) × Was D.opened (known_by of.entry) IsAtAllowance) }
     {
         look_at(of, &mut self.claims);
         let handle = given(domain, &mut self.desk, &self.pile, &mut self.claims, new)?;

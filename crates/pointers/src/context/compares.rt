@@ -6,6 +6,7 @@ ghost use Rattle.control_block.specs.Desks.{Belongs, Keeps, bag_of};
 ghost use Rattle.atomic_cells.specs.Compares.{Compares, GivesBackDesired, bag_compared, came_out, has_swapped};
 ghost use Rattle.atomic_cells.specs.Sites.{IsOpenSite, shared_cell};
 ghost use Rattle.pointers.specs.Beside.{IsEmptyHandle, seen_by};
+ghost use Rattle.pointers.specs.Claims.{known_by};
 ghost use Rattle.pointers.specs.Cells.{IsSharedSite, shared_cell_of};
 ghost use Rattle.pointers.specs.Compares.{Finds};
 ghost use Rattle.pointers.specs.Faults.{Was};
@@ -65,8 +66,7 @@ impl<'a, D: Domain> Compare<'a, SharedAt<'a>, D> {
         requires holds { HoldsHandle desk.old Owner hoped.now.block hoped.now.place
             × HoldsHandle desk.old Owner new.block new.place }
         ensures limit { IsErr result ↔ IsAtAllowance desk.old }
-        ensures refused { IfErr result
-            (λ r. (r.why ≡ Refusal.Limit) × (r.back ≡ new) × (desk.new ≡ desk.old)) }
+        ensures refused { IfErr result (λ r. (r.why ≡ Refusal.Limit) × (r.back ≡ new) × (desk.new ≡ desk.old)) }
         ensures compared { IfOk result (λ c. let h = came_out c in
             Compares desk.old (shared_cell desk.old self.now.at.site) Owner hoped.now.block hoped.now.place
             new.block new.place (has_swapped c) h.block h.place self.now.weak desk.new) }
@@ -97,7 +97,7 @@ impl<D: Domain> Context<D> {
         requires { Belongs D.opened domain.now }
         ensures empty { IfOk result (λ r. IsEmptyHandle r.known.handle) }
         ensures refused { IfErr result
-            (λ why. (why ≡ Refusal.Limit) × Was D.opened (seen_by (λ x. x.now.known) of.entry) IsAtAllowance) }
+            (λ why. (why ≡ Refusal.Limit) × Was D.opened (known_by of.entry) IsAtAllowance) }
     {
         self.desk.assert_invariant();
         look_at(of, &mut self.claims);
@@ -117,15 +117,15 @@ impl<D: Domain> Context<D> {
         desired: SharedClaim<D>,
     ) -> Result<(Option<Differs<SharedClaim<D>>>, Gone), Refused<SharedClaim<D>>>
         requires domain { Belongs D.opened domain.now }
-        requires cell { IsSharedSite D.opened how.now.at.site (seen_by (λ x. x.now.known) how.now.of) }
-        ensures compared { IfOk result (λ r. Finds D.opened (seen_by (λ x. x.now.known) how.now.of)
-            (shared_cell_of D.opened (seen_by (λ x. x.now.known) how.now.of) how.now.at.site) Owner how.now.weak
+        requires cell { IsSharedSite D.opened how.now.at.site (known_by how.now.of) }
+        ensures compared { IfOk result (λ r. Finds D.opened (known_by how.now.of)
+            (shared_cell_of D.opened (known_by how.now.of) how.now.at.site) Owner how.now.weak
             (Some expected.now.known) (Some desired.known)
             (seen_by (λ d. seen_by (λ x. x.known) d.held) r.0)) }
         ensures stays { IfOk result (λ r. IfSome r.0 (λ d. d.desired.known ≡ desired.known)) }
         ensures back { IfErr result (λ r. r.back.known ≡ desired.known) }
         ensures refused { IfErr result (λ r. (r.why ≡ Refusal.Limit)
-            × Was D.opened (seen_by (λ x. x.now.known) how.now.of) IsAtAllowance) }
+            × Was D.opened (known_by how.now.of) IsAtAllowance) }
     {
         self.desk.assert_invariant();
         look_at(how.of, &mut self.claims);

@@ -2,6 +2,7 @@
 ghost use Rattle.std.specs.Prelude.{◌≡◌, ◌↔◌, [], ◌∷◌, IfErr, IfOk, IsErr, None, true};
 ghost use Rattle.control_block.specs.Desks.{Belongs};
 ghost use Rattle.control_block.specs.declared.handles.Held.TheVariants as held;
+ghost use Rattle.pointers.specs.Claims.{known_by};
 ghost use Rattle.pointers.specs.Beside.{Arrives, IsClaimed, IsEmptyHandle, IsHandleOf, IsWholeBeside, Stays, seen_by};
 ghost use Rattle.pointers.specs.Known.{IsAtAllowance};
 ghost use Rattle.pointers.specs.Whole.{IsWhole};
@@ -18,7 +19,7 @@ use shared_handle::{Pile, Shared, drop_shared, empty};
 #[inline(always)]
 pub(crate) fn look_at<D: Domain>(of: Option<&SharedClaim<D>>, claims: &mut Claims<D>)
     ensures claims { claims.new.entries ≡ claims.old.entries }
-    ensures has { IsClaimed claims.old.entries (seen_by (λ x. x.now.known) of.entry) }
+    ensures has { IsClaimed claims.old.entries (known_by of.entry) }
 {
     if let Some(of) = of {
         of.look(claims);
@@ -71,8 +72,7 @@ pub(crate) fn given<D: Domain>(
 ) -> Result<Shared, Refusal>
     requires domain { Belongs D.opened domain.now }
     requires whole { IsWhole D.opened desk.old pile.now claims.old.entries }
-    ensures hand { IfOk result
-        (λ h. IsWholeBeside D.opened desk.new pile.now (held.Owner h ∷ []) claims.new.entries) }
+    ensures hand { IfOk result (λ h. IsWholeBeside D.opened desk.new pile.now (held.Owner h ∷ []) claims.new.entries) }
     ensures handle { IfOk result (λ h. IsHandleOf (seen_by (λ x. x.known) new) (held.Owner h)) }
     ensures stays { IfOk result (λ h. Stays D.opened (seen_by (λ x. x.known) new) desk.new) }
     ensures limit { IsErr result ↔ ((new ≡ None) × IsAtAllowance desk.old) }

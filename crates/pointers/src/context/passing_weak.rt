@@ -60,8 +60,7 @@ pub(crate) fn given_weak<D: Domain>(
 ) -> Result<Weak, Refusal>
     requires domain { Belongs D.opened domain.now }
     requires whole { IsWhole D.opened desk.old pile.now claims.old.entries }
-    ensures hand { IfOk result
-        (λ h. IsWholeBeside D.opened desk.new pile.now (held.Weak h ∷ []) claims.new.entries) }
+    ensures hand { IfOk result (λ h. IsWholeBeside D.opened desk.new pile.now (held.Weak h ∷ []) claims.new.entries) }
     ensures handle { IfOk result (λ h. IsHandleOf (seen_by (λ x. x.known) new) (held.Weak h)) }
     ensures stays { IfOk result (λ h. Stays D.opened (seen_by (λ x. x.known) new) desk.new) }
     ensures limit { IsErr result ↔ ((new ≡ None) × IsAtAllowance desk.old) }

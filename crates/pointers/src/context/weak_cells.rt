@@ -5,7 +5,8 @@ ghost use Rattle.control_block.specs.Desks.{Belongs};
 ghost use Rattle.pointers.specs.Beside.{seen_by};
 ghost use Rattle.pointers.specs.Faults.{Was};
 ghost use Rattle.pointers.specs.Known.{IsAtAllowance};
-ghost use Rattle.pointers.specs.Cells.{Exchanged, IsWeakSite, Loaded, LookedFor, StoredWeakly, weak_cell_of};
+ghost use Rattle.pointers.specs.Claims.{known_by};
+ghost use Rattle.pointers.specs.Cells.{ExchangedAt, IsWeakSite, LoadedAt, LookedForAt, StoredWeaklyAt, weak_cell_of};
 
 use crate::claim::shared_claim::SharedClaim;
 use crate::claim::weak_claim::WeakClaim;
@@ -29,13 +30,13 @@ impl<D: Domain> Context<D> {
         of: Option<&SharedClaim<D>>,
     ) -> Result<Option<WeakClaim<D>>, Refusal>
         requires domain { Belongs D.opened domain.now }
-        requires cell { IsWeakSite D.opened at.site (seen_by (λ x. x.now.known) of) }
-        ensures loaded { IfOk result (λ r. Loaded D.opened (seen_by (λ x. x.now.known) of.entry)
-            (weak_cell_of D.opened (seen_by (λ x. x.now.known) of.entry) at.entry.site) Weak
+        requires cell { IsWeakSite D.opened at.site (known_by of) }
+        ensures loaded { IfOk result (λ r. LoadedAt D.opened (known_by of.entry)
+            (weak_cell_of D.opened (known_by of.entry) at.entry.site) Weak
             (seen_by (λ x. x.known) r)) }
         ensures limit { IsErr result ↔ IsAtAllowance self.old.desk }
         ensures refused { IfErr result
-            (λ why. (why ≡ Refusal.Limit) × Was D.opened (seen_by (λ x. x.now.known) of.entry) IsAtAllowance) }
+            (λ why. (why ≡ Refusal.Limit) × Was D.opened (known_by of.entry) IsAtAllowance) }
     {
         self.desk.assert_invariant();
         look_at(of, &mut self.claims);
@@ -53,9 +54,9 @@ impl<D: Domain> Context<D> {
         mine: &WeakClaim<D>,
     ) -> bool
         requires domain { Belongs D.opened domain.now }
-        requires cell { IsWeakSite D.opened at.site (seen_by (λ x. x.now.known) of) }
-        ensures { LookedFor D.opened (seen_by (λ x. x.now.known) of.entry)
-            (weak_cell_of D.opened (seen_by (λ x. x.now.known) of.entry) at.entry.site) Weak
+        requires cell { IsWeakSite D.opened at.site (known_by of) }
+        ensures { LookedForAt D.opened (known_by of.entry)
+            (weak_cell_of D.opened (known_by of.entry) at.entry.site) Weak
             mine.now.known result }
     {
         look_at(of, &mut self.claims);
@@ -73,13 +74,13 @@ impl<D: Domain> Context<D> {
         new: Option<WeakClaim<D>>,
     ) -> Result<Option<WeakClaim<D>>, Refusal>
         requires domain { Belongs D.opened domain.now }
-        requires cell { IsWeakSite D.opened at.site (seen_by (λ x. x.now.known) of) }
-        ensures exchanged { IfOk result (λ r. Exchanged D.opened (seen_by (λ x. x.now.known) of.entry)
-            (weak_cell_of D.opened (seen_by (λ x. x.now.known) of.entry) at.entry.site) Weak
+        requires cell { IsWeakSite D.opened at.site (known_by of) }
+        ensures exchanged { IfOk result (λ r. ExchangedAt D.opened (known_by of.entry)
+            (weak_cell_of D.opened (known_by of.entry) at.entry.site) Weak
             (seen_by (λ x. x.known) new) (seen_by (λ x. x.known) r)) }
         ensures limit { IsErr result ↔ ((new ≡ None) × IsAtAllowance self.old.desk) }
         ensures refused { IfErr result
-            (λ why. (why ≡ Refusal.Limit) × Was D.opened (seen_by (λ x. x.now.known) of.entry) IsAtAllowance) }
+            (λ why. (why ≡ Refusal.Limit) × Was D.opened (known_by of.entry) IsAtAllowance) }
     {
         look_at(of, &mut self.claims);
         let handle = given_weak(domain, &mut self.desk, &self.pile, &mut self.claims, new)?;
@@ -99,13 +100,13 @@ impl<D: Domain> Context<D> {
         new: Option<WeakClaim<D>>,
     ) -> Result<(), Refusal>
         requires domain { Belongs D.opened domain.now }
-        requires cell { IsWeakSite D.opened at.site (seen_by (λ x. x.now.known) of) }
-        ensures stored { OnOk result (StoredWeakly D.opened (seen_by (λ x. x.now.known) of.entry)
-            (weak_cell_of D.opened (seen_by (λ x. x.now.known) of.entry) at.entry.site)
+        requires cell { IsWeakSite D.opened at.site (known_by of) }
+        ensures stored { OnOk result (StoredWeaklyAt D.opened (known_by of.entry)
+            (weak_cell_of D.opened (known_by of.entry) at.entry.site)
             (seen_by (λ x. x.known) new)) }
         ensures limit { IsErr result ↔ ((new ≡ None) × IsAtAllowance self.old.desk) }
         ensures refused { IfErr result
-            (λ why. (why ≡ Refusal.Limit) × Was D.opened (seen_by (λ x. x.now.known) of.entry) IsAtAllowance) }
+            (λ why. (why ≡ Refusal.Limit) × Was D.opened (known_by of.entry) IsAtAllowance) }
     {
         look_at(of, &mut self.claims);
         let handle = given_weak(domain, &mut self.desk, &self.pile, &mut self.claims, new)?;

@@ -1,14 +1,9 @@
 //! Free cells of the domain.
-ghost use Rattle.std.specs.Prelude.{◌≡◌, ◌+◌, false, IfErr, IfOk, None, OnOk, Option};
-ghost use Rattle.control_word.specs.declared.model.event.Cell.TheVariants.{Free};
+ghost use Rattle.std.specs.Prelude.{◌≡◌, false, IfErr, IfOk, None, OnOk};
 ghost use Rattle.control_word.specs.declared.model.handle.Kind.TheVariants as kind;
-ghost use Rattle.shared_handle.specs.declared.pile.Gone.{Gone};
-ghost use Rattle.pointers.specs.Cells.{Exchanged, IsOwnerOf, Loaded, Stored};
-ghost use Rattle.pointers.specs.Cells.{LookedFor, StoredWeakly, WhyNotDone, WhyNotLocked, WhyNotLooked, weak_cell_at};
-ghost use Rattle.pointers.specs.Values.{IsUpdated, WhyNotUpdated};
-ghost use Rattle.pointers.specs.declared.fault.call.Spot.TheVariants as spot;
-ghost use Rattle.pointers.specs.declared.known.Known.{Known};
-ghost use Rattle.pointers.specs.Beside.{seen_by};
+ghost use Rattle.pointers.specs.SiteCalls.{Exchanged, IsUpdated, Loaded, Locked, LookedFor, Stored, WhyNotDone};
+ghost use Rattle.pointers.specs.SiteCalls.{WhyNotLocked, WhyNotLooked, WhyNotUpdated};
+ghost use Rattle.pointers.specs.Sites.{free_site};
 
 use crate::cells::cached::Cached;
 use crate::cells::cached_value::CachedValue;
@@ -28,7 +23,7 @@ impl<'d, D: Domain> Desk<'d, D> {
     /// A free cell for owners, by all calls of a place.
     #[inline(always)]
     pub fn cell(&self, cell: SharedCell) -> Member<'_, '_, D>
-        ensures { (seen_by (λ x. x.now.known) result.of ≡ None) × (result.number ≡ cell.0) }
+        ensures { result ≡ free_site cell.0 }
     {
         Member {
             desk: self,
@@ -41,7 +36,7 @@ impl<'d, D: Domain> Desk<'d, D> {
     /// The same of a cell for weak pointers.
     #[inline(always)]
     pub fn weak_cell(&self, cell: WeakCell) -> Up<'_, '_, D>
-        ensures { (seen_by (λ x. x.now.known) result.of ≡ None) × (result.number ≡ cell.0) }
+        ensures { result ≡ free_site cell.0 }
     {
         Up {
             desk: self,
@@ -53,9 +48,8 @@ impl<'d, D: Domain> Desk<'d, D> {
     /// A copy of what the cell holds, in C++ `load()` (waits). None where it holds an empty pointer.
     #[inline(always)]
     pub fn load<R: Wait>(&self, rt: &R, cell: SharedCell) -> Result<Option<Shared<'_, D>>, Fault>
-        ensures loaded { IfOk result (Loaded D.opened None (Free cell.0) kind.Owner) }
-        ensures refused { IfErr result
-            (WhyNotDone D.opened D.opened.shape.shared_cells None cell.0 (Call.Load (spot.Shared cell.0))) }
+        ensures loaded { IfOk result (Loaded D.opened kind.Owner (free_site cell.0)) }
+        ensures refused { IfErr result (WhyNotDone D.opened kind.Owner (free_site cell.0) Call.Load) }
     {
         self.cell(cell).load(rt)
     }
@@ -63,10 +57,8 @@ impl<'d, D: Domain> Desk<'d, D> {
     /// The same of a weak pointer.
     #[inline(always)]
     pub fn load_weak<R: Wait>(&self, rt: &R, cell: WeakCell) -> Result<Option<Weak<'_, D>>, Fault>
-        ensures loaded { IfOk result
-            (Loaded D.opened None (Free (D.opened.shape.shared_cells + cell.0)) kind.Weak) }
-        ensures refused { IfErr result
-            (WhyNotDone D.opened D.opened.shape.weak_cells None cell.0 (Call.Load (spot.Weak cell.0))) }
+        ensures loaded { IfOk result (Loaded D.opened kind.Weak (free_site cell.0)) }
+        ensures refused { IfErr result (WhyNotDone D.opened kind.Weak (free_site cell.0) Call.Load) }
     {
         self.weak_cell(cell).load(rt)
     }
@@ -75,9 +67,8 @@ impl<'d, D: Domain> Desk<'d, D> {
     /// place, and the same object. It is one look, which changes nothing and waits for nobody.
     #[inline(always)]
     pub fn holds<'t>(&'t self, cell: SharedCell, mine: &Shared<'t, D>) -> Result<bool, Fault>
-        ensures told { IfOk result (LookedFor D.opened None (Free cell.0) kind.Owner mine.now) }
-        ensures refused { IfErr result
-            (WhyNotLooked {V = D.Value} D.opened.shape.shared_cells None cell.0 (Call.Holds (spot.Shared cell.0))) }
+        ensures told { IfOk result (LookedFor D.opened kind.Owner (free_site cell.0) mine.now) }
+        ensures refused { IfErr result (WhyNotLooked D.opened kind.Owner (free_site cell.0) Call.Holds) }
     {
         self.cell(cell).holds(mine)
     }
@@ -85,10 +76,8 @@ impl<'d, D: Domain> Desk<'d, D> {
     /// The same of a weak pointer.
     #[inline(always)]
     pub fn holds_weak<'t>(&'t self, cell: WeakCell, mine: &Weak<'t, D>) -> Result<bool, Fault>
-        ensures told { IfOk result
-            (LookedFor D.opened None (Free (D.opened.shape.shared_cells + cell.0)) kind.Weak mine.now) }
-        ensures refused { IfErr result
-            (WhyNotLooked {V = D.Value} D.opened.shape.weak_cells None cell.0 (Call.Holds (spot.Weak cell.0))) }
+        ensures told { IfOk result (LookedFor D.opened kind.Weak (free_site cell.0) mine.now) }
+        ensures refused { IfErr result (WhyNotLooked D.opened kind.Weak (free_site cell.0) Call.Holds) }
     {
         self.weak_cell(cell).holds(mine)
     }
@@ -96,7 +85,7 @@ impl<'d, D: Domain> Desk<'d, D> {
     /// A free cell for owners, to be read again and again.
     #[inline(always)]
     pub fn cached(&self, cell: SharedCell) -> Cached<'_, '_, D>
-        ensures cell { (seen_by (λ x. x.now.known) result.place.of ≡ None) × (result.place.number ≡ cell.0) }
+        ensures cell { result.place ≡ free_site cell.0 }
         ensures none { result.found ≡ None }
     {
         self.cell(cell).cached()
@@ -107,7 +96,7 @@ impl<'d, D: Domain> Desk<'d, D> {
     pub fn cached_value(&self, cell: SharedCell) -> CachedValue<'_, '_, D>
     where
         D::Value: Clone,
-        ensures cell { (seen_by (λ x. x.now.known) result.place.of ≡ None) × (result.place.number ≡ cell.0) }
+        ensures cell { result.place ≡ free_site cell.0 }
         ensures none { result.kept ≡ None }
     {
         self.cell(cell).cached_value()
@@ -125,10 +114,10 @@ impl<'d, D: Domain> Desk<'d, D> {
     where
         D::Value: Clone,
         requires { F.IsAlwaysCallable f }
-        ensures updated { OnOk result (IsUpdated D.opened D.Value.is_clone None (Free cell.0)
+        ensures updated { OnOk result (IsUpdated D.opened D.Value.is_clone (free_site cell.0)
             (λ old r. (s : F) × (t : F) × F.step s old r t)) }
-        ensures refused { IfErr result (WhyNotUpdated D.opened D.opened.shape.shared_cells None (Free cell.0) cell.0
-            (spot.Shared cell.0) (λ old r. (s : F) × (t : F) × F.step s old r t)) }
+        ensures refused { IfErr result (WhyNotUpdated D.opened (free_site cell.0)
+            (λ old r. (s : F) × (t : F) × F.step s old r t)) }
     {
         self.cell(cell).update(rt, f)
     }
@@ -142,9 +131,8 @@ impl<'d, D: Domain> Desk<'d, D> {
         cell: SharedCell,
         mine: &Shared<'t, D>,
     ) -> Result<(), Fault>
-        ensures changed { OnOk result (LookedFor D.opened None (Free cell.0) kind.Owner mine.now false) }
-        ensures refused { IfErr result
-            (WhyNotLooked {V = D.Value} D.opened.shape.shared_cells None cell.0 (Call.Holds (spot.Shared cell.0))) }
+        ensures changed { OnOk result (LookedFor D.opened kind.Owner (free_site cell.0) mine.now false) }
+        ensures refused { IfErr result (WhyNotLooked D.opened kind.Owner (free_site cell.0) Call.Holds) }
     {
         self.cell(cell).wait_while(rt, mine)
     }
@@ -152,10 +140,8 @@ impl<'d, D: Domain> Desk<'d, D> {
     /// An owner of what a weak cell holds, in C++ `load().lock()` (waits). None where that is empty or expired.
     #[inline(always)]
     pub fn lock<R: Wait>(&self, rt: &R, cell: WeakCell) -> Result<Option<Shared<'_, D>>, Fault>
-        ensures locked { IfOk result (λ r. (w : Option (Known D.Value)) × Loaded D.opened None
-            (weak_cell_at D.opened None cell.0) kind.Weak w × IsOwnerOf D.opened w r) }
-        ensures refused { IfErr result
-            (WhyNotLocked D.opened D.opened.shape.weak_cells None cell.0 (Call.Load (spot.Weak cell.0))) }
+        ensures locked { IfOk result (Locked D.opened (free_site cell.0)) }
+        ensures refused { IfErr result (WhyNotLocked D.opened (free_site cell.0)) }
     {
         self.weak_cell(cell).lock(rt)
     }
@@ -163,9 +149,8 @@ impl<'d, D: Domain> Desk<'d, D> {
     /// The pointer, or an empty one, goes into the cell, in C++ `store(std::move(p))`, and what that held lets go.
     #[inline(always)]
     pub fn store<'t>(&'t self, cell: SharedCell, new: Option<Shared<'t, D>>) -> Result<(), Fault>
-        ensures stored { OnOk result ((gone : Gone) × Stored D.opened None (Free cell.0) new.entry gone) }
-        ensures refused { IfErr result
-            (WhyNotDone D.opened D.opened.shape.shared_cells None cell.0 (Call.Store (spot.Shared cell.0))) }
+        ensures stored { OnOk result (Stored D.opened kind.Owner (free_site cell.0) new.entry) }
+        ensures refused { IfErr result (WhyNotDone D.opened kind.Owner (free_site cell.0) Call.Store) }
     {
         self.cell(cell).store(new)
     }
@@ -173,10 +158,8 @@ impl<'d, D: Domain> Desk<'d, D> {
     /// The same of a weak pointer.
     #[inline(always)]
     pub fn store_weak<'t>(&'t self, cell: WeakCell, new: Option<Weak<'t, D>>) -> Result<(), Fault>
-        ensures stored { OnOk result
-            (StoredWeakly D.opened None (Free (D.opened.shape.shared_cells + cell.0)) new.entry) }
-        ensures refused { IfErr result
-            (WhyNotDone D.opened D.opened.shape.weak_cells None cell.0 (Call.Store (spot.Weak cell.0))) }
+        ensures stored { OnOk result (Stored D.opened kind.Weak (free_site cell.0) new.entry) }
+        ensures refused { IfErr result (WhyNotDone D.opened kind.Weak (free_site cell.0) Call.Store) }
     {
         self.weak_cell(cell).store(new)
     }
@@ -184,9 +167,8 @@ impl<'d, D: Domain> Desk<'d, D> {
     /// What the cell holds lets go, in C++ `store(nullptr)`.
     #[inline(always)]
     pub fn clear(&self, cell: SharedCell) -> Result<(), Fault>
-        ensures cleared { OnOk result ((gone : Gone) × Stored D.opened None (Free cell.0) None gone) }
-        ensures refused { IfErr result
-            (WhyNotDone D.opened D.opened.shape.shared_cells None cell.0 (Call.Clear (spot.Shared cell.0))) }
+        ensures cleared { OnOk result (Stored D.opened kind.Owner (free_site cell.0) None) }
+        ensures refused { IfErr result (WhyNotDone D.opened kind.Owner (free_site cell.0) Call.Clear) }
     {
         self.cell(cell).clear()
     }
@@ -194,10 +176,8 @@ impl<'d, D: Domain> Desk<'d, D> {
     /// The same of a weak pointer.
     #[inline(always)]
     pub fn clear_weak(&self, cell: WeakCell) -> Result<(), Fault>
-        ensures cleared { OnOk result
-            (StoredWeakly D.opened None (Free (D.opened.shape.shared_cells + cell.0)) None) }
-        ensures refused { IfErr result
-            (WhyNotDone D.opened D.opened.shape.weak_cells None cell.0 (Call.Clear (spot.Weak cell.0))) }
+        ensures cleared { OnOk result (Stored D.opened kind.Weak (free_site cell.0) None) }
+        ensures refused { IfErr result (WhyNotDone D.opened kind.Weak (free_site cell.0) Call.Clear) }
     {
         self.weak_cell(cell).clear()
     }
@@ -205,9 +185,8 @@ impl<'d, D: Domain> Desk<'d, D> {
     /// What the cell holds comes out, and an empty pointer stays, in C++ `exchange(nullptr)`.
     #[inline(always)]
     pub fn take(&self, cell: SharedCell) -> Result<Option<Shared<'_, D>>, Fault>
-        ensures taken { IfOk result (Exchanged D.opened None (Free cell.0) kind.Owner None) }
-        ensures refused { IfErr result
-            (WhyNotDone D.opened D.opened.shape.shared_cells None cell.0 (Call.Exchange (spot.Shared cell.0))) }
+        ensures taken { IfOk result (Exchanged D.opened kind.Owner (free_site cell.0) None) }
+        ensures refused { IfErr result (WhyNotDone D.opened kind.Owner (free_site cell.0) Call.Exchange) }
     {
         self.cell(cell).take()
     }

@@ -43,14 +43,14 @@ impl<'t, D: Domain> Element<Shared<'t, D>> for Shared<'t, D> {
     ghost use Rattle.control_word.specs.declared.model.handle.Kind.TheVariants.{Owner};
     ghost use Rattle.atomic_cells.specs.declared.sites.SharedMember.TheVariants.{First};
     ghost use Rattle.shared_handle.specs.declared.pile.Gone.{Gone};
-    ghost use Rattle.pointers.specs.Cells.{Loaded, Stored, shared_cell_at};
     ghost use Rattle.pointers.specs.Lists.{IsMemberRefused};
     ghost use Rattle.pointers.specs.Known.{owned};
+    ghost use Rattle.pointers.specs.SiteCalls.{Loaded, Stored};
+    ghost use Rattle.pointers.specs.Sites.{member_site};
 
-    ghost goes_in = { λ n e. (gone : Gone) × Stored D.opened (Some n) (shared_cell_at D.opened (Some n) First 0)
-        (Some e) gone };
+    ghost goes_in = { λ n e. Stored D.opened Owner (member_site n First) (Some e) };
 
-    ghost copied = { λ n e. Loaded D.opened (Some n) (shared_cell_at D.opened (Some n) First 0) Owner e };
+    ghost copied = { λ n e. Loaded D.opened Owner (member_site n First) e };
 
     ghost refused = { λ n why. IsMemberRefused D.opened n why };
 
@@ -72,13 +72,14 @@ impl<'t, D: Domain> Element<Shared<'t, D>> for Shared<'t, D> {
 impl<'t, D: Domain> Element<Shared<'t, D>> for Weak<'t, D> {
     ghost use Rattle.std.specs.Prelude.{◌≡◌, Some};
     ghost use Rattle.control_word.specs.declared.model.handle.Kind.TheVariants as kind;
-    ghost use Rattle.pointers.specs.Cells.{Loaded, StoredWeakly, weak_cell_at};
     ghost use Rattle.pointers.specs.Lists.{IsMemberRefused};
     ghost use Rattle.pointers.specs.Known.{owned};
+    ghost use Rattle.pointers.specs.SiteCalls.{Loaded, Stored};
+    ghost use Rattle.pointers.specs.Sites.{up_site};
 
-    ghost goes_in = { λ n e. StoredWeakly D.opened (Some n) (weak_cell_at D.opened (Some n) 0) (Some e) };
+    ghost goes_in = { λ n e. Stored D.opened kind.Weak (up_site n) (Some e) };
 
-    ghost copied = { λ n e. Loaded D.opened (Some n) (weak_cell_at D.opened (Some n) 0) kind.Weak e };
+    ghost copied = { λ n e. Loaded D.opened kind.Weak (up_site n) e };
 
     ghost refused = { λ n why. IsMemberRefused D.opened n why };
 

@@ -19,7 +19,7 @@ impl<'p, 't, D: Domain, E: Element<Shared<'t, D>>> List<'p, 't, D, E> {
         ensures made { IfOk result (IsNode D.opened E.goes_in element value) }
         ensures refused { IfErr result (WhyNoNode D.opened E.refused value) }
     {
-        let node = self.desk.new(value)?;
+        let node = self.head.desk.new(value)?;
         element.put(&node)?;
         Ok(node)
     }
@@ -52,7 +52,7 @@ impl<'p, 't, D: Domain, E: Element<Shared<'t, D>>> List<'p, 't, D, E> {
         ensures stays { IfOk result (λ done. IsFalse done → desired.new ≡ desired.old) }
         ensures refused { IfErr result (IsRefusedAt D.opened self.now) }
     {
-        self.head().compare_exchange_weak(rt, expected, desired)
+        self.head.compare_exchange_weak(rt, expected, desired)
     }
 
     /// As `swap_first`, and the first node is another where it isn't swapped.
@@ -67,7 +67,7 @@ impl<'p, 't, D: Domain, E: Element<Shared<'t, D>>> List<'p, 't, D, E> {
         ensures found { IfOk result (λ done. IsFalse done → Tells D.opened self.now expected.new) }
         ensures refused { IfErr result (IsRefusedAt D.opened self.now) }
     {
-        self.head().compare_exchange_strong(rt, expected, desired)
+        self.head.compare_exchange_strong(rt, expected, desired)
     }
 
     /// The element comes behind all others, in C++ `push_back`, in a node with the default value (waits). It goes over

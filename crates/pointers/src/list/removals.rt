@@ -1,10 +1,11 @@
 //! Elements that go out of a list.
 ghost use Rattle.std.specs.Prelude.{◌⊎◌, ◌↔◌, Err, IfErr, IfOk, IsTrue, Ok, OnOk, Option, Some};
-ghost use Rattle.pointers.specs.Cells.{WhyNotDone, shared_spot};
 ghost use Rattle.pointers.specs.ListChanges.{Empties, IsListRefused, IsPlaceOf, IsRefusedAt, Pops, Tells};
 ghost use Rattle.pointers.specs.ListRemovals.{IsFound, IsThatNode, IsUnlinked, Judges, Removes, Retains};
 ghost use Rattle.pointers.specs.ListRemovals.{WhyNotRetained};
 ghost use Rattle.pointers.specs.Lists.{Leads, behind, next_of};
+ghost use Rattle.pointers.specs.SiteCalls.{WhyNotDone};
+ghost use Rattle.control_word.specs.declared.model.handle.Kind.TheVariants.{Owner};
 
 use crate::domain::Domain;
 use crate::fault::Fault;
@@ -156,10 +157,9 @@ impl<'p, 't, D: Domain, E: Element<Shared<'t, D>>> List<'p, 't, D, E> {
     /// All elements go out, in C++ `clear()`.
     pub fn clear(&self) -> Result<(), Fault>
         ensures cleared { OnOk result (Empties D.opened self.now) }
-        ensures fault { IfErr result (WhyNotDone D.opened D.opened.shape.shared_cells self.now.of self.now.number
-            (Call.Clear (shared_spot self.now.of self.now.which self.now.number))) }
+        ensures fault { IfErr result (WhyNotDone D.opened Owner self.now Call.Clear) }
     {
-        self.head().clear()
+        self.head.clear()
     }
 }
 

@@ -22,7 +22,7 @@ impl<'p, 't, D: Domain, E: Element<Shared<'t, D>>> List<'p, 't, D, E> {
     {
         match before {
             Some(node) => node.next().load(rt),
-            None => self.head().load(rt),
+            None => self.head.load(rt),
         }
     }
 

@@ -1,13 +1,9 @@
 //! An owner's object's members, and an owner that goes into a cell.
 ghost use Rattle.std.specs.Prelude.{◌≡◌, IfErr, IfOk, None, OnOk, Option, Some};
-ghost use Rattle.control_word.specs.declared.model.event.Cell.TheVariants.{Free};
-ghost use Rattle.control_word.specs.declared.model.handle.Kind.TheVariants as kind;
 ghost use Rattle.control_word.specs.declared.model.handle.Kind.TheVariants.{Owner};
-ghost use Rattle.shared_handle.specs.declared.pile.Gone.{Gone};
-ghost use Rattle.pointers.specs.Cells.{Exchanged, IsOwnerOf, Loaded, Stored, WhyNotDone, WhyNotLocked, weak_cell_at};
-ghost use Rattle.pointers.specs.declared.fault.call.Spot.TheVariants as spot;
-ghost use Rattle.pointers.specs.declared.known.Known.{Known};
 ghost use Rattle.pointers.specs.Beside.{seen_by};
+ghost use Rattle.pointers.specs.SiteCalls.{Exchanged, Locked, Stored, WhyNotDone, WhyNotLocked};
+ghost use Rattle.pointers.specs.Sites.{free_site, up_site};
 
 use crate::cells::SharedCell;
 use crate::cells::link::Link;
@@ -60,9 +56,8 @@ impl<'t, D: Domain> Shared<'t, D> {
     /// The pointer goes into the cell, in C++ `store(std::move(p))`, and what that held lets go.
     #[inline(always)]
     pub fn store(self, cell: SharedCell) -> Result<(), Fault>
-        ensures stored { OnOk result ((gone : Gone) × Stored D.opened None (Free cell.0) (Some self.entry) gone) }
-        ensures refused { IfErr result
-            (WhyNotDone D.opened D.opened.shape.shared_cells None cell.0 (Call.Store (spot.Shared cell.0))) }
+        ensures stored { OnOk result (Stored D.opened Owner (free_site cell.0) (Some self.entry)) }
+        ensures refused { IfErr result (WhyNotDone D.opened Owner (free_site cell.0) Call.Store) }
     {
         let desk = self.desk;
         desk.cell(cell).store(Some(self))
@@ -71,9 +66,8 @@ impl<'t, D: Domain> Shared<'t, D> {
     /// The pointer goes into the cell, and what that held comes out, in C++ `exchange(std::move(p))`.
     #[inline(always)]
     pub fn exchange(self, cell: SharedCell) -> Result<Option<Shared<'t, D>>, Fault>
-        ensures exchanged { IfOk result (Exchanged D.opened None (Free cell.0) Owner (Some self.entry)) }
-        ensures refused { IfErr result
-            (WhyNotDone D.opened D.opened.shape.shared_cells None cell.0 (Call.Exchange (spot.Shared cell.0))) }
+        ensures exchanged { IfOk result (Exchanged D.opened Owner (free_site cell.0) (Some self.entry)) }
+        ensures refused { IfErr result (WhyNotDone D.opened Owner (free_site cell.0) Call.Exchange) }
     {
         let desk = self.desk;
         desk.cell(cell).exchange(Some(self))
@@ -82,7 +76,7 @@ impl<'t, D: Domain> Shared<'t, D> {
     /// One of the object's members that hold owners.
     #[inline(always)]
     pub(crate) fn member(&self, which: SharedMember) -> Member<'_, 't, D>
-        ensures of { seen_by (λ x. x.now.known) result.of ≡ Some self.now }
+        ensures of { result.of ≡ Some self.now }
         ensures which { result.which ≡ which }
     {
         Member {
@@ -96,7 +90,7 @@ impl<'t, D: Domain> Shared<'t, D> {
     /// The object's member that owns its first child.
     #[inline(always)]
     pub fn first(&self) -> Member<'_, 't, D>
-        ensures of { seen_by (λ x. x.now.known) result.of ≡ Some self.now }
+        ensures of { result.of ≡ Some self.now }
         ensures which { result.which ≡ SharedMember.First }
     {
         self.member(SharedMember::First)
@@ -105,7 +99,7 @@ impl<'t, D: Domain> Shared<'t, D> {
     /// The object's member that owns its next sibling.
     #[inline(always)]
     pub fn next(&self) -> Member<'_, 't, D>
-        ensures of { seen_by (λ x. x.now.known) result.of ≡ Some self.now }
+        ensures of { result.of ≡ Some self.now }
         ensures which { result.which ≡ SharedMember.Next }
     {
         self.member(SharedMember::Next)
@@ -114,7 +108,7 @@ impl<'t, D: Domain> Shared<'t, D> {
     /// The object's weak member.
     #[inline(always)]
     pub fn up(&self) -> Up<'_, 't, D>
-        ensures of { seen_by (λ x. x.now.known) result.of ≡ Some self.now }
+        ensures of { result.of ≡ Some self.now }
     {
         Up {
             desk: self.desk,
@@ -126,10 +120,8 @@ impl<'t, D: Domain> Shared<'t, D> {
     /// An owner of what its weak member is of (waits). None where that is empty or expired.
     #[inline(always)]
     pub fn parent<R: Wait>(&self, rt: &R) -> Result<Option<Shared<'t, D>>, Fault>
-        ensures parent { IfOk result (λ r. (w : Option (Known D.Value)) × Loaded D.opened (Some self.now)
-            (weak_cell_at D.opened (Some self.now) 0) kind.Weak w × IsOwnerOf D.opened w r) }
-        ensures refused { IfErr result
-            (WhyNotLocked D.opened D.opened.shape.weak_cells (Some self.now) 0 (Call.Load Spot.Up)) }
+        ensures parent { IfOk result (Locked D.opened (up_site self.now)) }
+        ensures refused { IfErr result (WhyNotLocked D.opened (up_site self.now)) }
     {
         self.up().lock(rt)
     }

@@ -1,10 +1,9 @@
 //! A weak pointer that goes into a cell.
 ghost use Rattle.std.specs.Prelude.{◌≡◌, ◌+◌, IfErr, IfOk, None, OnOk, Some};
-ghost use Rattle.control_word.specs.declared.model.event.Cell.TheVariants.{Free};
 ghost use Rattle.control_word.specs.declared.model.handle.Kind.TheVariants as kind;
-ghost use Rattle.pointers.specs.Cells.{Exchanged, StoredWeakly, WhyNotDone};
-ghost use Rattle.pointers.specs.declared.fault.call.Spot.TheVariants as spot;
 ghost use Rattle.pointers.specs.Beside.{seen_by};
+ghost use Rattle.pointers.specs.SiteCalls.{Exchanged, Stored, WhyNotDone};
+ghost use Rattle.pointers.specs.Sites.{free_site};
 
 use crate::cells::WeakCell;
 use crate::claim::weak_claim::WeakClaim;
@@ -52,10 +51,8 @@ impl<'t, D: Domain> Weak<'t, D> {
     /// The pointer goes into the cell, in C++ `store(std::move(w))`, and what that held lets go.
     #[inline(always)]
     pub fn store(self, cell: WeakCell) -> Result<(), Fault>
-        ensures stored { OnOk result
-            (StoredWeakly D.opened None (Free (D.opened.shape.shared_cells + cell.0)) (Some self.entry)) }
-        ensures refused { IfErr result
-            (WhyNotDone D.opened D.opened.shape.weak_cells None cell.0 (Call.Store (spot.Weak cell.0))) }
+        ensures stored { OnOk result (Stored D.opened kind.Weak (free_site cell.0) (Some self.entry)) }
+        ensures refused { IfErr result (WhyNotDone D.opened kind.Weak (free_site cell.0) Call.Store) }
     {
         let desk = self.desk;
         desk.weak_cell(cell).store(Some(self))
@@ -64,10 +61,8 @@ impl<'t, D: Domain> Weak<'t, D> {
     /// The pointer goes into the cell, and what that held comes out, in C++ `exchange(std::move(w))`.
     #[inline(always)]
     pub fn exchange(self, cell: WeakCell) -> Result<Option<Weak<'t, D>>, Fault>
-        ensures exchanged { IfOk result
-            (Exchanged D.opened None (Free (D.opened.shape.shared_cells + cell.0)) kind.Weak (Some self.entry)) }
-        ensures refused { IfErr result
-            (WhyNotDone D.opened D.opened.shape.weak_cells None cell.0 (Call.Exchange (spot.Weak cell.0))) }
+        ensures exchanged { IfOk result (Exchanged D.opened kind.Weak (free_site cell.0) (Some self.entry)) }
+        ensures refused { IfErr result (WhyNotDone D.opened kind.Weak (free_site cell.0) Call.Exchange) }
     {
         let desk = self.desk;
         desk.weak_cell(cell).exchange(Some(self))

@@ -1,7 +1,7 @@
 use Rattle.std.proofs.Common.{IfErr, OnOk, inr, subst}
 use Rattle.pointers.proofs.Handles.{errs_map}
 use Rattle.pointers.proofs.ListSteps.{on_ok}
-use Rattle.pointers.specs.Lists.{Site}
+use Rattle.pointers.specs.Sites.{Site}
 use Rattle.pointer_structures.specs.Watches.{Watches, WhyNotAttached}
 use Rattle.pointer_structures.proofs.observers.Observers.attach.Goals as goal
 

@@ -1,5 +1,5 @@
 use Rattle.std.proofs.Common.{rules, IfErr, IfOk, subst}
-use Rattle.pointers.specs.Lists.{Site}
+use Rattle.pointers.specs.Sites.{Site}
 use Rattle.pointer_structures.specs.Prunes.{Prunes, WhyNotPruned}
 use Rattle.pointer_structures.proofs.Pruning.{not_pruned, prunes}
 use Rattle.pointer_structures.proofs.observers.Observers.prune.Goals as goal

@@ -1,7 +1,6 @@
 use Rattle.std.proofs.Common.{IfErr, IfOk, IsTrue, Bool, true, subst}
-use Rattle.pointers.specs.Beside.{seen_by}
 use Rattle.pointers.specs.ListChanges.{IsRefusedAt, Swaps}
-use Rattle.pointers.specs.Lists.{Site, site}
+use Rattle.pointers.specs.Sites.{Site}
 use Rattle.pointers.proofs.Handles.{errs_map}
 use Rattle.pointers.proofs.ListSteps.{stays_of, swaps_of}
 use Rattle.pointer_structures.proofs.stack.Stack.swap.Goals as goal
@@ -11,12 +10,12 @@ returns-clause-swapped g c =
     let o = g.D.Domain.opened in let call = c.compare_exchange_weak in let place = c.self.inside.place in
     subst (λ (s : Site g.row.D-Value.Denot). IfOk call.result (λ (done : Bool). IsTrue done → Swaps o s c.args.expected.now
     c.args.desired.now)) c.self.view_is
-    (swaps_of o (site (seen_by (λ x. x.now.known) place.of) place.which place.number) true _ _ _ _ call.result call.ensures.compared)
+    (swaps_of o place true _ _ _ _ call.result call.ensures.compared)
 
 pub returns-clause-stays : goal.returns-clause-stays
 returns-clause-stays g c =
     let o = g.D.Domain.opened in let call = c.compare_exchange_weak in let place = c.self.inside.place in
-    stays_of o (site (seen_by (λ x. x.now.known) place.of) place.which place.number) true _ _ _ _ call.result call.ensures.compared
+    stays_of o place true _ _ _ _ call.result call.ensures.compared
 
 pub returns-clause-fault : goal.returns-clause-fault
 returns-clause-fault g c =

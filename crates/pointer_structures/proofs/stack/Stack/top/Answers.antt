@@ -1,7 +1,8 @@
 use Rattle.std.proofs.Common.{IfErr, IfOk, subst}
 use Rattle.pointers.proofs.Handles.{errs_map}
 use Rattle.pointers.specs.ListChanges.{IsRefusedAt}
-use Rattle.pointers.specs.Lists.{Leads, Site}
+use Rattle.pointers.specs.Lists.{Leads}
+use Rattle.pointers.specs.Sites.{Site}
 use Rattle.pointer_structures.proofs.stack.Stack.top.Goals as goal
 
 pub returns-clause-led : goal.returns-clause-led

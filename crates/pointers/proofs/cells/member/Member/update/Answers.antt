@@ -1,6 +1,6 @@
 use Rattle.std.proofs.Common.{of_calls, rules, ◌≡◌, Err, inl, inr, subst}
-use Rattle.pointers.specs.Beside.{seen_by}
-use Rattle.pointers.specs.Cells.{shared_cell_at}
+use Rattle.control_word.specs.declared.model.handle.Kind.TheVariants.{Owner}
+use Rattle.pointers.specs.SiteCalls.{cell_at}
 use Rattle.pointers.specs.Compares.{Shows}
 use Rattle.pointers.proofs.Values.{fault_as, shows_by}
 use Rattle.pointers.proofs.cells.member.Member.update.Goals as goal
@@ -10,13 +10,13 @@ loop-init g c = (λ always. always, inl c.in_ok-now.ensures.loaded)
 
 pub returns-in_err-old-clause-refused : goal.returns-in_err-old-clause-refused
 returns-in_err-old-clause-refused g c =
-    let o = g.D.Domain.opened in let of = seen_by (λ x. x.now.known) c.args.self.now.of in
+    let o = g.D.Domain.opened in let s = c.args.self.now in
     let from = c.from_residual-in_err-old.ensures in
     let same : c.from_residual-in_err-old.result ≡ Err c.in_err-old.field-0.0 = search (from, rules) in
     let not = c.in_err-old.ensures.refused in
     fault_as _ _ _ same (inr (inl (record {
       found = not.0;
-      shows = subst (Shows o of (shared_cell_at o of c.args.self.now.which c.args.self.now.number)) not.1 c.loop.invariant.1;
+      shows = subst (Shows o s.of (cell_at o Owner s)) not.1 c.loop.invariant.1;
       refused = not.2;
     })))
 
