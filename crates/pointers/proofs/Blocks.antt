@@ -1,9 +1,9 @@
 -- Vacant blocks of a desk, and what is left to end with it.
 use Rattle.std.proofs.Common.{◌≡◌, ℕ, ◌-◌, ◌≤◌, min, ◌⊎◌, List, [], length, IfNone, Some, None}
 use Rattle.std.proofs.Common.{Option, sym, ap, ◌∙◌, subst, inl, inr, arith}
-use Rattle.pointers.proofs.Prelude.{Bears, Belongs, DeskNow, domain_of, DomainNow, Fills, IsSole}
+use Rattle.pointers.proofs.Prelude.{Bears, Belongs, DeskNow, domain_of, DomainNow, Fills}
 use Rattle.pointers.proofs.Prelude.{IsWhole, Known, Later, Pile, ShelvesAll, stock_of}
-use Rattle.control_block.specs.Shelf.{Shelved, Unshelved, shelved_of}
+use Rattle.control_block.specs.Shelf.{Shelved, Unshelved}
 use Rattle.pointers.specs.Blocks.{Settles, SinceOpened}
 
 module _ {V : Type 0} where
@@ -15,13 +15,8 @@ module _ {V : Type 0} where
   pub shelves_all : (n k : ℕ) (d e : DeskNow V) → Shelved n d e → n ≡ min k (length (stock_of d)) → k ≡ length (stock_of d) → ShelvesAll n d e
   shelves_all n k d e s is all = let left = s.stock in record { shelves = s; none = omega (arith, left, is, all) }
 
-  pub fills : (n k : ℕ) (d e : DeskNow V) → k ≡ 2 - length (stock_of d) → n ≤ k → Unshelved n d e → (IsSole d → n ≡ min k (shelved_of d)) → Fills n d e
-  fills n k d e is most s sole =
-      record {
-        takes = s;
-        few = subst (λ (m : ℕ). n ≤ m) is most;
-        sole = λ alone. sole alone ∙ ap (λ (m : ℕ). min m (shelved_of d)) is;
-      }
+  pub fills : (n k : ℕ) (d e : DeskNow V) → k ≡ 2 - length (stock_of d) → n ≤ k → Unshelved n d e → Fills n d e
+  fills n k d e is most s = record { takes = s; few = subst (λ (m : ℕ). n ≤ m) is most }
 
   -- where nothing is on the pile nothing is left to end with the desk
   pub none_left : (o d e : DeskNow V) (p q : Pile V) (cs : List (Option (Known V))) (v : Option V) (rounds : ℕ) → IsWhole o d p cs → Later d e

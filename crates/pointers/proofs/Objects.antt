@@ -2,7 +2,7 @@
 use Rattle.std.proofs.Common.{◌≡◌, ℕ, suc, Bool, true, false, List, [], ◌∷◌, ◌++◌, slice_index}
 use Rattle.std.proofs.Common.{Some, None, Option, sym, refl, ap, ◌∙◌, subst}
 use Rattle.pointers.proofs.Prelude.{AddsEvent, AreOfOne, Block, DeskNow, Entry, entry, Event, fields_in}
-use Rattle.pointers.proofs.Prelude.{GoesOn, Held, IsField, Known, known_now, leads, Make, object_in}
+use Rattle.pointers.proofs.Prelude.{GoesOn, Held, IsField, IsLegal, Known, known_now, leads, Make, object_in}
 use Rattle.pointers.proofs.Prelude.{opening_of, Place, pointed, Shape, Shared}
 use Rattle.control_word.proofs.lists.Tallies.{put_same}
 use Rattle.control_word.specs.Events.{new_object, origin}
@@ -32,6 +32,8 @@ module _ {V : Type 0} where
   came_by o d e h x goes is = (
     is.between ++ d.seen,
     is.seen ∙ ap (λ (n : ℕ). entry n x ∷ (is.between ++ d.seen)) (sym is.same.2 ∙ goes.same.2),
+    record { same = (refl, refl, refl); later = goes.later; seen = goes.seen },
+    subst (λ (k : Shape). IsLegal (opening_of k) e.seen) (sym is.same.1 ∙ goes.same.1) is.legal,
   )
 
   pub makes : (o d e : DeskNow V) (h : Shared) (c : Known V) (enabled : Bool) (fields : List ℕ) (x : V) → GoesOn o e

@@ -1,8 +1,7 @@
 -- Vacant blocks of a desk, and what is left to end with it (own).
-use Rattle.std.specs.Prelude.{◌≡◌, ℕ, ◌-◌, ◌≤◌, min, length}
+use Rattle.std.specs.Prelude.{◌≡◌, ℕ, ◌-◌, ◌≤◌, length}
 use Rattle.control_block.specs.Desks.{DeskNow, endings_of, stock_of}
-use Rattle.control_block.specs.Own.{IsSole}
-use Rattle.control_block.specs.Shelf.{Shelved, Unshelved, shelved_of}
+use Rattle.control_block.specs.Shelf.{Shelved, Unshelved}
 use Rattle.pointers.specs.Known.{GoesOn}
 
 module _ {V : Type 0} where
@@ -18,11 +17,10 @@ module _ {V : Type 0} where
     pub shelves : Shelved n d e
     pub none : length (stock_of e) ≡ 0
 
-  -- so many blocks of the shelf filled its reserve of two; all that the shelf had for it, where no other desk is there
+  -- so many blocks of the shelf came to its reserve of two
   pub record Fills (n : ℕ) (d e : DeskNow V) : Type 0 where
     pub takes : Unshelved n d e
     pub few : n ≤ 2 - length (stock_of d)
-    pub sole : IsSole d → n ≡ min (2 - length (stock_of d)) (shelved_of d)
 
   -- it went on, and nothing was left to end with it
   pub record Settles (d e : DeskNow V) : Type 0 where

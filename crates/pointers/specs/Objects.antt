@@ -8,11 +8,12 @@ use Rattle.control_word.specs.declared.place.Place.{Place}
 use Rattle.control_word.specs.declared.refusal.Refusal.{Refusal}
 use Rattle.control_word.specs.declared.refusal.Refusal.TheVariants.{Null, Outside}
 use Rattle.control_word.specs.Events.{origin}
-use Rattle.control_word.specs.Histories.{entry}
+use Rattle.control_word.specs.Histories.{IsLegal, entry}
 use Rattle.control_block.specs.Desks.{DeskNow}
+use Rattle.control_block.specs.Rule.{opening_of}
 use Rattle.shared_handle.specs.Endings.{IsOutside}
 use Rattle.shared_handle.specs.Locks.{IsLock}
-use Rattle.pointers.specs.Known.{fields, owned, pointed}
+use Rattle.pointers.specs.Known.{GoesOn, desk_at, fields, owned, pointed}
 use Rattle.pointers.specs.declared.known.Known.{Known}
 
 -- a block's number, 0 where there is none (own)
@@ -21,9 +22,11 @@ number_of_block None = 0
 number_of_block (Some b) = b.0
 
 module _ {V : Type 0} where
-  -- the handle came by this event of its desk
+  -- the handle came by this event of its desk, which went on legally from when it was opened
   abbrev pub CameBy : DeskNow V → Event V → Known V → Type 0
-  CameBy o event c = (h : List (Entry V)) × (c.seen ≡ entry o.name event ∷ h)
+  CameBy o event c =
+      (h : List (Entry V)) × (c.seen ≡ entry o.name event ∷ h) × GoesOn o (desk_at o c)
+      × IsLegal (opening_of o.shape) c.seen
 
   -- it is an owner of an object that was made just then, with these fields and this value, and points at the first
   -- field ([util.smartptr.shared.create]); where the object is enabled, it gives pointers to itself

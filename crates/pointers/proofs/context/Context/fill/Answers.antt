@@ -18,4 +18,4 @@ returns g c =
     let is : c.saturating_sub-count.result ≡ 2 - length (stock_of d) = (let a = c.saturating_sub-count.ensures in let b = c.stock.ensures in
     omega (arith, a, b)) in
     since_opened {Does = Fills c.unshelve.result} o d e c.self.inside.pile c.self.inside.claims.entries c.self.invariant
-    (fills c.unshelve.result c.saturating_sub-count.result d e is says.most says.unshelved says.sole)
+    (fills c.unshelve.result c.saturating_sub-count.result d e is says.most says.unshelved)
