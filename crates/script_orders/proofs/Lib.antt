@@ -1,4 +1,5 @@
 pub mod Adding
 pub mod Cutting
+pub mod Differing
 pub mod Distinct
 pub mod Numbering

@@ -1,3 +1,4 @@
+pub mod Differences
 pub mod Found
 pub mod Orders
 pub mod Sorting

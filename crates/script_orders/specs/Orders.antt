@@ -6,6 +6,7 @@ use Rattle.script_text.specs.Grammar.{Refuses}
 use Rattle.script_stepper.specs.Runs.{IsRunText, IsScriptRun}
 use Rattle.script_orders.specs.declared.orders.Answer.{Answer}
 use Rattle.script_orders.specs.declared.orders.Answer.TheVariants.{Told, Found, TooMany}
+use Rattle.script_orders.specs.Differences.{IsDifferLine}
 use Rattle.script_orders.specs.Sorting.{by_threads, lines_in}
 
 -- the text is an outcome of the script: what its run with this list of turns tells, sorted by threads
@@ -59,6 +60,7 @@ counts_line outcomes states =
 -- the text tells how many there are, and then comes a line that says where they differ, or none
 pub record Closes (outcomes : List Outcome) (states : ℕ) (text : List ℕ) : Type 0 where
   pub differ : List ℕ
+  pub names : IsDifferLine differ
   pub says : text ≡ counts_line (length outcomes) states ++ differ
 
 -- the text tells these outcomes, and then closes

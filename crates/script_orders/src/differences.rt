@@ -1,6 +1,7 @@
 //! Where outcomes differ.
 
-ghost use Rattle.std.specs.Prelude.{◌<◌, IfSome, length};
+ghost use Rattle.std.specs.Prelude.{◌≡◌, ◌<◌, ◌++◌, ◌∷◌, IfOk, IfSome, OnOk, length, string_bytes};
+ghost use Rattle.script_orders.specs.Differences.{AreDifferences, IsDifferLine, difference_word};
 
 use indexmap::IndexMap;
 use std::alloc::{AllocError, Global};
@@ -83,28 +84,43 @@ fn note(
     Ok(())
 }
 
-fn put_statement(text: &mut String, statement: Statement) -> Result<(), AllocError> {
-    let (thread, number) = statement;
-    if thread == BEHIND {
-        text.push_str(" left")?;
-    } else if number == BEHIND {
-        write!(text, " {thread}.end")?;
-    } else {
-        write!(text, " {thread}.{number}")?;
+/// What outcomes differ in: a statement of a thread, its end, or what is left at the end of the run.
+#[derive(Clone, Copy)]
+pub(crate) enum Difference {
+    Statement { thread: u64, number: u64 },
+    End { thread: u64 },
+    Left,
+}
+
+fn difference_of(statement: Statement) -> Difference {
+    match statement {
+        (BEHIND, _) => Difference::Left,
+        (thread, BEHIND) => Difference::End { thread },
+        (thread, number) => Difference::Statement { thread, number },
+    }
+}
+
+/// Adds what outcomes differ in, behind a word.
+fn put_difference(text: &mut String, difference: Difference) -> Result<(), AllocError>
+    ensures { OnOk result
+        (string_bytes text.new ≡ string_bytes text.old ++ 32 ∷ difference_word difference) }
+{
+    match difference {
+        Difference::Statement { thread, number } => write!(text, " {thread}.{number}")?,
+        Difference::End { thread } => write!(text, " {thread}.end")?,
+        Difference::Left => text.push_str(" left")?,
     }
     Ok(())
 }
 
-/// The line that names the statements whose lines aren't the same in all of these outcomes, in order; then `left` where
-/// what is left isn't. None where there is none.
-pub(crate) fn differ_line(
+/// The statements whose lines aren't the same in all of these outcomes.
+fn differing(
     alloc: Global,
     outcomes: &IndexMap<Vec<u8>, Vec<u8>>,
-) -> Result<String, AllocError> {
+) -> Result<BTreeMap<Statement, ()>, AllocError> {
     let mut differ = BTreeMap::new(alloc);
-    let mut line = String::new(alloc);
     let Some((first, _)) = outcomes.first() else {
-        return Ok(line);
+        return Ok(differ);
     };
     let first = lines_of(alloc, first.as_slice())?;
     for text in outcomes.keys() {
@@ -112,13 +128,44 @@ pub(crate) fn differ_line(
         note(&first, &lines, &mut differ)?;
         note(&lines, &first, &mut differ)?;
     }
-    if differ.is_empty() {
+    Ok(differ)
+}
+
+/// What these statements are, each behind a space.
+fn words_of(alloc: Global, differ: &BTreeMap<Statement, ()>) -> Result<String, AllocError>
+    ensures { IfOk result (λ words. AreDifferences (string_bytes words)) }
+{
+    let mut words = String::new(alloc);
+    for (statement, _) in differ {
+        put_difference(&mut words, difference_of(*statement))?;
+    }
+    Ok(words)
+}
+
+/// The line of these words, if there are any.
+fn line_with(alloc: Global, words: &str) -> Result<String, AllocError>
+    requires { AreDifferences words.now }
+    ensures { IfOk result (λ line. IsDifferLine (string_bytes line)) }
+{
+    let mut line = String::new(alloc);
+    if words.is_empty() {
         return Ok(line);
     }
     line.push_str("differ")?;
-    for (statement, _) in &differ {
-        put_statement(&mut line, *statement)?;
-    }
+    line.push_str(words)?;
     line.push('\n')?;
     Ok(line)
+}
+
+/// The line that names the statements whose lines aren't the same in all of these outcomes, in order; then `left` where
+/// what is left isn't. None where there is none.
+pub(crate) fn differ_line(
+    alloc: Global,
+    outcomes: &IndexMap<Vec<u8>, Vec<u8>>,
+) -> Result<String, AllocError>
+    ensures { IfOk result (λ line. IsDifferLine (string_bytes line)) }
+{
+    let differ = differing(alloc, outcomes)?;
+    let words = words_of(alloc, &differ)?;
+    line_with(alloc, words.as_str())
 }
