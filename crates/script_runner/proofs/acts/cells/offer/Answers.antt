@@ -27,7 +27,7 @@ returns-clause-kinds g c =
     c.copy.ensures).1
 
 pub reaches-requires : goal.reaches-requires
-reaches-requires g c = in_reach c.args.table.now c.args.cell c.requires.reached
+reaches-requires g c = record { reach = in_reach c.args.table.now c.args.cell c.requires.reached }
 
 pub copy-requires-clause-from : goal.copy-requires-clause-from
 copy-requires-clause-from g c =

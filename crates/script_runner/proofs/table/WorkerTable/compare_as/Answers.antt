@@ -10,20 +10,22 @@ use Rattle.script_runner.proofs.table.WorkerTable.compare_as.Goals as goal
 pub compare_held-swapped-requires-clause-holds : goal.compare_held-swapped-requires-clause-holds
 compare_held-swapped-requires-clause-holds g c =
     let s = c.self.inside in let ss = s.slots.items in let k = c.in-Ok.ensures.found.1 in let z = kind_at c.args.cell in
-    let q = subst (λ (t : TableNow g.row.V.Denot). IsKindAt z t.slots c.args.expected × IsKindAt z t.slots c.args.desired) (sym c.self.view_is) c.requires.slots in
+    let q = subst (λ (t : TableNow g.row.V.Denot). IsKindAt z t.slots c.args.expected × IsKindAt z t.slots c.args.desired) (sym c.self.view_is)
+    c.requires.slots in
     let x = c.content_of-there in let y = c.content_of-new in (
       content_held s.desk ss c.args.expected c.handle_at.result.now x.result c.in-Ok.at.kind c.self.invariant.fits c.handle_at.ensures x.ensures
           (sym x.ensures.0 ∙ (kind_there ss c.args.expected z c.handle_at.result.now q.0 c.handle_at.ensures ∙ sym k)),
-      content_held s.desk ss c.args.desired c.handle_at-2.result.now y.result c.in-Ok.at.kind c.self.invariant.fits c.handle_at-2.ensures y.ensures
-          (sym y.ensures.0 ∙ (kind_there ss c.args.desired z c.handle_at-2.result.now q.1 c.handle_at-2.ensures ∙ sym k)),
+      content_held s.desk ss c.args.desired c.handle_at-in-Ok.result.now y.result c.in-Ok.at.kind c.self.invariant.fits c.handle_at-in-Ok.ensures y.ensures
+          (sym y.ensures.0 ∙ (kind_there ss c.args.desired z c.handle_at-in-Ok.result.now q.1 c.handle_at-in-Ok.ensures ∙ sym k)),
     )
 
 pub compare_held-swapped-requires-clause-kinds : goal.compare_held-swapped-requires-clause-kinds
 compare_held-swapped-requires-clause-kinds g c =
     let s = c.self.inside in let ss = s.slots.items in let k = c.in-Ok.ensures.found.1 in let z = kind_at c.args.cell in
-    let q = subst (λ (t : TableNow g.row.V.Denot). IsKindAt z t.slots c.args.expected × IsKindAt z t.slots c.args.desired) (sym c.self.view_is) c.requires.slots in (
+    let q = subst (λ (t : TableNow g.row.V.Denot). IsKindAt z t.slots c.args.expected × IsKindAt z t.slots c.args.desired) (sym c.self.view_is)
+    c.requires.slots in (
       sym c.content_of-there.ensures.0 ∙ (kind_there ss c.args.expected z c.handle_at.result.now q.0 c.handle_at.ensures ∙ sym k),
-      sym c.content_of-new.ensures.0 ∙ (kind_there ss c.args.desired z c.handle_at-2.result.now q.1 c.handle_at-2.ensures ∙ sym k),
+      sym c.content_of-new.ensures.0 ∙ (kind_there ss c.args.desired z c.handle_at-in-Ok.result.now q.1 c.handle_at-in-Ok.ensures ∙ sym k),
     )
 
 pub follow-requires-clause-bears : goal.follow-requires-clause-bears
@@ -34,12 +36,12 @@ pub follow-requires-clause-there : goal.follow-requires-clause-there
 follow-requires-clause-there g c =
     let ss = c.self.inside.slots.items in (
       found_below ss c.args.expected _ c.handle_at.ensures,
-      (c.handle_at-2.result.now, c.handle_at-2.ensures),
+      (c.handle_at-in-Ok.result.now, c.handle_at-in-Ok.ensures),
     )
 
 pub follow-requires-clause-swapped : goal.follow-requires-clause-swapped
 follow-requires-clause-swapped g c hit =
-    let s = c.self.inside in let m = c.compare_held-swapped in let y = c.content_of-new in let h = c.handle_at-2 in
+    let s = c.self.inside in let m = c.compare_held-swapped in let y = c.content_of-new in let h = c.handle_at-in-Ok in
     let q = subst (λ (t : TableNow g.row.V.Denot). IsKindAt (kind_at c.args.cell) t.slots c.args.desired) (sym c.self.view_is) c.requires.slots.1 in
     fits_swapped s.desk m.new.desk s.slots.items c.args.desired h.result.now m.result.1 y.result c.in-Ok.at.kind m.result.0 c.self.invariant.fits h.ensures
     y.ensures
@@ -56,8 +58,9 @@ pub returns-in-Ok-clause-compared : goal.returns-in-Ok-clause-compared
 returns-in-Ok-clause-compared g c =
     let s = c.self.inside in let ss = s.slots.items in let d = s.desk in let m = c.compare_held-swapped in let r = m.result in
     let at = c.in-Ok.at in let k = c.in-Ok.ensures.found.1 in let z = kind_at c.args.cell in let site = cell_of_site d at.site in
-    let x = c.content_of-there in let y = c.content_of-new in let h = c.handle_at.result.now in let n = c.handle_at-2.result.now in
-    let q = subst (λ (t : TableNow g.row.V.Denot). IsKindAt z t.slots c.args.expected × IsKindAt z t.slots c.args.desired) (sym c.self.view_is) c.requires.slots in
+    let x = c.content_of-there in let y = c.content_of-new in let h = c.handle_at.result.now in let n = c.handle_at-in-Ok.result.now in
+    let q = subst (λ (t : TableNow g.row.V.Denot). IsKindAt z t.slots c.args.expected × IsKindAt z t.slots c.args.desired) (sym c.self.view_is)
+    c.requires.slots in
     subst (λ (t : TableNow g.row.V.Denot). ComparesSlots g.F.Form.weak t c.args.cell c.args.expected c.args.desired r.0
     (seen c.follow.new.desk c.follow.new.slots.items c.follow.new.pile)) c.self.view_is
     record {
@@ -66,9 +69,9 @@ returns-in-Ok-clause-compared g c =
       room = subst (λ (t : TableNow g.row.V.Denot). IsBelow t.desk) (sym c.self.view_is) c.requires.below;
       there = h;
       new = n;
-      at = (c.handle_at.ensures, c.handle_at-2.ensures);
+      at = (c.handle_at.ensures, c.handle_at-in-Ok.ensures);
       found = r.1;
-      kinds = (kind_there ss c.args.expected z h q.0 c.handle_at.ensures, kind_there ss c.args.desired z n q.1 c.handle_at-2.ensures, m.ensures.kind ∙ k);
+      kinds = (kind_there ss c.args.expected z h q.0 c.handle_at.ensures, kind_there ss c.args.desired z n q.1 c.handle_at-in-Ok.ensures, m.ensures.kind ∙ k);
       between = m.new.desk;
       compares = by_parts (λ y b p. cells.Compares d site y b p (block_of_held n) (place_of_held n) r.0 (block_of_held r.1) (place_of_held r.1)
           g.F.Form.weak m.new.desk)
@@ -87,8 +90,8 @@ handle_at-requires g c =
     let at = subst (λ (t : TableNow g.row.V.Denot). IsKindAt (kind_at c.args.cell) t.slots c.args.expected) (sym c.self.view_is) c.requires.slots.0 in
     (at.0, at.1)
 
-pub handle_at-2-requires : goal.handle_at-2-requires
-handle_at-2-requires g c =
+pub handle_at-requires-in-Ok : goal.handle_at-requires-in-Ok
+handle_at-requires-in-Ok g c =
     let at = subst (λ (t : TableNow g.row.V.Denot). IsKindAt (kind_at c.args.cell) t.slots c.args.desired) (sym c.self.view_is) c.requires.slots.1 in
     (at.0, at.1)
 

@@ -12,7 +12,8 @@ use Rattle.script_runner.proofs.table.WorkerTable.exchange.Goals as goal
 pub exchange_held-old-requires-clause-held : goal.exchange_held-old-requires-clause-held
 exchange_held-old-requires-clause-held g c =
     let s = c.self.inside in let h = c.take_handle-new in let k = kind_at c.args.cell in
-    let there : IsKindAt k s.slots.items c.args.at = subst (λ (t : TableNow g.row.V.Denot). IsKindAt k t.slots c.args.at) (sym c.self.view_is) c.requires.at in (
+    let there : IsKindAt k s.slots.items c.args.at =
+    subst (λ (t : TableNow g.row.V.Denot). IsKindAt k t.slots c.args.at) (sym c.self.view_is) c.requires.at in (
       fits_at s.desk s.slots.items c.args.at h.result c.self.invariant.fits h.ensures.0,
       kind_there s.slots.items c.args.at k h.result there h.ensures.0 ∙ sym c.in-Ok.ensures.found.1,
     )

@@ -20,8 +20,8 @@ holds_held-requires-clause-kind g c =
     let there : IsKindAt k s.slots.items c.args.at = subst (λ (t : TableNow g.row.V.Denot). IsKindAt k t.slots c.args.at) (sym c.self.view_is) c.requires.at in
     sym x.ensures.0 ∙ (kind_there s.slots.items c.args.at k h.result.now there h.ensures ∙ sym c.in-Ok.ensures.found.1)
 
-pub invariant_of-self-in-Ok : goal.invariant_of-self-in-Ok
-invariant_of-self-in-Ok g c =
+pub invariant_of-self : goal.invariant_of-self
+invariant_of-self g c =
     let s = c.self.inside in let says = c.holds_held.ensures in
     still _ _ s.desk c.holds_held.new.desk s.slots.items s.pile c.self.invariant says.keeps says.bag says.held
 

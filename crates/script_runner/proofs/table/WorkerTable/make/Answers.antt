@@ -19,7 +19,8 @@ assign-requires-clause-fits g c =
 pub returns-in-Ok-clause-made : goal.returns-in-Ok-clause-made
 returns-in-Ok-clause-made g c so =
     let a = c.assign.new in
-    subst (λ (t : TableNow g.row.V.Denot). MakesIntoSlot t c.args.to c.args.enabled c.args.fields c.args.value (seen a.desk a.slots.items a.pile)) c.self.view_is
+    subst (λ (t : TableNow g.row.V.Denot). MakesIntoSlot t c.args.to c.args.enabled c.args.fields c.args.value (seen a.desk a.slots.items a.pile))
+    c.self.view_is
     record {
       handle = Owner c.in-Ok.owner;
       between = c.make.new.desk;
@@ -31,14 +32,6 @@ returns-in-Ok-clause-made g c so =
 pub invariant_of-self-in-Err : goal.invariant_of-self-in-Err
 invariant_of-self-in-Err g c =
     let s = c.self.inside in same_whole _ s.domain.now s.desk c.make.new.desk s.slots.items s.pile c.self.invariant c.in-Err.ensures.refused.1
-
-pub returns-in-Err-clause-none : goal.returns-in-Err-clause-none
-returns-in-Err-clause-none g c so =
-    let s = c.self.inside in let e = c.in-Err.ensures in
-    let below : IsBelow s.desk = subst (λ (t : TableNow g.row.V.Denot). IsBelow t.desk) (sym c.self.view_is) c.requires.below in (
-      subst (λ (t : TableNow g.row.V.Denot). stock_of t.desk ≡ []) c.self.view_is (only_full s.desk c.in-Err.field-0.why below e.refusals),
-      ap (λ (d : DeskNow g.row.V.Denot). seen d s.slots.items s.pile) e.refused.1 ∙ c.self.view_is,
-    )
 
 pub assign-requires-clause-there : goal.assign-requires-clause-there
 assign-requires-clause-there g c = subst (λ (t : TableNow g.row.V.Denot). c.args.to < length t.slots) (sym c.self.view_is) c.requires.to

@@ -4,7 +4,8 @@ use Rattle.script_runner.proofs.CellSites.{is_open}
 use Rattle.script_runner.proofs.table.cells.find.Goals as goal
 
 pub site_of-requires : goal.site_of-requires
-site_of-requires g c = subst (λ (z : Shape). IsInReach z c.args.slots.now.items c.args.cell) c.requires.domain.shape c.requires.reach
+site_of-requires g c =
+    record { reach = subst (λ (z : Shape). IsInReach z c.args.slots.now.items c.args.cell) c.requires.domain.shape c.requires.reach }
 
 pub returns-in-Ok-clause-found : goal.returns-in-Ok-clause-found
 returns-in-Ok-clause-found g c = (

@@ -13,8 +13,15 @@ owner_at-requires g c =
 pub returns-in-Ok-clause-found : goal.returns-in-Ok-clause-found
 returns-in-Ok-clause-found g c =
     let ss = c.args.slots.now.items in let h = c.owner_at.result.now in let b = c.in-Ok.block in
-    subst (λ (k : CellName). IsCellAtSite c.args.domain.now.shape ss k (site.Member b c.in-Member.member)) (sym c.in-Member.is)
-    (b, record { owner = h; at = subst (λ j. slice_get ss j ≡ Some (Some (Owner h))) c.from-in-Member.ensures c.owner_at.ensures; into = c.in-Ok.ensures.inside }, refl)
+    subst (λ (k : CellName). IsCellAtSite c.args.domain.now.shape ss k (site.Member b c.in-Member.member)) (sym c.in-Member.is) (
+      b,
+      record {
+        owner = h;
+        at = subst (λ j. slice_get ss j ≡ Some (Some (Owner h))) c.from-in-Member.ensures c.owner_at.ensures;
+        into = c.in-Ok.ensures.inside;
+      },
+      refl,
+    )
 
 pub returns-in-Err-clause-refused : goal.returns-in-Err-clause-refused
 returns-in-Err-clause-refused g c =

@@ -4,11 +4,11 @@ use Rattle.atomic_cells.specs.Compares as cells
 use Rattle.script_runner.proofs.CellSites.{by_parts, with_named}
 use Rattle.script_runner.proofs.table.cells.held.compare_held.Goals as goal
 
-pub returns-in-Ok-clause-kind : goal.returns-in-Ok-clause-kind
-returns-in-Ok-clause-kind g c = c.held_of.ensures.0 ∙ (c.in-Ok.ensures.kind ∙ c.requires.kinds.1)
+pub returns-clause-kind : goal.returns-clause-kind
+returns-clause-kind g c = c.held_of.ensures.0 ∙ (c.in-Ok.ensures.kind ∙ c.requires.kinds.1)
 
-pub returns-in-Ok-clause-event : goal.returns-in-Ok-clause-event
-returns-in-Ok-clause-event g c =
+pub returns-clause-event : goal.returns-clause-event
+returns-clause-event g c =
     let a = c.args in let d = a.desk.now in let x = c.in-Ok.found in let k = a.cell.kind in
     by_parts (λ _ b p. cells.Compares d (cell_of_site d a.cell.site) k a.expected.block a.expected.place a.new.block a.new.place c.in-Ok.swapped b
     p g.F.Form.weak
@@ -16,8 +16,8 @@ returns-in-Ok-clause-event g c =
     (subst (λ z. cells.Compares d (cell_of_site d a.cell.site) z a.expected.block a.expected.place a.new.block a.new.place c.in-Ok.swapped x.block x.place
     g.F.Form.weak c.compare.new.desk) c.requires.kinds.1 c.in-Ok.ensures.event)
 
-pub returns-in-Ok-clause-bag : goal.returns-in-Ok-clause-bag
-returns-in-Ok-clause-bag g c =
+pub returns-clause-bag : goal.returns-clause-bag
+returns-clause-bag g c =
     let a = c.args in let x = c.in-Ok.found in let k = a.cell.kind in let l = bag_of a.desk.now in
     subst (λ z. bag_of c.compare.new.desk
     ≡ with_handle z x.block x.place (cond c.in-Ok.swapped (without_handle z a.new.block a.new.place l) l)) c.requires.kinds.1 c.in-Ok.ensures.bag
