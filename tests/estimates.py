@@ -23,7 +23,7 @@ MEMORY_OF_A_CHECK = 4 << 30
 CRATES_AT_ONCE = 2
 # So many minutes of work count as if they had gone as the tables say, and so many by the clock as the load
 # says.
-TRUST = 3.0
+TRUST = 2.0
 # Seconds of a stage that no run has measured.
 UNKNOWN_STAGE = 10.0
 SEED = re.compile(r",? seed \d+,?")
