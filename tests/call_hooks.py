@@ -5,7 +5,8 @@ from pathlib import Path
 
 TESTS = Path(__file__).resolve().parent
 sys.dont_write_bytecode = True
-sys.path.append(str(TESTS.parent))
+# (before tests/, which has a folder of that name)
+sys.path.insert(0, str(TESTS.parent))
 from recorder.hook_headers import HEADERS, Edit, edited, folder_of
 
 OWNER, WEAK = "__shared_count", "__weak_count"
