@@ -24,9 +24,8 @@ class Graph:
     lost: list = field(default_factory=list)
     perhaps: list = field(default_factory=list)  # of each lost: the owner that it may have, or None
     undecided: set = field(default_factory=set)
-    changes: dict = field(
-        default_factory=dict
-    )  # by owner: what to change where its label can't be a weak pointer
+    # By owner, of equal ones each: what to change where its label can't be a weak pointer.
+    changes: dict = field(default_factory=dict)
 
     def text(self) -> str:
         lines = [f"object {number} {label}" for number, label in enumerate(self.objects, 1)]
@@ -131,7 +130,7 @@ def graph_of(record: Record, counts: list[Counts]) -> tuple[Graph, Memories]:
         if holder:
             (graph.owners if is_owner else graph.weaks).append((holder, to, label))
             if is_owner and spot.change:
-                graph.changes[graph.owners[-1]] = spot.change
+                graph.changes.setdefault(graph.owners[-1], []).append(spot.change)
         elif is_owner and it.memory < 0:
             graph.roots.append((to, label))
         elif is_owner and memories.is_lost(it):

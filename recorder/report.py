@@ -4,7 +4,7 @@ import re
 import shutil
 from collections.abc import Iterator
 
-from recorder import owner_graph, verdicts
+from recorder import mending, owner_graph, verdicts
 from recorder.type_names import declared_type, short
 from recorder.verdicts import Findings
 
@@ -97,26 +97,19 @@ def annotations(findings: Findings) -> Iterator[str]:
         yield f"::error{where}::{text}"
 
 
-def change_text(findings, knot, label):
-    """What to make weak for the owners of one label: the member, or what lies behind it."""
-    changes = {findings.graph.changes.get(tie, ""): None for tie in knot.ties if tie[2] == label}
-    texts = list(changes)
-    if "" in changes:
-        return label
-    more = [f"{len(texts) - MOST_CHANGES} more"] if len(texts) > MOST_CHANGES else []
-    return " and ".join(texts[:MOST_CHANGES] + more)
+def change_text(way):
+    """All that is to be weak, together."""
+    more = [f"{len(way) - MOST_CHANGES} more"] if len(way) > MOST_CHANGES else []
+    return " and ".join([*way[:MOST_CHANGES], *more])
 
 
 def weaken_lines(findings, knot):
     if knot.is_owned:
         return ["weaken the knot that owns this one"]
-    ordered = verdicts.ordered_weakens(knot)
-    lines = [
-        f'weaken {" and ".join(change_text(findings, knot, label) for label in it)}'
-        for it in ordered[:MOST_PAIRS]
-    ]
-    if len(ordered) > MOST_PAIRS:
-        lines.append(f"weaken or one of {len(ordered) - MOST_PAIRS} more pairs")
+    ways = mending.by_change(knot, findings.graph.changes)
+    lines = [f"weaken {change_text(way)}" for way in ways[:MOST_PAIRS]]
+    if len(ways) > MOST_PAIRS:
+        lines.append(f"weaken or one of {len(ways) - MOST_PAIRS} more pairs")
     return lines or ["weaken more than two members: no single one suffices, and no two"]
 
 
@@ -155,7 +148,7 @@ def missing_tools(findings):
 
 def advice_lines(findings):
     knots = [it for it, *_ in findings.alarming_knots if not it.is_owned]
-    if any(len(it.weakens) > 1 for it in knots):
+    if any(len(mending.by_change(it, findings.graph.changes)) > 1 for it in knots):
         yield "record: each weaken line mends its knot by itself; take the first"
     yield from missing_tools(findings)
     unnamed = {tie for it in knots for tie in it.ties if " at byte " in tie[2] and not UNNAMED.search(tie[2])}

@@ -1,9 +1,9 @@
 """The report for other programs."""
 import json
 
-from recorder import verdicts
+from recorder import mending
 from recorder.options import VERSION
-from recorder.report import change_text, doubt_lines
+from recorder.report import doubt_lines
 from recorder.type_names import short
 from recorder.verdicts import Findings
 
@@ -45,11 +45,8 @@ def knots_as_json(findings):
         {
             "objects": knot.objects,
             "ties": handles_as_json(knot.ties),
-            "weaken": [list(it) for it in verdicts.ordered_weakens(knot)],
-            "change": [
-                [change_text(findings, knot, it) for it in labels]
-                for labels in verdicts.ordered_weakens(knot)
-            ],
+            "weaken": [list(labels) for labels in mending.by_label(knot)],
+            "change": [list(way) for way in mending.by_change(knot, findings.graph.changes)],
             "owned_by_another": knot.is_owned,
             "reached": knot.objects[0] in findings.reached,
             "if_owning": list(knot.conditions),

@@ -4,7 +4,7 @@ import functools
 from collections.abc import Iterable
 from dataclasses import dataclass, field
 
-from recorder import debug_information, kinds, labels, owner_graph, type_names
+from recorder import debug_information, kinds, labels, mending, owner_graph, type_names
 from recorder.owner_graph import Answer, Graph, Knot
 from recorder.record_text import Making, Record
 from recorder.suppressions import Suppression
@@ -60,7 +60,7 @@ class Findings:
         for knot in [*self.answer.knots, *self.answer.perhaps]:
             if any(it in alarming for it in knot.objects):  # (others may be suppressed)
                 types = tuple([makings[number - 1] for number in knot.objects])
-                changed = tuple([changes.get(tie) for tie in knot.ties]) if changes else ()
+                changed = tuple(mending.changes_of(knot, changes)) if changes else ()
                 shape = knot.shape if knot.conditions else id(knot.shape)
                 found[types, shape, knot.is_owned, changed, knot.conditions].append(knot)
         return list(found.values())
@@ -128,19 +128,3 @@ def reached_by_raw_pointers(record, graph, answer, memories):
             reached[it] = label
             todo.extend((to, label) for to in raw[it])
     return reached
-
-
-def share_of_older(knot):
-    """By label: the share of a knot's owners that point at an object not younger than their own."""
-    older, all_ = collections.Counter(), collections.Counter()
-    for a, b, label in knot.ties:
-        all_[label] += 1
-        older[label] += b <= a
-    return {it: older[it] / all_[it] for it in all_}
-
-
-def ordered_weakens(knot: Knot) -> list[tuple]:
-    """A knot's labels to weaken, or pairs, first those that mostly point back."""
-    share = share_of_older(knot)
-    pairs = [tuple(sorted(it, key=lambda label: -share.get(label, 0))) for it in knot.weakens]
-    return sorted(pairs, key=lambda it: -sum(share.get(label, 0) for label in it))
