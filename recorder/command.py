@@ -6,6 +6,7 @@ import signal
 import subprocess
 import sys
 import tempfile
+import time
 from argparse import Namespace
 from pathlib import Path
 
@@ -25,6 +26,7 @@ from recorder.receiving import Receiver
 from recorder.record_text import read
 
 REFUSED = 125
+LONG = 5  # seconds of reading and telling that are told
 WHEN = {
     "_exit": "the program ended by _exit: no destructor of a static has run",
     "quick_exit": "the program ended by quick_exit: no destructor of a static has run",
@@ -79,6 +81,7 @@ class Reports:
                     self.refuse(program.reason(fault))
 
     def tell(self, path: Path):
+        began = time.monotonic()
         try:
             record = read(path)
         except ValueError as why:
@@ -101,8 +104,15 @@ class Reports:
         self.leaks |= leaks
         if leaks or not self.asked.quiet:
             self.say_all(findings, path)
+            self.say_times(record.milliseconds / 1000, time.monotonic() - began)
         self.keep(findings, path)
         return None
+
+    def say_times(self, reading: float, telling: float):
+        if reading + telling >= LONG:
+            self.say(
+                f"record: reading its memory took {reading:.0f} s, and telling what is left {telling:.0f} s"
+            )
 
     def say_all(self, findings: verdicts.Findings, path: Path):
         when = findings.record.when

@@ -135,6 +135,7 @@ class Record:
     # Where objects aren't looked at: (the kind of memory, how many, the kind of control block, its type).
     unseen: list = field(default_factory=list)
     mapped_bytes: int = 0  # of memory that the program mapped itself and that was not looked at
+    milliseconds: int = 0  # that the reading of memory took
 
 
 HANDLES = "owner", "weak", "either"
@@ -213,7 +214,7 @@ def read(path: Path) -> Record:
                 record.how, record.when = rest.split()
             elif kind == "refused":
                 record.refused = rest.strip()
-            elif kind in ("untyped", "lost", "unread", "mapped_bytes"):
+            elif kind in ("untyped", "lost", "unread", "mapped_bytes", "milliseconds"):
                 setattr(record, kind, int(rest))
     if line.strip() != "end":
         raise ValueError("it is not whole")

@@ -51,6 +51,7 @@ struct Question {
 Question question;
 
 void answer_question() {
+  long began = milliseconds_now();
   pid_t thread = static_cast<pid_t>(syscall(SYS_gettid));
   OwnRegion region;
   std::vector<LivingStack> own;
@@ -64,7 +65,7 @@ void answer_question() {
   stacks.insert(stacks.end(), own.begin(), own.end());
   Snapshot all(modules, outside, kernel, stacks);
   all.unread_threads = still.without_registers();
-  write_record(question.snapshot, all, question.when);
+  write_record(question.snapshot, all, question.when, began);
 }
 
 // Within a turn.

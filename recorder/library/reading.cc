@@ -23,6 +23,12 @@ void stop_recording(const char* why) {
   refusal = why;
 }
 
+long milliseconds_now() {
+  timespec now{};
+  clock_gettime(CLOCK_MONOTONIC, &now);
+  return now.tv_sec * 1000 + now.tv_nsec / 1'000'000;
+}
+
 namespace {
 
 constexpr std::size_t STACK_BYTES = 1 << 20;

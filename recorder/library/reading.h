@@ -14,6 +14,9 @@ OF_ALL_UNITS std::atomic<const char*> refusal;
 // From now on nothing is noted, and the end tells this reason. It has to last.
 void stop_recording(const char* why);
 
+// Of a clock that only goes on.
+long milliseconds_now();
+
 // While one lives this thread alone reads memory, and no handler of the program runs in it, on which it would find the
 // reader's memory, or which would wait for a turn of its own. Until then it can be made to stand still for another's.
 class Turn {

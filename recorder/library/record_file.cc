@@ -13,6 +13,7 @@
 
 #include "closed.h"
 #include "kept_file.h"
+#include "reading.h"
 #include "spots.h"
 
 namespace recorder {
@@ -222,7 +223,7 @@ void open_way_out() { way_out.keep(connected()); }
 
 void close_way_out() { way_out.close(); }
 
-void write_record(int number, const Snapshot& all, const char* when) {
+void write_record(int number, const Snapshot& all, const char* when, long began) {
   Output out(number);
   out.say("recorded %s %s\n", hooked ? "hooks" : "scan", when);
   for (auto& it : all.modules.modules) write_module(out, it.base, it.path.c_str());
@@ -246,7 +247,8 @@ void write_record(int number, const Snapshot& all, const char* when) {
     out.say_text(where.second);
     out.say_text("\n");
   }
-  out.say("mapped_bytes %zu\nend\n", all.mapped_bytes);
+  out.say("mapped_bytes %zu\n", all.mapped_bytes);
+  out.say("milliseconds %ld\nend\n", milliseconds_now() - began);
 }
 
 void write_refusal(int number, const char* why) {

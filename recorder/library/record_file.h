@@ -13,8 +13,9 @@ bool know_way_out(const char* socket, const char* path);
 void open_way_out();
 void close_way_out();
 
-// Writes all of the snapshot with this number, 0 for the last, or that nothing can be told and why.
-void write_record(int number, const Snapshot& all, const char* when);
+// Writes all of the snapshot with this number, 0 for the last, and how long it took since it began; or that nothing can
+// be told and why.
+void write_record(int number, const Snapshot& all, const char* when, long began);
 void write_refusal(int number, const char* why);
 
 }  // namespace recorder

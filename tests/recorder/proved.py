@@ -92,7 +92,7 @@ def the_report_says_who_answered() -> str:
         words = ["python3", "-c", code, build(), "--proved", built]
         ran = subprocess.run(words, cwd=ROOT, capture_output=True, text=True)
     wanted = "the answer is that of the proved ./sptr owners, and the reading of memory is not proved"
-    return "" if ran.returncode == 3 and ran.stderr.splitlines()[-1].endswith(wanted) else ran.stderr
+    return "" if ran.returncode == 3 and f"{wanted}\n" in ran.stderr else ran.stderr
 
 
 def without_a_proved_build() -> str:
