@@ -22,6 +22,7 @@ from pathlib import Path
 
 from tests.recorder import (
     hanging,
+    limits,
     lint,
     options,
     outputs,
@@ -42,6 +43,7 @@ ADVICE = "record: each weaken line mends its knot by itself; take the first"
 RANDOM_PROGRAMS = 6
 MODULES = [
     hanging,
+    limits,
     lint,
     options,
     outputs,
