@@ -8,8 +8,8 @@ from tests.recorder.building import HUNG, PROGRAMS, ROOT, differences
 
 
 def names_of_two_files_linked_as_one() -> str:
-    """Of classes of one name in namespaces without a name, linked by -flto, members are told by byte: no other
-    file's member is named."""
+    """Of classes of one name in namespaces without a name, linked by -flto, members are told by byte: no
+    other file's member is named."""
     with tempfile.TemporaryDirectory() as folder:
         program = Path(folder, "same_names")
         sources = "same_names.cc", "same_names.unit.cc"
