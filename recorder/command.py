@@ -219,9 +219,9 @@ def run_and_tell(asked: Namespace, path: str, suppressed: list) -> int:
             reports.refuse(str(why))
         except OSError as fault:
             reports.refuse(program.reason(fault))
-    for it in suppressed:
-        if not it.is_used and not asked.quiet:
-            reports.say(f"record: nothing was left that {it.pattern} suppresses")
+    for suppression in suppressed:
+        if not suppression.is_used and not asked.quiet:
+            reports.say(f"record: nothing was left that {suppression.pattern} suppresses")
     if asked.json:
         with reports.written(asked.json):
             report_data.write_json(asked.json, reports.as_json, reports.refused)

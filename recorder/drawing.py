@@ -27,7 +27,7 @@ def dot(findings: Findings) -> str:
     """Objects are ellipses, owners full lines, weak pointers dashed, what is no object a box; leaked knots
     are orange, what else leaks is grey, what raw pointers reach is yellow; what ties a knot is red, and bold
     where it alone cuts it."""
-    in_knots = {it for knot in findings.answer.knots for it in knot.objects}
+    in_knots = {number for knot in findings.answer.knots for number in knot.objects}
     ties = {tie for knot in findings.answer.knots for tie in knot.ties}
     knots = findings.answer.knots if len(findings.blocks) <= MOST_CUTS else []
     cuts = {cut for knot in knots if not knot.is_owned for cut in owner_search.cuts(knot.objects, knot.ties)}
@@ -41,8 +41,8 @@ def dot(findings: Findings) -> str:
     }
     lines += [f"{name} [label={quoted(label)}, shape=box];" for label, name in roots.items()]
     lines += [arrow(roots[label], f"o{to}", "", "solid") for to, label in findings.graph.roots]
-    for it in findings.graph.owners:
-        style = "bold" if it in cuts else "solid"
-        lines.append(arrow(f"o{it[0]}", f"o{it[1]}", it[2], style, "red" if it in ties else ""))
+    for owner in findings.graph.owners:
+        style = "bold" if owner in cuts else "solid"
+        lines.append(arrow(f"o{owner[0]}", f"o{owner[1]}", owner[2], style, "red" if owner in ties else ""))
     lines += [arrow(f"o{a}", f"o{b}", label, "dashed") for a, b, label in findings.graph.weaks]
     return "\n".join([*lines, "}"]) + "\n"

@@ -83,10 +83,10 @@ ATOMIC = [
 
 
 def edited(text: str, edits: list[Edit], name: str) -> str:
-    for it in edits:
-        text, count = re.subn(it.pattern, it.by, text)
-        if count != it.count:
-            raise Refusal(f'{name}: "{it.what}" fits {count} times in place of {it.count}')
+    for edit in edits:
+        text, count = re.subn(edit.pattern, edit.by, text)
+        if count != edit.count:
+            raise Refusal(f'{name}: "{edit.what}" fits {count} times in place of {edit.count}')
     return text
 
 

@@ -53,13 +53,13 @@ def build() -> Path:
         fcntl.flock(lock, fcntl.LOCK_EX)
         if not library.exists():
             partial = folder / "librecorder.so.part"
-            objects = [folder / f"{it.stem}.o" for it in sources()]
+            objects = [folder / f"{source.stem}.o" for source in sources()]
             with ThreadPoolExecutor(len(os.sched_getaffinity(0))) as pool:
                 list(pool.map(compile_one, sources(), objects))
             subprocess.run(["g++", *LINKING, "-o", partial, *objects, "-ldl"], check=True)
             partial.rename(library)
-            for it in objects:
-                it.unlink()
+            for compiled in objects:
+                compiled.unlink()
     return library
 
 

@@ -60,7 +60,9 @@ class Answer:
 @functools.lru_cache(maxsize=None)
 def plain(label: str) -> str:
     """A label of the bytes that the graph's text may have."""
-    text = "".join(it if "!" <= it <= "~" else " " if it == " " else "?" for it in label)
+    text = "".join(
+        character if "!" <= character <= "~" else " " if character == " " else "?" for character in label
+    )
     return " ".join(text.split())[:LONGEST_LABEL].strip()
 
 
@@ -73,8 +75,8 @@ def ask(graph: Graph) -> Answer:
     numbers = range(1, count + 1)
     answer = Answer(
         verdicts,
-        {it for it in numbers if verdicts[it] == "leaked"},
-        {it for it in numbers if lost and verdicts[it] == "kept" and it not in kept},
+        {number for number in numbers if verdicts[number] == "leaked"},
+        {number for number in numbers if lost and verdicts[number] == "kept" and number not in kept},
     )
     shapes, weakens = {}, {}  # each once, and by shape what mends it
     for objects, ties, is_owned in owner_search.knots(verdicts, graph.owners):
@@ -89,8 +91,10 @@ def ask(graph: Graph) -> Answer:
 
 def knots_perhaps(graph: Graph) -> Iterator[Knot]:
     """The knots that there are where members own what they alone point to."""
-    perhaps = [it for it in graph.perhaps if it]
-    roots = [to for to, _ in graph.roots] + [to for (to, _), it in zip(graph.lost, graph.perhaps) if not it]
+    perhaps = [owner for owner in graph.perhaps if owner]
+    roots = [to for to, _ in graph.roots] + [
+        to for (to, _), owner in zip(graph.lost, graph.perhaps) if not owner
+    ]
     owners = graph.owners + perhaps
     verdicts = owner_search.verdicts(len(graph.objects), owners, roots)
     for objects, ties, is_owned in owner_search.knots(verdicts, owners):
@@ -114,34 +118,34 @@ def graph_of(record: Record, counts: list[Counts]) -> tuple[Graph, Memories]:
     """The graph of the objects that are left, and the uncertain memory. An owner that a block counts and
     nobody found is a root; where it isn't certain whether a handle owns, it is what it most likely is."""
     numbers = numbers_of(record)
-    graph = Graph([plain(it.making.name) for it in record.blocks if it.is_live])
+    graph = Graph([plain(block.making.name) for block in record.blocks if block.is_live])
     memories = Memories(record, numbers, counts)
-    labels = {it: plain(it.label) for it in record.spots}
-    for it in record.handles:
-        to, spot = numbers[it.block], it.spot
+    labels = {spot: plain(spot.label) for spot in record.spots}
+    for handle in record.handles:
+        to, spot = numbers[handle.block], handle.spot
         if not to:
             continue
-        if it.memory < 0:
-            holder, label = numbers[it.object] if spot.making else 0, labels[spot]
+        if handle.memory < 0:
+            holder, label = numbers[handle.object] if spot.making else 0, labels[spot]
         else:
-            holder, label = memories.owner_of(it) or (0, "")
+            holder, label = memories.owner_of(handle) or (0, "")
             label = plain(label)
-        is_owner = (it.guess or it.kind) != "weak"
+        is_owner = (handle.guess or handle.kind) != "weak"
         if holder:
             (graph.owners if is_owner else graph.weaks).append((holder, to, label))
             if is_owner and spot.change:
                 graph.changes.setdefault(graph.owners[-1], []).append(spot.change)
-        elif is_owner and it.memory < 0:
+        elif is_owner and handle.memory < 0:
             graph.roots.append((to, label))
-        elif is_owner and memories.is_lost(it):
-            graph.lost.append((to, memories.root_label(it)))
-            owner = memories.perhaps_owner_of(it)
+        elif is_owner and memories.is_lost(handle):
+            graph.lost.append((to, memories.root_label(handle)))
+            owner = memories.perhaps_owner_of(handle)
             graph.perhaps.append((owner[0], to, plain(owner[1])) if owner else None)
         elif is_owner:
-            graph.roots.append((to, plain(memories.root_label(it))))
-    for number, it in zip(numbers, counts):
-        if number and it.owners_nowhere:
-            graph.roots += [(number, "an owner that was not found")] * it.owners_nowhere
+            graph.roots.append((to, plain(memories.root_label(handle))))
+    for number, count in zip(numbers, counts):
+        if number and count.owners_nowhere:
+            graph.roots += [(number, "an owner that was not found")] * count.owners_nowhere
     graph.undecided = memories.undecided()
     return graph, memories
 
