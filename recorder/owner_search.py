@@ -20,9 +20,9 @@ def lists_of(count: int, owners: list[tuple]) -> list[list[int]]:
 
 def without_owners(owns, owned):
     """Those whose last owner has left, one after another. `owned` counts the owners on each, roots too."""
-    ended = [it for it in range(1, len(owned)) if not owned[it]]
-    for it in ended:  # (which grows)
-        for to in owns[it]:
+    ended = [number for number in range(1, len(owned)) if not owned[number]]
+    for number in ended:  # (which grows)
+        for to in owns[number]:
             owned[to] -= 1
             if not owned[to]:
                 ended.append(to)
@@ -48,10 +48,10 @@ def verdicts(count: int, owners: list[tuple], roots: list[int]) -> list[str]:
     for to in roots:
         owned[to] += 1
     found = ["leaked"] * (count + 1)
-    for it in reached(owns, roots):
-        found[it] = "kept"
-    for it in without_owners(owns, owned):
-        found[it] = "ended"
+    for number in reached(owns, roots):
+        found[number] = "kept"
+    for number in without_owners(owns, owned):
+        found[number] = "ended"
     return found
 
 
@@ -76,20 +76,20 @@ def strong_parts(vertices, owns):
                 on_path[entered] = 1
                 path.append(entered)
                 stack.append((entered, iter(owns[entered])))
-            it, rest = stack[-1]
+            vertex, rest = stack[-1]
             entered = 0
             for to in rest:
                 if not order[to]:
                     entered = to
                     break
-                if on_path[to] and order[to] < low[it]:
-                    low[it] = order[to]
+                if on_path[to] and order[to] < low[vertex]:
+                    low[vertex] = order[to]
             if not entered:
                 stack.pop()
                 if stack:
-                    low[stack[-1][0]] = min(low[stack[-1][0]], low[it])
-                if low[it] == order[it]:
-                    at = last_index(path, it)
+                    low[stack[-1][0]] = min(low[stack[-1][0]], low[vertex])
+                if low[vertex] == order[vertex]:
+                    at = last_index(path, vertex)
                     parts.append(path[at:])
                     for left in path[at:]:
                         on_path[left] = 0
@@ -121,9 +121,9 @@ class Ties:
         for _, to, label in self.ties:
             if label not in labels:
                 owned[to] += 1
-        ended = [it for it in range(self.count) if not owned[it]]
-        for it in ended:  # (which grows)
-            for to, label in self.owns[it]:
+        ended = [place for place in range(self.count) if not owned[place]]
+        for place in ended:  # (which grows)
+            for to, label in self.owns[place]:
                 if label not in labels:
                     owned[to] -= 1
                     if not owned[to]:
@@ -134,7 +134,7 @@ class Ties:
 def cuts(objects: list[int], ties: list[tuple]) -> list[tuple]:
     """The ties without each of which alone the knot ends."""
     single = Ties(len(objects), shape_of(objects, [(a, b, at) for at, (a, b, _) in enumerate(ties)]))
-    return [it for at, it in enumerate(ties) if single.all_end_without({at})]
+    return [tie for at, tie in enumerate(ties) if single.all_end_without({at})]
 
 
 def weakens(count: int, ties: Shape) -> list[tuple]:
@@ -142,28 +142,28 @@ def weakens(count: int, ties: Shape) -> list[tuple]:
     of labels."""
     found = Ties(count, ties)
     labels = list(dict.fromkeys(label for _, _, label in ties))
-    single = [(it,) for it in labels if found.all_end_without({it})]
+    single = [(label,) for label in labels if found.all_end_without({label})]
     if single or len(labels) > MOST_LABELS:
         return single
-    return [it for it in combinations(labels, 2) if found.all_end_without(set(it))]
+    return [pair for pair in combinations(labels, 2) if found.all_end_without(set(pair))]
 
 
 def knots(verdict: list[str], owners: list[tuple]) -> list[tuple]:
     """The knots of the leaked, in the order of their least: (objects, ties, whether another object owns into
     it)."""
-    leaked = [it for it in range(1, len(verdict)) if verdict[it] == "leaked"]
-    inner = [it for it in owners if verdict[it[0]] == verdict[it[1]] == "leaked"]
-    parts = [sorted(it) for it in strong_parts(leaked, lists_of(len(verdict) - 1, inner))]
+    leaked = [number for number in range(1, len(verdict)) if verdict[number] == "leaked"]
+    inner = [owner for owner in owners if verdict[owner[0]] == verdict[owner[1]] == "leaked"]
+    parts = [sorted(part) for part in strong_parts(leaked, lists_of(len(verdict) - 1, inner))]
     part_of = [0] * len(verdict)
     for at, part in enumerate(parts):
-        for it in part:
-            part_of[it] = at
+        for number in part:
+            part_of[number] = at
     ties, is_owned = collections.defaultdict(list), set()
-    for it in inner:
-        at = part_of[it[1]]
-        if part_of[it[0]] == at:
-            ties[at].append(it)
+    for owner in inner:
+        at = part_of[owner[1]]
+        if part_of[owner[0]] == at:
+            ties[at].append(owner)
         else:
             is_owned.add(at)
     found = [(part, ties[at], at in is_owned) for at, part in enumerate(parts) if at in ties]
-    return sorted(found, key=lambda it: it[0][0])
+    return sorted(found, key=lambda knot: knot[0][0])

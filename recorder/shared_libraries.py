@@ -52,7 +52,7 @@ class Image:
     def defines(self, name: bytes) -> bool:
         """Whether others find this function in it."""
         candidates = self.in_gnu_table(name) if DT_GNU_HASH in self.dynamic else self.in_old_table()
-        return any(self.is_definition(it, name) for it in candidates)
+        return any(self.is_definition(symbol, name) for symbol in candidates)
 
     def is_definition(self, symbol: int, name: bytes) -> bool:
         at = self.dynamic[DT_SYMTAB] + symbol * SYMBOL_BYTES
@@ -88,7 +88,7 @@ def libraries_of(path: str) -> list[str]:
     interpreter = Image(path).interpreter()
     ran = subprocess.run([interpreter, "--list", path], capture_output=True, text=True, errors="replace")
     found = re.findall(r"^\t(?:.* => )?(/.*) \(0x[0-9a-f]+\)$", ran.stdout, re.M)
-    return [it for it in found if os.path.exists(it)]
+    return [path for path in found if os.path.exists(path)]
 
 
 def with_malloc(paths: list[str]) -> str:

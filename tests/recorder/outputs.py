@@ -28,7 +28,7 @@ def record(program: Path, *options: str, shell: str = "", **names: str) -> subpr
 def said(ran: subprocess.CompletedProcess) -> tuple:
     """The status, the output, and the first line of the report and whether another says `No space`."""
     lines = ran.stderr.splitlines()
-    full = [it for it in lines if it.endswith("No space left on device")]
+    full = [line for line in lines if line.endswith("No space left on device")]
     return ran.returncode, ran.stdout, *lines[:1], *(full if lines[:1] != full else ())
 
 
@@ -50,7 +50,9 @@ def full_outputs():
     line = "record: {}: No space left on device"
     with tempfile.TemporaryDirectory() as folder:
         program = built(folder, "leaking", TEXT)
-        found = {it: said(record(program, it, "/dev/full")) for it in ("--report", "--json", "--dot")}
+        found = {
+            option: said(record(program, option, "/dev/full")) for option in ("--report", "--json", "--dot")
+        }
         noted = said(record(program, "--github", shell="{} >/dev/full"))
         error = said(record(program, shell="{} 2>/dev/full"))
     full = line.format("/dev/full")

@@ -85,7 +85,7 @@ def hooks(compiler):
 
 def run(command, **how):
     return subprocess.run(
-        [str(it) for it in command], capture_output=True, text=True, errors="replace", **how
+        [str(word) for word in command], capture_output=True, text=True, errors="replace", **how
     )
 
 
@@ -95,7 +95,9 @@ def compilers():
 
 
 def ways(hows=("scan", "hooks")):
-    return [Way(*it) for it in itertools.product(compilers(), ["-O0", "-O2"], ["c++17", "c++20"], hows)]
+    return [
+        Way(*choice) for choice in itertools.product(compilers(), ["-O0", "-O2"], ["c++17", "c++20"], hows)
+    ]
 
 
 def ways_of(name, number, every):
@@ -105,7 +107,7 @@ def ways_of(name, number, every):
     for hows in ("scan", "hooks"), ("stripped",):
         if hows == ("stripped",) and not (PROGRAMS / f"{name}.stripped.expected").exists():
             continue
-        found = [it for it in ways(hows) if not wanted or fits(it, wanted[1])]
+        found = [way for way in ways(hows) if not wanted or fits(way, wanted[1])]
         count = len(found)
         yield from found if every else [found[number % count], found[(number * 5 + count // 2 + 1) % count]]
 
@@ -149,10 +151,10 @@ def report_of(program):
 
 def without_advice(lines):
     """The lines without the advice, which stands there just where a knot has several ways."""
-    ways = [len(re.findall("\nweaken ", it)) for it in re.split(r"\nknot ", "\n".join(lines))[1:]]
+    ways = [len(re.findall("\nweaken ", knot)) for knot in re.split(r"\nknot ", "\n".join(lines))[1:]]
     wanted = [ADVICE] if max(ways, default=0) > 1 else []
-    advice = [it for it in lines if it == ADVICE]
-    return [it for it in lines if it != ADVICE] if advice == wanted else [f"{wanted} is wanted", *lines]
+    advice = [line for line in lines if line == ADVICE]
+    return [line for line in lines if line != ADVICE] if advice == wanted else [f"{wanted} is wanted", *lines]
 
 
 def expected(name, way):
@@ -162,7 +164,7 @@ def expected(name, way):
 
 def in_motion(lines):
     """Without what its threads change while a program is read, and what an optimizer holds in registers."""
-    return [it for it in lines if not it.startswith(("met ", "record: 1 kept", "record: 2 kept"))]
+    return [line for line in lines if not line.startswith(("met ", "record: 1 kept", "record: 2 kept"))]
 
 
 def check_program(name, way):
@@ -170,7 +172,7 @@ def check_program(name, way):
     wanted = expected(name, way)
     with tempfile.TemporaryDirectory() as folder:
         found = report_of(build_program(name, Path(folder), way))
-    if not any(it.startswith("met ") for it in wanted):
+    if not any(line.startswith("met ") for line in wanted):
         found = in_motion(found)
     return "" if found == wanted else "\n".join(["wanted", *wanted, "found", *found])
 
@@ -190,7 +192,7 @@ def check_random(seed):
 
 def tests(names, every):
     """(title, a function that says what is wrong)."""
-    all_names = sorted(it.name[:-3] for it in PROGRAMS.glob("*.cc") if it.name.count(".") == 1)
+    all_names = sorted(source.name[:-3] for source in PROGRAMS.glob("*.cc") if source.name.count(".") == 1)
     for number, name in enumerate(all_names):
         if not names or name in names:
             for way in ways_of(name, number, every):
@@ -234,7 +236,7 @@ def main(words):
     signal.signal(signal.SIGINT, signal.default_int_handler)
     for compiler in compilers():
         hooks(compiler)  # (builds the library once)
-    names = [it for it in words if it != "--all"]
+    names = [word for word in words if word != "--all"]
     with ThreadPoolExecutor(len(os.sched_getaffinity(0))) as pool:
         results = list(pool.map(passes, tests(names, "--all" in words)))
     print(f"{sum(results)} passed, {len(results) - sum(results)} failed")
