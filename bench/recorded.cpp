@@ -79,6 +79,15 @@ static double least(void (*call)()) {
   return found;
 }
 
+// The same of each of four threads that call at once, the greatest of their least.
+static double least_of_threads(void (*call)()) {
+  double found[4];
+  std::vector<std::thread> threads;
+  for (auto& of_thread : found) threads.emplace_back([&of_thread, call] { of_thread = least(call); });
+  for (auto& thread : threads) thread.join();
+  return *std::max_element(std::begin(found), std::end(found));
+}
+
 int main(int count, char** words) {
   long number = count > 2 ? std::atol(words[2]) : 0;
   auto is = [&](const char* name) { return count > 1 && !std::strcmp(words[1], name); };
@@ -88,5 +97,6 @@ int main(int count, char** words) {
   if (is("make")) std::printf("%.1f\n", least(make));
   if (is("deep")) std::printf("%.1f\n", least(make_deep));
   if (is("string")) std::printf("%.1f\n", least(make_string));
+  if (is("threads")) std::printf("%.1f\n", least_of_threads(make));
   if (is("thread")) std::thread([] { std::printf("%.1f\n", least(make_string)); }).join();
 }

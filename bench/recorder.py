@@ -18,6 +18,7 @@ CALLS = {
     "deep": "the same 17 calls deeper",
     "string": "a string of 40 and a vector of 5 numbers",
     "thread": "the same in a thread of its own",
+    "threads": "make_shared and drop in four threads at once",
 }
 LEFT = {"kept": "kept", "pairs": "leaked in pairs", "hub": "leaked, owned by one hub that they own"}
 

@@ -25,7 +25,7 @@ def function_block(address):
     while block:
         blocks += [block] if block.function else []
         block = block.superblock
-    begun = [it for it in blocks if it.start == address]
+    begun = [outer for outer in blocks if outer.start == address]
     return (begun or blocks or [None])[-1]
 
 
@@ -60,7 +60,7 @@ def functions_at(address, block):
         found += [inner] if inner.function else []
         inner = inner.superblock
     found.reverse()
-    own = [at for at, it in enumerate(found) if (it.start, it.end) == (block.start, block.end)]
+    own = [at for at, inner in enumerate(found) if (inner.start, inner.end) == (block.start, block.end)]
     return found[own[0] :] if own else []
 
 

@@ -10,6 +10,7 @@ import subprocess
 import tempfile
 from pathlib import Path
 
+from recorder.asking import Asking
 from recorder.record_text import Making, Record, Spot
 from recorder.type_names import short
 
@@ -55,8 +56,8 @@ class Answers:
         by_unit = getattr(self, what)[name]
         if unit in by_unit:
             return by_unit[unit]
-        found = [it for (_, address), it in by_unit.items() if not address]
-        return found[0] if found and all(it == found[0] for it in found) else None
+        found = [answer for (_, address), answer in by_unit.items() if not address]
+        return found[0] if found and all(answer == found[0] for answer in found) else None
 
     def member(self, name: str, making: Making | None, offset: int, inner: int) -> list:
         """The declaring class, the path and the declared type of what lies at a byte of a type, and the same
@@ -75,7 +76,7 @@ class Answers:
         return self.of_unit("sizes", making.name, making.unit)
 
 
-def ask_gdb(path: str, questions: dict) -> dict | None:
+def ask_gdb(path: str, questions: dict, asking: Asking) -> dict | None:
     """What gdb answers about one module, or None."""
     with tempfile.TemporaryDirectory() as folder:
         asked, answered = Path(folder, "questions"), Path(folder, "answers")
@@ -84,7 +85,7 @@ def ask_gdb(path: str, questions: dict) -> dict | None:
         command = ["gdb", "-batch", "-nx", "-iex", "set auto-load off", "-iex", "set debuginfod enabled off"]
         command += ["-ex", f"python import sys; sys.path.insert(0, {str(HERE.parent)!r})"]
         command += ["-ex", f"source {HERE}/members_in_gdb.py", path]
-        subprocess.run(command, env={**os.environ, **names}, stdin=subprocess.DEVNULL, capture_output=True)
+        asking.run(command, env={**os.environ, **names}, stdin=subprocess.DEVNULL)
         return json.loads(answered.read_text()) if answered.exists() and answered.stat().st_size else None
 
 
@@ -99,8 +100,8 @@ class Questions:
         self.symbols, self.names = collections.defaultdict(set), collections.defaultdict(set)
         self.callables = collections.defaultdict(lambda: collections.defaultdict(set))
         self.modules = Modules(record)
-        for it in record.spots:
-            self.ask(it)
+        for spot in record.spots:
+            self.ask(spot)
 
     def ask(self, spot: Spot):
         if spot.kind == "object":
@@ -125,7 +126,8 @@ class Questions:
             units = sorted(at for module, at in filter(None, self.units[name]) if module == number)
             types[name] = [(at, sorted(inner)) for at, inner in sorted(places.items())], [0, *units]
         callables = {
-            at: (is_coroutine, sorted(it)) for (at, is_coroutine), it in self.callables[number].items()
+            at: (is_coroutine, sorted(offsets))
+            for (at, is_coroutine), offsets in self.callables[number].items()
         }
         units = {at for _, (_, *of_type) in types.values() for at in of_type}
         return {
@@ -146,7 +148,7 @@ def ask_about(record: Record) -> Answers:
     for number, (_, path) in enumerate(record.modules):
         asked = questions.of_module(number, path.startswith(OF_THE_SYSTEM) and number > 0)
         if os.path.exists(path) and any(asked.values()):
-            said = ask_gdb(path, asked)
+            said = ask_gdb(path, asked, record.asking)
             if said:
                 answers.add(number, said)
     return answers
@@ -168,7 +170,7 @@ class Modules:
 
 def own_name(function: str) -> str:
     """A function's name without its result, its arguments and what follows these."""
-    masked = WITH_BRACKETS.sub(lambda it: "_" * len(it[0]), function)
+    masked = WITH_BRACKETS.sub(lambda match: "_" * len(match[0]), function)
     depth, begin, end = 0, 0, len(masked)
     for at, letter in enumerate(masked):
         depth -= letter in ")}>"
@@ -189,14 +191,14 @@ def symbolizer():
     )
 
 
-def lines_of(path: str, addresses: set[int]) -> dict[int, list[tuple]]:
+def lines_of(path: str, addresses: set[int], asking: Asking) -> dict[int, list[tuple]]:
     """Of each address in a module: the functions there and their places, the innermost first."""
     if not shutil.which(symbolizer()[0]) or not shutil.which("c++filt"):
         return {}
-    text = "".join(f"{it:#x}\n" for it in addresses)
-    how = {"capture_output": True, "text": True, "errors": "replace"}
-    said = subprocess.run([*symbolizer(), path], input=text, **how).stdout
-    lines = subprocess.run(["c++filt"], input=said, **how).stdout.split("\n")
+    text = "".join(f"{address:#x}\n" for address in addresses)
+    how = {"text": True, "errors": "replace"}
+    said = asking.run([*symbolizer(), path], input=text, **how).stdout
+    lines = asking.run(["c++filt"], input=said, **how).stdout.split("\n")
     found = {}
     at = None
     for line in lines:
@@ -204,7 +206,7 @@ def lines_of(path: str, addresses: set[int]) -> dict[int, list[tuple]]:
             at = found.setdefault(int(line, 16), [])
         elif line and at is not None:
             at.append(line)
-    return {it: list(zip(said[1::2], said[0::2])) for it, said in found.items()}
+    return {address: list(zip(said[1::2], said[0::2])) for address, said in found.items()}
 
 
 def short_path(place: str) -> str:
@@ -229,7 +231,7 @@ def first_place(frames: list[tuple]) -> tuple[str, tuple]:
 def name_places(record: Record):
     """Gives each making its place: the first on the stack that isn't the library's."""
     modules, asked = Modules(record), collections.defaultdict(set)
-    for frames in {it.frames for it in record.makings}:
+    for frames in {making.frames for making in record.makings}:
         for frame in frames:
             number, at = modules.place_of(frame - 1)
             if not re.search(r"/lib(c|stdc\+\+|gcc_s)\.so", record.modules[number][1]):
@@ -237,18 +239,18 @@ def name_places(record: Record):
     said = {
         (number, at): places
         for number, addresses in asked.items()
-        for at, places in lines_of(record.modules[number][1], addresses).items()
+        for at, places in lines_of(record.modules[number][1], addresses, record.asking).items()
     }
     places = {}
     for making in record.makings:
         frames = making.frames
         if frames not in places:
             units = [modules.place_of(frame - 1) for frame in frames]
-            every = [(unit, place, own_name(it)) for unit in units for place, it in said.get(unit, [])]
+            every = [(unit, place, own_name(name)) for unit in units for place, name in said.get(unit, [])]
             ours = [
-                it
-                for it in every
-                if not it[2].startswith(OF_THE_LIBRARY) and "std::_Sp_counted_" not in it[2]
+                frame
+                for frame in every
+                if not frame[2].startswith(OF_THE_LIBRARY) and "std::_Sp_counted_" not in frame[2]
             ]
             stack = tuple(
                 f"{short(name)} at {short_path(place)}"

@@ -66,12 +66,14 @@ class Counts:
         """Drops so many of a kind that lie in statics themselves."""
         if excess <= 0:
             return
-        for handle in [it for it in self.handles if it.kind == kind and it.spot.is_in_static][:excess]:
+        for handle in [handle for handle in self.handles if handle.kind == kind and handle.spot.is_in_static][
+            :excess
+        ]:
             handle.kind = "old"
         self.forget_old()
 
     def forget_old(self):
-        self.handles = [it for it in self.handles if it.kind != "old"]
+        self.handles = [handle for handle in self.handles if handle.kind != "old"]
         self.count()
 
 
@@ -88,18 +90,18 @@ def drop_from_storage(record: Record, counts: list[Counts], leaked: set[int]) ->
     ones. What leaks is the same without them. Where the true owner may lie in memory that was not looked at,
     all of them may be old. Returns whether there were some."""
     dropped = False
-    for it in counts:
-        excess = len(it.handles) if record.mapped_bytes else -it.owners_missing
+    for counted in counts:
+        excess = len(counted.handles) if record.mapped_bytes else -counted.owners_missing
         if excess <= 0:
             continue
-        old = [owner for owner in it.handles if owner.kind == "owner" and is_storage(owner)]
+        old = [owner for owner in counted.handles if owner.kind == "owner" and is_storage(owner)]
         old = [owner for owner in old if owner.spot.kind == "object" and owner.object in leaked]
         for owner in old[:excess]:
             owner.kind = "old"
             dropped = True
-        it.forget_old()
+        counted.forget_old()
     if dropped:
-        record.handles = [it for it in record.handles if it.kind != "old"]
+        record.handles = [handle for handle in record.handles if handle.kind != "old"]
     return dropped
 
 
@@ -120,19 +122,21 @@ def member_of(handle: Handle) -> tuple:
 def decided_at_once(record: Record) -> list[bool]:
     """Decides the handles of each block on which just as many were found as it counts, and the open ones are
     all of one kind. Returns by block whether that was so."""
-    owners, weaks = [it.uses for it in record.blocks], [it.weaks - it.is_live for it in record.blocks]
+    owners, weaks = [block.uses for block in record.blocks], [
+        block.weaks - block.is_live for block in record.blocks
+    ]
     open_ = [0] * len(owners)
-    for it in record.handles:
-        if it.kind == "either":
-            open_[it.block] += 1
-        elif it.kind == "owner":
-            owners[it.block] -= 1
+    for handle in record.handles:
+        if handle.kind == "either":
+            open_[handle.block] += 1
+        elif handle.kind == "owner":
+            owners[handle.block] -= 1
         else:
-            weaks[it.block] -= 1
+            weaks[handle.block] -= 1
     is_met = [a + b == c and not a * b for a, b, c in zip(owners, weaks, open_)]
-    for it in record.handles:
-        if it.kind == "either" and is_met[it.block]:
-            it.kind = "owner" if owners[it.block] else "weak"
+    for handle in record.handles:
+        if handle.kind == "either" and is_met[handle.block]:
+            handle.kind = "owner" if owners[handle.block] else "weak"
     return [False] * len(is_met) if record.mapped_bytes else is_met  # (what is met may be so by chance)
 
 
@@ -152,16 +156,16 @@ def decide_kinds(record: Record) -> list[Counts]:
     known = collections.defaultdict(set)
     undecided = hard
     while True:
-        for it in undecided:
-            it.decide()
-        undecided = [it for it in undecided if it.open]
+        for counted in undecided:
+            counted.decide()
+        undecided = [counted for counted in undecided if counted.open]
         if not undecided or not by_declaration(record, undecided, known):
             break
     if undecided:
         Together(undecided).decide()
     if record.when == "exit":
-        drop_old(it for it in hard if not it.are_met)
-    record.handles = [it for it in record.handles if it.kind != "old"]
+        drop_old(counted for counted in hard if not counted.are_met)
+    record.handles = [handle for handle in record.handles if handle.kind != "old"]
     return counts
 
 
@@ -186,10 +190,10 @@ def by_declaration(record: Record, undecided: list[Counts], known: dict) -> bool
 def drop_old(counts: Iterable[Counts]):
     """After the destructors of statics these keep their old bytes: where more handles are found than a block
     counts, those in statics are no handles any more."""
-    for it in counts:
-        it.drop("either", it.open - max(it.owners_missing, 0) - max(it.weaks_missing, 0))
-        it.drop("owner", -it.owners_missing)
-        it.drop("weak", -it.weaks_missing)
+    for counted in counts:
+        counted.drop("either", counted.open - max(counted.owners_missing, 0) - max(counted.weaks_missing, 0))
+        counted.drop("owner", -counted.owners_missing)
+        counted.drop("weak", -counted.weaks_missing)
 
 
 class Together:
@@ -200,14 +204,14 @@ class Together:
     def __init__(self, undecided: list[Counts]):
         self.undecided = undecided
         self.rows_of = collections.defaultdict(list)
-        for row in dict.fromkeys(self.row_of(it) for it in undecided):
+        for row in dict.fromkeys(self.row_of(counted) for counted in undecided):
             for member, _ in row[0]:
                 self.rows_of[member].append(row)
-        open_ = [handle for it in undecided for handle in it.handles if handle.kind == "either"]
-        self.own_members = {member_of(it) for it in open_ if it.is_of_itself}
+        open_ = [handle for counted in undecided for handle in counted.handles if handle.kind == "either"]
+        self.own_members = {member_of(handle) for handle in open_ if handle.is_of_itself}
 
     def open_members(self, counts: Counts):
-        return collections.Counter(member_of(it) for it in counts.handles if it.kind == "either")
+        return collections.Counter(member_of(handle) for handle in counts.handles if handle.kind == "either")
 
     def row_of(self, counts: Counts):
         return frozenset(self.open_members(counts).items()), counts.least_owners, counts.most_owners
@@ -222,15 +226,15 @@ class Together:
                     kinds[member] = found.pop()
                 if answers:
                     guesses[member] = answers[0][at]
-        for it in self.undecided:
-            for handle in it.handles:
+        for counted in self.undecided:
+            for handle in counted.handles:
                 if handle.kind == "either":
                     member = member_of(handle)
                     handle.kind = kinds.get(member, "either")
                     handle.guess = guesses.get(member, "owner")
-            it.count()
-            it.decide()
-            guess_the_rest(it)
+            counted.count()
+            counted.decide()
+            guess_the_rest(counted)
 
     def parts(self):
         """The members in parts that have no row in common."""
@@ -259,8 +263,8 @@ class Together:
         found = []
         for number in range(1 << len(members)):
             owners = {member for at, member in enumerate(members) if number >> at & 1}
-            if all(low <= sum(n for it, n in row if it in owners) <= high for row, low, high in rows):
-                found.append(tuple("owner" if it in owners else "weak" for it in members))
+            if all(low <= sum(n for member, n in row if member in owners) <= high for row, low, high in rows):
+                found.append(tuple("owner" if member in owners else "weak" for member in members))
         likely = sorted(found, key=lambda kinds: self.strangeness(members, kinds))
         return likely if len(found) <= MOST_ANSWERS else []
 
@@ -273,10 +277,10 @@ class Together:
 def guess_the_rest(counts: Counts):
     """The open handles of one block are guessed to be as many owners as it counts, those first that own
     nothing of themselves."""
-    open_ = [it for it in counts.handles if it.kind == "either"]
-    owners = sum(it.guess == "owner" for it in open_)
+    open_ = [handle for handle in counts.handles if handle.kind == "either"]
+    owners = sum(handle.guess == "owner" for handle in open_)
     if counts.least_owners <= owners <= counts.most_owners:
         return
-    open_.sort(key=lambda it: (it.guess != "owner", it.is_of_itself))
+    open_.sort(key=lambda handle: (handle.guess != "owner", handle.is_of_itself))
     for at, handle in enumerate(open_):
         handle.guess = "owner" if at < counts.most_owners else "weak"

@@ -27,8 +27,8 @@ def label_places(record: Record, answers: Answers):
     labels = Labels(record, answers)
     for making in record.makings:
         making.has_types = making.unit not in answers.without_types
-    for it in record.spots:
-        it.label, it.declared, it.change = labels.of(it)
+    for spot in record.spots:
+        spot.label, spot.declared, spot.change = labels.of(spot)
 
 
 class Labels:
@@ -108,24 +108,28 @@ def is_raw(declared: str) -> bool:
 
 def drop_other_numbers(record: Record):
     """What looks like the number of an epoll is another where its declared type says so."""
-    record.links = [it for it in record.links if not (it.is_number and NO_FILE.fullmatch(it.spot.declared))]
+    record.links = [
+        link for link in record.links if not (link.is_number and NO_FILE.fullmatch(link.spot.declared))
+    ]
 
 
 def drop_beyond(record: Record, answers: Answers):
     """In a pool an object is as large as its type, or at most as the least of the same type that another
     follows: what lies beyond is somebody else's."""
     least = {}
-    for it in record.makings:
-        if it.in_pool and it.size:
-            least[it.control_type] = min(it.size, least.get(it.control_type, it.size))
+    for making in record.makings:
+        if making.in_pool and making.size:
+            least[making.control_type] = min(making.size, least.get(making.control_type, making.size))
 
     def is_beyond(making: Making, offset: int) -> bool:
         size = answers.size(making) or least.get(making.control_type, making.size)
         return making.in_pool and making.kind != "array" and offset >= size
 
-    for it in record.spots:
-        if it.kind == "object" and it.inner < 0 and is_beyond(it.making, it.offset):
-            it.kind, it.making, it.offset = "heap", None, 0
+    for spot in record.spots:
+        if spot.kind == "object" and spot.inner < 0 and is_beyond(spot.making, spot.offset):
+            spot.kind, spot.making, spot.offset = "heap", None, 0
     record.raw_pointers = [
-        it for it in record.raw_pointers if not is_beyond(record.blocks[it.to].making, it.to_byte)
+        pointer
+        for pointer in record.raw_pointers
+        if not is_beyond(record.blocks[pointer.to].making, pointer.to_byte)
     ]

@@ -1,4 +1,4 @@
-"""The library that is loaded into programs, built at the first use, and the flags for exact handles."""
+"""What is compiled at the first use: the library that is loaded into programs, and the search."""
 import fcntl
 import hashlib
 import os
@@ -8,6 +8,7 @@ from pathlib import Path
 
 HERE = Path(__file__).resolve().parent
 SOURCES = HERE / "library"
+SEARCH = HERE / "search/owner_search.cc"
 # By its name a program that was linked with an older one takes the one that is loaded already. It brings its
 # own libstdc++, so that programs which have none get none.
 LINKING = ["-shared", "-pthread", "-Wl,-soname,librecorder.so", "-static-libstdc++", "-static-libgcc"]
@@ -29,9 +30,9 @@ def sources():
 
 
 def key():
-    """What the built library depends on."""
+    """What is built depends on these."""
     made_of = hashlib.sha256(" ".join([*FLAGS, *LINKING[:-1]]).encode())
-    for path in sorted(SOURCES.iterdir()):
+    for path in sorted([*SOURCES.iterdir(), SEARCH]):
         made_of.update(path.read_bytes())
     return made_of.hexdigest()[:16]
 
@@ -45,7 +46,7 @@ def is_built() -> bool:
 
 
 def build() -> Path:
-    """The built library's path."""
+    """The built library's path. The search lies beside it."""
     library = path()
     folder = library.parent
     folder.mkdir(exist_ok=True)
@@ -56,6 +57,7 @@ def build() -> Path:
             objects = [folder / f"{source.stem}.o" for source in sources()]
             with ThreadPoolExecutor(len(os.sched_getaffinity(0))) as pool:
                 list(pool.map(compile_one, sources(), objects))
+            compile_one(SEARCH, search_beside(library), "-shared")
             subprocess.run(["g++", *LINKING, "-o", partial, *objects, "-ldl"], check=True)
             partial.rename(library)
             for compiled in objects:
@@ -63,5 +65,9 @@ def build() -> Path:
     return library
 
 
-def compile_one(source, to):
-    subprocess.run(["g++", *FLAGS, "-c", "-o", to, source], check=True)
+def search_beside(library: Path) -> Path:
+    return library.with_name("owner_search.so")
+
+
+def compile_one(source: Path, to: Path, how: str = "-c"):
+    subprocess.run(["g++", *FLAGS, how, "-o", to, source], check=True)

@@ -73,7 +73,7 @@ def direct_fields(type_):
 
 def all_fields(type_):
     """Fields and where they begin, first virtual bases: other bases seem to reach as far as these do."""
-    if any(it.is_base_class for it in type_.fields()):
+    if any(field.is_base_class for field in type_.fields()):
         for base, begin in begins_of_virtual_bases(name_of(type_)).items() if virtual_bases(type_) else ():
             yield VirtualBase(gdb.lookup_type(base)), begin
     yield from direct_fields(type_)
@@ -111,14 +111,14 @@ def field_at(type_, offset, is_whole=False):
 def leaf_of_union(type_, offset):
     """(path, type) of what lies at a byte of a union: of an owner before all, then of a weak pointer, then of
     what else may hold such. Where both kinds may lie there the type names both."""
-    fields = [it for it, _ in direct_fields(type_) if offset < size_of(it.type)]
-    leaves = [(it.name, *leaf_at(it.type, offset)[1:]) for it in fields]
+    fields = [field for field, _ in direct_fields(type_) if offset < size_of(field.type)]
+    leaves = [(field.name, *leaf_at(field.type, offset)[1:]) for field in fields]
     kinds = "shared_ptr<", "weak_ptr<", "std::", ""
-    ranked = [[it for it in leaves if kind in name_of(it[2])] for kind in kinds]
-    field, path, leaf = next(it[0] for it in ranked if it)
+    ranked = [[leaf for leaf in leaves if kind in name_of(leaf[2])] for kind in kinds]
+    field, path, leaf = next(found[0] for found in ranked if found)
     if ranked[0] and ranked[1]:
         leaf = Either([ranked[0][0][2], ranked[1][0][2]])
-    return [it for it in (field, path) if it], leaf
+    return [name for name in (field, path) if name], leaf
 
 
 def leaf_at(type_, offset):
@@ -141,13 +141,13 @@ def leaf_at(type_, offset):
         field = field_at(type_, offset, is_whole) if type_.code == gdb.TYPE_CODE_STRUCT else None
         if not field:
             return declaring, ".".join(path), type_
-        (it, begin), type_ = field, field[0].type.strip_typedefs()
+        (member, begin), type_ = field, field[0].type.strip_typedefs()
         offset -= begin
-        is_whole = not it.is_base_class
-        if it.is_base_class and not is_of_the_library(name_of(type_)) and not path:
+        is_whole = not member.is_base_class
+        if member.is_base_class and not is_of_the_library(name_of(type_)) and not path:
             declaring = name_of(type_)
-        elif not it.is_base_class and it.name and not name.startswith(CONTAINERS_OF_MEMBERS):
-            path.append(it.name)
+        elif not member.is_base_class and member.name and not name.startswith(CONTAINERS_OF_MEMBERS):
+            path.append(member.name)
 
 
 def members_at(type_, offset, inner_bytes):
@@ -187,7 +187,9 @@ def types_of_scopes(address):
     for scope in (block.static_block, block.global_block) if block else ():
         key = scope.is_global, scope.start, scope.end
         if key not in TYPES_OF_UNITS:
-            TYPES_OF_UNITS[key] = {it.name: it for it in scope if it.addr_class == gdb.SYMBOL_LOC_TYPEDEF}
+            TYPES_OF_UNITS[key] = {
+                symbol.name: symbol for symbol in scope if symbol.addr_class == gdb.SYMBOL_LOC_TYPEDEF
+            }
         yield TYPES_OF_UNITS[key]
 
 
@@ -209,7 +211,7 @@ def spellings(name):
     yield name
     plain = re.sub(r"(?<=[<( ,-])(\d+)(?:ull|ll|ul|l|u)(?=[,>])", r"\1", name)
     yield plain
-    plain = re.sub(r"\(char\)(\d+)", lambda it: repr(chr(int(it[1]))), plain)
+    plain = re.sub(r"\(char\)(\d+)", lambda match: repr(chr(int(match[1]))), plain)
     plain = re.sub(r"\([\w:]+\)-?\d+", enumerator, plain).replace("(decltype(nullptr))0", "nullptr")
     for null in "std::nullptr_t", "nullptr":
         spelled = plain.replace("decltype(nullptr)", null)
@@ -273,10 +275,10 @@ def answers(questions):
     return {
         "members": members,
         "sizes": sizes,
-        "symbols": {at: (it, declared_as(it)) for at, it in symbols.items()},
+        "symbols": {at: (symbol, declared_as(symbol)) for at, symbol in symbols.items()},
         "callables": {at: captured(int(at), *asked) for at, asked in questions["callables"].items()},
         "names": {at: symbol_at(at) for at in questions["names"]},
-        "without_types": [it for it in questions["units"] if has_no_types(it)],
+        "without_types": [unit for unit in questions["units"] if has_no_types(unit)],
     }
 
 

@@ -5,7 +5,7 @@ import functools
 
 from recorder.kinds import Counts
 from recorder.labels import NOBODY, is_raw
-from recorder.record_text import Handle, Link, RawPointer, Record
+from recorder.record_text import Handle, Link, RawPointer, Record, Spot
 
 
 class Memories:
@@ -14,7 +14,9 @@ class Memories:
 
     def __init__(self, record: Record, numbers: list[int], counts: list[Counts]):
         self.record, self.numbers, self.counts = record, numbers, counts
-        self.open = {numbers[at]: it for at, it in enumerate(counts) if it.open and numbers[at]}
+        self.open = {
+            numbers[at]: counted for at, counted in enumerate(counts) if counted.open and numbers[at]
+        }
         self.owners = self.found_owners()
         self.pointed_from = {}
         for link in reversed(record.links):
@@ -39,33 +41,33 @@ class Memories:
         """The objects that are kept by some answers to what the open handles are, and by others not."""
         return self.kept_of_both[0] - self.reached(surely=True)[0] if self.open else set()
 
-    def holder(self, it: Handle | RawPointer | Link) -> int:
+    def holder(self, pointer: Handle | RawPointer | Link) -> int:
         """The object that something lies in, or 0."""
-        return self.numbers[it.object] if it.spot.making else 0
+        return self.numbers[pointer.object] if pointer.spot.making else 0
 
     @functools.cached_property
     def pointed_to(self) -> dict[int, list[int]]:
         """By node: the nodes of memory to which pointers lead from there."""
         first, found = self.node_of_memory(0), collections.defaultdict(list)
-        for it in self.record.links:
-            found[first + it.memory if it.memory >= 0 else self.holder(it)].append(first + it.to)
+        for link in self.record.links:
+            found[first + link.memory if link.memory >= 0 else self.holder(link)].append(first + link.to)
         return found
 
-    def may_own(self, link: Link) -> bool:
+    def may_own(self, spot: Spot) -> bool:
         """Whether a pointer may own what it leads to. Where registers were not read, another owner may be
         there, so that it has to be one of a type that is known."""
-        declared = link.spot.declared
-        return not link.is_number and not is_raw(declared) and bool(declared or not self.record.unread)
+        return not is_raw(spot.declared) and bool(spot.declared or not self.record.unread)
 
     def found_owners(self) -> dict[int, tuple[int, str]]:
         """By memory: the object that owns it and by what, over pointers that can own, the nearest first."""
         behind, found, todo = collections.defaultdict(list), {}, collections.deque()
+        may_own = {spot: self.may_own(spot) for spot in self.record.spots}
         for link in self.record.links:
-            if not self.may_own(link):
+            if link.is_number or not may_own[link.spot]:
                 continue
             if link.memory >= 0:
                 behind[link.memory].append(link.to)
-            elif self.holder(link) and link.to not in found:
+            elif link.to not in found and self.holder(link):
                 found[link.to] = self.holder(link), link.spot.label
                 todo.append(link.to)
         while todo:
@@ -94,7 +96,14 @@ class Memories:
             for memory, (number, _) in self.owners.items():
                 leads[number].append(self.node_of_memory(memory))
         pointed_to = {} if by_owners else self.pointed_to
-        todo = [0, *(number for number, it in zip(self.numbers, self.counts) if number and it.owners_nowhere)]
+        todo = [
+            0,
+            *(
+                number
+                for number, counted in zip(self.numbers, self.counts)
+                if number and counted.owners_nowhere
+            ),
+        ]
         found = set(todo)
         while todo:
             node = todo.pop()
@@ -103,60 +112,60 @@ class Memories:
                 enough[number] -= 1
                 if enough[number] < 0:
                     to.append(number)
-            for it in to:
-                if it not in found:
-                    found.add(it)
-                    todo.append(it)
+            for end in to:
+                if end not in found:
+                    found.add(end)
+                    todo.append(end)
         first = self.node_of_memory(0)
-        return {it for it in found if 0 < it < first}, {it - first for it in found if it >= first}
+        return {node for node in found if 0 < node < first}, {node - first for node in found if node >= first}
 
     def node_of_memory(self, memory: int) -> int:
         """Nodes are numbers: 0 is all that is no object's, then come objects by theirs, then memory by its
         own."""
         return len(self.numbers) + 1 + memory
 
-    def node_of(self, it: Handle) -> int:
+    def node_of(self, handle: Handle) -> int:
         """What a handle is a part of."""
-        return self.node_of_memory(it.memory) if it.memory >= 0 else self.holder(it)
+        return self.node_of_memory(handle.memory) if handle.memory >= 0 else self.holder(handle)
 
-    def owner_of(self, it: Handle) -> tuple[int, str] | None:
+    def owner_of(self, handle: Handle) -> tuple[int, str] | None:
         """The object that has a handle in uncertain memory, and by what; None where that is a root or
         nobody."""
-        owner = self.owners.get(it.memory)
-        is_kept = it.memory in self.kept_memories
+        owner = self.owners.get(handle.memory)
+        is_kept = handle.memory in self.kept_memories
         return owner if owner and (owner[0] in self.kept_by_owners or not is_kept) else None
 
     @functools.cached_property
     def sole_links(self) -> dict[int, Link]:
-        return {it.to: it for it in self.record.links if it.is_sole}
+        return {link.to: link for link in self.record.links if link.is_sole}
 
-    def perhaps_owner_of(self, it: Handle) -> tuple[int, str] | None:
+    def perhaps_owner_of(self, handle: Handle) -> tuple[int, str] | None:
         """The object whose member alone leads to a handle in lost memory, and that member: it may own that,
         as a container does that isn't std's."""
-        link, seen = self.sole_links.get(it.memory), set()
+        link, seen = self.sole_links.get(handle.memory), set()
         while link and link.memory >= 0 and link.memory not in seen:
             seen.add(link.memory)
             link = self.sole_links.get(link.memory)
         return (self.holder(link), link.spot.label) if link and self.holder(link) else None
 
-    def is_lost(self, it: Handle | RawPointer) -> bool:
+    def is_lost(self, pointer: Handle | RawPointer) -> bool:
         """Whether nothing that is kept leads to it, and no object owns it. Memory that was not looked at may
         lead there, and so may registers that were not read."""
         is_all_read = not self.record.mapped_bytes and not self.record.unread
         return (
             is_all_read
-            and it.memory >= 0
-            and it.memory not in self.kept_memories
-            and it.memory not in self.owners
+            and pointer.memory >= 0
+            and pointer.memory not in self.kept_memories
+            and pointer.memory not in self.owners
         )
 
-    def root_label(self, it: Handle | RawPointer) -> str:
+    def root_label(self, pointer: Handle | RawPointer) -> str:
         """By what an owner there is kept, or what is known of its memory where it is lost."""
-        if it.memory < 0:
-            return it.spot.label
-        from_ = self.pointed_from.get(it.memory)
-        if self.is_lost(it):
+        if pointer.memory < 0:
+            return pointer.spot.label
+        from_ = self.pointed_from.get(pointer.memory)
+        if self.is_lost(pointer):
             return f"memory that only {from_} points to" if from_ else "memory that nothing points to"
-        if it.memory not in self.kept_memories:
+        if pointer.memory not in self.kept_memories:
             return NOBODY
         return f"memory that {from_} points to" if from_ else NOBODY

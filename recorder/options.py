@@ -89,7 +89,7 @@ def parse(words: list[str]) -> argparse.Namespace:
         metavar="SECONDS",
         type=number_to(MOST_SECONDS, 1),
         default=300,
-        help="give up reading memory after so long, and let the program end (300)",
+        help="give up reading memory after so long, and asking gdb for names (300)",
     )
     add(
         "--now",

@@ -1,15 +1,17 @@
 """The graph of owners, and its answer."""
 import collections
 import functools
-from collections.abc import Iterator
-from dataclasses import dataclass, field
+from collections.abc import Iterator, Sequence
+from dataclasses import dataclass, field, replace
 
-from recorder import owner_search
+from recorder import compiled_search, owner_search
+from recorder.compiled_search import Search
 from recorder.kinds import Counts
 from recorder.memories import Memories
 from recorder.record_text import Record
 
 LONGEST_LABEL = 1000
+VERDICTS = "leaked", "kept", "ended", "kept"  # by the numbers of the search
 
 
 @dataclass
@@ -53,7 +55,7 @@ class Answer:
     verdicts: list
     leaked: set
     lost: set  # what only an owner in lost memory keeps
-    knots: list = field(default_factory=list)
+    knots: "Knots"
     perhaps: list = field(default_factory=list)  # knots where members own what they alone point to
 
 
@@ -66,25 +68,51 @@ def plain(label: str) -> str:
     return " ".join(text.split())[:LONGEST_LABEL].strip()
 
 
+class Knots(Sequence):
+    """The knots that a search has found, in the order of their least objects. Each is made when it is asked
+    for. One that another object owns has nothing to weaken."""
+
+    def __init__(self, search: Search, owners: list[tuple]):
+        self.search, self.owners = search, owners
+        self.made, self.shapes, self.weakens = {}, {}, {}  # by the number of a knot, and of its shape
+
+    def __len__(self) -> int:
+        return self.search.knots
+
+    def __getitem__(self, at: int) -> Knot:
+        if not 0 <= at < len(self):
+            raise IndexError(at)
+        if at not in self.made:
+            self.made[at] = self.knot(at)
+        return self.made[at]
+
+    def knot(self, at: int) -> Knot:
+        objects, ties = self.search.objects(at), [self.owners[tie] for tie in self.search.ties(at)]
+        number, is_owned = self.search.shapes[at], bool(self.search.are_owned[at])
+        if number not in self.shapes:
+            self.shapes[number] = owner_search.shape_of(objects, ties)
+        shape = self.shapes[number]
+        if not is_owned and number not in self.weakens:
+            self.weakens[number] = owner_search.weakens(len(objects), shape)
+        return Knot(objects, ties, is_owned, shape, [] if is_owned else self.weakens[number])
+
+    def groups(self, kinds: list[int], is_told: bytearray) -> list[tuple[Knot, int]]:
+        """Of knots alike, of objects of the same kinds, the first one, and how many these are, as far as an
+        object is told. Both arguments are by object, with something at place 0."""
+        return [(self[at], count) for at, count in self.search.groups(kinds, is_told)]
+
+
 def ask(graph: Graph) -> Answer:
-    """The answer to a graph. A knot that another object owns has nothing to cut or to weaken."""
+    """The answer to a graph."""
     roots, lost = [to for to, _ in graph.roots], [to for to, _ in graph.lost]
-    count = len(graph.objects)
-    verdicts = owner_search.verdicts(count, graph.owners, roots + lost)
-    kept = owner_search.reached(owner_search.lists_of(count, graph.owners), roots) if lost else ()
-    numbers = range(1, count + 1)
+    search = Search(len(graph.objects), graph.owners, roots, lost)
+    numbers, found = range(1, len(graph.objects) + 1), search.verdicts
     answer = Answer(
-        verdicts,
-        {number for number in numbers if verdicts[number] == "leaked"},
-        {number for number in numbers if lost and verdicts[number] == "kept" and number not in kept},
+        list(map(VERDICTS.__getitem__, found)),
+        {number for number in numbers if found[number] == compiled_search.LEAKED},
+        {number for number in numbers if found[number] == compiled_search.LOST} if lost else set(),
+        Knots(search, graph.owners),
     )
-    shapes, weakens = {}, {}  # each once, and by shape what mends it
-    for objects, ties, is_owned in owner_search.knots(verdicts, graph.owners):
-        shape = owner_search.shape_of(objects, ties)
-        shape = shapes.setdefault(shape, shape)
-        if not is_owned and id(shape) not in weakens:
-            weakens[id(shape)] = owner_search.weakens(len(objects), shape)
-        answer.knots.append(Knot(objects, ties, is_owned, shape, [] if is_owned else weakens[id(shape)]))
     answer.perhaps = list(knots_perhaps(graph)) if any(graph.perhaps) else []
     return answer
 
@@ -95,14 +123,11 @@ def knots_perhaps(graph: Graph) -> Iterator[Knot]:
     roots = [to for to, _ in graph.roots] + [
         to for (to, _), owner in zip(graph.lost, graph.perhaps) if not owner
     ]
-    owners = graph.owners + perhaps
-    verdicts = owner_search.verdicts(len(graph.objects), owners, roots)
-    for objects, ties, is_owned in owner_search.knots(verdicts, owners):
-        conditions = tuple(dict.fromkeys(label for _, _, label in set(ties) & set(perhaps)))
-        if conditions and not is_owned:
-            shape = owner_search.shape_of(objects, ties)
-            weakens = owner_search.weakens(len(objects), shape)
-            yield Knot(objects, ties, is_owned, shape, weakens, conditions)
+    owners, conditional = graph.owners + perhaps, set(perhaps)
+    for knot in Knots(Search(len(graph.objects), owners, roots, []), owners):
+        conditions = tuple(dict.fromkeys(label for _, _, label in set(knot.ties) & conditional))
+        if conditions and not knot.is_owned:
+            yield replace(knot, conditions=conditions)
 
 
 def numbers_of(record: Record) -> list[int]:

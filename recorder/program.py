@@ -41,7 +41,7 @@ class NotFound(Exception):
 
 
 def reason(fault: OSError) -> str:
-    return ": ".join(str(it) for it in (fault.filename, fault.strerror or fault) if it)
+    return ": ".join(str(part) for part in (fault.filename, fault.strerror or fault) if part)
 
 
 def find(name: str) -> str:
@@ -103,7 +103,7 @@ def refuse_unreadable(path: str):
     if re.search(r"\(NEEDED\).*libc\+\+(abi)?\.so", text):
         raise Refusal("it uses libc++, and only the handles of libstdc++ are known")
     libraries = shared_libraries.libraries_of(path)
-    if any(SANITIZERS.search(it) for it in libraries):
+    if any(SANITIZERS.search(library) for library in libraries):
         raise Refusal("a sanitizer is loaded into it, which has a malloc of its own")
     if other := shared_libraries.with_malloc(libraries):
         raise Refusal(f"its library {os.path.basename(other)} has a malloc of its own")
@@ -154,5 +154,5 @@ def wait(process: int, look: Callable) -> int:
 
 def records(folder: str) -> list[Path]:
     """What the library has written, in the order of its writing."""
-    files = [it for it in Path(folder).iterdir() if re.fullmatch(r"record(\.\d+)+", it.name)]
-    return sorted(files, key=lambda it: it.stat().st_mtime_ns)
+    files = [path for path in Path(folder).iterdir() if re.fullmatch(r"record(\.\d+)+", path.name)]
+    return sorted(files, key=lambda path: path.stat().st_mtime_ns)

@@ -39,7 +39,10 @@ def difference(graph: Graph, answer: Answer, build: Path | None = None) -> str:
     for number, (found, wanted) in enumerate(zip(verdicts, answer.verdicts[1:], strict=True), 1):
         if found != wanted:
             return f"object {number} is {found}, and not {wanted}"
-    own = {tuple(knot.objects): {unordered(" and ".join(it)) for it in knot.weakens} for knot in answer.knots}
+    own = {
+        tuple(knot.objects): {unordered(" and ".join(labels)) for labels in knot.weakens}
+        for knot in answer.knots
+    }
     for objects in own.keys() | knots.keys():
         if own.get(objects) != knots.get(objects):
             found, wanted = listed(knots.get(objects)), listed(own.get(objects))

@@ -5,6 +5,8 @@ from collections.abc import Iterable
 from dataclasses import dataclass, field
 from pathlib import Path
 
+from recorder.asking import Asking
+
 
 @dataclass(slots=True, eq=False)
 class Making:
@@ -136,13 +138,14 @@ class Record:
     unseen: list = field(default_factory=list)
     mapped_bytes: int = 0  # of memory that the program mapped itself and that was not looked at
     milliseconds: int = 0  # that the reading of memory took
+    asking: Asking = field(default_factory=Asking)  # of the programs that know names
 
 
 HANDLES = "owner", "weak", "either"
 
 
 def making_of(words: list[str]) -> Making:
-    frames = tuple(int(it, 16) for it in words[5:])
+    frames = tuple(int(word, 16) for word in words[5:])
     return Making(words[0], words[1] == "1", int(words[2]), words[3], words[4], frames)
 
 
@@ -160,10 +163,11 @@ class Columns:
     def __init__(self):
         self.columns = {}
 
-    def add(self, name: str, numbers: str):
-        """The first is how many rows there are. Where one follows, it is that of all rows."""
-        count, _, rest = numbers.partition(" ")
-        column = array("q", map(int, rest.split()))
+    def add(self, name: str, text: str):
+        """First come how many rows there are and the kind of numbers, then these by their bytes. Where one is
+        there, it is that of all rows."""
+        count, kind, digits = text.split(" ")
+        column = array(kind, bytes.fromhex(digits))
         self.columns[name] = itertools.repeat(column[0], int(count)) if len(column) == 1 else column
 
     def of(self, table: str, names: str) -> list[Iterable[int]]:

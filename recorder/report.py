@@ -26,22 +26,24 @@ def kind_text(kind):
 
 def stack_lines(findings, numbers, wanted):
     """Of objects of one kind: by which functions they were made, the most often first."""
-    stacks = collections.Counter(findings.blocks[it - 1].making.stack for it in numbers) if wanted else {}
+    stacks = (
+        collections.Counter(findings.blocks[number - 1].making.stack for number in numbers) if wanted else {}
+    )
     for stack, count in stacks.most_common() if wanted else ():
         if len(stacks) > 1:
             yield f"  {count} of them:"
-        yield from (f"  by {it}" for it in stack)
+        yield from (f"  by {frame}" for frame in stack)
 
 
 def by_kind(findings, numbers, more=None):
     """Objects by their kind, and by what `more` says of them, the most first."""
     by_making = collections.defaultdict(list)
-    for it in sorted(numbers):
-        by_making[findings.blocks[it - 1].making, more[it] if more else ""].append(it)
+    for number in sorted(numbers):
+        by_making[findings.blocks[number - 1].making, more[number] if more else ""].append(number)
     found = collections.defaultdict(list)
     for (making, said), of_it in by_making.items():
         found[verdicts.kind_of(making), said] += of_it
-    return sorted(((kind, sorted(of_it)) for kind, of_it in found.items()), key=lambda it: -len(it[1]))
+    return sorted(((kind, sorted(of_it)) for kind, of_it in found.items()), key=lambda pair: -len(pair[1]))
 
 
 def leaked_lines(findings, with_stack):
@@ -75,7 +77,8 @@ def suppressed_lines(findings):
 def grown_lines(before, now):
     """Of which kinds there are more objects than at the snapshot before."""
     counts = [
-        collections.Counter(verdicts.kind_of(block.making) for block in it.blocks) for it in (before, now)
+        collections.Counter(verdicts.kind_of(block.making) for block in findings.blocks)
+        for findings in (before, now)
     ]
     for kind, count in (counts[1] - counts[0]).most_common():
         yield f"grown {count} {kind_text(kind)}"
@@ -85,7 +88,7 @@ def annotations(findings: Findings) -> Iterator[str]:
     """Commands to GitHub, which shows them at their lines."""
     lost = {to: label for to, label in findings.graph.lost if to in findings.alarming}
     for (kind, label), numbers in by_kind(
-        findings, findings.alarming, {it: lost.get(it, "") for it in findings.alarming}
+        findings, findings.alarming, {number: lost.get(number, "") for number in findings.alarming}
     ):
         place = re.match(r"at (.*):(\d+) in ", kind[1])
         where = f" file={place[1]},line={place[2]}" if place else ""
@@ -116,14 +119,11 @@ def weaken_lines(findings, knot):
 def knot_texts(findings):
     """The lines of each knot, equal ones once, with how many there are."""
     texts = collections.Counter()
-    for alike in findings.alarming_knots:
-        knot = alike[0]
-        types = collections.Counter(findings.kind(it)[0] for it in knot.objects)
+    for knot, count in findings.alarming_knots:
+        types = collections.Counter(findings.kind(number)[0] for number in knot.objects)
         ties = ", ".join(f"{label} {count}" for label, count in owner_graph.tied_by(knot).most_common())
         condition = f'if {" and ".join(knot.conditions)} owns it: ' if knot.conditions else ""
-        texts[f"knot {condition}{counted(types)}, tied by {ties}", *weaken_lines(findings, knot)] += len(
-            alike
-        )
+        texts[f"knot {condition}{counted(types)}, tied by {ties}", *weaken_lines(findings, knot)] += count
     for (first, *rest), count in texts.items():
         yield from [first if count == 1 else f"{first}, {count} times", *rest]
 
@@ -147,17 +147,19 @@ def missing_tools(findings):
 
 
 def advice_lines(findings):
-    knots = [it for it, *_ in findings.alarming_knots if not it.is_owned]
-    if any(len(mending.by_change(it, findings.graph.changes)) > 1 for it in knots):
+    knots = [knot for knot, _ in findings.alarming_knots if not knot.is_owned]
+    if any(len(mending.by_change(knot, findings.graph.changes)) > 1 for knot in knots):
         yield "record: each weaken line mends its knot by itself; take the first"
     yield from missing_tools(findings)
-    unnamed = {tie for it in knots for tie in it.ties if " at byte " in tie[2] and not UNNAMED.search(tie[2])}
-    makings = [findings.blocks[it[0] - 1].making for it in unnamed]
+    unnamed = {
+        tie for knot in knots for tie in knot.ties if " at byte " in tie[2] and not UNNAMED.search(tie[2])
+    }
+    makings = [findings.blocks[tie[0] - 1].making for tie in unnamed]
     if not shutil.which("gdb"):
         return
-    if any(not it.made.startswith("at ") for it in makings):
+    if any(not making.made.startswith("at ") for making in makings):
         yield "record: members are told by their names where the program is compiled with -g"
-    if not all(it.has_types for it in makings):
+    if not all(making.has_types for making in makings):
         yield "record: -g1 has places and no members: these are told by their names with -g"
 
 
@@ -168,7 +170,7 @@ def trust_line(findings):
         proved = "the answer is that of the proved ./sptr owners, and the reading of memory is not proved"
         return f"record: {met}; {proved}"
     if findings.compared:
-        own = "this is the search in Python. The proved ./sptr owners says otherwise"
+        own = "this is its own search. The proved ./sptr owners says otherwise"
         return f"record: {met}; {own}: {findings.compared}"
     return f"record: {met}; neither the reading of memory nor the answer is proved"
 
@@ -227,7 +229,7 @@ def map_text(findings: Findings) -> str:
     """What each number of the graph is in the program: its type, the place of its making, its control
     block."""
     lines = (
-        f"{number} {kind_text(findings.kind(number))}, at {it.at:#x}"
-        for number, it in enumerate(findings.blocks, 1)
+        f"{number} {kind_text(findings.kind(number))}, at {block.at:#x}"
+        for number, block in enumerate(findings.blocks, 1)
     )
     return "".join(f"{line}\n" for line in lines)

@@ -3,8 +3,8 @@ import ctypes
 import functools
 import re
 import shutil
-import subprocess
 
+from recorder.asking import Asking
 from recorder.record_text import Record
 
 OPENING, CLOSING = "<([{", ">)]}"
@@ -12,13 +12,13 @@ DEFAULT_ARGUMENT = re.compile(r", std::(allocator|less|hash|equal_to|char_traits
 STRING = "std::basic_string<char, std::char_traits<char>, std::allocator<char> >"
 
 
-def demangled(names: set[str]) -> dict[str, str]:
+def demangled(names: set[str], asking: Asking) -> dict[str, str]:
     """A dictionary from mangled names of types to plain ones."""
     names = sorted(names)
     if not shutil.which("c++filt"):
         return {name: demangled_by_library(name) for name in names}
     text = "\n".join(names) + "\n"
-    ran = subprocess.run(["c++filt", "-t"], input=text, capture_output=True, text=True, check=True)
+    ran = asking.run(["c++filt", "-t"], input=text, text=True, check=True)
     return dict(zip(names, ran.stdout.split("\n")))
 
 
@@ -101,17 +101,20 @@ def name_makings(record: Record):
     """Gives each making its object's type: what it really is where it has virtual functions, else what its
     maker said; and the record the plain names of types of other memory."""
     names = {
-        it for making in record.makings for it in (making.control_type, making.dynamic_type) if it != "-"
+        name
+        for making in record.makings
+        for name in (making.control_type, making.dynamic_type)
+        if name != "-"
     }
-    names |= {it.told for it in record.spots if it.has_table} | {it[-1] for it in record.unseen}
-    plain = record.plain = demangled(names)
-    for it in record.makings:
-        if it.dynamic_type != "-":
-            it.name = plain[it.dynamic_type]
-        elif it.control_type != "-":
-            it.name = declared_type(it.kind, plain[it.control_type])
+    names |= {spot.told for spot in record.spots if spot.has_table} | {block[-1] for block in record.unseen}
+    plain = record.plain = demangled(names, record.asking)
+    for making in record.makings:
+        if making.dynamic_type != "-":
+            making.name = plain[making.dynamic_type]
+        elif making.control_type != "-":
+            making.name = declared_type(making.kind, plain[making.control_type])
         else:
-            it.name = hooked_type(it.told_type) or "an object without a type"
+            making.name = hooked_type(making.told_type) or "an object without a type"
 
 
 def declared_type(kind: str, control: str) -> str:

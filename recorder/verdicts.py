@@ -45,25 +45,36 @@ class Findings:
 
     @property
     def reached_and_told(self) -> dict[int, str]:
-        return {it: label for it, label in self.reached.items() if it not in self.suppressed}
+        return {number: label for number, label in self.reached.items() if number not in self.suppressed}
 
     def kind(self, number: int) -> tuple[str, str]:
         """An object's type and the place of its making."""
         return kind_of(self.blocks[number - 1].making)
 
     @functools.cached_property
-    def alarming_knots(self) -> list[list[Knot]]:
-        """The knots that are told, those together that are tied alike, of the same types, by the same
-        members."""
-        makings, changes = [it.making for it in self.blocks], self.graph.changes
-        found, alarming = collections.defaultdict(list), self.alarming
-        for knot in [*self.answer.knots, *self.answer.perhaps]:
-            if any(it in alarming for it in knot.objects):  # (others may be suppressed)
+    def alarming_knots(self) -> list[tuple[Knot, int]]:
+        """Of the knots that are told the first of those that are tied alike, of the same types, by the same
+        members; and how many these are."""
+        makings, knots = [block.making for block in self.blocks], self.answer.knots
+        if self.graph.changes:
+            return self.alike([*knots, *self.answer.perhaps], makings)
+        numbers, is_told = {}, bytearray(len(makings) + 1)
+        for number in self.alarming:
+            is_told[number] = 1
+        kinds = [0, *(numbers.setdefault(making, len(numbers)) for making in makings)]
+        return knots.groups(kinds, is_told) + self.alike(self.answer.perhaps, makings)
+
+    def alike(self, knots: list[Knot], makings: list[Making]) -> list[tuple[Knot, int]]:
+        found, alarming, changes = collections.Counter(), self.alarming, self.graph.changes
+        first = {}
+        for knot in knots:
+            if any(number in alarming for number in knot.objects):  # (others may be suppressed)
                 types = tuple([makings[number - 1] for number in knot.objects])
                 changed = tuple(mending.changes_of(knot, changes)) if changes else ()
-                shape = knot.shape if knot.conditions else id(knot.shape)
-                found[types, shape, knot.is_owned, changed, knot.conditions].append(knot)
-        return list(found.values())
+                key = types, knot.shape, knot.is_owned, changed, knot.conditions
+                first.setdefault(key, knot)
+                found[key] += 1
+        return [(knot, found[key]) for key, knot in first.items()]
 
 
 def findings_of(record: Record, suppressed: Iterable[Suppression] = ()) -> Findings:
@@ -81,8 +92,8 @@ def findings_of(record: Record, suppressed: Iterable[Suppression] = ()) -> Findi
     if kinds.drop_from_storage(record, counts, leaked):
         graph, memories = owner_graph.graph_of(record, counts)
         answer = owner_graph.ask(graph)
-    blocks = [it for it in record.blocks if it.is_live]
-    found = Findings(record, graph, answer, blocks, sum(it.are_met for it in counts))
+    blocks = [block for block in record.blocks if block.is_live]
+    found = Findings(record, graph, answer, blocks, sum(counted.are_met for counted in counts))
     found.reached = reached_by_raw_pointers(record, graph, answer, memories)
     found.suppressed = reasons(found, suppressed)
     return found
@@ -92,10 +103,10 @@ def reasons(found, suppressed):
     """By object: why a user's file leaves it out."""
     left_out = {}
     for number in sorted(found.alarming | found.undecided | set(found.reached)) if suppressed else ():
-        for it in suppressed:
-            if it.names(*found.kind(number)):
-                it.is_used = True
-                left_out.setdefault(number, it.reason)
+        for suppression in suppressed:
+            if suppression.names(*found.kind(number)):
+                suppression.is_used = True
+                left_out.setdefault(number, suppression.reason)
     found.__dict__.pop("alarming", None)  # (which was asked without these)
     return left_out
 
@@ -105,26 +116,28 @@ def reached_by_raw_pointers(record, graph, answer, memories):
     these own or point to: each with where the first pointer lies."""
     raw, first = collections.defaultdict(list), []
     unreached = answer.leaked | answer.lost
-    for it in record.raw_pointers:
-        to, holder = memories.numbers[it.to], memories.holder(it)
+    if not unreached:
+        return {}
+    for pointer in record.raw_pointers:
+        to, holder = memories.numbers[pointer.to], memories.holder(pointer)
         if not to:
             continue
-        if it.memory >= 0:
-            if it.memory in memories.kept_memories:
-                first.append((to, memories.root_label(it)))
+        if pointer.memory >= 0:
+            if pointer.memory in memories.kept_memories:
+                first.append((to, memories.root_label(pointer)))
             elif holder:
                 raw[holder].append(to)
         elif holder in unreached:
             raw[holder].append(to)
-        elif holder or it.spot.kind in ("static", "thread-local", "stack", "mapped", "kernel"):
-            first.append((to, it.spot.label))
+        elif holder or pointer.spot.kind in ("static", "thread-local", "stack", "mapped", "kernel"):
+            first.append((to, pointer.spot.label))
     for a, b, _ in graph.owners if first else ():
         raw[a].append(b)
     reached = {}
     todo = collections.deque(first)
     while todo:
-        it, label = todo.popleft()
-        if it in unreached and it not in reached:
-            reached[it] = label
-            todo.extend((to, label) for to in raw[it])
+        number, label = todo.popleft()
+        if number in unreached and number not in reached:
+            reached[number] = label
+            todo.extend((to, label) for to in raw[number])
     return reached

@@ -1,6 +1,5 @@
-// The live chunk that has an address, by its page: each word of memory is looked up.
+// The live chunk that has an address: nearly each word of memory is looked up.
 #pragma once
-#include <algorithm>
 #include <vector>
 
 #include "table.h"
@@ -11,33 +10,64 @@ class ChunkIndex {
 public:
   ChunkIndex() = default;
   ChunkIndex(const ChunkIndex&) = delete;
-  ~ChunkIndex() { first_of_page.clear(); }
+  ~ChunkIndex() {
+    pieces.each([](Word, Piece*& piece) { give_own_pages(piece, sizeof(Piece)); });
+    pieces.clear();
+  }
 
   // The next chunk in the order of addresses.
   void add(Word from, Word to) {
-    int place = static_cast<int>(begins.size());
-    begins.push_back(from);
-    for (Word page = from / PAGE; page <= (to - 1) / PAGE; page++)
-      if (!first_of_page.find(key_of(page))) first_of_page.put(key_of(page), place);
+    chunks.push_back({from, to});
+    for (Word part = from / PART; part <= (to - 1) / PART; part++) {
+      Piece* piece = piece_of(part * PART);
+      if (!piece && !(piece = added_piece(part * PART))) return;
+      int& first = piece->first[part % Piece::PARTS];
+      if (!first) first = static_cast<int>(chunks.size());
+    }
   }
 
-  // The chunk that begins there or last before, as far as it reaches the same page; -1 where none does.
-  int last_up_to(Word address) const {
-    const int* first = first_of_page.find(key_of(address / PAGE));
-    if (!first || begins[*first] > address) return -1;
-    auto from = begins.begin() + *first;
-    auto to = begins.begin() + std::min<std::ptrdiff_t>(*first + MOST_OF_A_PAGE, end());
-    return static_cast<int>(std::upper_bound(from, to, address) - begins.begin()) - 1;
+  // -1 where none has it.
+  int chunk_of(Word address) const {
+    const Piece* piece = piece_of(address);
+    std::size_t at = piece ? static_cast<std::size_t>(piece->first[address / PART % Piece::PARTS]) : 0;
+    if (!at) return -1;
+    while (at < chunks.size() && chunks[at].from <= address) at++;  // (a part has few)
+    const Bounds& last = chunks[at - 1];
+    return last.from <= address && address < last.to ? static_cast<int>(at) - 1 : -1;
   }
 
 private:
-  static constexpr std::ptrdiff_t MOST_OF_A_PAGE = 1 + PAGE / 32;  // the least chunks, and one from before
+  struct Bounds {
+    Word from, to;
+  };
+  static constexpr Word PART = 256;
 
-  static Word key_of(Word page) { return (page + 1) * WORD; }
-  std::ptrdiff_t end() const { return static_cast<std::ptrdiff_t>(begins.size()); }
+  // Of each part of 4 MB of addresses the first chunk that has bytes there, counted from 1; 0 where none has.
+  struct Piece {
+    static constexpr Word BYTES = Word(1) << 22, PARTS = BYTES / PART;
+    int first[PARTS];
+  };
 
-  std::vector<Word> begins;
-  Table<int> first_of_page;
+  static Word key_of(Word address) { return (address / Piece::BYTES + 1) * WORD; }
+  Piece* piece_of(Word address) const {
+    Word key = key_of(address);
+    if (key != last_key) {
+      Piece* const* found = pieces.find(key);
+      last_key = key;
+      last_piece = found ? *found : nullptr;
+    }
+    return last_piece;
+  }
+  Piece* added_piece(Word address) {
+    last_piece = static_cast<Piece*>(own_pages(sizeof(Piece)));
+    if (last_piece) pieces.put(key_of(address), last_piece);
+    return last_piece;
+  }
+
+  std::vector<Bounds> chunks;
+  Table<Piece*> pieces;
+  mutable Word last_key = 0;  // what was asked for last
+  mutable Piece* last_piece = nullptr;
 };
 
 }  // namespace recorder

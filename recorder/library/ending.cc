@@ -1,15 +1,13 @@
-// When memory is read: at the very end of the process, at _exit, and when somebody asks.
+// When memory is read: at the very end of the process, and at _exit.
 #include <cxxabi.h>
 #include <dlfcn.h>
 #include <pthread.h>
-#include <semaphore.h>
 #include <signal.h>
 #include <sys/syscall.h>
 #include <sys/time.h>
 #include <unistd.h>
 
 #include <cerrno>
-#include <csignal>
 #include <cstdlib>
 #include <cstring>
 #include <initializer_list>
@@ -22,6 +20,8 @@
 #include "next_malloc.h"
 #include "reading.h"
 #include "record_file.h"
+#include "signals.h"
+#include "system_calls.h"
 
 namespace recorder {
 namespace {
@@ -33,7 +33,6 @@ int seconds_to_read;
 std::atomic<pid_t> ended{0};  // the process that has read its memory: one after vfork shares this word
 Word exit_stack;              // where exit() was called; after main's return no frame of its thread lives
 pid_t exit_thread;
-sem_t asked;
 
 // What would end the process while it is read, after its own end.
 void stop_timers() {
@@ -91,6 +90,12 @@ void read_at_end(const char* when, Word stack) {
   read_memory(when, stack, 0);
 }
 
+void read_now(int snapshot) {
+  if (!is_recording() || !is_asked_about()) return;
+  Turn turn;
+  read_memory("now", 0, snapshot);
+}
+
 void refuse_now(const char* why) {
   if (!is_wanted) return;
   stop_recording(why);
@@ -98,8 +103,6 @@ void refuse_now(const char* why) {
 }
 
 namespace {
-
-void leave_ending_signals();
 
 // (in what this process may become, which is confined from its beginning)
 void forget_process_in_environment() {
@@ -112,6 +115,7 @@ void forget_process_in_environment() {
 void refuse_now_and_keep_still(const char* why) {
   refuse_now(why);
   stop_noting();
+  SystemCalls::wait_for_end();
   if (is_wanted) leave_ending_signals();
   is_wanted = false;
   KeptFile::forget_all();
@@ -148,74 +152,6 @@ void at_quick_exit_end() {
   read_at_end("quick_exit", stack_here());
 }
 
-void* answer(void*) {
-  for (int snapshot = 1;; snapshot++) {
-    while (sem_wait(&asked)) {
-    }
-    if (!is_recording() || !is_asked_about()) continue;
-    Turn turn;
-    read_memory("now", 0, snapshot);
-  }
-}
-
-void ask(int) {
-  if (is_recording()) sem_post(&asked);
-}
-
-void answer_signal(int number) {
-  sem_init(&asked, 0, 0);
-  pthread_t thread{};
-  sigset_t all, before;
-  sigfillset(&all);
-  pthread_sigmask(SIG_BLOCK, &all, &before);
-  int failed = pthread_create(&thread, nullptr, answer, nullptr);
-  pthread_sigmask(SIG_SETMASK, &before, nullptr);
-  if (failed) return;
-  struct sigaction action {};
-  action.sa_handler = ask;
-  action.sa_flags = SA_RESTART;
-  sigaction(number, &action, nullptr);
-}
-
-std::atomic<int> ending_signal{0};
-
-// Where nothing else takes a signal that ends servers, the process is read and then ends by it: at once, or as soon as
-// this thread has left the recorder's code.
-void read_and_end(int number) {
-  ending_signal = number;
-  if (Inside::is())
-    unusual_process |= process_state::ENDING;
-  else
-    end_by_signal();
-}
-
-// Gives signals that end servers another handler where they have this one.
-void replace_handler(void (*from)(int), void (*to)(int)) {
-  for (int number : {SIGTERM, SIGINT}) {
-    struct sigaction before {}, action {};
-    if (sigaction(number, nullptr, &before) || before.sa_handler != from) continue;
-    action.sa_handler = to;
-    action.sa_flags = SA_RESTART;
-    sigaction(number, &action, nullptr);
-  }
-}
-
-void end_by_signals() { replace_handler(SIG_DFL, read_and_end); }
-void leave_ending_signals() { replace_handler(read_and_end, SIG_DFL); }
-
-}  // namespace
-
-void end_by_signal() {
-  unusual_process &= ~process_state::ENDING;
-  int number = ending_signal.exchange(0);
-  if (!number) return;
-  read_at_end(number == SIGTERM ? "SIGTERM" : "SIGINT", stack_here());
-  std::signal(number, SIG_DFL);
-  kill(getpid(), number);
-}
-
-namespace {
-
 int number_of(const char* variable) {
   const char* text = std::getenv(variable);
   return text ? std::atoi(text) : 0;
@@ -235,6 +171,7 @@ void unlock_in_parent() {
 
 void unlock_in_child() {
   unlock_tables();
+  SystemCalls::forget_others();
   is_becoming_daemon = false;
   if (!is_wanted) return;
   if (with_children) {

@@ -7,6 +7,9 @@ namespace recorder {
 // Reads memory, once in each process. `stack` is the newest byte of the frames that live in this thread, or 0.
 void read_at_end(const char* when, Word stack);
 
+// Reads memory while the process goes on.
+void read_now(int snapshot);
+
 // Tells now that nothing will be told, and why.
 void refuse_now(const char* why);
 

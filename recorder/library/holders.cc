@@ -32,17 +32,27 @@ void Spreading::add_first() {
 }
 
 void Spreading::spread(Round round, From from) {
-  for (std::size_t at = 0; at < found.size(); at++) {
-    if (kind_of(found[at]) != from) continue;
-    Region region = found[at];
-    each_plain_word(region, [&](Word where, Word word) {
-      int chunk = round == ANY ? all.pointed_chunk(word) : all.chunk_of(word);
-      if (chunk < 0 || all.chunks[chunk].holder.kind != Holder::NOBODY) return;
-      bool is_contained = leads(CONTAINERS, region, where, word, all.chunks[chunk]);
-      if (is_contained || leads(round, region, where, word, all.chunks[chunk]))
-        claim(is_contained ? CONTAINERS : round, region, where, chunk);
-    });
+  for (std::size_t place = 0; place < found.size(); place++) {
+    is_done.resize(found.size());
+    if (!is_done[place] && kind_of(found[place]) == from) spread_from(place, round);
   }
+}
+
+void Spreading::spread_from(std::size_t place, Round round) {
+  Region region = found[place];
+  bool is_left = false;
+  each_plain_word(region, [&](Word where, Word word) {
+    int chunk = all.pointed_chunk(word);
+    if (chunk < 0 || all.chunks[chunk].holder.kind != Holder::NOBODY) return;
+    auto& it = all.chunks[chunk];
+    bool is_seen = round == ANY || (word >= it.from && word < it.to);
+    bool is_contained = is_seen && leads(CONTAINERS, region, where, word, it);
+    if (is_contained || (is_seen && leads(round, region, where, word, it)))
+      claim(is_contained ? CONTAINERS : round, region, where, chunk);
+    else
+      is_left = true;
+  });
+  is_done[place] = !is_left;
 }
 
 // Whether a hashed container leads from `at`: from its head to its buckets or its first node, or on from these.

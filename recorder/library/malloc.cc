@@ -12,6 +12,7 @@
 #include "reading.h"
 #include "samples.h"
 #include "threads.h"
+#include "walks.h"
 
 namespace recorder {
 namespace {
@@ -77,11 +78,25 @@ __attribute__((noinline)) void* noted_slowly(void* memory, Word code, Word stack
   return memory;
 }
 
-// (this and what calls it does with the registers that a call may change: it is asked at each allocation)
+__attribute__((noinline)) void* noted_elsewhere(void* memory, TraceNumber trace) {
+  note_as(memory, trace, false);
+  return memory;
+}
+
+ALWAYS_INLINE void* noted_with(void* memory, TraceNumber trace) {
+  return note_chunk_at_once(as_word(memory), trace) ? memory : noted_elsewhere(memory, trace);
+}
+
+// (this and what calls it do with the registers that a call may change: they are asked at each allocation)
+__attribute__((noinline)) void* noted_by_walk(void* memory, Word code, Word stack, Word base) {
+  TraceNumber trace = block_places.trace_of(code, stack, base);
+  return __builtin_expect(trace, true) ? noted_with(memory, trace) : noted_slowly(memory, code, stack, base);
+}
+
 ALWAYS_INLINE void* noted(void* memory, Word code, Word stack, Word base) {
-  TraceNumber trace = plain_trace_of_memory(code, stack);
-  if (__builtin_expect(trace && note_chunk_at_once(as_word(memory), trace), true)) return memory;
-  return noted_slowly(memory, code, stack, base);
+  leave_entrance(code, stack);
+  TraceNumber trace = plain_places.trace_of(code);
+  return trace ? noted_with(memory, trace) : noted_by_walk(memory, code, stack, base);
 }
 
 __attribute__((noinline)) void* taken_large(void* memory, Word code, Word stack, Word base) {

@@ -8,6 +8,7 @@
 #include <mutex>
 
 #include "reading.h"
+#include "system_calls.h"
 
 namespace recorder {
 namespace {
@@ -31,6 +32,8 @@ Word OwnRegion::from, OwnRegion::to;
 
 // (the kernel may join a mapping with the next one, so that where its last page ends is to be known)
 void* own_pages(std::size_t bytes) {
+  SystemCalls calls;
+  if (!calls.are_allowed()) return nullptr;
   bytes = whole_pages(bytes);
   void* pages =
       mmap(nullptr, bytes, PROT_READ | PROT_WRITE, MAP_PRIVATE | MAP_ANONYMOUS | MAP_NORESERVE, -1, 0);
@@ -49,7 +52,8 @@ void give_own_pages(void* pages, std::size_t bytes) {
       own[place].from = own[place].to = 0;
       break;
     }
-  munmap(pages, whole_pages(bytes));
+  SystemCalls calls;
+  if (calls.are_allowed()) munmap(pages, whole_pages(bytes));
 }
 
 std::pair<Word, Word> own_range(std::size_t place) {

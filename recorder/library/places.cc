@@ -99,6 +99,6 @@ extern "C" __attribute__((visibility("default"))) int dlclose(void* module) {
   if (!failed && library.to) recorder::note_closed(library);
   entrance.code = 0;
   module_closings++;
-  plain_places.forget_all();
+  forget_answers();
   return failed;
 }

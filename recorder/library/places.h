@@ -86,6 +86,7 @@ public:
   void add(Word code, TraceNumber trace) {
     if (trace <= MOST_TRACES) last[code % COUNT].store(code / PAGE << BITS_OF_TRACE | trace, std::memory_order_relaxed);
   }
+  void forget(Word code) { last[code % COUNT].store(0, std::memory_order_relaxed); }
   void forget_all() {
     for (auto& it : last) it.store(0, std::memory_order_relaxed);
   }
@@ -97,6 +98,10 @@ private:
   std::atomic<Word> last[COUNT];
 };
 OF_ALL_UNITS PlainPlaces plain_places;
+
+// What holds of no place, or not of this one, any more: the tables that are asked first forget it.
+void forget_answers();
+void forget_answer(Word code);
 
 // Round a fork.
 void lock_places();

@@ -7,6 +7,7 @@
 
 #include <algorithm>
 #include <cerrno>
+#include <climits>
 #include <cstdarg>
 #include <cstdio>
 #include <cstring>
@@ -69,12 +70,27 @@ public:
     else
       used += size;
   }
-  // Each number after a space; there are many of them.
-  void say_number(std::ptrdiff_t number) {
-    if (number >= 0) return say_digits<10>(static_cast<Word>(number), false);
-    say_digits<10>(-static_cast<Word>(number), true);
+  // After a space.
+  void say_address(Word address) {
+    char digits[24];
+    char* const end = digits + sizeof digits;
+    char* at = end;
+    do
+      *--at = DIGITS[address % 16];
+    while (address /= 16);
+    *--at = ' ';
+    if (sizeof buffer - used < sizeof digits) flush();
+    std::memcpy(buffer + used, at, end - at);
+    used += end - at;
   }
-  void say_address(Word address) { say_digits<16>(address, false); }
+  // The lowest bytes of a number, the least first, each by two hexadecimal digits.
+  void say_bytes(std::ptrdiff_t number, int bytes) {
+    if (sizeof buffer - used < 2 * sizeof number) flush();
+    for (Word rest = static_cast<Word>(number); bytes-- > 0; rest >>= 8) {
+      buffer[used++] = DIGITS[rest >> 4 & 15];
+      buffer[used++] = DIGITS[rest & 15];
+    }
+  }
   void say_text(const char* words) {
     for (std::size_t left = std::strlen(words); left;) {
       if (used == sizeof buffer) flush();
@@ -86,21 +102,7 @@ public:
 
 private:
   static constexpr std::size_t MOST_OF_A_LINE = 256;
-
-  template <Word BASE>
-  void say_digits(Word number, bool is_negative) {
-    char digits[24];
-    char* const end = digits + sizeof digits;
-    char* at = end;
-    do
-      *--at = "0123456789abcdef"[number % BASE];
-    while (number /= BASE);
-    if (is_negative) *--at = '-';
-    *--at = ' ';
-    if (sizeof buffer - used < sizeof digits) flush();
-    std::memcpy(buffer + used, at, end - at);
-    used += end - at;
-  }
+  static constexpr char DIGITS[] = "0123456789abcdef";
 
   void name_files(int number) {
     int size = std::snprintf(final_path, sizeof final_path, "%s.%d", record_path, getpid());
@@ -151,14 +153,19 @@ void write_spot(Output& out, const Spot& it) {
   out.say_text("\n");
 }
 
-// A number of each of so many rows, in one line; a number once where it is that of all.
+// A number of each of so many rows, in one line: of 4 bytes (i) or of 8 (q). It stands once where it is that of all.
 template <typename Value>
 void write_column(Output& out, const char* table, const char* column, std::size_t count, Value value) {
-  out.say("%s.%s %zu", table, column, count);
-  std::size_t alike = count ? 1 : 0;
-  while (alike < count && value(alike) == value(0)) alike++;
-  for (std::size_t row = 0; row < (alike == count ? std::min<std::size_t>(count, 1) : count); row++)
-    out.say_number(static_cast<std::ptrdiff_t>(value(row)));
+  auto number = [&](std::size_t row) { return static_cast<std::ptrdiff_t>(value(row)); };
+  std::ptrdiff_t least = count ? number(0) : 0, greatest = least;
+  for (std::size_t row = 1; row < count; row++) {
+    least = std::min(least, number(row));
+    greatest = std::max(greatest, number(row));
+  }
+  bool is_short = least >= INT_MIN && greatest <= INT_MAX;
+  std::size_t written = least == greatest ? std::min<std::size_t>(count, 1) : count;
+  out.say("%s.%s %zu %c ", table, column, count, is_short ? 'i' : 'q');
+  for (std::size_t row = 0; row < written; row++) out.say_bytes(number(row), is_short ? 4 : 8);
   out.say_text("\n");
 }
 

@@ -26,12 +26,14 @@ struct Ends {
 
 void decide(Place& place) {
   int plain = place.plain, blocks = place.blocks;
+  auto before = place.role.load();
   if (blocks && plain >= MANY_PLAIN && place.rule.kind != Rule::END)
     place.role = Place::THROUGH;
   else if (blocks)
     place.role = Place::BLOCKS;
   else if (plain >= ENOUGH)
     place.role = Place::PLAIN;
+  if (place.role != before) forget_answer(place.code);
 }
 
 void learn_from_ends(Place& place, const Ends& ends) {

@@ -166,9 +166,8 @@ bool Snapshot::add_mapped(const Range& range) {
 }
 
 int Snapshot::chunk_of(Word address) const {
-  if (chunks.empty() || address < chunks.front().from || address >= chunks.back().to) return -1;
-  int place = chunk_index.last_up_to(address);
-  return place >= 0 && address < chunks[place].to ? place : -1;
+  bool is_beyond = chunks.empty() || address < chunks.front().from || address >= chunks.back().to;
+  return is_beyond ? -1 : chunk_index.chunk_of(address);
 }
 
 int Snapshot::pointed_chunk(Word word) const {

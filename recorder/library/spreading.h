@@ -88,29 +88,25 @@ private:
     return area.copy.empty() && area.kind != Area::MAPPED ? STATICS : COPIES;
   }
   void spread(Round round, From from);
+  void spread_from(std::size_t place, Round round);
   bool leads(Round round, const Region& region, Word at, Word word, LiveChunk& chunk) const;
   LiveChunk::Hashed hashed(const Region& region, Word at, const LiveChunk& chunk) const;
   void claim(Round round, const Region& region, Word at, int chunk);
   int memory_of(int chunk, bool is_apart) const;
-  void divide();
+  struct FoundLink {
+    Region region;
+    Word at;
+    int chunk;
+  };
+  std::vector<FoundLink> found_links() const;
+  void divide(const std::vector<FoundLink>& pointers);
   int uncertain_memory(const Handle& it) const;
   bool is_older(Word at, int to) const;
   std::vector<bool> useful_memory(const std::vector<Link>& links) const;
-  template <typename Visit>
-  void each_link(Visit visit) const;
 
   Snapshot& all;
   std::vector<Region> found;
+  std::vector<bool> is_done;  // regions from which no pointer leads to what nobody holds
 };
-
-template <typename Visit>
-void Spreading::each_link(Visit visit) const {
-  each_region([&](const Region& region) {
-    each_plain_word(region, [&](Word at, Word word) {
-      int chunk = all.pointed_chunk(word);
-      if (chunk >= 0 && all.chunks[chunk].memory >= 0 && chunk != region.chunk) visit(region, at, chunk);
-    });
-  });
-}
 
 }  // namespace recorder

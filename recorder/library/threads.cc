@@ -2,10 +2,8 @@
 
 #include <dirent.h>
 #include <fcntl.h>
-#include <pthread.h>
 #include <sched.h>
 #include <signal.h>
-#include <sys/resource.h>
 #include <sys/syscall.h>
 #include <time.h>
 #include <unistd.h>
@@ -19,16 +17,11 @@
 
 #include "ending.h"
 #include "kept_file.h"
-#include "mappings.h"
 #include "reading.h"
-#include "table.h"
-
-extern "C" void* stack_end_of_main __asm__("__libc_stack_end");
+#include "system_calls.h"
 
 namespace recorder {
 namespace {
-
-Tables<Bounds> known_stacks;  // by thread
 
 struct Standing {
   pid_t thread;
@@ -40,10 +33,6 @@ std::atomic<int> places{0}, answered{0};
 RECORDER_THREAD volatile bool is_asked = false, is_standing = false;
 
 KeptFile threads_folder;
-
-// A signal's frame takes some 4 KB, which a thread with a smaller stack may not have left.
-constexpr Word SMALL_STACK = 64 << 10;
-constexpr Word MOST_OF_A_STACK = 8 << 20;
 
 // On a busy machine a thread may not run for seconds.
 constexpr int MOST_PAUSES = 50'000;
@@ -62,23 +51,25 @@ void pause_shortly() {
 std::atomic<bool> hooked{false};
 std::atomic<int> unusual_process{0};
 RECORDER_THREAD int unusual_thread = thread_state::NEW;
-RECORDER_THREAD Bounds own_stack{0, 0};
+
+namespace {
+
+void let_others_run() {
+  SystemCalls calls;
+  if (calls.are_allowed()) sched_yield();
+}
+
+}  // namespace
 
 void Lock::wait() {
   int tries = 0;
   do
     while (held.load(std::memory_order_relaxed))
-      if (++tries % 100 == 0) sched_yield();
+      if (++tries % 100 == 0) let_others_run();
   while (held.exchange(true, std::memory_order_acquire));
 }
 
 namespace {
-
-// (its signal's frame would not fit)
-bool has_small_stack(pid_t thread) {
-  Bounds* bounds = known_stacks.of(thread).find(thread);
-  return bounds && bounds->to - bounds->from < SMALL_STACK;
-}
 
 bool stands(pid_t thread) {
   int count = std::min<int>(places, MOST_STANDING);
@@ -199,77 +190,12 @@ std::vector<pid_t> other_threads(int folder) {
 
 }  // namespace
 
-namespace {
-
-// Where the C library says that the stack of a thread lies that it made.
-Bounds stack_of_library() {
-  pthread_attr_t attributes;
-  void* from = nullptr;
-  std::size_t size = 0;
-  if (pthread_getattr_np(pthread_self(), &attributes)) return {0, 0};
-  bool is_told = !pthread_attr_getstack(&attributes, &from, &size);
-  pthread_attr_destroy(&attributes);
-  Word at = reinterpret_cast<Word>(from);
-  return is_told ? Bounds{at, at + size} : Bounds{0, 0};
-}
-
-// The stack of the thread that runs main may grow as far as its limit, or to the mapping below. (The C library would take
-// memory of malloc to tell it.)
-Bounds stack_of_main() {
-  Word to = page_of(reinterpret_cast<Word>(stack_end_of_main)) + PAGE, below = 0;
-  Mappings mappings;
-  for (Mapping mapping; mappings.next(mapping) && mapping.to < to;) below = mapping.to;
-  rlimit limit;
-  if (getrlimit(RLIMIT_STACK, &limit)) return {0, 0};
-  return {limit.rlim_cur < to - below ? page_of(to - limit.rlim_cur) : below, to};
-}
-
-}  // namespace
-
-void note_this_thread() {
-  unusual_thread &= ~thread_state::NEW;
-  own_stack = this_thread() == getpid() ? stack_of_main() : stack_of_library();
-  if (own_stack.to) known_stacks.put(this_thread(), own_stack);
-}
-
 void keep_threads_folder() { threads_folder.keep(open_threads_folder()); }
-
-namespace {
-
-// The mapping that an address lies in: none where there is none, and all memory where that can't be told.
-Bounds mapping_of(Word address) {
-  Mappings mappings;
-  if (!mappings.is_open()) return {0, ~Word(0)};
-  for (Mapping mapping; mappings.next(mapping);)
-    if (mapping.from <= address && address < mapping.to) return {mapping.from, mapping.to};
-  return {address, address};
-}
-
-// Up to the end that the thread noted; of another stack, which may be one of many in a mapping, to the mapping's end.
-LivingStack living_stack(pid_t thread, Word address, const Bounds* noted) {
-  if (noted && noted->has(address)) return {thread, address, noted->to, address};
-  Bounds mapped = mapping_of(address);
-  if (!mapped.from) return {thread, address, address + MOST_OF_A_STACK, address};  // (reading ends with the mapping)
-  return {thread, address, mapped.to, noted ? address : mapped.from};
-}
-
-LivingStack whole_stack(pid_t thread, const Bounds& noted) {
-  Word from = std::max(noted.from, mapping_of(noted.to - 1).from);
-  return {thread, from, noted.to, from};
-}
-
-}  // namespace
-
-void add_living_stacks(pid_t thread, Word address, std::vector<LivingStack>& to) {
-  const Bounds* noted = known_stacks.of(thread).find(thread);
-  to.push_back(living_stack(thread, address, noted));
-  if (noted && !noted->has(address)) to.push_back(whole_stack(thread, *noted));
-}
 
 // A stack is taken whole, where it is known, of a thread that goes on.
 void AllStandStill::take_whole(pid_t thread) {
   unread++;
-  if (const Bounds* noted = known_stacks.of(thread).find(thread)) found.push_back(whole_stack(thread, *noted));
+  add_whole_stack(thread, found);
 }
 
 void AllStandStill::stop_others() {
@@ -297,10 +223,6 @@ void AllStandStill::stop_others() {
   for (pid_t thread : asked)
     if (!stands(thread) && hearing_of(folder, thread) != Hearing::ENDED) take_whole(thread);
   if (folder != kept) close(folder);
-}
-
-void each_known_stack(void (*visit)(Word from, Word to, void* with), void* with) {
-  known_stacks.each([&](Word, const Bounds& it) { visit(it.from, it.to, with); });
 }
 
 AllStandStill::AllStandStill() {

@@ -81,6 +81,7 @@ TraceNumber walked(Frame frame, const Place* place, Walk& walk) {
     place = place_of(frame.code);
   }
   walk.is_told &= place != nullptr;
+  walk.finish();
   return walk.trace = count ? number_of(maker, frames, count) : 0;
 }
 
@@ -88,6 +89,7 @@ KnownWalks* walks_of(Place& place) {
   KnownWalks* walks = place.walks;
   if (walks) return walks;
   auto fresh = static_cast<KnownWalks*>(own_room(sizeof(KnownWalks)));
+  if (fresh) fresh->code = place.code;
   return fresh && place.walks.compare_exchange_strong(walks, fresh) ? fresh : walks;
 }
 
@@ -154,24 +156,28 @@ Taken trace_of_memory(Frame frame) {
 }
 
 TraceNumber known_trace_of_memory(Word code, Word stack, Word base) {
-  if (code == entrance.code.load(std::memory_order_acquire)) {
-    stack += entrance.caller_stack.load(std::memory_order_relaxed);
-    code = reinterpret_cast<const Word*>(stack)[-1];
-  }
   Frame frame{code, stack, base};
   Place* place = known_place(code);
   if (place && place->role.load(std::memory_order_relaxed) == Place::THROUGH)
     place = step(frame, place->rule) ? known_place(frame.code) : nullptr;
   if (!place) return 0;
   auto role = place->role.load(std::memory_order_relaxed);
-  if (role == Place::PLAIN) {
-    TraceNumber trace = place->trace.load(std::memory_order_relaxed);
-    plain_places.add(place->code, trace);
-    if (!known_place(place->code)) plain_places.forget_all();  // (a library was closed meanwhile)
-    return trace;
-  }
+  TraceNumber plain = role == Place::PLAIN ? place->trace.load(std::memory_order_relaxed) : 0;
   KnownWalks* walks = role == Place::BLOCKS ? place->walks.load(std::memory_order_acquire) : nullptr;
-  return walks ? walks->trace_from(frame.stack, frame.base) : 0;
+  if (plain) plain_places.add(place->code, plain);
+  if (walks) block_places.add(walks);
+  if (!known_place(place->code)) forget_answers();  // (a library was closed meanwhile)
+  return walks ? walks->trace_from(frame.stack, frame.base) : plain;
+}
+
+void forget_answers() {
+  plain_places.forget_all();
+  block_places.forget_all();
+}
+
+void forget_answer(Word code) {
+  plain_places.forget(code);
+  block_places.forget(code);
 }
 
 TraceNumber trace_of_block(Frame frame) {

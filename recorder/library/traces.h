@@ -29,11 +29,11 @@ Taken trace_of_memory(Frame frame);
 // The same without a lock, where it is known already; else 0.
 TraceNumber known_trace_of_memory(Word code, Word stack, Word base);
 
-// The same of a place that takes no control blocks, of its own or by operator new.
-ALWAYS_INLINE TraceNumber plain_trace_of_memory(Word code, Word stack) {
-  if (code == entrance.code.load(std::memory_order_acquire))
-    code = reinterpret_cast<const Word*>(stack + entrance.caller_stack.load(std::memory_order_relaxed))[-1];
-  return plain_places.trace_of(code);
+// Goes on to the caller from within operator new, through which nearly all memory of C++ comes.
+ALWAYS_INLINE void leave_entrance(Word& code, Word& stack) {
+  if (code != entrance.code.load(std::memory_order_acquire)) return;
+  stack += entrance.caller_stack.load(std::memory_order_relaxed);
+  code = reinterpret_cast<const Word*>(stack)[-1];
 }
 
 // The trace of a control block that hooks tell of.

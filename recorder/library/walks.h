@@ -4,16 +4,14 @@
 
 namespace recorder {
 
-// A word of the stack, counted from where the walk begins. A saved base is told by its distance from there.
+// A word of the stack, counted from where the walk begins.
 struct Check {
-  int at;
-  bool is_distance;
-  Word word;
+  Word at, word;
 };
 
 class Walk {
 public:
-  static constexpr int MOST = 40;
+  static constexpr int MOST = 40;  // an even number
 
   explicit Walk(const Frame& first) : first(first) {}
 
@@ -21,26 +19,33 @@ public:
   bool step(Frame& frame, const Rule& rule);
 
   ALWAYS_INLINE bool is_repeated_at(Word stack, Word base_here) const {
+    auto word_of = [stack](const Check& it) { return *reinterpret_cast<const Word*>(stack + it.at); };
     if (has_base && base_here - stack != base) return false;
-    for (int at = 0; at < count; at++) {
-      Word word = *reinterpret_cast<const Word*>(stack + static_cast<Word>(static_cast<long>(checks[at].at)));
-      if (word - (checks[at].is_distance ? stack : 0) != checks[at].word) return false;
-    }
+    const Check *it = checks, *end = checks + returns;
+    do {
+      if (word_of(it[0]) != it[0].word || word_of(it[1]) != it[1].word) return false;
+    } while ((it += 2) < end);
+    for (int at = 0; __builtin_expect(at < distances, false); at++)
+      if (word_of(checks[MOST - 1 - at]) - stack != checks[MOST - 1 - at].word) return false;
     return true;
   }
+
+  void finish();  // no further step is taken
 
   bool is_told = true;  // all that it depended on is in the checks
   TraceNumber trace = 0;
 
 private:
-  void add(Word from, bool is_distance);
+  void add_return(Word from);
+  void add_distance(Word from);
+  bool has_room() { return is_told &= returns + distances < MOST; }
 
   Frame first;
   Word base_from = 0;  // where the base was saved; 0 as long as it is in its register
   bool has_base = false;
   Word base = 0;
-  int count = 0;
-  Check checks[MOST];
+  int returns = 0, distances = 0;
+  Check checks[MOST];  // return addresses first, and an even number of them; saved bases last, by their distances
 };
 
 struct KnownWalks {
@@ -55,8 +60,30 @@ struct KnownWalks {
     return 0;
   }
 
+  Word code;  // of their place
   std::atomic<Walk*> walks[COUNT];
   std::atomic<int> added;
 };
+
+// The places of which was known last that control blocks are made there, each with its walks.
+class BlockPlaces {
+public:
+  // The trace of the walk that is repeated from this frame; 0 where none is.
+  ALWAYS_INLINE TraceNumber trace_of(Word code, Word stack, Word base) const {
+    const KnownWalks* walks = last[code % COUNT].load(std::memory_order_acquire);
+    return walks && walks->code == code ? walks->trace_from(stack, base) : 0;
+  }
+  void add(const KnownWalks* walks) { last[walks->code % COUNT].store(walks, std::memory_order_release); }
+  void forget(Word code) { last[code % COUNT].store(nullptr, std::memory_order_relaxed); }
+  void forget_all() {
+    for (auto& it : last) it.store(nullptr, std::memory_order_relaxed);
+  }
+
+private:
+  static constexpr Word COUNT = 1 << 12;
+
+  std::atomic<const KnownWalks*> last[COUNT];
+};
+OF_ALL_UNITS BlockPlaces block_places;
 
 }  // namespace recorder

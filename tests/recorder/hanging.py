@@ -1,5 +1,6 @@
 """Reading memory comes to an end: in programs whose heaps lie beside the recorder's own mappings, and where
-it takes too long."""
+it takes too long. So does the asking of gdb."""
+import os
 import subprocess
 import tempfile
 from pathlib import Path
@@ -21,10 +22,20 @@ def threads_with_heaps_of_their_own() -> str:
 
 def ranges_with_odd_ends() -> str:
     """What tells of ranges of memory, by itself."""
+    return faults_of_unit("ranges")
+
+
+def calls_before_a_program_is_confined() -> str:
+    """They are at their end, and none follows."""
+    return faults_of_unit("system_calls")
+
+
+def faults_of_unit(name: str) -> str:
+    """What a test of a file of the library writes."""
     with tempfile.TemporaryDirectory() as folder:
-        program = Path(folder, "ranges")
-        sources = UNITS / "ranges.cc", ROOT / "recorder/library/ranges.cc"
-        subprocess.run(["g++", "-std=c++17", *sources, "-o", program], check=True)
+        program = Path(folder, name)
+        sources = UNITS / f"{name}.cc", ROOT / f"recorder/library/{name}.cc"
+        subprocess.run(["g++", "-std=c++17", "-pthread", *sources, "-o", program], check=True)
         found = subprocess.run([program], capture_output=True, text=True, timeout=SECONDS)
     return found.stdout + found.stderr
 
@@ -37,8 +48,22 @@ def a_limit_of_the_reading() -> str:
         return difference(program, options=("--limit", "1"), **refused(why))
 
 
+def a_gdb_that_hangs() -> str:
+    """It is refused by its name after so long, and the program's output and status are its own."""
+    with tempfile.TemporaryDirectory() as folder:
+        program, gdb = built_unchanged(folder, "asking_malloc"), Path(folder, "tools", "gdb")
+        gdb.parent.mkdir()
+        gdb.write_text(f"#!/bin/sh\nexec sleep {SECONDS}\n")
+        gdb.chmod(0o755)
+        names = {**os.environ, "PATH": f"{gdb.parent}:{os.environ['PATH']}"}
+        why = "gdb is not done, and telling took more than 2 s; see --limit"
+        return difference(program, options=("--limit", "2"), env=names, **refused(why))
+
+
 CHECKS = [
     threads_with_heaps_of_their_own,
     ranges_with_odd_ends,
+    calls_before_a_program_is_confined,
     a_limit_of_the_reading,
+    a_gdb_that_hangs,
 ]

@@ -1,11 +1,11 @@
-"""The library is clean by clang-tidy, where that is there."""
+"""The library and the search are clean by clang-tidy, where that is there."""
 import shutil
 import subprocess
 from pathlib import Path
 
 from tests.recorder.building import ROOT
 
-LIBRARY = ROOT / "recorder/library"
+SOURCES = ROOT / "recorder/library", ROOT / "recorder/search"
 # All of bugprone but one, which says of two arguments of one type that a caller might mistake them.
 CHECKS_OF_TIDY = "-*,bugprone-*,-bugprone-easily-swappable-parameters,cppcoreguidelines-init-variables"
 
@@ -19,7 +19,8 @@ def faults_of(source: Path) -> str:
 def library_is_clean() -> str:
     if not shutil.which("clang-tidy"):
         return ""
-    return "".join(faults_of(it) for it in sorted(LIBRARY.glob("*.cc")))
+    sources = [source for folder in SOURCES for source in sorted(folder.glob("*.cc"))]
+    return "".join(map(faults_of, sources))
 
 
 CHECKS = [library_is_clean]

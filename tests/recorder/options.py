@@ -24,9 +24,11 @@ def json_tells_all():
         ran = record("--json", f"{folder}/report", built(folder, "raw_pointer"))
         whole = json.loads(Path(folder, "report").read_text())
     (report,) = whole["reports"]
-    verdicts = [(it["type"], it["verdict"], it["reached_from"]) for it in report["objects"]]
+    verdicts = [
+        (object_["type"], object_["verdict"], object_["reached_from"]) for object_ in report["objects"]
+    ]
     nodes = [("Node", "reached", "last_seen")] * 2 + [("Node", "reached", "never_freed")]
-    knots = [(it["objects"], it["weaken"], it["reached"]) for it in report["knots"]]
+    knots = [(knot["objects"], knot["weaken"], knot["reached"]) for knot in report["knots"]]
     wanted = [([1, 2], [["Node::next"]], True), ([3], [["Node::next"]], True)]
     counts = (report["left"], report["leaked"], report["counts"])
     return differences(
@@ -35,7 +37,7 @@ def json_tells_all():
         knots=(knots, wanted),
         counts=(counts, (3, 0, {"blocks": 3, "met": 3})),
         version=(whole["version"], options.VERSION),
-        stacks=([bool(it["stack"] and it["bytes"]) for it in report["objects"]], [True] * 3),
+        stacks=([bool(object_["stack"] and object_["bytes"]) for object_ in report["objects"]], [True] * 3),
     )
 
 
@@ -43,7 +45,7 @@ def dot_and_keep():
     with tempfile.TemporaryDirectory() as folder:
         record("--dot", f"{folder}/graph.dot", "--keep", f"{folder}/kept", built(folder, "circle"))
         drawn = Path(folder, "graph.dot").read_text()
-        kept = sorted(re.sub(r"\d+", "N", it.name) for it in Path(folder, "kept").iterdir())
+        kept = sorted(re.sub(r"\d+", "N", path.name) for path in Path(folder, "kept").iterdir())
         graph = next(Path(folder, "kept").glob("*.graph")).read_text()
     wanted = "digraph record {\nnode [style=filled, fillcolor=white];\n"
     wanted += 'o1 [label="1 Node", fillcolor=orange];\no2 [label="2 Node", fillcolor=orange];\n'
@@ -187,50 +189,6 @@ def stacks():
     return differences(lines=(lines[1:10], wanted))
 
 
-def suppressions():
-    """By type, by place, by function; a pattern that names nothing is told, one without a reason is
-    refused."""
-    with tempfile.TemporaryDirectory() as folder:
-        program, file = built(folder, "two_knots"), Path(folder, "known")
-        file.write_text(
-            "# known leaks\nLoop # a cache for ever\ntwo_knots.cc:1[67] # to be mended\nNone* # old\n"
-        )
-        ran = record("--suppress", file, program)
-        file.write_text("Loop\n")
-        refused = record("--suppress", file, program)
-        file.write_text("Node # known\n")
-        reached = record("--strict", "--suppress", file, built(folder, "raw_pointer"))
-    wanted = [
-        "record: 52 objects that shared pointers own are left, 0 leaked",
-        "suppressed 50 Loop, made at two_knots.cc:21 in main: a cache for ever",
-        "suppressed 1 Man, made at two_knots.cc:16 in main: to be mended",
-        "suppressed 1 Wife, made at two_knots.cc:17 in main: to be mended",
-    ]
-    lines = ran.stderr.splitlines()
-    why = f"record: refused: {file}: line 1: wanted is PATTERN # REASON\n"
-    return differences(
-        lines=(lines[:4], wanted),
-        last=(lines[-1], "record: nothing was left that None* suppresses"),
-        status=(ran.returncode, 0),
-        reached=((reached.returncode, "reach" in reached.stderr), (0, False)),
-        refused=((refused.stderr, refused.returncode), (why, 125)),
-    )
-
-
-def half_of_a_knot():
-    """Where one object of a knot is suppressed, the other is told with what mends it."""
-    with tempfile.TemporaryDirectory() as folder:
-        program, file = built(folder, "two_knots"), Path(folder, "known")
-        file.write_text("Loop # known\nMan # known\n")
-        lines = record("--suppress", file, program).stderr.splitlines()
-    wanted = [
-        "record: 52 objects that shared pointers own are left, 1 leaked",
-        "leaked 1 Wife, made at two_knots.cc:17 in main",
-        "knot 1 Man, 1 Wife, tied by Man::wife 1, Wife::husband 1",
-    ]
-    return differences(lines=(lines[:3], wanted), weaken=(lines[3].startswith("weaken "), True))
-
-
 def options_in_the_environment():
     with tempfile.TemporaryDirectory() as folder:
         names = {**os.environ, "RECORDER_OPTIONS": f"--exit 9 --report '{folder}/a report'"}
@@ -260,8 +218,8 @@ def what_is_undecided():
         program = Path(folder, "undecided")
         subprocess.run(["g++", "undecided.cc", "-s", "-o", program], check=True, cwd=PROGRAMS)
         reached = built(folder, "raw_pointer")
-        found = [record(*it).returncode for it in ([program], ["--strict", program])]
-        found += [record(*it).returncode for it in ([reached], ["--strict", reached])]
+        found = [record(*words).returncode for words in ([program], ["--strict", program])]
+        found += [record(*words).returncode for words in ([reached], ["--strict", reached])]
     return differences(status=(found, [0, 3, 0, 3]))
 
 
@@ -297,8 +255,6 @@ CHECKS = [
     streams_and_status,
     the_report_goes_where_it_is_wanted,
     stacks,
-    suppressions,
-    half_of_a_knot,
     options_in_the_environment,
     names_of_types,
     what_is_undecided,

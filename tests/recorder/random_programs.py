@@ -66,7 +66,7 @@ class Program:
         for _, name in objects:
             self.types[name] += 1
         self.knots.append(
-            (sorted(name for _, name in objects), dict(collections.Counter(it[2] for it in ties)), weaken)
+            (sorted(name for _, name in objects), dict(collections.Counter(tie[2] for tie in ties)), weaken)
         )
 
     def ring_of(self, size):
@@ -77,7 +77,7 @@ class Program:
 
     def ring(self):
         objects, ties = self.ring_of(self.chance.randint(1, 4))
-        self.knot(objects, ties, {(it[2],) for it in ties})
+        self.knot(objects, ties, {(tie[2],) for tie in ties})
 
     def tree(self):
         """Items of one class with children and a parent: either member suffices."""
@@ -105,20 +105,20 @@ class Program:
         self.lines.append(f"if (!kept{self.made}) return 1;")
 
     def declared(self, name, members):
-        lines = [KINDS[it[0]][0].format(t=it[1], m=member) for member, it in members.items() if it]
+        lines = [KINDS[kind[0]][0].format(t=kind[1], m=member) for member, kind in members.items() if kind]
         return f'struct {name} {{ {" ".join(lines)} }};\n'
 
     def text(self):
-        parts = [f"#include <{it}>\n" for it in HEADERS]
-        parts += [f"struct {it};\n" for it in self.classes]
-        parts += [self.declared(*it) for it in self.classes.items()]
+        parts = [f"#include <{header}>\n" for header in HEADERS]
+        parts += [f"struct {name};\n" for name in self.classes]
+        parts += [self.declared(*class_) for class_ in self.classes.items()]
         return "".join(parts) + "int main() {\n  " + "\n  ".join(self.lines) + "\n}\n"
 
 
 def program(seed):
     """What has to be found, and the text of a program."""
-    it = Program(seed)
-    return it, it.text()
+    generated = Program(seed)
+    return generated, generated.text()
 
 
 def difference(wanted, record, built):
@@ -127,13 +127,15 @@ def difference(wanted, record, built):
         to = Path(folder, "report")
         ran = subprocess.run([record, "--json", to, built], capture_output=True, text=True, timeout=HUNG)
         told = json.loads(to.read_text())["reports"][0]
-    types = {it["number"]: it["type"] for it in told["objects"]}
-    leaked = collections.Counter(it["type"] for it in told["objects"] if it["verdict"] == "leaked")
+    types = {object_["number"]: object_["type"] for object_ in told["objects"]}
+    leaked = collections.Counter(
+        object_["type"] for object_ in told["objects"] if object_["verdict"] == "leaked"
+    )
     knots = [
         (
-            sorted(types[it] for it in knot["objects"]),
-            dict(collections.Counter(it["member"] for it in knot["ties"])),
-            {tuple(sorted(it)) for it in knot["weaken"]},
+            sorted(types[number] for number in knot["objects"]),
+            dict(collections.Counter(tie["member"] for tie in knot["ties"])),
+            {tuple(sorted(labels)) for labels in knot["weaken"]},
         )
         for knot in told["knots"]
         if types and told["objects"][knot["objects"][0] - 1]["verdict"] == "leaked"

@@ -111,19 +111,19 @@ def missing_interpreter():
         script.write_text("#!/no/such/file\n")
         script.chmod(0o755)
         loaded = built(folder, "-Wl,--dynamic-linker=/no/such/file")
-        return "".join(refusal(it, why) for it in (script, loaded))
+        return "".join(refusal(program, why) for program in (script, loaded))
 
 
 def scripts():
     """One whose interpreter is a script is run by that one's interpreter; one without any is refused."""
     with tempfile.TemporaryDirectory() as folder:
-        inner, outer, bare, other = (Path(folder, it) for it in ("inner", "outer", "bare", "other"))
+        inner, outer, bare, other = (Path(folder, name) for name in ("inner", "outer", "bare", "other"))
         inner.write_text("#!/bin/sh\nexec true\n")
         outer.write_text(f"#!{inner}\n")
         bare.write_text("exec true\n")
         other.write_bytes(b"MZ\0\0\0")
-        for it in inner, outer, bare, other:
-            it.chmod(0o755)
+        for script in inner, outer, bare, other:
+            script.chmod(0o755)
         ran = record(outer)
         wrong = refusal(bare, "it is a script without an interpreter's line")
         wrong += refusal(other, "it is no program of this machine")
@@ -167,7 +167,7 @@ def no_program():
 
 def changed_headers():
     """Each hook is refused on a header in which its place is changed."""
-    base, atomic = (Path(hook_headers.folder_of("g++"), it).read_text() for it in hook_headers.HEADERS)
+    base, atomic = (Path(hook_headers.folder_of("g++"), name).read_text() for name in hook_headers.HEADERS)
     wrong = []
     for text, edits, finish in (base, hook_headers.BASE, hook_headers.with_cells), (
         atomic,
@@ -175,9 +175,9 @@ def changed_headers():
         str,
     ):
         hook_headers.edited(text, edits, "header")
-        for it in edits:
-            changed = hook_headers.re.sub(it.pattern, "changed", text, count=1)
-            wrong += [it.what] * (not refuses(lambda: hook_headers.edited(changed, edits, "header")))
+        for edit in edits:
+            changed = hook_headers.re.sub(edit.pattern, "changed", text, count=1)
+            wrong += [edit.what] * (not refuses(lambda: hook_headers.edited(changed, edits, "header")))
         if finish is hook_headers.with_cells:
             wrong += ["cells"] * (
                 not refuses(lambda: finish(text.replace("_Lp>*  _M_pi;", "_Lp>*  _M_block;", 1)))

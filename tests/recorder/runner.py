@@ -7,6 +7,7 @@ Each program of tests/recorder is built by g++ and clang++, at -O0 and -O2, as C
 handles are found by a scan of memory or told by hooks: with --all in all sixteen ways, else in two of them
 each, so that all ways come. Then come programs from a seed, whose knots and members their generator knows,
 the options, programs that have to be refused, and those that a recorder changes easily."""
+import importlib
 import itertools
 import os
 import random
@@ -20,41 +21,15 @@ from concurrent.futures import ThreadPoolExecutor
 from dataclasses import dataclass
 from pathlib import Path
 
-from tests.recorder import (
-    hanging,
-    limits,
-    lint,
-    options,
-    outputs,
-    proved,
-    random_programs,
-    refusals,
-    signals,
-    surroundings,
-    times,
-    unchanged,
-    with_boost,
-)
+from tests.recorder import random_programs, times
 from tests.recorder.building import HUNG, PROGRAMS, ROOT
 
 RECORD = str(ROOT / "record")
 MET = re.compile(r"record: the pointers found explain the counts of (\d+) of (\d+) control blocks; .*")
 ADVICE = "record: each weaken line mends its knot by itself; take the first"
 RANDOM_PROGRAMS = 6
-MODULES = [
-    hanging,
-    limits,
-    lint,
-    options,
-    outputs,
-    proved,
-    refusals,
-    signals,
-    surroundings,
-    times,
-    unchanged,
-    with_boost,
-]
+MODULES = "hanging", "limits", "lint", "options", "outputs", "proved", "refusals", "searching", "signals"
+MODULES += "suppressing", "surroundings", "times", "unchanged", "with_boost", "with_containers"
 
 
 @dataclass(frozen=True)
@@ -200,9 +175,10 @@ def tests(names, every):
     if not names:
         for seed in range(1, (10 * RANDOM_PROGRAMS if every else RANDOM_PROGRAMS) + 1):
             yield f"random program {seed}", lambda seed=seed: check_random(seed)
-        for module in MODULES:
-            for check in module.CHECKS:
-                yield f"{check.__name__}", check
+    for module in MODULES:
+        for check in importlib.import_module(f"tests.recorder.{module}").CHECKS:
+            if not names or check.__name__ in names:
+                yield check.__name__, check
 
 
 def missing_tools():

@@ -177,7 +177,7 @@ def growth_between_snapshots() -> str:
             os.kill(child, signal.SIGUSR1)
             lines += report_from(ran)
         ran.communicate("x")
-    grown = [it for it in lines if it.startswith("grown")]
+    grown = [line for line in lines if line.startswith("grown")]
     return differences(grown=(grown, ["grown 40 Session, made at growing.cc:14 in main"]))
 
 

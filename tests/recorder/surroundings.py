@@ -25,7 +25,7 @@ def in_another_folder():
         names = {name: value for name, value in os.environ.items() if name not in ("HOME", "XDG_CACHE_HOME")}
         words = [ROOT / "record", "--keep", "kept", "--json", "report", "./a program"]
         ran = subprocess.run(words, cwd=place, env=names, capture_output=True, text=True)
-        kept = sorted(re.sub(r"\d+", "N", it.name) for it in (place / "kept").iterdir())
+        kept = sorted(re.sub(r"\d+", "N", path.name) for path in (place / "kept").iterdir())
         (report,) = json.loads((place / "report").read_text())["reports"]
     return differences(
         leaked=(ran.stderr.splitlines()[1:2], ["leaked 1 Node, made at a program.cc:4 in main"]),
@@ -59,7 +59,7 @@ def report_on_closed(folder: str, *names: str) -> subprocess.CompletedProcess:
         command = ["g++", "-g", "-fPIC", "-shared", "-fno-gnu-unique", source.name, "-o", name]
         subprocess.run(command, check=True, cwd=folder)
     program = built(folder, "closing", CLOSING)
-    return record("--json", f"{folder}/report", program, *(Path(folder, it) for it in names))
+    return record("--json", f"{folder}/report", program, *(Path(folder, name) for name in names))
 
 
 def a_closed_plug_in():
@@ -127,7 +127,7 @@ int main() {
     with tempfile.TemporaryDirectory() as folder:
         program = built(folder, "forking", text)
         without, with_them = record(program), record("--children", program)
-    lines = [it for it in with_them.stderr.splitlines() if it.startswith(("leaked", "knot"))]
+    lines = [line for line in with_them.stderr.splitlines() if line.startswith(("leaked", "knot"))]
     return differences(
         without=(without.returncode, 0), status=(with_them.returncode, 3), lines=(len(lines), 2)
     )
@@ -141,7 +141,7 @@ def units_of_both_kinds():
     with tempfile.TemporaryDirectory() as folder:
         for hooked in units:
             for level in "-O0", "-O2":
-                objects = [f"{folder}/{it}.o" for it in units]
+                objects = [f"{folder}/{unit}.o" for unit in units]
                 for unit, to in zip(units, objects):
                     extra = hooks if unit == hooked else []
                     subprocess.run(
@@ -173,7 +173,7 @@ def half_written_headers():
         found = subprocess.run(words, env=names, capture_output=True, text=True).stdout.split()[1]
         wanted = record("--flags").stdout.split()[1]
         texts = [
-            {it.relative_to(place): it.read_text() for it in Path(place).rglob("*.h")}
+            {path.relative_to(place): path.read_text() for path in Path(place).rglob("*.h")}
             for place in (found, wanted)
         ]
     why = f"record: refused: {found}/bits/shared_ptr_base.h: File too large\n"

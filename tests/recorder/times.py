@@ -13,8 +13,8 @@ from tests.recorder.building import HUNG, ROOT, built, differences
 TOOK = re.compile(r"record: reading its memory took (\d+) s, and telling what is left (\d+) s")
 WITH_ANOTHER_BOUND = """
 import sys
-from recorder import command
-command.LONG = int(sys.argv.pop(1))
+from recorder import command, reports
+reports.LONG = int(sys.argv.pop(1))
 sys.exit(command.main())
 """
 MANY = """
@@ -25,10 +25,10 @@ int main() {
   for (int number = 0; number < 300000; number++) kept.push_back(std::make_shared<int>(number));
 }
 """
-# In the place of the compiler: the output, whichever it is, is the library that is built already.
+# In the place of the compiler: what is built already, the search where its source is given.
 COPYING = """#!/bin/sh
 while [ "$1" != -o ]; do shift; done
-cp {library} "$2"
+case "$3" in */owner_search.cc) cp {search} "$2" ;; *) cp {library} "$2" ;; esac
 """
 
 
@@ -69,7 +69,9 @@ def the_building_of_the_library() -> str:
         program, copy = built(folder, "circle"), Path(folder, "copy")
         copy.mkdir()
         compiler = Path(folder, "g++")
-        compiler.write_text(COPYING.format(library=library.build()))
+        built_already = library.build()
+        search = library.search_beside(built_already)
+        compiler.write_text(COPYING.format(library=built_already, search=search))
         compiler.chmod(0o755)
         subprocess.run(["cp", "-r", ROOT / "record", ROOT / "recorder", copy], check=True)
         subprocess.run(["rm", "-r", copy / "recorder/out"], check=True)

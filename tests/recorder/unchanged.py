@@ -50,7 +50,7 @@ def other_malloc(folder):
 
 def ran(*words, **how):
     """The status, the output and the faults of a run."""
-    done = subprocess.run([str(it) for it in words], capture_output=True, text=True, timeout=HUNG, **how)
+    done = subprocess.run([str(word) for word in words], capture_output=True, text=True, timeout=HUNG, **how)
     return done.returncode, done.stdout, done.stderr
 
 
@@ -61,7 +61,7 @@ def difference(*words, status=None, says="", options=(), **how):
     wanted = native[0] if status is None else status
     wanted = 128 - wanted if wanted < 0 else wanted
     right = recorded[:2] == (wanted, native[1]) and says in recorded[2]
-    return "" if right else f"{[str(it) for it in words]} {native} {recorded} {says}\n"
+    return "" if right else f"{[str(word) for word in words]} {native} {recorded} {says}\n"
 
 
 def refused(why):
@@ -152,7 +152,7 @@ def other_malloc_is_refused():
         linked = built_unchanged(
             folder, "other_malloc", "-Wl,--no-as-needed", library, f"-Wl,-rpath,{folder}"
         )
-        wrong = "".join(f"{it}\n" for it in [ran(linked)] if it[0] != 5)
+        wrong = "".join(f"{found}\n" for found in [ran(linked)] if found[0] != 5)
         preloaded = {**os.environ, "LD_PRELOAD": str(library)}
         plain = built_unchanged(folder, "writing")
         for how in (linked, {}), (plain, {"env": preloaded}):

@@ -2,6 +2,7 @@
 #include <cstdio>
 #include <cstdlib>
 #include <memory>
+#include <thread>
 
 struct Node {
   std::shared_ptr<Node> next;
@@ -25,8 +26,7 @@ __attribute__((noinline)) static int make_deep(int depth, int way) {
 }
 
 int main() {
-  leak();
-  make_deep(12, 4095);
+  std::thread(leak).join();  // (old pointers lie on its stack alone)
   std::puts("busy");
   std::fflush(stdout);
   for (int way = 0;; way++) make_deep(12, way);
