@@ -1,5 +1,5 @@
 -- A member of an object that the desk has an owner of is open to it.
-use Rattle.std.proofs.Common.{◌≡◌, Option, None, Some, subst, sym}
+use Rattle.std.proofs.Common.{◌≡◌, ℕ, ◌+◌, ◌<◌, Option, None, Some, subst, sym}
 use Rattle.control_word.specs.declared.model.handle.Kind.TheVariants.{Owner}
 use Rattle.control_word.specs.declared.place.Block.{Block}
 use Rattle.control_word.specs.declared.place.Place.{Place}
@@ -25,3 +25,12 @@ module _ {V : Type 0} where
   pub up_open : (d : DeskNow V) (b : Option Block) (p : Option Place) (c : Block) (s : WeakSite)
       → b ≡ Some c → s ≡ weak.Up c → HoldsHandle d Owner b p → IsOpenWeakly d s
   up_open d b p c s is site had = subst (IsOpenWeakly d) (sym site) (owned d b p c is had)
+
+  -- so is a further one that the shape has
+  pub more_open : (d : DeskNow V) (b : Option Block) (p : Option Place) (c : Block) (n : ℕ) (s : SharedSite)
+      → b ≡ Some c → s ≡ shared.More c n → n + 2 < d.shape.owners → HoldsHandle d Owner b p → IsOpenSite d s
+  more_open d b p c n s is site low had = subst (IsOpenSite d) (sym site) (owned d b p c is had, low)
+
+  pub more_weak_open : (d : DeskNow V) (b : Option Block) (p : Option Place) (c : Block) (n : ℕ) (s : WeakSite)
+      → b ≡ Some c → s ≡ weak.More c n → n + 1 < d.shape.weaks → HoldsHandle d Owner b p → IsOpenWeakly d s
+  more_weak_open d b p c n s is site low had = subst (IsOpenWeakly d) (sym site) (owned d b p c is had, low)

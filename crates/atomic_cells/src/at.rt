@@ -1,5 +1,5 @@
 //! Cells of pointers ([util.smartptr.atomic]): what the calls on both kinds are.
-ghost use Rattle.std.specs.Prelude.{◌≡◌, ◌↔◌, ◌+◌, IfErr, IfOk, IsErr, OnOk};
+ghost use Rattle.std.specs.Prelude.{◌≡◌, ◌↔◌, ◌+◌, IfErr, IfNone, IfOk, IfSome, IsErr, IsNone, OnOk};
 ghost use Rattle.control_block.specs.Desks.{Belongs, Keeps, allowance_of, bag_of, held_of};
 ghost use Rattle.control_block.specs.CellCalls.{HoldsHandle, with_handle, without_handle};
 ghost use Rattle.atomic_cells.specs.Cells.{Exchanges, Loads, TellsHeld};
@@ -60,6 +60,29 @@ impl<'a, S: CellSite> At<'a, S> {
     {
         let found = cell_calls::load::<V, Brand, R>(rt, domain, desk, self.site.cell(domain))?;
         Ok(S::of_content(found))
+    }
+
+    /// One try at a load, which waits for nobody. It answers nothing where others change the cell meanwhile, where many
+    /// of its funds are taken, and where the desk is at its allowance; then nothing changes.
+    #[inline(always)]
+    pub fn load_once<V: Drop>(&self, domain: &Domain<V>, desk: &mut Desk<V>) -> Option<S::Handle>
+        requires domain { Belongs desk.old domain.now }
+        requires cell { S.is_open _ desk.old self.now.site }
+        ensures limit { held_of desk.old ≡ allowance_of desk.old → IsNone result }
+        ensures missed { IfNone result (desk.new ≡ desk.old) }
+        ensures event { IfSome result (λ h.
+            Loads desk.old (S.cell_of _ desk.old self.now.site) S.kind (S.block_of h) (S.place_of h) desk.new) }
+        ensures bag { IfSome result
+            (λ h. bag_of desk.new ≡ with_handle S.kind (S.block_of h) (S.place_of h) (bag_of desk.old)) }
+        ensures held { IfSome result (λ _. desk.new.held ≡ desk.old.held + 1) }
+        ensures holds { IfSome result (λ h. HoldsHandle desk.new S.kind (S.block_of h) (S.place_of h)) }
+        ensures keeps { IfSome result (λ _. Keeps desk.old desk.new) }
+    {
+        let Some(found) = cell_calls::load_once::<V, Brand>(domain, desk, self.site.cell(domain))
+        else {
+            return None;
+        };
+        Some(S::of_content(found))
     }
 
     /// Whether the cell holds a pointer equivalent to this one: the same place, and the same object or none. That is

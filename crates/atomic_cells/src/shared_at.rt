@@ -12,7 +12,7 @@ ghost use Rattle.atomic_cells.specs.declared.sites.SharedSite.{SharedSite};
 ghost use Rattle.atomic_cells.specs.declared.sites.SharedSite.TheVariants as site;
 
 use crate::at::{At, SharedAt};
-use crate::sites::{CellSite, SharedMember, SharedSite, block_within};
+use crate::sites::{CellSite, SharedMember, SharedSite, block_within, owner_member};
 use control_block::cell_calls::{CellAt, Content};
 use control_block::desk::Desk;
 use control_block::domain::Domain;
@@ -36,11 +36,16 @@ impl CellSite for SharedSite {
     ghost cell_of = { λ V d s. shared_cell d s };
 
     #[inline]
-    fn cell<V: Drop>(self, _domain: &Domain<V>) -> CellAt {
+    fn cell<V: Drop>(self, domain: &Domain<V>) -> CellAt {
+        domain.assert_invariant();
         let site = match self {
             SharedSite::Free(number) => Site::Free { number },
             SharedSite::Of(block, SharedMember::First) => Site::Member { block, member: 0 },
             SharedSite::Of(block, SharedMember::Next) => Site::Member { block, member: 1 },
+            SharedSite::More(block, number) => Site::Member {
+                block,
+                member: owner_member(domain, number),
+            },
         };
         CellAt {
             site,
@@ -86,6 +91,16 @@ impl<'a> SharedAt<'a> {
         Ok(At::of(SharedSite::Of(block, which)))
     }
 
+    /// A further member for owners, by its number from 0 on, of the object that the handle owns and points into (own).
+    /// It is refused as `member` is. Condition of its calls: the domain's shape has such a member.
+    pub fn more(handle: &'a Shared, number: u8) -> Result<SharedAt<'a>, Refusal>
+        ensures { IsMember (λ c (at : At SharedSite). at.site ≡ site.More c number) handle.now.block
+            handle.now.place result }
+    {
+        let block = block_within(handle)?;
+        Ok(At::of(SharedSite::More(block, number)))
+    }
+
     /// The pointer goes into the cell, and what the cell held leaves ([util.smartptr.atomic.shared]); where that was an
     /// object's last owner, the object ends in the desk's hands, in another block than all that ended there before. It
     /// waits for nobody, and refuses nothing.
@@ -107,6 +122,6 @@ impl<'a> SharedAt<'a> {
         SharedSite::spend(handle);
         let site = self.site.cell(domain).site;
         let (old, released) = store_calls::store::<V, Brand>(domain, desk, site, new);
-        Left::of_parts(old.block, released.value)
+        Left::of_parts(domain, old.block, released.value)
     }
 }

@@ -1,11 +1,14 @@
 //! Which cells there are: free ones, and the members of objects.
-ghost use Rattle.std.specs.Prelude.{◌≡◌, Option};
+ghost use Rattle.std.specs.Prelude.{◌≡◌, ◌+◌, ◌<◌, Option};
+ghost use Rattle.control_word.specs.State.{kind_of_member};
 ghost use Rattle.control_word.specs.declared.model.event.Cell.{Cell};
 ghost use Rattle.control_word.specs.declared.model.handle.Kind.{Kind};
+ghost use Rattle.control_word.specs.declared.model.handle.Kind.TheVariants.{Owner, Weak};
 ghost use Rattle.control_word.specs.declared.place.Block.{Block};
 ghost use Rattle.control_word.specs.declared.place.Place.{Place};
 ghost use Rattle.control_block.specs.CellCalls.{IsOpenAt, cell_of_site};
 ghost use Rattle.control_block.specs.Desks.{DeskNow};
+ghost use Rattle.control_block.specs.Rule.{members_of};
 ghost use Rattle.atomic_cells.specs.Sites.{IsMember};
 
 use control_block::cell_calls::{CellAt, Content};
@@ -13,25 +16,52 @@ use control_block::domain::Domain;
 use control_word::{Block, Refusal};
 use shared_handle::Shared;
 
-/// The two members of an object that hold shared pointers (own).
+/// The two members that each object has for shared pointers (own).
 #[derive(Clone, Copy, Drop)]
 pub enum SharedMember {
     First,
     Next,
 }
 
-/// A cell of shared pointers: a free one by its number, or a member of the object in a block.
+/// A cell of shared pointers: a free one by its number, or a member of the object in a block. The further ones, which a
+/// shape may have, go by their numbers from 0 on.
 #[derive(Clone, Copy, Drop)]
 pub enum SharedSite {
     Free(u32),
     Of(Block, SharedMember),
+    More(Block, u8),
 }
 
-/// A cell of weak pointers: a free one by its number, or the member `up` of the object in a block.
+/// A cell of weak pointers: a free one by its number, or the member `up` of the object in a block, or a further one.
 #[derive(Clone, Copy, Drop)]
 pub enum WeakSite {
     Free(u32),
     Up(Block),
+    More(Block, u8),
+}
+
+/// A further member for owners, by its number among all members of an object (own).
+#[inline]
+pub(crate) fn owner_member<V: Drop>(domain: &Domain<V>, number: u8) -> u8
+    requires { number + 2 < domain.now.shape.owners }
+    ensures number { result ≡ 3 + number }
+    ensures there { result < members_of domain.now.shape }
+    ensures kind { kind_of_member domain.now.shape.owners result ≡ Owner }
+{
+    domain.assert_invariant();
+    3 + number
+}
+
+/// The same of a weak one: these are behind all owners.
+#[inline]
+pub(crate) fn weak_member<V: Drop>(domain: &Domain<V>, number: u8) -> u8
+    requires { number + 1 < domain.now.shape.weaks }
+    ensures number { result ≡ domain.now.shape.owners + 1 + number }
+    ensures there { result < members_of domain.now.shape }
+    ensures kind { kind_of_member domain.now.shape.owners result ≡ Weak }
+{
+    domain.assert_invariant();
+    domain.owners() as u8 + 1 + number
 }
 
 /// Where a cell of one kind of pointers is: what the calls on cells ask of the kind.

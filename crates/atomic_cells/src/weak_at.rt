@@ -11,7 +11,7 @@ ghost use Rattle.atomic_cells.specs.declared.sites.WeakSite.{WeakSite};
 ghost use Rattle.atomic_cells.specs.declared.sites.WeakSite.TheVariants as site;
 
 use crate::at::{At, WeakAt};
-use crate::sites::{CellSite, WeakSite, block_within};
+use crate::sites::{CellSite, WeakSite, block_within, weak_member};
 use control_block::cell_calls::{CellAt, Content};
 use control_block::desk::Desk;
 use control_block::domain::Domain;
@@ -36,11 +36,16 @@ impl CellSite for WeakSite {
 
     #[inline]
     fn cell<V: Drop>(self, domain: &Domain<V>) -> CellAt {
+        domain.assert_invariant();
         let site = match self {
             WeakSite::Free(number) => Site::Free {
                 number: domain.shared_cells() + number,
             },
             WeakSite::Up(block) => Site::Member { block, member: 2 },
+            WeakSite::More(block, number) => Site::Member {
+                block,
+                member: weak_member(domain, number),
+            },
         };
         CellAt {
             site,
@@ -85,6 +90,16 @@ impl<'a> WeakAt<'a> {
         Ok(At::of(WeakSite::Up(block)))
     }
 
+    /// A further weak member of the object that the handle owns and points into, by its number from 0 on (own). It is
+    /// refused as `member` is. Condition of its calls: the domain's shape has such a member.
+    pub fn more(handle: &'a Shared, number: u8) -> Result<WeakAt<'a>, Refusal>
+        ensures { IsMember (λ c (at : At WeakSite). at.site ≡ site.More c number) handle.now.block
+            handle.now.place result }
+    {
+        let block = block_within(handle)?;
+        Ok(At::of(WeakSite::More(block, number)))
+    }
+
     /// The pointer goes into the cell, and what the cell held leaves ([util.smartptr.atomic.weak]): it answers `Empty`
     /// where that was an empty one, and else `Others` (own). Where that was the last handle of an object that is gone,
     /// its block is vacant, and in the desk's store. It waits for nobody, and refuses nothing.
@@ -111,6 +126,6 @@ impl<'a> WeakAt<'a> {
         WeakSite::spend(handle);
         let site = self.site.cell(domain).site;
         let (old, released) = store_calls::store::<V, Brand>(domain, desk, site, new);
-        Left::of_parts(old.block, released.value)
+        Left::of_parts(domain, old.block, released.value)
     }
 }

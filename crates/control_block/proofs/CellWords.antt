@@ -9,6 +9,7 @@ use Prelude.{kind_of_free, leads, Leave, Load, Lock, Make, Member, member_busy, 
 use Prelude.{opening_of, owned_fits, Owner, Read, Ruled, Same, SeatView, Shape, Share, Shelve}
 use Prelude.{shown, some, sound, Split, spot, State, Swap, Unshelve, Visit, WeakLeave, WeakShare}
 use Rattle.atomic_table.specs.Table as Table
+use Rattle.control_word.proofs.history.Kept.{members_led, owners_led}
 use Rattle.control_word.proofs.history.Clearing.{was_made}
 use Rattle.control_word.proofs.packing.Cells.{same_block, same_place}
 use Rattle.control_word.proofs.packing.Fields.{same_parts}
@@ -16,7 +17,9 @@ use Rattle.control_word.proofs.steps.Standing.{kept_show}
 use Rattle.control_word.proofs.words.Banks.{IsKept, open_kept}
 use Rattle.control_word.specs.Events.{kind_of}
 use Rattle.control_word.specs.Packing.{block_number, place_block, place_field}
+use Rattle.control_word.specs.State.{kind_of_member}
 use Rattle.control_word.specs.Words.{cell_at}
+use Rattle.control_block.specs.Rule.{members_of}
 use Rattle.control_block.proofs.Passage.{held_there, point, ready}
 
 -- cells with one word are one
@@ -73,7 +76,11 @@ module _ {V : Type 0} where
         let shape = r.shapes id v at awake in let n = cells_led (opening_of k) r.history in
         let low : c < k.shared_cells + k.weak_cells = subst (λ y. c < y.shared_cells + y.weak_cells) shape cell.0 in omega arith
     is_open (Member o m) i cell =
-        let q = cell.1 in let mine = held_there k s r id v at awake Owner o q.0 q.1 q.2 in (cell.0, (handle Owner (Some o) q.0, (mine.0, refl, refl), refl))
+        let q = cell.1 in let mine = held_there k s r id v at awake Owner o q.0 q.1 q.2 in (
+          (let low : m < members_of k = subst (λ y. m < members_of y) (r.shapes id v at awake) cell.0 in
+              let n = members_led (opening_of k) r.history in omega arith),
+          (handle Owner (Some o) q.0, (mine.0, refl, refl), refl),
+        )
 
     pub opened : (c : Cell) (i : ℕ) → IsCellAt v c i → Opened c i
     opened (Free c) i cell =
@@ -91,7 +98,8 @@ module _ {V : Type 0} where
           kept = open_kept (opening_of k) (leads (opening_of k) r.history) v.view.name (Member o m) (sound (opening_of k) r.history r.stands.legal)
               (is_open (Member o m) i cell);
           there = ap (λ b. spot b (7 + m)) mine.1 ∙ sym q.3;
-          kind = refl;
+          kind = ap (λ n. kind_of_member n m)
+              (owners_led (opening_of k) r.history ∙ ap (λ y. y.owners) (sym (r.shapes id v at awake)));
         }
 
     module _ (c : Cell) (i : ℕ) (is : Opened c i) where
@@ -117,7 +125,7 @@ module _ {V : Type 0} where
           well : (d : Cell) → IsKept (leads (opening_of k) r.history) d
               → (cell_of (leads (opening_of k) r.history) d).kind ≡ kind_of (leads (opening_of k) r.history) d
           well (Free d) op = ((formed (opening_of k) r.history r.stands.legal).frees d op).1
-          well (Member o m) op = ((formed (opening_of k) r.history r.stands.legal).members o m op.0).1
+          well (Member o m) op = ((formed (opening_of k) r.history r.stands.legal).members o m).1
 
       -- what the cell holds is counted
       pub cell_keeps : (o : ℕ) → (cell_of (leads (opening_of k) r.history) c).object ≡ Some o → IsBusy (leads (opening_of k) r.history) o

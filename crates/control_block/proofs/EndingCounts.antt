@@ -166,7 +166,7 @@ module _ {V : Type 0} where
         → many_ending z.blocks (after s d (Make c enabled null fields v)) n ≡ many_ending z.blocks s n
     make_count c enabled null fields v asks =
         sum_all z.blocks (λ j. ends_with n (s.object (s.latest (suc j))).phase)
-        (λ j. ends_with n (put s.object (suc s.made) (new_object c.0 enabled null fields) (put s.latest c.0 (suc s.made) (suc j))).phase)
+        (λ j. ends_with n (put s.object (suc s.made) (new_object s.owners c.0 enabled null fields) (put s.latest c.0 (suc s.made) (suc j))).phase)
         (λ j lt. one (suc j))
       where
         none_there : ends_with n (s.object (s.latest c.0)).phase ≡ 0
@@ -176,10 +176,10 @@ module _ {V : Type 0} where
             (λ (ne : s.latest c.0 ≢ 0). ends_common n _ (let w = (fine.stores d c.0 asks.0).0 (s.latest c.0) (fine.latest_in c.0 ne) in omega arith))
             (cases_eq (s.latest c.0) 0)
 
-        one : (b : ℕ) → ends_with n (put s.object (suc s.made) (new_object c.0 enabled null fields) (put s.latest c.0 (suc s.made) b)).phase
+        one : (b : ℕ) → ends_with n (put s.object (suc s.made) (new_object s.owners c.0 enabled null fields) (put s.latest c.0 (suc s.made) b)).phase
             ≡ ends_with n (s.object (s.latest b)).phase
         one b =
-            let m = suc s.made in let x = new_object c.0 enabled null fields in
+            let m = suc s.made in let x = new_object s.owners c.0 enabled null fields in
             ⊎_elim
             (λ (e : b ≡ c.0).
             ap (λ i. ends_with n (put s.object m x i).phase) (put_same s.latest c.0 m b e)

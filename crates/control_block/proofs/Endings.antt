@@ -102,7 +102,7 @@ module _ {V : Type 0} where
         let w = ends_busy z s b d fine ends in omega arith in
         record {
           latest = put_other s.latest c.0 (suc s.made) b apart;
-          object = alike_is _ _ (put_other s.object (suc s.made) (new_object c.0 enabled null fields) (s.latest b)
+          object = alike_is _ _ (put_other s.object (suc s.made) (new_object s.owners c.0 enabled null fields) (s.latest b)
               (λ q. let t = fine.latest_made b in omega arith));
         }
     stays_after (Share h p) asks n m = record { latest = refl; object = alike (s.object (s.latest b)) }

@@ -211,8 +211,8 @@ module _ {V : Type 0} where
   pub quiet_clear : (o m : ℕ) (h : NumberedHandle) → IsQuiet (ClearMember o m h)
   quiet_clear o m h =
       record {
-        phases = λ s d q. fills_phase s (Member o m) (empty (kind_of_member m)) q;
-        blocks = λ s d q. fills_block s (Member o m) (empty (kind_of_member m)) q;
+        phases = λ s d q. fills_phase s (Member o m) (empty (kind_of_member s.owners m)) q;
+        blocks = λ s d q. fills_block s (Member o m) (empty (kind_of_member s.owners m)) q;
         latest = λ s d. refl;
         values = λ s f. refl;
       }

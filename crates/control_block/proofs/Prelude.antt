@@ -11,7 +11,6 @@ pub use Rattle.std.specs.List.{filter}
 pub use Rattle.std.specs.List.Sorted.{IsPermutation}
 pub use Rattle.std.specs.Ordering.{is_lt, nat_cmp}
 pub use Rattle.std.specs.Slots.{slots_items}
-pub use denote.RattleType.{RattleType}
 pub use lib.ListN.{get_elem?, length-replicate}
 pub use mathlib.Core.Option.{none, some, some-injective, some-ne-none}
 pub use mathlib.Core.Path.{fun_ext}
@@ -131,7 +130,6 @@ pub use Rattle.control_block.specs.StepKinds.{HasRoomFor, HoldingInBlock, in_cal
 pub use Rattle.control_block.specs.StepKinds.{IsNearObject, IsPrepared, IsTold, joined, JoinsUp}
 pub use Rattle.control_block.specs.StepKinds.{known, left, made, MayShareWeakly, MaySplit, Moved}
 pub use Rattle.control_block.specs.StepKinds.{peeked, prepared, Rests, tells, wrote}
-pub use Rattle.control_block.specs.contracts.in_place.Known.{the_row}
 pub use Rattle.control_block.specs.declared.cell_calls.CellAt.{CellAt}
 pub use Rattle.control_block.specs.declared.desk.Desk.TheInside.{Inside}
 pub use Rattle.control_block.specs.declared.released.Released.{Released}

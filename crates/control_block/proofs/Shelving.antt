@@ -48,7 +48,7 @@ not_one false e = refl
 module _ {V : Type 0} where
   endings_on : (d m f : DeskNow V) → KeepsEndings d m → KeepsEndings m f → KeepsEndings d f
   endings_on d m f a c b x ends =
-      let p = a b x ends in let q = c b x p.ends in record { ends = q.ends; members = λ k. q.members k ∙ p.members k }
+      let p = a b x ends in let q = c b x p.ends in record { ends = q.ends; shape = q.shape ∙ p.shape; members = λ k. q.members k ∙ p.members k }
 
   still_same : (d : DeskNow V) → IsSameDesk d d
   still_same d = record { domain = refl; shape = refl; name = refl; allowance = refl }
@@ -63,7 +63,7 @@ module _ {V : Type 0} where
         bag = refl;
         held = refl;
         latest = λ k p b has. refl;
-        endings = λ b x ends. record { ends = ends; members = λ k. refl };
+        endings = λ b x ends. record { ends = ends; shape = refl; members = λ k. refl };
         count = refl;
       }
 

@@ -6,3 +6,4 @@ pub mod OwnerLeaves
 pub mod WeakLeaves
 pub mod StoreGone
 pub mod LastOwners
+pub mod ClearLooks

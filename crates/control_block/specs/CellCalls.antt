@@ -11,6 +11,7 @@ use Rattle.control_word.specs.declared.place.Block.{Block}
 use Rattle.control_word.specs.declared.place.Place.{Place}
 use Rattle.control_word.specs.declared.shape.Shape.{Shape}
 use Rattle.control_block.specs.Desks.{DeskNow, HasHandle, bag_of, latest_of}
+use Rattle.control_block.specs.Rule.{members_of}
 use Rattle.control_word.specs.declared.site.Site.{Site}
 use Rattle.control_word.specs.declared.site.Site.TheVariants as site
 
@@ -46,7 +47,7 @@ module _ {V : Type 0} where
   -- an owner of
   abbrev pub IsOpenAt : DeskNow V → Site → Kind → Type 0
   IsOpenAt d (site.Free n) k = IsFreeCell d.shape n k
-  IsOpenAt d (site.Member b m) k = (m < 3) × (k ≡ kind_of_member m)
+  IsOpenAt d (site.Member b m) k = (m < members_of d.shape) × (k ≡ kind_of_member d.shape.owners m)
       × ((p : Option Place) × HasHandle d Owner p b.0)
 
   -- the desk has the handle: its bag shows it, or it is empty and among those that are counted beyond the bag

@@ -26,13 +26,13 @@ use Rattle.control_word.specs.Views.{NoneBy}
 use Rattle.control_word.specs.Words.{blocks_of, packed, shown}
 use Rattle.control_block.specs.StepKinds.{At, Added, HoldingInBlock, goes_on, known, tells}
 use Rattle.control_block.specs.FundStepKinds.{owing}
-use Rattle.control_block.specs.Rule.{opening_of}
+use Rattle.control_block.specs.Rule.{members_of, opening_of}
 use Rattle.control_block.specs.declared.table.SeatView.{SeatView}
 
 -- the kind of the handles in a cell
 abbrev pub kind_in : Shape → Cell → Kind
 kind_in k (Free c) = kind_of_free k.shared_cells c
-kind_in k (Member o m) = kind_of_member m
+kind_in k (Member o m) = kind_of_member k.owners m
 
 -- n is the word of a cell, and so is told of it
 abbrev pub of_cell : (CellWord → Type 0) → ℕ → Type 0
@@ -43,7 +43,7 @@ module _ {V : Type 0} where
   abbrev pub IsCellAt : SeatView V → Cell → ℕ → Type 0
   IsCellAt v (Free c) i = (c < v.shape.shared_cells + v.shape.weak_cells) × (i ≡ cell_place v.shape.blocks c)
   IsCellAt v (Member o m) i =
-      (m < 3) × ((p : Option Place) × (b : ℕ) × HoldingInBlock v Owner o p b × (i ≡ spot b (7 + m)))
+      (m < members_of v.shape) × ((p : Option Place) × (b : ℕ) × HoldingInBlock v Owner o p b × (i ≡ spot b (7 + m)))
 
   -- the word of a cell with this handle, by the blocks that the seat knows
   abbrev pub IsWordOf : SeatView V → NumberedHandle → CellWord → Type 0
@@ -133,7 +133,7 @@ module _ {V : Type 0} where
   -- the member of an ending object holds nothing, and is cleared by the look; else nothing changes
   abbrev pub looked_clear : ℕ → ℕ → Step (Option V) → At V → ℕ → At V → Type 0
   looked_clear o q st m n m' =
-      (n ≡ 0 → tells (ClearMember o q (empty (kind_of_member q))) m.0 m'.0 × (m'.1 ≡ m.1))
+      (n ≡ 0 → tells (ClearMember o q (empty (kind_of_member m.0.shape.owners q))) m.0 m'.0 × (m'.1 ≡ m.1))
       × (n ≢ 0 → m' ≡ m)
 
   -- the member of an ending object was cleared

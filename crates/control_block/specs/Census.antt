@@ -5,9 +5,11 @@ use Rattle.control_word.specs.Layout.{spot}
 use Rattle.control_word.specs.Packing.{number_of}
 use Rattle.control_word.specs.State.{State, IsVacant, count, ending, sum_below, weak}
 
--- the words, and how many blocks and free cells there were
+-- the words, and how many blocks, members of an object, owners among them and free cells there were
 pub record CensusNow : Type 0 where
   pub blocks : ℕ
+  pub members : ℕ
+  pub owners : ℕ
   pub shared_cells : ℕ
   pub weak_cells : ℕ
   pub words : List ℕ

@@ -132,11 +132,12 @@ module _ {V : Type 0} where
   member_in d b m = (object_in d b).member m
 
   abbrev pub IsCleared : DeskNow V → ℕ → ℕ → Type 0
-  IsCleared d b m = member_in d b m ≡ empty (kind_of_member m)
+  IsCleared d b m = member_in d b m ≡ empty (kind_of_member d.shape.owners m)
 
-  -- it ends in the desk's hands, with the members that it had
+  -- it ends in the desk's hands, in a domain of the same shape, with the members that it had
   pub record StaysEnding (d e : DeskNow V) (b : ℕ) (x : V) : Type 0 where
     pub ends : IsEnding e b x
+    pub shape : e.shape ≡ d.shape
     pub members : (m : ℕ) → member_in e b m ≡ member_in d b m
 
   -- what ends in the desk's hands ends there still

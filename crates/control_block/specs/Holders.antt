@@ -29,27 +29,30 @@ frees_in c = c.shared_cells + c.weak_cells
 -- the cell is one of the domain's
 abbrev pub IsCellOf : CensusNow → Site → Type 0
 IsCellOf c (Free n) = n < frees_in c
-IsCellOf c (Member b m) = HasBlock c b.0 × (m < 3)
+IsCellOf c (Member b m) = HasBlock c b.0 × (m < c.members)
 
 abbrev pub free_cell : CensusNow → ℕ → CellAt
 free_cell c n = record { site = Free n; kind = kind_of_free c.shared_cells n }
 
-abbrev pub member_cell : ℕ → ℕ → CellAt
-member_cell b m = record { site = Member (record { 0 = b }) m; kind = kind_of_member m }
+abbrev pub member_cell : CensusNow → ℕ → ℕ → CellAt
+member_cell c b m = record { site = Member (record { 0 = b }) m; kind = kind_of_member c.owners m }
 
 -- the cell, where it holds a handle on the object in block b
 abbrev pub if_holds : CensusNow → ℕ → CellAt → List CellAt
 if_holds c b x = cond (owned_at c x.site == b) (x ∷ []) []
 
--- of the first n free cells those that hold such a handle, of the members of block n, and of those of the first n
--- blocks
+-- of the first n free cells those that hold such a handle, of the first members of block n, of all of its members, and
+-- of those of the first n blocks
 abbrev pub free_holders : CensusNow → ℕ → ℕ → List CellAt
 free_holders c b zero = []
 free_holders c b (suc n) = free_holders c b n ++ if_holds c b (free_cell c n)
 
+abbrev pub some_members : CensusNow → ℕ → ℕ → ℕ → List CellAt
+some_members c b n zero = []
+some_members c b n (suc m) = some_members c b n m ++ if_holds c b (member_cell c n m)
+
 abbrev pub block_holders : CensusNow → ℕ → ℕ → List CellAt
-block_holders c b n =
-    if_holds c b (member_cell n 0) ++ (if_holds c b (member_cell n 1) ++ if_holds c b (member_cell n 2))
+block_holders c b n = some_members c b n c.members
 
 abbrev pub member_holders : CensusNow → ℕ → ℕ → List CellAt
 member_holders c b zero = []
@@ -66,7 +69,7 @@ many_of k l = length (filter (λ x. same_kind k x.kind) l)
 -- the cells hold what they hold by the state
 pub record TellsCells (s : State) (c : CensusNow) : Type 0 where
   pub frees : (n : ℕ) → n < frees_in c → owned_at c (Free n) ≡ owned_by s (s.cell n)
-  pub members : (b m : ℕ) → HasBlock c b → m < 3
+  pub members : (b m : ℕ) → HasBlock c b → m < c.members
       → owned_at c (Member (record { 0 = b }) m) ≡ owned_by s ((s.object (s.latest b)).member m)
 
 -- each handle that counts is in one of the cells, or the desk had it still

@@ -16,11 +16,17 @@ use Rattle.control_word.specs.State.{Opening, State, Phase, unmade, live, gone, 
 use Rattle.control_word.specs.Views.{Stands, sees_as}
 use Rattle.control_block.specs.declared.table.SeatView.{SeatView}
 
+-- how many members an object has
+abbrev pub members_of : Shape → ℕ
+members_of k = k.owners + k.weaks
+
 -- a domain begins with one desk, which has all blocks and the whole allowance
 abbrev pub opening_of : Shape → Opening
 opening_of k =
     record {
       blocks = k.blocks;
+      members = members_of k;
+      owners = k.owners;
       shared_cells = k.shared_cells;
       cells = k.shared_cells + k.weak_cells;
       allowance = k.allowance;

@@ -21,7 +21,7 @@ use Rattle.control_word.specs.Words.{flags_of}
 use Rattle.control_word.specs.State.{Object, State, Has, HasAll, ending, kind_of_member, same_held, same_stored, stored}
 use Rattle.control_word.specs.State.{held, bag_size, count}
 use Rattle.control_word.specs.Views.{NoneBy, Knows, comes, together, used_up}
-use Rattle.control_block.specs.Rule.{opening_of, seeing}
+use Rattle.control_block.specs.Rule.{members_of, opening_of, seeing}
 use Rattle.control_block.specs.declared.table.SeatView.{SeatView}
 
 -- what word j of an object's flags and fields tells: word 0 the flags, which may have a shut door beside them
@@ -70,7 +70,8 @@ module _ {V : Type 0} where
 
   -- by what it has seen, the members of object o hold nothing
   abbrev pub IsClear : SeatView V → ℕ → Type 0
-  IsClear v o = (m : ℕ) → m < 3 → ((known v).object o).member m ≡ empty (kind_of_member m)
+  IsClear v o =
+      (m : ℕ) → m < members_of v.shape → ((known v).object o).member m ≡ empty (kind_of_member v.shape.owners m)
 
   -- a weak handle with place q may come from a handle that the desk holds, or by from-this from an ending of its
   abbrev pub MayShareWeakly : SeatView V → ℕ → ℕ → Option Place → Type 0
@@ -202,7 +203,7 @@ module _ {V : Type 0} where
 
   abbrev pub over : SeatView V
   over = record {
-    shape = record { blocks = 0; shared_cells = 0; weak_cells = 0; allowance = 0 };
+    shape = record { blocks = 0; owners = 0; weaks = 0; shared_cells = 0; weak_cells = 0; allowance = 0 };
     view = used_up;
     hand = None;
   }

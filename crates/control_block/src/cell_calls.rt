@@ -4,7 +4,7 @@ ghost use Rattle.std.specs.Prelude.{◌≡◌, ◌+◌, true};
 ghost use Rattle.control_word.specs.Handles.{same_kind};
 ghost use Rattle.control_block.specs.Handles.{IsProper, IsProper-prop};
 
-pub use crate::calls::cells::{exchange, holds, load};
+pub use crate::calls::cells::{exchange, holds, load, load_once};
 use control_word::model::handle::Kind;
 use control_word::{Block, Place, Site};
 

@@ -23,6 +23,7 @@ pub struct Census<V: Drop> {
 
 impl<V: Drop> Model for Census<V> {
     ghost use Rattle.control_block.specs.Census.{CensusNow};
+    ghost use Rattle.control_block.specs.Rule.{members_of};
     ghost use Rattle.control_word.specs.Layout.{table_size};
     ghost use Rattle.std.specs.Prelude.{◌+◌, ◌≤◌};
     ghost use Rattle.std.specs.Slots.{slots_items, slots_len, IsFull};
@@ -31,6 +32,8 @@ impl<V: Drop> Model for Census<V> {
 
     ghost view = { λ c. record {
       blocks = c.shape.blocks;
+      members = members_of c.shape;
+      owners = c.shape.owners;
       shared_cells = c.shape.shared_cells;
       weak_cells = c.shape.weak_cells;
       words = slots_items c.closed.words;
@@ -38,7 +41,7 @@ impl<V: Drop> Model for Census<V> {
 
     ghost invariant = { λ c. IsFull c.closed.words × IsFull c.closed.slots
         × (table_size c.shape ≤ slots_len c.closed.words) × (c.shape.blocks ≤ 65535)
-        × (c.shape.shared_cells + c.shape.weak_cells ≤ 256) };
+        × (members_of c.shape ≤ 9) × (c.shape.shared_cells + c.shape.weak_cells ≤ 256) };
 }
 
 impl<V: Drop> Census<V> {

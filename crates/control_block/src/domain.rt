@@ -2,12 +2,15 @@
 ghost use Rattle.std.specs.Prelude.{◌≡◌, ◌⊎◌, ◌↔◌, ℕ, ◌+◌, ◌<◌, ◌≤◌, [], length};
 ghost use Rattle.std.specs.Prelude.{replicate, vec_capacity, vec_len, None, IfOk, IfErr, IsTrue};
 ghost use Rattle.control_word.specs.Layout.{IsWithinLimits};
+ghost use Rattle.control_word.specs.State.{kind_of_member};
 ghost use Rattle.control_block.specs.Desks.{IsFirstDesk, all_blocks};
+ghost use Rattle.control_block.specs.Rule.{members_of};
 
 use crate::desk::Desk;
 use crate::slot::Slot;
 use crate::table::{Ruling, SeatView};
 use atomic_table::Table;
+use control_word::model::handle::Kind;
 use control_word::packed::layout::table_words;
 use control_word::{Block, Refusal, Shape};
 use slot_arena::{Arena, Vacant};
@@ -33,11 +36,42 @@ impl<V: Drop> Model for Domain<V> {
 }
 
 impl<V: Drop> Domain<V> {
+    /// What is true of every domain (own): for the proof of a caller that needs it.
+    pub fn assert_invariant(&self)
+        ensures { IsWithinLimits self.now.shape }
+    {
+        let _shape = &self.shape;
+    }
+
     /// How many blocks there are (own).
     pub fn blocks(&self) -> u32
         ensures { result ≡ self.now.shape.blocks }
     {
         self.shape.blocks
+    }
+
+    /// How many members an object has (own), 9 at most.
+    #[inline]
+    pub fn members(&self) -> u8
+        ensures { result ≡ members_of self.now.shape }
+    {
+        self.shape.members()
+    }
+
+    /// The kind of handles that a member has, by its number (own).
+    #[inline]
+    pub fn kind_of_member(&self, member: u8) -> Kind
+        ensures { result ≡ kind_of_member self.now.shape.owners member }
+    {
+        self.shape.kind_of_member(member)
+    }
+
+    /// How many members of an object are for owners (own): all but `up` and the further weak ones.
+    #[inline]
+    pub fn owners(&self) -> u32
+        ensures { result ≡ self.now.shape.owners }
+    {
+        self.shape.owners
     }
 
     /// How many free shared cells there are (own).

@@ -11,7 +11,7 @@ pub mod in_place;
 pub mod laws;
 mod observation;
 mod parting;
-mod pause;
+pub mod pause;
 pub mod released;
 mod retries;
 mod shelf;

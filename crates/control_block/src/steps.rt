@@ -147,6 +147,7 @@ pub fn peek<V, M: StepArgs>(table: &Table<V>, seat: &mut Seat<V>, block: Block, 
 
 /// Finish: the value of an object that has ended comes out of its cell, and the ending gives up the owners' common weak
 /// count (own). It answers the value, and whether the block is vacant now.
+#[inline(always)]
 pub fn finish<V: Drop, M: StepArgs>(table: &Table<V>, seat: &mut Seat<V>, block: Block) -> (V, bool)
     requires table { seat.old.table_id ≡ table.now.table_id }
     requires rests { Rests seat.old.me }

@@ -7,6 +7,7 @@ pub mod Rooms
 pub mod Body
 pub mod Payments
 pub mod Debts
+pub mod Listed
 pub mod Members
 pub mod CellWords
 pub mod Decoding

@@ -129,7 +129,7 @@ module _ (V : Type 0) where
   abbrev pub Clears : Type 0
   Clears =
       (at : Point V) (o m : ℕ) → let s = state at in let old = (s.object o).member m in
-      Ready at Idle → (s.object o).phase ≡ ending (me at) → m < 3
+      Ready at Idle → (s.object o).phase ≡ ending (me at) → m < s.members
       → HasRoom (after {V = V} s (me at) (ClearMember o m old)) (me at)
       → (taken : ℕ) → let i = cell_word at (Member o m) in
       word at i ≡ packed (blocks_of s) old + 17179869184 * taken

@@ -38,12 +38,12 @@ cell_of s (Member o m) = (s.object o).member m
 
 abbrev pub kind_of : State → Cell → Kind
 kind_of s (Free c) = kind_of_free s.shared c
-kind_of s (Member o m) = kind_of_member m
+kind_of s (Member o m) = kind_of_member s.owners m
 
 -- the cell is free, or a member of an object of which d has an owner (own)
 abbrev pub IsOpen : State → ℕ → Cell → Type 0
 IsOpen s d (Free c) = c < s.cells
-IsOpen s d (Member o m) = (m < 3) × ((h : NumberedHandle) × Holds s d Owner h × (object_of h ≡ o))
+IsOpen s d (Member o m) = (m < s.members) × ((h : NumberedHandle) × Holds s d Owner h × (object_of h ≡ o))
 
 -- h is well formed and of this kind, and empty or in d's bag
 abbrev pub InHand : State → ℕ → Kind → NumberedHandle → Type 0
@@ -96,10 +96,11 @@ module _ {V : Type 0} where
   -- whether a load would give an equivalent handle, as compare_exchange compares ([util.smartptr.atomic.shared]; own)
   Asks s d (Same c h same) = IsOpen s d c × InHand s d (kind_of s c) h × (same ≡ equivalent (cell_of s c) h)
   -- a member goes out of an ending object (own)
-  Asks s d (ClearMember o m h) = ((s.object o).phase ≡ ending d) × (m < 3) × (h ≡ (s.object o).member m)
+  Asks s d (ClearMember o m h) = ((s.object o).phase ≡ ending d) × (m < s.members) × (h ≡ (s.object o).member m)
   -- the object is gone and its value comes out; `vacant` where no weak handle is left (own)
   Asks s d (Finish o vacant value) =
-      ((s.object o).phase ≡ ending d) × ((m : ℕ) → m < 3 → (s.object o).member m ≡ empty (kind_of_member m))
+      ((s.object o).phase ≡ ending d)
+      × ((m : ℕ) → m < s.members → (s.object o).member m ≡ empty (kind_of_member s.owners m))
       × (vacant ≡ (weak s o == 0))
   -- work on the value through an owner (own)
   Asks s d (Visit h was becomes) = Holds s d Owner h
@@ -162,7 +163,8 @@ weak_leaves d h vacant s = vacates vacant d (s.object (object_of h)).block (lose
 -- the member is empty, and d gets what it held
 abbrev pub clears : ℕ → ℕ → ℕ → NumberedHandle → State → State
 clears d o m h s =
-    let x = s.object o in gets d h (changes o (record x { member = put x.member m (empty (kind_of_member m)) }) s)
+    let x = s.object o in
+    gets d h (changes o (record x { member = put x.member m (empty (kind_of_member s.owners m)) }) s)
 
 abbrev pub finishes : ℕ → ℕ → Bool → State → State
 finishes d o vacant s = let x = s.object o in vacates vacant d x.block (changes o (moved_to gone x) s)
@@ -195,15 +197,15 @@ shelves d b s =
 abbrev pub unshelves : ℕ → ℕ → State → State
 unshelves d b s = record s { stores = stored d b ∷ s.stores; shelved = put s.shelved b false }
 
-abbrev pub new_object : ℕ → Bool → Bool → List ℕ → Object
-new_object b enabled null fields =
+abbrev pub new_object : ℕ → ℕ → Bool → Bool → List ℕ → Object
+new_object owners b enabled null fields =
     record {
       block = b;
       fields = fields;
       enabled = enabled;
       null = null;
       phase = live;
-      member = λ m. empty (kind_of_member m);
+      member = λ m. empty (kind_of_member owners m);
     }
 
 module _ {V : Type 0} where
@@ -214,7 +216,7 @@ module _ {V : Type 0} where
         hands = held d (handle Owner (Some (suc s.made)) (origin b.0 null)) ∷ s.hands;
         stores = without same_stored (stored d b.0) s.stores;
         made = suc s.made;
-        object = put s.object (suc s.made) (new_object b.0 enabled null fields);
+        object = put s.object (suc s.made) (new_object s.owners b.0 enabled null fields);
         latest = put s.latest b.0 (suc s.made);
       }
   after s d (Share h p) = record s { hands = held d (handle Owner h.object p) ∷ s.hands }

@@ -34,7 +34,7 @@ times_kept s b = how_often b s.stores + on_shelf s b
 -- the cell is one of those that are counted
 abbrev pub IsCell : State → Cell → Type 0
 IsCell s (Free c) = c < s.cells
-IsCell s (Member o m) = m < 3
+IsCell s (Member o m) = m < s.members
 
 -- the desk has a handle of the object, or the object ends in its hands
 abbrev pub IsInHands : State → ℕ → ℕ → Type 0
@@ -126,7 +126,7 @@ module _ (V : Type 0) where
   abbrev pub NumbersFit : Type 0
   NumbersFit =
       (z : Opening) (h : List (Entry V)) → IsLegal z h → (o : ℕ)
-      → let s = leads z h in (count s o ≤ 4325630) × (weak_number s o ≤ 4260096)
+      → let s = leads z h in (count s o ≤ 4784375) × (weak_number s o ≤ 4784376)
 
   -- an object that was once seen without an owner, by a desk with a weak handle of it, never has one again
   abbrev pub StaysExpired : Type 0

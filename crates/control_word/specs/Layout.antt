@@ -12,10 +12,10 @@ spot b k = 16 * (b - 1) + k
 abbrev pub cell_place : ℕ → ℕ → ℕ
 cell_place blocks c = 16 * blocks + 8 * c
 
--- a member's block is from 1 on, and there are three members
+-- a member's block is from 1 on, and there are nine members at the most
 abbrev pub IsSite : Site → Type 0
 IsSite (site.Free n) = Unit {0}
-IsSite (site.Member b m) = (0 < b.0) × (m < 3)
+IsSite (site.Member b m) = (0 < b.0) × (m < 9)
 
 -- the word of a cell in a table with so many blocks
 abbrev pub site_place : ℕ → Site → ℕ
@@ -52,6 +52,7 @@ pub record WordsLieApart : Type 0 where
 pub record IsWithinLimits (z : Shape) : Type 0 where
   pub some_block : 0 < z.blocks
   pub blocks : z.blocks ≤ 65535
+  pub members : (2 ≤ z.owners) × (1 ≤ z.weaks) × (z.owners + z.weaks ≤ 9)
   pub cells : z.shared_cells + z.weak_cells ≤ 256
   pub some_handle : 0 < z.allowance
   pub allowance : z.allowance ≤ 4194304

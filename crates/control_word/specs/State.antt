@@ -16,9 +16,12 @@ abbrev pub sum_below : ℕ → (ℕ → ℕ) → ℕ
 sum_below zero f = 0
 sum_below (suc n) f = f n + sum_below n f
 
--- How a domain begins: its blocks and cells, of which the first are shared, and what each of its first desks has (own)
+-- How a domain begins: its blocks, how many members an object has, its cells, of which the first are shared, and what
+-- each of its first desks has (own)
 pub record Opening : Type 0 where
   pub blocks : ℕ
+  pub members : ℕ
+  pub owners : ℕ
   pub shared_cells : ℕ
   pub cells : ℕ
   pub allowance : ℕ
@@ -29,6 +32,8 @@ pub record Opening : Type 0 where
 -- within the limits; each block is some desk's, and the desks' shares, 1 or more, are the whole allowance
 pub record IsOpening (z : Opening) : Type 0 where
   pub limits : (z.blocks ≤ 65535) × (z.cells ≤ 256) × (z.allowance ≤ 4194304)
+  pub members : (3 ≤ z.members) × (z.members ≤ 9)
+  pub owners : (2 ≤ z.owners) × (z.owners < z.members)
   pub holders : (b : ℕ) → z.holder b < z.desks
   pub shares : sum_below z.desks z.share ≡ z.allowance
   pub positive : (d : ℕ) → d < z.desks → 0 < z.share d
@@ -40,7 +45,7 @@ pub data Phase : Type 0 where
   ending : ℕ → Phase
 
 -- a block's number; four constant fields; whether shared-from-this is enabled ([util.smartptr.enab]); whether
--- the pointer that it owns is null; members 0 first, 1 next, 2 up (fields and members: own)
+-- the pointer that it owns is null; members 0 first, 1 next, 2 up, and further owners (fields and members: own)
 pub record Object : Type 0 where
   pub block : ℕ
   pub fields : List ℕ
@@ -59,7 +64,7 @@ pub record Stored : Type 0 where
 
 -- Objects have the numbers 1 to made, by their Makes. The object last made in a block is its latest; 0 is none.
 -- Vacant blocks are in desks' stores or on the shelf. Desks have the numbers below names; a joined one acts no more.
--- Each has an allowance of handles
+-- Each has an allowance of handles. Of an object's members the domain uses the first
 pub record State : Type 0 where
   pub hands : List Held
   pub stores : List Stored
@@ -70,6 +75,8 @@ pub record State : Type 0 where
   pub shared : ℕ
   pub cells : ℕ
   pub cell : ℕ → NumberedHandle
+  pub members : ℕ
+  pub owners : ℕ
   pub names : ℕ
   pub joined : ℕ → Bool
   pub allowance : ℕ → ℕ
@@ -80,21 +87,22 @@ held d h = record { desk = d; handle = h }
 abbrev pub stored : ℕ → ℕ → Stored
 stored d b = record { desk = d; block = b }
 
-abbrev pub kind_of_member : ℕ → Kind
-kind_of_member m = cond (m == 2) Weak Owner
+-- of so many owner members two are 0 and 1, and the others 3 and on; all further ones are weak
+abbrev pub kind_of_member : ℕ → ℕ → Kind
+kind_of_member owners m = cond (m == 2) Weak (cond (nat_lt owners m) Weak Owner)
 
 abbrev pub kind_of_free : ℕ → ℕ → Kind
 kind_of_free shared c = cond (nat_lt c shared) Owner Weak
 
-abbrev pub nobody : Object
-nobody =
+abbrev pub nobody : ℕ → Object
+nobody owners =
     record {
       block = 0;
       fields = [];
       enabled = false;
       null = false;
       phase = unmade;
-      member = λ m. empty (kind_of_member m);
+      member = λ m. empty (kind_of_member owners m);
     }
 
 -- f 0 to f (n - 1), one after another
@@ -102,8 +110,9 @@ abbrev pub upto : ℕ → (ℕ → List NumberedHandle) → List NumberedHandle
 upto zero f = []
 upto (suc n) f = f n ++ upto n f
 
+-- those of an object that has all members that there may be; a domain of fewer leaves the last ones empty
 abbrev pub members : Object → List NumberedHandle
-members x = x.member 0 ∷ x.member 1 ∷ x.member 2 ∷ []
+members x = upto 9 (λ m. x.member m ∷ [])
 
 abbrev pub in_cells : State → List NumberedHandle
 in_cells s = upto s.cells (λ c. s.cell c ∷ []) ++ upto (suc s.made) (λ o. members (s.object o))
@@ -201,11 +210,13 @@ start z =
       stores = all_stored z.holder z.blocks;
       shelved = λ b. false;
       made = 0;
-      object = λ o. nobody;
+      object = λ o. nobody z.owners;
       latest = λ b. 0;
       shared = z.shared_cells;
       cells = z.cells;
       cell = λ c. empty (kind_of_free z.shared_cells c);
+      members = z.members;
+      owners = z.owners;
       names = z.desks;
       joined = λ d. false;
       allowance = z.share;

@@ -151,7 +151,7 @@ module _ (V : Type 0) where
   Finishes =
       (at : Point V) (o : ℕ) (v : V) → Ready at Idle → value at.opening at.history o ≡ Some v
       → ((state at).object o).phase ≡ ending (me at)
-      → ((m : ℕ) → m < 3 → ((state at).object o).member m ≡ empty (kind_of_member m))
+      → ((m : ℕ) → m < (state at).members → ((state at).object o).member m ≡ empty (kind_of_member (state at).owners m))
       → let k = counts at Weak o in (0 < word at k) × Adds at k (word at k - 1) (Finish o (word at k == 1) v) Idle
 
   -- lock: an owner word that isn't 0 gets one more; one that is 0 is told

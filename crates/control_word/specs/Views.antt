@@ -113,7 +113,7 @@ module _ {V : Type 0} where
 
 -- of a cell that holds no object nothing was taken
 pub record Bare (z : Opening) (s : State) (taken : ℕ → ℕ) : Type 0 where
-  pub members : (b m : ℕ) → InShape z b → m < 3 → ((s.object (s.latest b)).member m).object ≡ None
+  pub members : (b m : ℕ) → InShape z b → m < 9 → ((s.object (s.latest b)).member m).object ≡ None
       → taken (spot b (7 + m)) ≡ 0
   pub frees : (c : ℕ) → c < z.cells → (s.cell c).object ≡ None → taken (cell_spot z c) ≡ 0
 

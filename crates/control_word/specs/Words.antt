@@ -1,5 +1,5 @@
 -- How the words show a state. All of it is own.
-use Rattle.std.specs.Prelude.{◌≡◌, ℕ, suc, ◌+◌, ◌-◌, ◌*◌, ◌/◌, ◌%◌, ◌<◌, ◌≤◌}
+use Rattle.std.specs.Prelude.{◌≡◌, ℕ, zero, suc, ◌+◌, ◌-◌, ◌*◌, ◌/◌, ◌%◌, ◌<◌, ◌≤◌}
 use Rattle.std.specs.Prelude.{◌==◌, Bool, cond}
 use Rattle.std.specs.Prelude.{◌⊎◌, List, [], ◌∷◌, length, slice_index, Option, Some, None}
 use Rattle.std.specs.Int.{bit_at}
@@ -50,14 +50,19 @@ blocks_of s o = (s.object o).block
 abbrev pub flags_of : Bool → Bool → ℕ
 flags_of enabled null = cond enabled 1 0 + cond null 2 0
 
--- flags, four fields and three members of an object
+-- the first n of these numbers
+abbrev pub listed : ℕ → (ℕ → ℕ) → List ℕ
+listed zero f = []
+listed (suc n) f = f 0 ∷ listed n (λ i. f (suc i))
+
+-- flags, four fields and nine members of an object
 unfoldable pub object_words : (ℕ → ℕ) → Object → List ℕ
 object_words block x =
     flags_of x.enabled x.null
     ∷ slice_index x.fields 0 ∷ slice_index x.fields 1 ∷ slice_index x.fields 2 ∷ slice_index x.fields 3
-    ∷ packed block (x.member 0) ∷ packed block (x.member 1) ∷ packed block (x.member 2) ∷ []
+    ∷ listed 9 (λ m. packed block (x.member m))
 
--- the ten words of a block
+-- the sixteen words of a block
 abbrev pub block_words : State → ℕ → List ℕ
 block_words s b = let o = s.latest b in count s o ∷ weak_number s o ∷ object_words (blocks_of s) (s.object o)
 
@@ -79,8 +84,7 @@ worth block h t i = elim (h.object) [ None ↦ 0 | Some o ↦ cond (i == counts_
 
 abbrev pub member_funds : (ℕ → ℕ) → (ℕ → ℕ) → Object → ℕ → ℕ
 member_funds block taken x i =
-    worth block (x.member 0) (taken (spot x.block 7)) i + worth block (x.member 1)
-    (taken (spot x.block 8)) i + worth block (x.member 2) (taken (spot x.block 9)) i
+    sum_below 9 (λ m. worth block (x.member m) (taken (spot x.block (7 + m))) i)
 
 -- the funds that all cells keep on word i; taken j is how many were taken of the cell whose word is j
 unfoldable pub bank : Opening → State → (ℕ → ℕ) → ℕ → ℕ
@@ -104,7 +108,7 @@ ShowsShelf z words s =
 -- each word is what the state says, but for what is owed to it and what is on it besides
 pub record Shows (z : Opening) (words : List ℕ) (owed more : ℕ → ℕ) (s : State) : Type 0 where
   pub sized : length words ≡ shelf_place z.blocks z.cells 1024
-  pub blocks : (b k : ℕ) → InShape z b → k < 10 → Says s owed more b k (slice_index words (spot b k))
+  pub blocks : (b k : ℕ) → InShape z b → k < 16 → Says s owed more b k (slice_index words (spot b k))
   pub free : (c : ℕ) → c < z.cells → slice_index words (cell_spot z c)
       ≡ packed (blocks_of s) (s.cell c) + more (cell_spot z c)
   pub shelf : ShowsShelf z words s

@@ -19,6 +19,8 @@ abbrev pub four_blocks : Opening
 four_blocks =
     record {
       blocks = 4;
+      members = 3;
+      owners = 2;
       shared_cells = 1;
       cells = 2;
       allowance = 100;

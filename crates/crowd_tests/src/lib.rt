@@ -12,4 +12,6 @@ mod same;
 #[cfg(test)]
 mod teams;
 #[cfg(test)]
+mod waits;
+#[cfg(test)]
 mod walk;

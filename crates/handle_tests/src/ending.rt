@@ -5,3 +5,4 @@ pub(crate) mod forgotten;
 pub(crate) mod piles;
 pub(crate) mod resets;
 pub(crate) mod this;
+pub(crate) mod wide;

@@ -1,17 +1,18 @@
 //! What the tests have in common: shapes, ends, and handles that go from one desk to another.
-ghost use Rattle.std.specs.Prelude.{◌≡◌, ◌+◌, ◌≤◌, ◌∷◌, [], IfErr, IfOk, IfSome, None, Some};
+ghost use Rattle.std.specs.Prelude.{◌≡◌, ◌+◌, ◌<◌, ◌≤◌, ◌∷◌, [], IfErr, IfOk, IfSome, None, Some};
 ghost use Rattle.std.specs.Prelude.{length};
 ghost use Rattle.shared_handle.specs.Prelude.{Owner, Block, Belongs, IsSameDesk, allowance_of, bag_of, stock_of};
 ghost use Rattle.shared_handle.specs.Prelude.{HoldsHandle};
 ghost use Rattle.shared_handle.specs.Prelude.{with_handle, without_handle, EndsInHand};
 ghost use Rattle.control_block.specs.Desks.{KeepsOtherEndings};
+ghost use Rattle.shared_handle.specs.Endings.{with_clear};
 
 pub(crate) use crate::shapes::shape;
 use control_block::census::close;
 use control_block::desk::Desk;
 use control_block::domain::Domain;
 use control_word::Refused;
-use shared_handle::{Ending, Held, Left, Member, Shared, release};
+use shared_handle::{Ending, Held, Left, Shared, release};
 use std::alloc::{AllocFailed, Global};
 
 // A sole desk closes its domain: how many vacant blocks it had.
@@ -47,6 +48,24 @@ pub(crate) fn told<V: Drop>(left: Left<V>) -> Was {
     }
 }
 
+// What the first member that isn't cleared yet held; an empty one where all are clear.
+pub(crate) fn clear<V: Drop>(domain: &Domain<V>, desk: &mut Desk<V>, ending: &mut Ending<V>) -> Was
+    requires domain { Belongs desk.old domain.now }
+    requires ends { EndsInHand desk.old ending.old }
+    ensures ends { EndsInHand desk.new ending.new }
+    ensures noted { ending.old.cleared < ending.old.members → ending.new ≡ with_clear ending.old }
+    ensures block { ending.new.block ≡ ending.old.block }
+    ensures desk { IsSameDesk desk.old desk.new }
+    ensures bag { bag_of desk.new ≡ bag_of desk.old }
+    ensures held { desk.new.held ≡ desk.old.held }
+    ensures endings { KeepsOtherEndings desk.old ending.old.block.0 desk.new }
+{
+    if ending.is_clear() {
+        return Was::Empty;
+    }
+    told(ending.clear_next(domain, desk))
+}
+
 // What an object's end finds: in first, next and up, and its value.
 pub(crate) type Found<V> = (Was, Was, Was, V);
 
@@ -60,11 +79,14 @@ pub(crate) fn end_of<V: Drop>(domain: &Domain<V>, desk: &mut Desk<V>, ending: En
     ensures endings { KeepsOtherEndings desk.old ending.block.0 desk.new }
 {
     let mut ending = ending;
-    let first = ending.clear_member(domain, desk, Member::First);
-    let next = ending.clear_member(domain, desk, Member::Next);
-    let up = ending.clear_member(domain, desk, Member::Up);
+    let first = clear(domain, desk, &mut ending);
+    let next = clear(domain, desk, &mut ending);
+    let up = clear(domain, desk, &mut ending);
+    while !ending.is_clear() {
+        clear(domain, desk, &mut ending);
+    }
     let value = ending.finish(domain, desk);
-    (told(first), told(next), told(up), value)
+    (first, next, up, value)
 }
 
 // The value of the object that the handle was the last owner of.

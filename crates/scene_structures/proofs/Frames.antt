@@ -82,14 +82,14 @@ module _ {V : Type 0} where
   pub keeps_after : (s : State) (d : ℕ) (x : Event V) (at : Cell → Type 0) (o : ℕ) → Asks s d x → PutsOnly at x → (at (Member o 1) → ⊥)
       → (s.object o).phase ≡ live → o ≤ s.made → Keeps s (after s d x) o
   keeps_after s d (Make b enabled null fields value) at o asks p not lives made =
-      kept_at s _ o (same_at s (suc s.made) o (new_object b.0 enabled null fields) (λ e. absurd (omega arith)))
+      kept_at s _ o (same_at s (suc s.made) o (new_object s.owners b.0 enabled null fields) (λ e. absurd (omega arith)))
   keeps_after s d (Leave h last) at o asks p not lives made =
       let q = object_of h in let x = s.object q in
       kept_at s _ o (same_at s q o (cond last (moved_to (ending d) x) x)
       (λ e. cond_both last (moved_to (ending d) x) x (Stays x) (λ u. (refl, refl)) (λ u. (refl, refl))))
   keeps_after s d (ClearMember q m h) at o asks p not lives made =
       let x = s.object q in
-      kept_at s _ o (same_at s q o (record x { member = put x.member m (empty (kind_of_member m)) })
+      kept_at s _ o (same_at s q o (record x { member = put x.member m (empty (kind_of_member s.owners m)) })
       (λ e. absurd (let u = sym lives ∙ (ap (λ j. (s.object j).phase) e ∙ asks.0) in cc)))
   keeps_after s d (Finish q v y) at o asks p not lives made = kept_at s _ o (same_at s q o (moved_to gone (s.object q)) (λ e. (refl, refl)))
   keeps_after s d (Swap (Member q m) new old) at o asks p not lives made =

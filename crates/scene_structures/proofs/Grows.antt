@@ -1,13 +1,13 @@
 -- On a sole desk a list grows by just the node that rises.
 use Rattle.std.proofs.Common.{◌≡◌, ℕ, ◌≤◌, Bool, true, false, ◌&&◌, List, [], ◌∷◌, ◌++◌, map, Some}
 use Rattle.std.proofs.Common.{None, All, Option, sym, refl, ap, ◌∙◌, subst, ⊎_elim, append_assoc}
-use Rattle.std.proofs.Common.{arith}
 use Rattle.scene_structures.proofs.Prelude
 use Prelude.{All-append, All-cons, All-nil, block_kept, Cell, cell_of, Chain, Compare, Entry}
 use Prelude.{entry, equivalent, Event, Holds, in_no_cell, InState, IsLegal, IsList, IsParting}
-use Prelude.{Kind, leads, legal_seen, live, map-append, Member, NextOf, NumberedHandle, open_live}
+use Prelude.{Kind, leads, legal_seen, live, map-append, Member, NextOf, NumberedHandle}
 use Prelude.{Opening, Owner, owner, Place, put_same, PutsOnly, same_handle_true, same_kind, sound}
 use Prelude.{State, Swap}
+use Rattle.control_block.proofs.Endings.{owner_lives}
 use Rattle.scene_structures.proofs.Frames.{AllKept, Apart, all_kept, chain_kept, chain_live}
 use Rattle.scene_structures.proofs.Frames.{keeps_after}
 use Rattle.scene_structures.proofs.Heads.{IsHead, Lives, cell_put, frames_at, in_later, lives_run}
@@ -101,7 +101,7 @@ module _ {V : Type 0} where
       let A = map (entry d) (Swap (Member o 1) below was ∷ before) ++ seen in
       let inner = in_front d between (Swap (Member o 1) below was ∷ before) seen in
       let holds = given_holds s d _ o (Some q) asks.2 in
-      let lives : (s.object o).phase ≡ live = open_live z s d o 1 (sound z T legalC.0) (omega arith, (node, holds, refl)) in
+      let lives : (s.object o).phase ≡ live = owner_lives z s d node (sound z T legalC.0) holds in
       let kept = keeps_run z d o between A (subst (IsLegal z) inner legalC.0) leaves (subst (λ l. ((leads z l).object o).phase ≡ live) inner lives) in
       let B = map (entry d) before ++ seen in
       let put_in : ((leads z A).object o).member 1 ≡ below =

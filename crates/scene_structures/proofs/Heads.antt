@@ -32,7 +32,7 @@ module _ {V : Type 0} where
   pub live_before : (s : State) (d o : ℕ) (x : Event V) (at : Cell → Type 0) → PutsOnly at x → o ≤ s.made → ((after s d x).object o).phase ≡ live
       → (s.object o).phase ≡ live
   live_before s d o (Make b enabled null fields value) at p made =
-      put_cases (λ j (u : Object). u.phase ≡ live → (s.object j).phase ≡ live) s.object (suc s.made) (new_object b.0 enabled null fields) o
+      put_cases (λ j (u : Object). u.phase ≡ live → (s.object j).phase ≡ live) s.object (suc s.made) (new_object s.owners b.0 enabled null fields) o
       (λ e. absurd (omega arith)) (λ n l. l)
   live_before s d o (Swap (Member q m) new old) at p made =
       put_cases (λ j (u : Object). u.phase ≡ live → (s.object j).phase ≡ live) s.object q
@@ -66,7 +66,7 @@ module _ {V : Type 0} where
       → (at (Member o k) → ⊥) → o ≤ s.made
       → (s.object o).phase ≡ live → ((after s d x).object o).member k ≡ (s.object o).member k
   member_after s d o k (Make b enabled null fields value) at asks p not made lives =
-      ap (λ (u : Object). u.member k) (put_other s.object (suc s.made) (new_object b.0 enabled null fields) o (λ e. omega arith))
+      ap (λ (u : Object). u.member k) (put_other s.object (suc s.made) (new_object s.owners b.0 enabled null fields) o (λ e. omega arith))
   member_after s d o k (Leave h last) at asks p not made lives =
       let q = object_of h in let y = s.object q in
       put_cases (λ j (u : Object). u.member k ≡ (s.object j).member k) s.object q (cond last (moved_to (ending d) y) y) o

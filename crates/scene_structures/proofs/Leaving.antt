@@ -8,6 +8,8 @@ use Prelude.{does_none, does_one, handle_in, Has, in_no_cell, is_owned, IsLegal,
 use Prelude.{IsParting, IsSole, IsWithin, KeepsBut, LeavesParent, Lists, live, LocksHandle}
 use Prelude.{LocksUp, Member, node_in, NumberedHandle, object_of, opening_of, Owner, owner, Place}
 use Prelude.{PutsOnly, Seeks, Shared, sound, state_of, UnlinksIf, weak_does}
+use Rattle.control_word.proofs.history.Allowances.{opened}
+use Rattle.control_word.proofs.history.Kept.{members_led}
 use Rattle.control_word.specs.State.{count}
 use Rattle.scene_structures.specs.Leaves.{IsCut, IsDetached, IsNoChild, LeavesList, WentOut}
 use Rattle.scene_structures.specs.Scenes.{AreChildren}
@@ -105,7 +107,10 @@ module _ {V : Type 0} where
 
   stood_at : (d : DeskNow V) (o m : ℕ) → IsLegal (opening_of d.shape) d.seen → IsSole d → ((state_of d).object o).phase ≡ live → m < 3
       → Stood (Member o m) d
-  stood_at d o m legal sole lives lt = record { legal = legal; sole = sole; there = in_there d (Member o m) legal (lt, lives) }
+  stood_at d o m legal sole lives lt =
+      let z = opening_of d.shape in
+      let least = (opened z d.seen legal).members.0 in let n = members_led z d.seen in
+      record { legal = legal; sole = sole; there = in_there d (Member o m) legal (omega (arith, lt, least, n), lives) }
 
   -- what has an owner lives
   owned_lives : (d : DeskNow V) (h : NumberedHandle) (p : ℕ) → IsLegal (opening_of d.shape) d.seen → h.object ≡ Some p → is_owned (state_of d) h ≡ true

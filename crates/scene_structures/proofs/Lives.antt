@@ -20,7 +20,7 @@ module _ {V : Type 0} where
   phase_back s d o (ClearMember q m h) p =
       let y = s.object q in
       put_cases (λ j (u : Object). u.phase ≡ live → (s.object j).phase ≡ live) s.object q
-      (record y { member = put y.member m (empty (kind_of_member m)) }) o
+      (record y { member = put y.member m (empty (kind_of_member s.owners m)) }) o
       (λ e l. ap (λ j. (s.object j).phase) e ∙ l) (λ n l. l)
   phase_back s d o (Finish q v x) p =
       put_cases (λ j (u : Object). u.phase ≡ live → (s.object j).phase ≡ live) s.object q (moved_to gone (s.object q)) o

@@ -1,24 +1,25 @@
 -- What ends in the desk's hands elsewhere than on a pile stays as it is, call by call.
-use Rattle.std.proofs.Common.{◌≡◌, ℕ, false, ◌≢◌, List, [], ◌∷◌, ◌++◌, length, Some, None, sym}
+use Rattle.std.proofs.Common.{◌≡◌, ℕ, ◌≢◌, List, [], ◌∷◌, ◌++◌, length, Some, None, Option, sym}
 use Rattle.std.proofs.Common.{refl, ap, ◌∙◌, subst, arith}
 use Rattle.scene_structures.proofs.Prelude
 use Prelude.{AddsEvent, after, AllEnd, AreRounds, Block, Cleared, ClearMember, ClearsMember}
 use Prelude.{counting, DeskNow, Empty, Ended, Ending, ending, endings_of, EndsInHand, Event}
-use Prelude.{Finish, First, IsClearing, IsLeft, IsLegal, IsRound, Keeps, KeepsEndings, KeepsOthers}
-use Prelude.{Last, latest_of, leads, LeavesWeakly, Left, legal_seen, Next, NumberedHandle, Object}
-use Prelude.{opening_of, Others, Past, put_again, put_other, Round, Settled, sound, State}
-use Prelude.{state_of, Up, with_clear}
+use Prelude.{Finish, IsClearing, IsGone, IsLeft, IsLegal, IsRound, Keeps, KeepsEndings, KeepsOthers}
+use Prelude.{Kind, kind_of_member}
+use Prelude.{Last, latest_of, leads, LeavesWeakly, Left, legal_seen, NumberedHandle, Object}
+use Prelude.{opening_of, Others, Owner, Past, put_again, put_other, Round, Settled, sound, State}
+use Prelude.{state_of, Weak, with_clear}
 use Rattle.control_block.proofs.Endings.{ends_here, ends_unmade, still_ends}
 use Rattle.control_block.specs.Desks.{IsEnding, member_in, object_in}
-use Rattle.shared_handle.proofs.Beside.{apart, left_apart, up_beside}
+use Rattle.shared_handle.proofs.Beside.{apart, left_apart}
 use Rattle.shared_handle.proofs.PiledEndings.{among_append, among_before, piled_apart}
-use Rattle.shared_handle.specs.Endings.{IsBeside}
+use Rattle.shared_handle.specs.Endings.{ClearsOf, IsBeside}
 use Rattle.shared_handle.specs.Piles.{KeepsElsewhere, NotAmong}
-use Rattle.shared_handle.specs.declared.endings.Member.{Member}
+use Rattle.control_block.specs.Rule.{members_of}
 
 module _ {V : Type 0} where
   pub others_none : (d : DeskNow V) (xs : List (Ending V)) → KeepsOthers d xs d xs
-  others_none d xs = record { count = refl; still = λ b x ends n. (n, record { ends = ends; members = λ m. refl }) }
+  others_none d xs = record { count = refl; still = λ b x ends n. (n, record { ends = ends; shape = refl; members = λ m. refl }) }
 
   -- one after the other
   pub others_both : {d e f : DeskNow V} {xs ys zs : List (Ending V)} → KeepsOthers d xs e ys → KeepsOthers e ys f zs → KeepsOthers d xs f zs
@@ -27,7 +28,7 @@ module _ {V : Type 0} where
         count = let p = one.count in let q = two.count in omega arith;
         still = λ b x ends n.
             let s = one.still b x ends n in let t = two.still b x s.1.ends s.0 in
-            (t.0, record { ends = t.1.ends; members = λ m. t.1.members m ∙ s.1.members m });
+            (t.0, record { ends = t.1.ends; shape = t.1.shape ∙ s.1.shape; members = λ m. t.1.members m ∙ s.1.members m });
       }
 
   -- a call that ends nothing
@@ -40,7 +41,7 @@ module _ {V : Type 0} where
   pub others_counted : (d e : DeskNow V) (n : ℕ) (xs : List (Ending V)) → e ≡ counting n d → KeepsOthers d xs e xs
   others_counted d e n xs is =
       subst (λ (u : DeskNow V). KeepsOthers d xs u xs) (sym is)
-      (record { count = refl; still = λ b x ends n. (n, record { ends = record { phase = ends.phase; kept = ends.kept }; members = λ m. refl }) })
+      (record { count = refl; still = λ b x ends n. (n, record { ends = record { phase = ends.phase; kept = ends.kept }; shape = refl; members = λ m. refl }) })
 
   -- where nothing lies on the pile, that is all that ends in the desk's hands
   pub all_others : (d e : DeskNow V) (xs ys : List (Ending V)) → xs ≡ [] → ys ≡ [] → KeepsOthers d xs e ys
@@ -54,8 +55,9 @@ module _ {V : Type 0} where
   still_there : (d e : DeskNow V) (xs ys : List (Ending V)) (b : ℕ) (x : V) → AllEnd d xs → KeepsElsewhere d xs e ys → IsEnding d b x → NotAmong b xs
       → NotAmong b ys × IsEnding e b x
   still_there d e xs ys b x all keeps ends n =
-      let w : Ending V = record { block = record { 0 = b }; value = x; first = false; next = false; up = false } in
-      let is : EndsInHand d w = record { ends = ends; first = λ t. absurd (cc t); next = λ t. absurd (cc t); up = λ t. absurd (cc t) } in
+      let w : Ending V = record { block = record { 0 = b }; value = x; members = members_of d.shape; cleared = 0 } in
+      let is : EndsInHand d w =
+      record { ends = ends; shape = refl; few = omega arith; cleared = λ m lt. absurd (omega (arith, lt)) } in
       let a = keeps.beside w (is, n, all) in (a.1, a.0.ends)
 
   -- an owner left
@@ -66,10 +68,11 @@ module _ {V : Type 0} where
   -- what is left of an object that ends in the block
   record Lasts (d e : DeskNow V) (b : ℕ) : Type 0 where
     phase : (object_in e b).phase ≡ ending e.name
+    shape : e.shape ≡ d.shape
     members : (m : ℕ) → member_in e b m ≡ member_in d b m
 
   lasts_both : (d e f : DeskNow V) (b : ℕ) → Lasts d e b → Lasts e f b → Lasts d f b
-  lasts_both d e f b one two = record { phase = two.phase; members = λ m. two.members m ∙ one.members m }
+  lasts_both d e f b one two = record { phase = two.phase; shape = two.shape ∙ one.shape; members = λ m. two.members m ∙ one.members m }
 
   -- another block's latest object is another one
   apart_latest : (d : DeskNow V) (b c : ℕ) → IsLegal (opening_of d.shape) d.seen → (object_in d b).phase ≡ ending d.name → c ≢ b
@@ -94,6 +97,7 @@ module _ {V : Type 0} where
       ap (λ (u : State). u.object (u.latest b)) now ∙ (ap (after s d.name x).object (block s ∙ still.latest) ∙ object s) in
       record {
         phase = ap (λ (y : Object). y.phase) is ∙ (still.object.phase ∙ (ends ∙ ap ending (sym adds.same.2)));
+        shape = adds.same.1;
         members = λ m. ap (λ (y : Object). y.member m) is ∙ still.object.member m;
       }
 
@@ -117,7 +121,7 @@ module _ {V : Type 0} where
   lasts_left : (d e : DeskNow V) (b : ℕ) (h : _) (p : _) (left : Left V) → (object_in d b).phase ≡ ending d.name → IsLeft d h p left e
       → Lasts d e b
   lasts_left d e b h p Empty ends is =
-      subst (λ (u : DeskNow V). Lasts d u b) (sym is.1) (record { phase = ends; members = λ m. refl })
+      subst (λ (u : DeskNow V). Lasts d u b) (sym is.1) (record { phase = ends; shape = refl; members = λ m. refl })
   lasts_left d e b h p Others ends is =
       lasts_through d e b _ (λ s. refl) (λ s. ap (λ f. f (latest_of d b)) (put_again s.object _)) ends is.2
   lasts_left d e b h p (Last x) ends is =
@@ -129,7 +133,7 @@ module _ {V : Type 0} where
   lasts_weakly : (d e : DeskNow V) (b : ℕ) (h : _) (p : _) (v : _) → (object_in d b).phase ≡ ending d.name → LeavesWeakly d h p v e
       → Lasts d e b
   lasts_weakly d e b None p v ends is =
-      subst (λ (u : DeskNow V). Lasts d u b) (sym is.0) (record { phase = ends; members = λ m. refl })
+      subst (λ (u : DeskNow V). Lasts d u b) (sym is.0) (record { phase = ends; shape = refl; members = λ m. refl })
   lasts_weakly d e b (Some c) p v ends is = lasts_through d e b _ (λ s. refl) (λ s. refl) ends is
 
   lasts_shared : (d e : DeskNow V) (b : ℕ) (x : Ending V) (j : ℕ) (left : Left V) → x.block.0 ≢ b → (object_in d b).phase ≡ ending d.name
@@ -140,34 +144,36 @@ module _ {V : Type 0} where
         left_apart c.between e c.block c.place left c.leaves b one.phase,
       )
 
-  lasts_clearing : (d e : DeskNow V) (b : ℕ) (x : Ending V) (m : Member) (left : Left V) → x.block.0 ≢ b
-      → (object_in d b).phase ≡ ending d.name → IsClearing d x m left e → Lasts d e b × IsBeside b left
-  lasts_clearing d e b x First left other ends is = lasts_shared d e b x 0 left other ends is.0
-  lasts_clearing d e b x Next left other ends is = lasts_shared d e b x 1 left other ends is.0
-  lasts_clearing d e b x Up left other ends c =
-      let one = lasts_clear d c.between b x.block.0 2 _ other ends c.takes.event in (
-        lasts_both d c.between e b one (lasts_weakly c.between e b c.block c.place c.vacant one.phase c.leaves),
-        up_beside d e x left c b,
-      )
+  -- a weak handle that left ended nothing
+  weakly_beside : (block : Option Block) (left : Left V) (b : ℕ) → IsGone block left → IsBeside b left
+  weakly_beside block Empty b gone = tt
+  weakly_beside block Others b gone = tt
+  weakly_beside block (Last x) b gone = absurd gone
 
-  block_with : (x : Ending V) (m : Member) → (with_clear m x).block ≡ x.block
-  block_with x First = refl
-  block_with x Next = refl
-  block_with x Up = refl
+  lasts_clearing : (d e : DeskNow V) (b : ℕ) (x : Ending V) (left : Left V) → x.block.0 ≢ b
+      → (object_in d b).phase ≡ ending d.name → IsClearing d x left e → Lasts d e b × IsBeside b left
+  lasts_clearing d e b x left other ends is = go (kind_of_member d.shape.owners x.cleared) is
+    where
+      go : (k : Kind) → ClearsOf k d x x.cleared left e → Lasts d e b × IsBeside b left
+      go Owner is = lasts_shared d e b x x.cleared left other ends is.0
+      go Weak c =
+          let one = lasts_clear d c.between b x.block.0 x.cleared _ other ends c.takes.event in (
+            lasts_both d c.between e b one (lasts_weakly c.between e b c.block c.place c.vacant one.phase c.leaves),
+            weakly_beside c.block left b c.told,
+          )
 
   -- a round of a pile on which it doesn't lie
   lasts_round : (d e : DeskNow V) (b : ℕ) (ys zs : List (Ending V)) (r : Round V) → NotAmong b ys
       → (object_in d b).phase ≡ ending d.name → IsRound d ys r e zs → Lasts d e b × NotAmong b zs
   lasts_round d e b ys zs Settled n ends is = (
-    subst (λ (u : DeskNow V). Lasts d u b) (sym is.2) (record { phase = ends; members = λ m. refl }),
+    subst (λ (u : DeskNow V). Lasts d u b) (sym is.2) (record { phase = ends; shape = refl; members = λ m. refl }),
     subst (NotAmong b) (sym is.1) tt,
   )
   lasts_round d e b ys zs (Cleared m gone) n ends c =
       let t = among_before b c.below c.top (subst (NotAmong b) c.were n) in
-      let l = lasts_clearing d e b c.top m c.left t.1 ends c.clears in
-      let top : (with_clear m c.top).block.0 ≢ b = subst (λ (k : Block). k.0 ≢ b) (sym (block_with c.top m)) t.1 in (
+      let l = lasts_clearing d e b c.top c.left t.1 ends c.clears in (
         l.0,
-        subst (NotAmong b) (sym c.are) (piled_apart b (c.below ++ with_clear m c.top ∷ []) c.left (among_append b c.below _ t.0 top) l.1),
+        subst (NotAmong b) (sym c.are) (piled_apart b (c.below ++ with_clear c.top ∷ []) c.left (among_append b c.below _ t.0 t.1) l.1),
       )
   lasts_round d e b ys zs (Ended v) n ends f =
       let t = among_before b zs f.top (subst (NotAmong b) f.were n) in
@@ -176,7 +182,7 @@ module _ {V : Type 0} where
   lasts_rounds : (d e : DeskNow V) (b : ℕ) (xs ys : List (Ending V)) (rs : List (Past V)) → NotAmong b xs
       → (object_in d b).phase ≡ ending d.name → AreRounds d xs rs e ys → Lasts d e b × NotAmong b ys
   lasts_rounds d e b xs ys [] n ends is = (
-    subst (λ (u : DeskNow V). Lasts d u b) (sym is.0) (record { phase = ends; members = λ m. refl }),
+    subst (λ (u : DeskNow V). Lasts d u b) (sym is.0) (record { phase = ends; shape = refl; members = λ m. refl }),
     subst (NotAmong b) (sym is.1) n,
   )
   lasts_rounds d e b xs ys (r ∷ rs) n ends is =
@@ -192,7 +198,8 @@ module _ {V : Type 0} where
         count = elsewhere.count;
         still = λ b x ends n.
             let t = still_there d e xs ys b x all elsewhere ends n in
-            (t.0, record { ends = t.1; members = (lasts_rounds d e b xs ys rs n ends.phase are).0.members });
+            let l = (lasts_rounds d e b xs ys rs n ends.phase are).0 in
+            (t.0, record { ends = t.1; shape = l.shape; members = l.members });
       }
 
   -- and one of them

@@ -1,16 +1,21 @@
 -- Trees that hang on a pile of objects that end, and the leave of an owner of one.
-use Rattle.std.proofs.Common.{◌≡◌, ℕ, ◌<◌, true, false, ◌≢◌, List, [], ◌∷◌, ◌++◌, map, ◌==◌, Some}
+use Rattle.std.proofs.Common.{◌≡◌, ℕ, ◌<◌, ◌≤◌, true, false, ◌≢◌, List, [], ◌∷◌, ◌++◌, map, ◌==◌, Some}
 use Rattle.std.proofs.Common.{None, Option, sym, refl, ap, ◌∙◌, subst, append_assoc, arith}
 use Rattle.scene_structures.proofs.Prelude
 use Prelude.{AddsEvent, after, Asks, bare, Block, comes_next, DeskNow, Ending, ending, EndsInHand}
 use Prelude.{Event, gone_of, handle_in, Has, held, IsLeft, IsLegal, IsTree, IsUncleared, latest_of}
-use Prelude.{leads, Leave, leaves, Left, live, moved_to, node, Object, objects_in_order, on_latest}
+use Prelude.{leads, Leave, leaves, Left, live, moved_to, node, NumberedHandle, Object}
+use Prelude.{objects_in_order, on_latest}
 use Prelude.{opening_of, Owner, owner, piled, Place, put_other, put_same, Sound, sound, State}
 use Prelude.{state_of, top_value, Tree, value, values_ended_by}
+use Rattle.control_word.proofs.history.Allowances.{opened}
 use Rattle.control_word.proofs.history.Formation.{formed}
+use Rattle.control_word.proofs.history.Kept.{owners_led}
 use Rattle.control_word.specs.Histories.{valued}
 use Rattle.control_word.specs.State.{count}
+use Rattle.control_block.specs.Rule.{members_of}
 use Rattle.shared_handle.specs.declared.endings.Left.TheVariants as left
+use Rattle.scene_structures.specs.Trees.{HoldsNoMore}
 use Rattle.scene_structures.proofs.Standing.{IsAlone}
 use Rattle.scene_structures.proofs.Trees.{ending_live, in_no_member, leave_member, one_lives}
 use Rattle.scene_structures.proofs.Trees.{tree_left}
@@ -44,8 +49,10 @@ module _ {V : Type 0} where
     pub ends : (s.object f.object).phase ≢ live
     pub first : IsTree s ((s.object f.object).member 0) f.first
     pub next : IsTree s ((s.object f.object).member 1) f.next
-    pub no_first : f.top.first ≡ true → f.first ≡ bare
-    pub no_next : f.top.next ≡ true → f.next ≡ bare
+    pub no_first : 0 < f.top.cleared → f.first ≡ bare
+    pub no_next : 1 < f.top.cleared → f.next ≡ bare
+    pub no_more : HoldsNoMore s f.object
+    pub many : 2 ≤ f.top.members
 
   abbrev pub Apart : ℕ → List (Frame V) → Type 0
   Apart o [] = Unit {0}
@@ -121,9 +128,10 @@ module _ {V : Type 0} where
       → AddsEvent d (Leave (on_latest d Owner p x.block.0) true) e → EndsInHand e x → IsUncleared x → IsAlone d
       → count (state_of d) (latest_of d x.block.0) ≡ 1
       → IsTree (state_of d) (((state_of d).object (latest_of d x.block.0)).member 0) first
-      → IsTree (state_of d) (((state_of d).object (latest_of d x.block.0)).member 1) next → Pend (state_of d) fs
+      → IsTree (state_of d) (((state_of d).object (latest_of d x.block.0)).member 1) next
+      → HoldsNoMore (state_of d) (latest_of d x.block.0) → Pend (state_of d) fs
       → Lets d e base (left.Last x) fs (node (latest_of d x.block.0) first next)
-  lets_last d e base p x fs first next adds ends fresh a one below beside pend =
+  lets_last d e base p x fs first next adds ends fresh a one below beside no_more pend =
       record {
         frames = top ∷ fs;
         pile = append_assoc base (endings fs) (x ∷ []);
@@ -156,15 +164,20 @@ module _ {V : Type 0} where
       stays : (f : ℕ) (j : ℕ) (tree : Tree) → j < 2 → IsTree s ((s.object f).member j) tree → IsTree t ((t.object f).member j) tree
       stays f j tree low is =
           let well = formed (opening_of d.shape) d.seen a.legal in
-          let apart = in_no_member (opening_of d.shape) s d.name o p fine well has one f j low in
+          let two : 2 ≤ s.owners =
+          (let n = (opened (opening_of d.shape) d.seen a.legal).owners.0 in let e = owners_led (opening_of d.shape) d.seen in omega (arith, n, e)) in
+          let apart = in_no_member (opening_of d.shape) s d.name o p fine well two has one f j low in
           subst (λ h. IsTree t h tree) (sym (leave_member s d.name o p f j))
-          (tree_left (opening_of d.shape) s d.name o p fine well has one ((s.object f).member j) tree apart is)
+          (tree_left (opening_of d.shape) s d.name o p fine well two has one ((s.object f).member j) tree apart is)
 
       apart : Apart o fs
       apart = apart_live s o (one_lives (opening_of d.shape) s o fine one) fs pend
 
       now : t.object o ≡ moved_to (ending d.name) (s.object o)
       now = put_same s.object o (moved_to (ending d.name) (s.object o)) o refl
+
+      still : (f : ℕ) → HoldsNoMore s f → HoldsNoMore t f
+      still f none m lt le = ap (λ (h : NumberedHandle). h.object) (leave_member s d.name o p f m) ∙ none m lt le
 
       mine : Pends t top
       mine =
@@ -173,8 +186,11 @@ module _ {V : Type 0} where
             ends = λ e. ending_live d.name (sym (ap (λ (y : Object). y.phase) now) ∙ e);
             first = stays o 0 first (omega arith) below;
             next = stays o 1 next (omega arith) beside;
-            no_first = λ e. absurd (let u = sym e ∙ fresh.0 in cc);
-            no_next = λ e. absurd (let u = sym e ∙ fresh.1 in cc);
+            no_first = λ lt. absurd (omega (arith, lt, fresh));
+            no_next = λ lt. absurd (omega (arith, lt, fresh));
+            no_more = still o no_more;
+            many = (let n = (opened (opening_of d.shape) d.seen a.legal).members.0 in
+                let m = ends.shape ∙ ap members_of adds.same.1 in omega (arith, n, m));
           }
 
       others : (f : Frame V) → f.object ≢ o → Pends s f → Pends t f
@@ -186,6 +202,8 @@ module _ {V : Type 0} where
             next = stays f.object 1 f.next (omega arith) pd.next;
             no_first = pd.no_first;
             no_next = pd.no_next;
+            no_more = still f.object pd.no_more;
+            many = pd.many;
           }
 
       kept : value_of d o ≡ Some x.value
@@ -216,7 +234,8 @@ module _ {V : Type 0} where
       subst (λ k. Lets d e base (left.Last x) fs (node k first next)) (sym o)
       (lets_last d e base p x fs first next adds ends fresh a (ap (count (state_of d)) (sym o) ∙ is.1)
       (subst (λ k. IsTree (state_of d) (((state_of d).object k).member 0) first) o is.2)
-      (subst (λ k. IsTree (state_of d) (((state_of d).object k).member 1) next) o is.3) pend)
+      (subst (λ k. IsTree (state_of d) (((state_of d).object k).member 1) next) o is.3)
+      (subst (HoldsNoMore (state_of d)) o is.4) pend)
 
   pub lets : (d e : DeskNow V) (base : List (Ending V)) (b : Option Block) (p : Option Place) (l : Left V) (fs : List (Frame V)) (tree : Tree)
       → IsLeft d b p l e → IsAlone d → IsTree (state_of d) (handle_in d Owner b p) tree → Pend (state_of d) fs → Lets d e base l fs tree

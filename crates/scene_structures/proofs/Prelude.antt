@@ -1,5 +1,5 @@
 -- The words that many of this crate's proofs cite, passed on from one place. Declares nothing.
-pub use Rattle.std.proofs.lemmas.Bool.{cases_lt, cond-false, cond-true, cond_both, iff_false}
+pub use Rattle.std.proofs.lemmas.Bool.{cases_eq, cases_lt, cond-false, cond-true, cond_both, iff_false}
 pub use Rattle.std.proofs.lemmas.List.{map-append}
 pub use Rattle.std.proofs.lemmas.List.Elements.{All-append, All-cons, All-head, All-nil, All-tail}
 pub use Rattle.std.proofs.lemmas.List.Elements.{All-weaker}
@@ -18,7 +18,7 @@ pub use Rattle.control_block.specs.Desks.{latest_of, on_latest, state_of}
 pub use Rattle.control_block.specs.Own.{Does, Goes, IsSole, KeepsDesks, KeepsHeld, KeepsLatest}
 pub use Rattle.control_block.specs.Rule.{opening_of}
 pub use Rattle.control_block.specs.declared.handles.Shared.{Shared}
-pub use Rattle.control_word.proofs.history.Cells.{InState, one_of, open_live}
+pub use Rattle.control_word.proofs.history.Cells.{InState, one_of}
 pub use Rattle.control_word.proofs.history.Clearing.{was_made}
 pub use Rattle.control_word.proofs.history.Given.{legal_seen}
 pub use Rattle.control_word.proofs.history.Kept.{block_kept, cells_led}
@@ -72,7 +72,6 @@ pub use Rattle.shared_handle.specs.Piles.{IsRound, next_member, Past, piled}
 pub use Rattle.shared_handle.specs.declared.endings.Ending.{Ending}
 pub use Rattle.shared_handle.specs.declared.endings.Left.{Left}
 pub use Rattle.shared_handle.specs.declared.endings.Left.TheVariants.{Empty, Last, Others}
-pub use Rattle.shared_handle.specs.declared.endings.Member.TheVariants.{First, Next, Up}
 pub use Rattle.shared_handle.specs.declared.pile.Gone.{Gone}
 pub use Rattle.shared_handle.specs.declared.pile.Pile.{Pile}
 pub use Rattle.shared_handle.specs.declared.pile.Round.{Round}

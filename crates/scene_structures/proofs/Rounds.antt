@@ -3,17 +3,18 @@ use Rattle.std.proofs.Common.{◌≡◌, ℕ, ◌⊎◌, List, [], ◌∷◌, �
 use Rattle.std.proofs.Common.{◌∙◌, subst, inl, inr}
 use Rattle.scene_structures.proofs.Prelude
 use Prelude.{AddsEvent, after, AreRounds, bag, Block, block_kept, Cleared, ClearMember, cond-true}
-use Prelude.{DeskNow, Does, Empty, Ended, Ending, Event, First, handle, handle_in, Has, has_part}
+use Prelude.{DeskNow, Does, Empty, Ended, Ending, Event, handle, handle_in, Has, has_part}
 use Prelude.{Held, held, IsClearing, IsLeft, IsLegal, IsParting, IsRound, KeepsHeld, Kind, Last}
-use Prelude.{latest_of, leads, LeavesWeakly, Left, legal_seen, Next, NumberedHandle, on_latest}
+use Prelude.{kind_of_member}
+use Prelude.{latest_of, leads, LeavesWeakly, Left, legal_seen, NumberedHandle, on_latest}
 use Prelude.{opening_of, Others, Owner, Past, Place, Round, same_held, Settled, shown_held, State}
-use Prelude.{state_of, Up, Weak, without}
+use Prelude.{state_of, Weak, without}
 use Rattle.control_word.proofs.history.Given.{names_an_object}
 use Rattle.control_word.proofs.history.Kept.{same_kept}
 use Rattle.control_word.proofs.lists.Parts.{part_has, part_mine}
 use Rattle.control_word.proofs.lists.Tallies.{held_self, held_true}
 use Rattle.control_block.proofs.partings.Parts.{part_without_mine}
-use Rattle.shared_handle.specs.declared.endings.Member.{Member}
+use Rattle.shared_handle.specs.Endings.{ClearsOf}
 use Rattle.scene_structures.proofs.Latest.{held_here}
 
 bag_without : (s : State) (n : ℕ) (h : NumberedHandle)
@@ -91,13 +92,13 @@ module _ {V : Type 0} where
         legal_by m e _ is,
       )
 
-  clearing_hands : (d e : DeskNow V) (x : Ending V) (m : Member) (left : Left V) → IsClearing d x m left e
+  clearing_hands : (d e : DeskNow V) (x : Ending V) (left : Left V) → IsClearing d x left e
       → (hands_of e ≡ hands_of d) × Legal e
-  clearing_hands d e x First left is =
-      let c = is.0 in left_out d c.between e _ 0 c.block c.place left c.takes.event c.leaves
-  clearing_hands d e x Next left is =
-      let c = is.0 in left_out d c.between e _ 1 c.block c.place left c.takes.event c.leaves
-  clearing_hands d e x Up left c = weakly_out d c.between e _ 2 c.block c.place c.vacant c.takes.event c.leaves
+  clearing_hands d e x left is = go (kind_of_member d.shape.owners x.cleared) is
+    where
+      go : (k : Kind) → ClearsOf k d x x.cleared left e → (hands_of e ≡ hands_of d) × Legal e
+      go Owner is = let c = is.0 in left_out d c.between e _ x.cleared c.block c.place left c.takes.event c.leaves
+      go Weak c = weakly_out d c.between e _ x.cleared c.block c.place c.vacant c.takes.event c.leaves
 
   -- from d to e, by events or by none
   abbrev HasStill : DeskNow V → DeskNow V → Type 0
@@ -110,7 +111,7 @@ module _ {V : Type 0} where
 
   round_hands : (d e : DeskNow V) (ys zs : List (Ending V)) (r : Round V) → IsRound d ys r e zs → HasStill d e
   round_hands d e ys zs Settled is = inl is.2
-  round_hands d e ys zs (Cleared m gone) c = inr (clearing_hands d e c.top m c.left c.clears)
+  round_hands d e ys zs (Cleared m gone) c = inr (clearing_hands d e c.top c.left c.clears)
   round_hands d e ys zs (Ended v) f = inr (by_event d e _ (λ l. l) f.finish.event (λ s. refl), legal_by d e _ f.finish.event)
 
   rounds_hands : (d e : DeskNow V) (xs ys : List (Ending V)) (rs : List (Past V)) → AreRounds d xs rs e ys → HasStill d e

@@ -1,16 +1,15 @@
 -- Rounds of a pile, with the slots of what ends in them.
-use Rattle.std.proofs.Common.{◌≡◌, ℕ, ◌+◌, ◌*◌, ◌<◌, ◌≤◌, ◌≢◌, ◌⊎◌, List, [], ◌∷◌, ◌++◌, length}
+use Rattle.std.proofs.Common.{◌≡◌, ℕ, ◌+◌, ◌<◌, ◌≤◌, ◌≢◌, ◌⊎◌, List, [], ◌∷◌, ◌++◌, length}
 use Rattle.std.proofs.Common.{None, Option, sym, refl, ap, ◌∙◌, subst, inl, inr, append_assoc}
 use Rattle.std.proofs.Common.{append-nil, arith}
 use Rattle.scene_structures.proofs.Prelude
 use Prelude.{AreOut, Block, Cleared, ClearsTop, DeskNow, Drops, empty_slots, Ended, Ending}
-use Prelude.{filled_values, FinishesTop, First, Gone, gone_of, IsRound, Left, MakesRounds, MayStop}
-use Prelude.{Next, piled, Place, Round, Settled, Shared, TearsDown, top_value, Up, values_ended_by}
+use Prelude.{filled_values, FinishesTop, Gone, gone_of, IsRound, Left, MakesRounds, MayStop}
+use Prelude.{piled, Place, Round, Settled, Shape, Shared, TearsDown, top_value, values_ended_by}
 use Prelude.{values_ended_in, with_clear}
 use Rattle.shared_handle.specs.declared.endings.Left.TheVariants as left
-use Rattle.shared_handle.specs.declared.endings.Member.{Member}
 use Rattle.shared_handle.specs.declared.pile.Gone.TheVariants.{Empty, Last, Others}
-use Rattle.scene_structures.specs.Teardowns.{RunsDown, RoundStepsBy}
+use Rattle.scene_structures.specs.Teardowns.{most_rounds, RunsDown, RoundStepsBy}
 use Rattle.scene_structures.proofs.Slots.{last_of, no_last, last_same, out_all, out_more, out_same}
 use Rattle.scene_structures.proofs.Slots.{out_whole, top_there}
 
@@ -27,11 +26,6 @@ module _ {V : Type 0} where
   top_of (y ∷ []) x = refl
   top_of (y ∷ (z ∷ xs)) x = top_of (z ∷ xs) x
 
-  clear_value : (m : Member) (x : Ending V) → (with_clear m x).value ≡ x.value
-  clear_value First x = refl
-  clear_value Next x = refl
-  clear_value Up x = refl
-
   -- the pile is a lower part, what lies between, and the top
   parts : (ys base zs below : List (Ending V)) (x : Ending V) (ss : List (Option V)) (vs : List V) (is : List ℕ) → is ≡ empty_slots 0 ss → is ≢ []
       → ys ≡ base ++ zs → AreOut ss zs vs → ys ≡ below ++ x ∷ []
@@ -45,22 +39,22 @@ module _ {V : Type 0} where
       (t.0, t.2 ∙ ap (λ (y : Ending V). t.0 ++ y ∷ []) same.1, sym same.0)
 
   -- a member of the top was emptied
-  out_cleared : (d e : DeskNow V) (ys qs base zs : List (Ending V)) (m : Member) (gone : Gone) (ss : List (Option V)) (vs : List V) (is : List ℕ)
+  out_cleared : (d e : DeskNow V) (ys qs base zs : List (Ending V)) (m : ℕ) (gone : Gone) (ss : List (Option V)) (vs : List V) (is : List ℕ)
       → ClearsTop d ys m gone e qs → is ≡ empty_slots 0 ss → is ≢ [] → ys ≡ base ++ zs → AreOut ss zs vs
       → (ws : List (Ending V)) × (x : Ending V) × ((left : Left V) × (gone ≡ gone_of left) × (qs ≡ piled (base ++ (ws ++ x ∷ [])) left))
       × AreOut ss (ws ++ x ∷ []) vs
   out_cleared d e ys qs base zs m gone ss vs is c vacant some are out =
       let p = parts ys base zs c.below c.top ss vs is vacant some are out c.were in
-      let x = with_clear m c.top in
+      let x = with_clear c.top in
       let low : c.below ++ x ∷ [] ≡ base ++ (p.0 ++ x ∷ []) = ap (λ l. l ++ x ∷ []) p.2 ∙ append_assoc base p.0 (x ∷ []) in (
         p.0,
         x,
         (c.left, c.told, c.are ∙ ap (λ l. piled l c.left) low),
-        out_same ss p.0 c.top x vs (clear_value m c.top) (subst (λ l. AreOut ss l vs) p.1 out),
+        out_same ss p.0 c.top x vs refl (subst (λ l. AreOut ss l vs) p.1 out),
       )
 
   -- and nothing ended by that
-  out_stays : (d e : DeskNow V) (ys qs base zs : List (Ending V)) (m : Member) (gone : Gone) (ss : List (Option V)) (vs : List V) (is : List ℕ)
+  out_stays : (d e : DeskNow V) (ys qs base zs : List (Ending V)) (m : ℕ) (gone : Gone) (ss : List (Option V)) (vs : List V) (is : List ℕ)
       → gone ≢ Last → ClearsTop d ys m gone e qs → is ≡ empty_slots 0 ss → is ≢ [] → ys ≡ base ++ zs → AreOut ss zs vs
       → (ws : List (Ending V)) × (qs ≡ base ++ ws) × AreOut ss ws (vs ++ values_ended_by gone qs)
   out_stays d e ys qs base zs m gone ss vs is not c vacant some are out =
@@ -79,7 +73,7 @@ module _ {V : Type 0} where
       low (left.Last x) told is' = absurd (not told)
 
   -- or something did
-  out_grows : (d e : DeskNow V) (ys qs base zs : List (Ending V)) (m : Member) (ss ts : List (Option V)) (vs : List V) (is : List ℕ)
+  out_grows : (d e : DeskNow V) (ys qs base zs : List (Ending V)) (m : ℕ) (ss ts : List (Option V)) (vs : List V) (is : List ℕ)
       → ClearsTop d ys m Last e qs → is ≡ empty_slots 0 ss → is ≢ [] → ts ≡ ss ++ None ∷ [] → ys ≡ base ++ zs → AreOut ss zs vs
       → (ws : List (Ending V)) × (qs ≡ base ++ ws) × AreOut ts ws (vs ++ top_value qs)
   out_grows d e ys qs base zs m ss ts vs is c vacant some grown are out =
@@ -166,10 +160,10 @@ module _ {V : Type 0} where
       same left.Others told are = are ∙ sym (append-nil xs)
       same (left.Last x) told are = absurd (not told)
 
-  pub tears_down : (blocks : ℕ) (d m e : DeskNow V) (xs ps ys : List (Ending V)) (root : Shared) (gone : Gone) (ss ts : List (Option V)) (values : List V)
+  pub tears_down : (z : Shape) (d m e : DeskNow V) (xs ps ys : List (Ending V)) (root : Shared) (gone : Gone) (ss ts : List (Option V)) (values : List V)
       → Drops d xs root.block root.place gone m ps → (zs : List (Ending V)) → ps ≡ xs ++ zs → AreOut ss zs (values_ended_by gone ps)
-      → RunsDown blocks m ps ss e ys ts → values ≡ filled_values ts → TearsDown blocks d xs root values e ys
-  tears_down blocks d m e xs ps ys root gone ss ts values drops zs are out runs is =
+      → RunsDown z m ps ss e ys ts → values ≡ filled_values ts → TearsDown z d xs root values e ys
+  tears_down z d m e xs ps ys root gone ss ts values drops zs are out runs is =
       let t = runs.out xs zs (values_ended_by gone ps) are out in
       record {
         gone = gone;
@@ -209,18 +203,18 @@ module _ {V : Type 0} where
   pub runs_none : (d : DeskNow V) (ys : List (Ending V)) (ss : List (Option V)) → MakesRounds d ys ss 0 d ys ss
   runs_none d ys ss = record { rounds = []; are = (refl, refl); many = refl; out = λ base zs vs same out. (zs, same, out, tt) }
 
-  pub runs_over : (blocks b : ℕ) (d e : DeskNow V) (ys qs : List (Ending V)) (ss ts : List (Option V)) (is : List ℕ) (n : ℕ) → b ≡ blocks
-      → MakesRounds d ys ss n e qs ts → n ≤ 4 * blocks → is ≡ empty_slots 0 ts → (is ≡ []) ⊎ ((4 * b ≤ n) ⊎ (b < length ts))
-      → RunsDown blocks d ys ss e qs ts
-  runs_over blocks b d e ys qs ss ts is n same runs most vacant over =
+  pub runs_over : (z : Shape) (b most : ℕ) (d e : DeskNow V) (ys qs : List (Ending V)) (ss ts : List (Option V)) (is : List ℕ) (n : ℕ) → b ≡ z.blocks
+      → most ≡ most_rounds z → MakesRounds d ys ss n e qs ts → n ≤ most → is ≡ empty_slots 0 ts
+      → (is ≡ []) ⊎ ((most ≤ n) ⊎ (b < length ts)) → RunsDown z d ys ss e qs ts
+  runs_over z b most d e ys qs ss ts is n same are runs few vacant over =
       record {
         rounds = runs.rounds;
         are = runs.are;
         out = λ base zs vs are out. let t = runs.out base zs vs are out in (t.0, t.1, t.2, t.3, stop t.0 _ t.2 over);
       }
     where
-      stop : (ws : List (Ending V)) (vs : List V) → AreOut ts ws vs → (is ≡ []) ⊎ ((4 * b ≤ n) ⊎ (b < length ts))
-          → MayStop blocks runs.rounds ws ts
+      stop : (ws : List (Ending V)) (vs : List V) → AreOut ts ws vs → (is ≡ []) ⊎ ((most ≤ n) ⊎ (b < length ts))
+          → MayStop z runs.rounds ws ts
       stop ws vs out (inl none) = inl (out_all ts ws vs (sym vacant ∙ none) out)
-      stop ws vs out (inr (inl all)) = let many = runs.many in inr (inl (omega arith))
+      stop ws vs out (inr (inl all)) = let same : n ≡ most = omega arith in inr (inl (runs.many ∙ (same ∙ are)))
       stop ws vs out (inr (inr lt)) = inr (inr (omega arith))

@@ -6,9 +6,10 @@ use Prelude.{All-append, All-cons, All-nil, All-weaker, bag_of, Block, Cell, cel
 use Prelude.{DeskNow, Entry, entry, Event, FindsNone, Free, Goes, goes_by_call, goes_in_turn}
 use Prelude.{handle, handle_in, in_no_cell, IsEmptyList, IsLegal, IsList, IsPopped, IsSole}
 use Prelude.{KeepsDesks, latest_of, leads, Lists, live, Load, Make, Member, NextOf, node_in}
-use Prelude.{NumberedHandle, open_live, opening_of, Owner, owner, OwnsObject, Place, place_at}
+use Prelude.{NumberedHandle, opening_of, Owner, owner, OwnsObject, Place, place_at}
 use Prelude.{Pushes, put_same, PutsOnly, Shape, Shared, shown_held, sound, State, state_of, Swap}
 use Prelude.{TakesNode}
+use Rattle.control_block.proofs.Endings.{owner_lives}
 use Rattle.control_block.proofs.Sole.{come_in_a_row}
 use Rattle.scene_structures.specs.Stacks.{IsPushed}
 use Rattle.scene_structures.proofs.Frames.{AllLive, Apart, chain_live, frames}
@@ -106,7 +107,7 @@ module _ {V : Type 0} where
           let object : Some (latest_of e b.0) ≡ Some o = ap (λ (k : NumberedHandle). k.object) same in
           let number : latest_of e b.0 ≡ o = cc in
           subst (λ j. ((state_of e).object j).phase ≡ live) number
-          (open_live z (state_of e) e.name (latest_of e b.0) 0 (sound z e.seen legal) (omega arith, (k, (there.0, refl, refl), refl)))
+          (owner_lives z (state_of e) e.name k (sound z e.seen legal) (there.0, refl, refl))
 
   -- pop, of a node that is in hand in the end
   pub popped_list : (d e : DeskNow V) (m : ℕ) (h : Shared) → TakesNode d (Free m) h e → IsLegal (opening_of d.shape) d.seen → IsSole d

@@ -4,19 +4,18 @@ use Rattle.std.proofs.Common.{None, Option, sym, refl, ap, ◌∙◌, subst, ari
 use Rattle.scene_structures.proofs.Prelude
 use Prelude.{AddsEvent, after, All-cons, All-nil, Asks, Block, ClearMember, ClearsMember}
 use Prelude.{comes_next, common, cond_both, counting, DeskNow, Ending, ending, Event, Finish}
-use Prelude.{First, goes_by_call, gone, Holds, IsClearing, IsFinish, IsLeft, IsLegal, IsSole}
-use Prelude.{KeepsDesks, leads, Leave, leaves, LeavesWeakly, Left, live, moved_to, Next}
+use Prelude.{goes_by_call, gone, Holds, IsClearing, IsFinish, IsLeft, IsLegal, IsSole}
+use Prelude.{KeepsDesks, Kind, kind_of_member, leads, Leave, leaves, LeavesWeakly, Left, live, moved_to}
 use Prelude.{NumberedHandle, Object, object_of, Opening, opening_of, Owner, Phase, Place, put}
 use Prelude.{put_other, put_same, Shape, Sound, sound, State, state_of, sum_below, sum_ones}
-use Prelude.{unmade, Up, WeakLeave}
+use Prelude.{unmade, Weak, WeakLeave}
 use Rattle.control_word.proofs.lists.Sums.{sum_le}
 use Rattle.control_word.proofs.words.Banks.{sum_all, sum_set}
 use Rattle.control_block.proofs.Endings.{owner_lives}
 use Rattle.control_block.proofs.Passage.{IsQuiet, quiet_clear}
 use Rattle.control_block.specs.Desks.{ends_with, many_ending}
-use Rattle.shared_handle.specs.Endings.{ClearsUp}
+use Rattle.shared_handle.specs.Endings.{ClearsOf, ClearsWeakly}
 use Rattle.shared_handle.specs.declared.endings.Left.TheVariants as left
-use Rattle.shared_handle.specs.declared.endings.Member.{Member}
 use Rattle.scene_structures.proofs.Sole.{sole_is}
 
 abbrev pub many_standing : ℕ → State → ℕ
@@ -165,15 +164,17 @@ module _ {V : Type 0} where
       let t = takes_loses d c.between _ m _ c.takes.event a in
       loses_both d c.between e 0 0 t (left_loses c.between e c.block c.place l c.leaves t.alone)
 
-  up_loses : (d e : DeskNow V) (x : Ending V) (l : Left V) → ClearsUp d x l e → IsAlone d → Loses d 0 e
-  up_loses d e x l c a =
-      let t = takes_loses d c.between _ 2 _ c.takes.event a in
+  weakly_loses : (d e : DeskNow V) (x : Ending V) (m : ℕ) (l : Left V) → ClearsWeakly d x m l e → IsAlone d → Loses d 0 e
+  weakly_loses d e x m l c a =
+      let t = takes_loses d c.between _ m _ c.takes.event a in
       loses_both d c.between e 0 0 t (weak_loses c.between e c.block c.place c.vacant c.leaves t.alone)
 
-  pub clearing_loses : (d e : DeskNow V) (x : Ending V) (m : Member) (l : Left V) → IsClearing d x m l e → IsAlone d → Loses d 0 e
-  clearing_loses d e x First l c a = clears_loses d e x 0 l c.0 a
-  clearing_loses d e x Next l c a = clears_loses d e x 1 l c.0 a
-  clearing_loses d e x Up l c a = up_loses d e x l c a
+  pub clearing_loses : (d e : DeskNow V) (x : Ending V) (l : Left V) → IsClearing d x l e → IsAlone d → Loses d 0 e
+  clearing_loses d e x l c a = go (kind_of_member d.shape.owners x.cleared) c
+    where
+      go : (k : Kind) → ClearsOf k d x x.cleared l e → Loses d 0 e
+      go Owner c = clears_loses d e x x.cleared l c.0 a
+      go Weak c = weakly_loses d e x x.cleared l c a
 
   pub finish_loses : (d e : DeskNow V) (x : Ending V) (v : V) → IsFinish d x v e → IsAlone d → Loses d 1 e
   finish_loses d e x v f a =

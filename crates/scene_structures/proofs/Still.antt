@@ -151,7 +151,7 @@ module _ {V : Type 0} where
   one_step z s t d (ClearMember o m h) fine p asks st =
       ⊎_elim (λ none. inl record { objects = cleared_again t o m none ∙ st.objects; cell = st.cell; made = st.made; cells = st.cells })
       (λ full. inr (inr (used_clear V s t d o m h st.objects (made_before z s t d o fine asks.0 st) asks.0 full)))
-      (is_empty ((t.object o).member m) (empty (kind_of_member m)))
+      (is_empty ((t.object o).member m) (empty (kind_of_member t.owners m)))
   one_step z s t d (Finish o v y) fine p asks st =
       inr (inr (used_finish s t d o v y st.objects (made_before z s t d o fine asks.0 st) asks.0))
   one_step z s t d x fine p asks st = absurd p

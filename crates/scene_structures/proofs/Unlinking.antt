@@ -69,8 +69,11 @@ lives_there s (Member o m) there = there.1
 module _ {V : Type 0} where
   pub in_there : (d : DeskNow V) (k : Cell) → IsLegal (opening_of d.shape) d.seen → IsLiveCell (state_of d) k → InState (state_of d) k
   in_there d (Free n) legal there = there
-  in_there d (Member o m) legal there =
-      (there.0, was_made (opening_of d.shape) (state_of d) o (sound (opening_of d.shape) d.seen legal) (λ e. let t = there.1 in cc))
+  in_there d (Member o m) legal there = (
+    (let t = there.0 in let u = (sound (opening_of d.shape) d.seen legal).few in omega (arith, t, u)),
+    was_made (opening_of d.shape) (state_of d) o
+        (sound (opening_of d.shape) d.seen legal) (λ e. let t = there.1 in cc),
+  )
 
   pub keeps_but : (at : Cell → Type 0) (d e : DeskNow V) → Does (PutsOnly at) d e → IsLegal (opening_of d.shape) d.seen → IsSole d
       → KeepsBut at d e

@@ -22,7 +22,7 @@ weak_out (Some b) p l = first_out Weak (Some b) p l
 module _ {V : Type 0} where
   pub endings_both : (d e f : DeskNow V) → KeepsEndings d e → KeepsEndings e f → KeepsEndings d f
   endings_both d e f one two b x ends =
-      let s = one b x ends in let t = two b x s.ends in record { ends = t.ends; members = λ m. t.members m ∙ s.members m }
+      let s = one b x ends in let t = two b x s.ends in record { ends = t.ends; shape = t.shape ∙ s.shape; members = λ m. t.members m ∙ s.members m }
 
   pub lists_of : (d : DeskNow V) (b : Option Block) (p : Option Place) → HoldsHandle d Owner b p → Lists b p (bag_of d)
   lists_of d None p holds = tt

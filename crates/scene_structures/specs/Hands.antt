@@ -10,9 +10,9 @@ use Rattle.control_word.specs.declared.place.Block.{Block}
 use Rattle.control_word.specs.declared.place.Place.{Place}
 use Rattle.control_word.specs.declared.shape.Shape.{Shape}
 use Rattle.atomic_cells.specs.declared.sites.SharedSite.{SharedSite}
-use Rattle.atomic_cells.specs.declared.sites.SharedSite.TheVariants.{Free, Of}
+use Rattle.atomic_cells.specs.declared.sites.SharedSite.TheVariants.{Free, More, Of}
 use Rattle.control_block.specs.CellCalls.{handle_in, with_handle}
-use Rattle.control_block.specs.Desks.{DeskNow, HasHandle, bag_of, latest_of}
+use Rattle.control_block.specs.Desks.{DeskNow, bag_of, latest_of}
 use Rattle.control_block.specs.declared.handles.Shared.{Shared}
 
 -- these handles lie on a bag
@@ -29,6 +29,7 @@ Lists (Some b) p l = Has (handle Owner (Some b.0) p) l
 abbrev pub IsOpenBy : List NumberedHandle → Shape → SharedSite → Type 0
 IsOpenBy l z (Free n) = n < z.shared_cells
 IsOpenBy l z (Of b m) = (p : Option Place) × Has (handle Owner (Some b.0) p) l
+IsOpenBy l z (More b n) = ((p : Option Place) × Has (handle Owner (Some b.0) p) l) × (n + 2 < z.owners)
 
 module _ {V : Type 0} where
   -- what the handle is, by the object that it is on

@@ -16,7 +16,7 @@ use Rattle.scene_structures.specs.Scenes.{AreChildren}
 -- the cell is a free one, or a member of an object that lives
 abbrev pub IsLiveCell : State → Cell → Type 0
 IsLiveCell s (Free n) = n < s.cells
-IsLiveCell s (Member o m) = (m < 3) × ((s.object o).phase ≡ live)
+IsLiveCell s (Member o m) = (m < s.members) × ((s.object o).phase ≡ live)
 
 -- the cell that holds what comes after these, in a list from this cell on
 abbrev pub after_all : Cell → List ℕ → Cell

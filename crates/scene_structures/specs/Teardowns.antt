@@ -1,8 +1,10 @@
 -- What a teardown says (own): which objects end, in which order, and what comes out of them.
-use Rattle.std.specs.Prelude.{◌≡◌, ◌⊎◌, ℕ, suc, ◌*◌, ◌<◌, length, List, [], ◌∷◌, ◌++◌}
+use Rattle.std.specs.Prelude.{◌≡◌, ◌⊎◌, ℕ, suc, ◌+◌, ◌*◌, ◌<◌, length, List, [], ◌∷◌, ◌++◌}
 use Rattle.std.specs.Prelude.{Option, None, Some, vec_capacity}
 use Rattle.control_block.specs.Desks.{DeskNow}
+use Rattle.control_block.specs.Rule.{members_of}
 use Rattle.control_block.specs.declared.handles.Shared.{Shared}
+use Rattle.control_word.specs.declared.shape.Shape.{Shape}
 use Rattle.shared_handle.specs.Piles.{AreRounds, Drops, Past}
 use Rattle.shared_handle.specs.declared.endings.Ending.{Ending}
 use Rattle.shared_handle.specs.declared.pile.Gone.{Gone}
@@ -29,6 +31,10 @@ abbrev pub filled_values : {A : Type 0} → List (Option A) → List A
 filled_values [] = []
 filled_values (Some x ∷ ss) = x ∷ filled_values ss
 filled_values (None ∷ ss) = filled_values ss
+
+-- the rounds in which each block's object is emptied member by member and finished
+abbrev pub most_rounds : Shape → ℕ
+most_rounds z = (members_of z + 1) * z.blocks
 
 module _ {V : Type 0} where
   -- the value of what lies on top
@@ -62,10 +68,10 @@ module _ {V : Type 0} where
       (z : Ending V) × (ws : List (Ending V)) × (us : List V) × (zs ≡ z ∷ ws)
       × (vs ≡ z.value ∷ us) × AreOut ss ws us
 
-  -- rounds go on till all has come out; but no more are made than four a block, and none when more objects have ended
-  -- than there are blocks
-  abbrev pub MayStop : ℕ → List (Past V) → List (Ending V) → List (Option V) → Type 0
-  MayStop blocks rs rest slots = (rest ≡ []) ⊎ ((length rs ≡ 4 * blocks) ⊎ (blocks < length slots))
+  -- rounds go on till all has come out; but no more are made than these, and none when more objects have ended than
+  -- there are blocks
+  abbrev pub MayStop : Shape → List (Past V) → List (Ending V) → List (Option V) → Type 0
+  MayStop z rs rest slots = (rest ≡ []) ⊎ ((length rs ≡ most_rounds z) ⊎ (z.blocks < length slots))
 
   -- each of the rounds was made while something lay above these
   abbrev pub IsAbove : List (Ending V) → List (Past V) → Type 0
@@ -95,18 +101,18 @@ module _ {V : Type 0} where
         × IsAbove base rounds
 
   -- and they may stop
-  pub record RunsDown (blocks : ℕ) (d : DeskNow V) (ys : List (Ending V)) (ss : List (Option V))
+  pub record RunsDown (z : Shape) (d : DeskNow V) (ys : List (Ending V)) (ss : List (Option V))
       (e : DeskNow V) (qs : List (Ending V))
       (ts : List (Option V)) : Type 0 where
     pub rounds : List (Past V)
     pub are : AreRounds d ys rounds e qs
     pub out : (base zs : List (Ending V)) (vs : List V) → ys ≡ base ++ zs → AreOut ss zs vs
         → (ws : List (Ending V)) × (qs ≡ base ++ ws) × AreOut ts ws (values_ended rounds qs vs)
-        × IsAbove base rounds × MayStop blocks rounds ws ts
+        × IsAbove base rounds × MayStop z rounds ws ts
 
   -- The root left, and in rounds of the pile ended what ends by that, and nothing that lay on it before. The values
   -- came out in the order in which their objects ended; what has not come out lies above what lay on the pile
-  pub record TearsDown (blocks : ℕ) (d : DeskNow V) (xs : List (Ending V)) (root : Shared)
+  pub record TearsDown (z : Shape) (d : DeskNow V) (xs : List (Ending V)) (root : Shared)
       (values : List V) (e : DeskNow V)
       (ys : List (Ending V)) : Type 0 where
     pub gone : Gone
@@ -122,4 +128,4 @@ module _ {V : Type 0} where
     pub order : AreOut slots rest (values_ended rounds ys (values_ended_by gone pile))
     pub out : values ≡ filled_values slots
     pub whole : rest ≡ [] → values ≡ values_ended rounds ys (values_ended_by gone pile)
-    pub stops : MayStop blocks rounds rest slots
+    pub stops : MayStop z rounds rest slots

@@ -1,5 +1,5 @@
 -- A tree of objects that nobody else owns, and what its teardown answers (own).
-use Rattle.std.specs.Prelude.{◌≡◌, ℕ, List, [], ◌∷◌, ◌++◌, map, Some, None}
+use Rattle.std.specs.Prelude.{◌≡◌, ℕ, ◌<◌, ◌≤◌, List, [], ◌∷◌, ◌++◌, map, Some, None}
 use Rattle.control_word.specs.Histories.{value}
 use Rattle.control_word.specs.State.{State, count}
 use Rattle.control_word.specs.declared.model.handle.NumberedHandle.{NumberedHandle}
@@ -18,12 +18,16 @@ abbrev pub objects_in_order : Tree → List ℕ
 objects_in_order bare = []
 objects_in_order (node o first next) = o ∷ (objects_in_order first ++ objects_in_order next)
 
+-- the object's further owner members own nothing
+abbrev pub HoldsNoMore : State → ℕ → Type 0
+HoldsNoMore s o = (m : ℕ) → 2 < m → m ≤ s.owners → ((s.object o).member m).object ≡ None
+
 -- the handle is the only owner of the tree's top, and that of what its `first` and its `next` own, and so on down
 abbrev pub IsTree : State → NumberedHandle → Tree → Type 0
 IsTree s h bare = h.object ≡ None
 IsTree s h (node o first next) =
     (h.object ≡ Some o) × (count s o ≡ 1)
-    × IsTree s ((s.object o).member 0) first × IsTree s ((s.object o).member 1) next
+    × IsTree s ((s.object o).member 0) first × IsTree s ((s.object o).member 1) next × HoldsNoMore s o
 
 module _ {V : Type 0} where
   -- where nobody else owns an object of the root's tree, these are the values of all of them, in this order

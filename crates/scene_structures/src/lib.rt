@@ -4,7 +4,6 @@
 
 mod lists;
 mod observers;
-mod pause;
 mod scene;
 mod stack;
 mod tree;

@@ -2,13 +2,13 @@
 use Rattle.std.proofs.Common.{◌≡◌, Bool, true, false, List, [], ◌∷◌, ◌++◌, Some, None, Option, sym}
 use Rattle.std.proofs.Common.{refl, ap, ◌∙◌, subst, inl, inr}
 use Rattle.shared_handle.proofs.Prelude.{bag_of, Block, cond-false, cond-true, DeskNow, Ending}
-use Rattle.shared_handle.proofs.Prelude.{EndsInHand, handle, HoldsHandle, KeepsEndings}
-use Rattle.shared_handle.proofs.Prelude.{NumberedHandle, Place}
+use Rattle.shared_handle.proofs.Prelude.{empty, EndsInHand, handle, HoldsHandle, IsOfShape}
+use Rattle.shared_handle.proofs.Prelude.{KeepsEndings, kind_of_member, NumberedHandle, Place, Shape}
 use Rattle.control_word.proofs.lists.Tallies.{handle_self, same_handle_true}
 use Rattle.control_word.specs.Handles.{same_handle}
 use Rattle.control_word.specs.State.{Has, without}
 use Rattle.control_word.specs.declared.model.handle.Kind.{Kind}
-use Rattle.control_block.specs.Desks.{Keeps}
+use Rattle.control_block.specs.Desks.{Keeps, StaysEnding}
 use Rattle.control_block.specs.Parting.{AreIn}
 use Rattle.control_block.specs.CellCalls.{with_handle, without_handle}
 
@@ -66,10 +66,17 @@ module _ {V : Type 0} where
   held_still d other e k None p x is had all = absurd (cc is)
 
   -- what ends in the desk's hands ends there still
+  pub ends_still : (d e : DeskNow V) (x : Ending V) → StaysEnding d e x.block.0 x.value → EndsInHand d x → EndsInHand e x
+  ends_still d e x s h =
+      record {
+        ends = s.ends;
+        shape = subst (λ (z : Shape). IsOfShape z x) (sym s.shape) h.shape;
+        few = h.few;
+        cleared = λ m low. s.members m ∙ (h.cleared m low ∙ ap (λ (z : Shape). empty (kind_of_member z.owners m)) (sym s.shape));
+      }
+
   pub ends_kept : (d e : DeskNow V) (x : Ending V) → KeepsEndings d e → EndsInHand d x → EndsInHand e x
-  ends_kept d e x keeps h =
-      let s = keeps x.block.0 x.value h.ends in
-      record { ends = s.ends; first = λ t. s.members 0 ∙ h.first t; next = λ t. s.members 1 ∙ h.next t; up = λ t. s.members 2 ∙ h.up t }
+  ends_kept d e x keeps h = ends_still d e x (keeps x.block.0 x.value h.ends) h
 
   -- one call after another
   pub kept_twice : (d e f : DeskNow V) → Keeps d e → Keeps e f → Keeps d f
@@ -81,6 +88,8 @@ module _ {V : Type 0} where
         allowance = b.allowance ∙ a.allowance;
         stock = b.stock ∙ a.stock;
         endings = λ c x ends.
-            let s = a.endings c x ends in let t = b.endings c x s.ends in record { ends = t.ends; members = λ m. t.members m ∙ s.members m };
+            let s = a.endings c x ends in
+            let t = b.endings c x s.ends in
+            record { ends = t.ends; shape = t.shape ∙ s.shape; members = λ m. t.members m ∙ s.members m };
         count = b.count ∙ a.count;
       }

@@ -1,8 +1,8 @@
 -- A desk's own events, one call after the other.
 use Rattle.std.proofs.Common.{◌≡◌, ℕ, Bool, [], ◌∷◌, ◌++◌, Some, None, Option, sym, refl, subst}
-use Rattle.shared_handle.proofs.Prelude.{AddsEvent, Block, DeskNow, Does, Empty, Ending, Event}
-use Rattle.shared_handle.proofs.Prelude.{First, IsClearing, IsLeft, IsParting, Last, LeavesWeakly}
-use Rattle.shared_handle.proofs.Prelude.{Left, Member, Next, Others, Place, Up}
+use Rattle.shared_handle.proofs.Prelude.{AddsEvent, Block, ClearsOf, DeskNow, Does, Empty, Ending}
+use Rattle.shared_handle.proofs.Prelude.{Event, IsClearing, IsLeft, IsParting, Kind, kind_of_member}
+use Rattle.shared_handle.proofs.Prelude.{Last, LeavesWeakly, Left, Others, Owner, Place, Weak}
 use Rattle.std.proofs.lemmas.List.Elements.{All-append, All-cons, All-nil}
 use Rattle.control_block.proofs.Own.{goes_by_call, goes_in_turn}
 
@@ -33,12 +33,12 @@ module _ {V : Type 0} where
   weak_does d e None p v is = counted IsParting d e _ is.0
   weak_does d e (Some b) p v is = does_one IsParting d e _ is tt
 
-  pub clearing_does : (d e : DeskNow V) (x : Ending V) (m : Member) (left : Left V) → IsClearing d x m left e → Does IsParting d e
-  clearing_does d e x First left is =
+  of_does : (k : Kind) (d e : DeskNow V) (x : Ending V) (m : ℕ) (left : Left V) → ClearsOf k d x m left e → Does IsParting d e
+  of_does Owner d e x m left is =
       let c = is.0 in
       does_both IsParting d c.between e (does_one IsParting d c.between _ c.takes.event tt) (left_does c.between e c.block c.place left c.leaves)
-  clearing_does d e x Next left is =
-      let c = is.0 in
-      does_both IsParting d c.between e (does_one IsParting d c.between _ c.takes.event tt) (left_does c.between e c.block c.place left c.leaves)
-  clearing_does d e x Up left c =
+  of_does Weak d e x m left c =
       does_both IsParting d c.between e (does_one IsParting d c.between _ c.takes.event tt) (weak_does c.between e c.block c.place c.vacant c.leaves)
+
+  pub clearing_does : (d e : DeskNow V) (x : Ending V) (left : Left V) → IsClearing d x left e → Does IsParting d e
+  clearing_does d e x left is = of_does (kind_of_member d.shape.owners x.cleared) d e x x.cleared left is

@@ -8,3 +8,4 @@ pub mod Few
 pub mod Goings
 pub mod Owned
 pub mod Tops
+pub mod AtOnce

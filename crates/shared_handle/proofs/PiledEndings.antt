@@ -3,12 +3,12 @@ use Rattle.std.proofs.Common.{◌≡◌, ℕ, zero, suc, ◌+◌, ◌≤◌, tru
 use Rattle.std.proofs.Common.{slice_get, Some, vec_capacity, Option, unwrap_or, sym, refl, ap, ◌∙◌}
 use Rattle.std.proofs.Common.{subst, arith, length-append}
 use Rattle.shared_handle.proofs.Prelude
-use Prelude.{AddsEvent, AllEnd, Block, Carries, ClearMember, ClearsUp, DeskNow, DomainNow, Empty}
-use Prelude.{empty, Ending, ending, endings_of, EndsInHand, First, IsBeside, IsClearing, IsLeft}
+use Prelude.{AddsEvent, AllEnd, Block, Carries, ClearMember, ClearsOf, ClearsWeakly, DeskNow, DomainNow, Empty}
+use Prelude.{empty, Ending, ending, endings_of, EndsInHand, IsBeside, IsClearing, IsLeft, Kind}
 use Prelude.{IsLegal, IsSameDesk, KeepsElsewhere, KeepsEndings, KeepsOtherEndings, kind_of_member}
-use Prelude.{Last, latest_of, leads, Leave, Left, Member, more_ending, Next, NotAmong}
+use Prelude.{Last, latest_of, leads, Leave, Left, more_ending, NotAmong}
 use Prelude.{NumberedHandle, Object, object_in, on_latest, opening_of, Others, Owner, Pile, piled}
-use Prelude.{Place, put, put_cases, Stacked, State, state_of, still_ends, Up}
+use Prelude.{Place, put, put_cases, Stacked, State, state_of, still_ends, Weak}
 use Rattle.control_word.specs.Histories.{entry}
 use Rattle.shared_handle.proofs.Beside.{apart, ends_beside}
 use Rattle.shared_handle.proofs.Callers.{ends_kept}
@@ -86,7 +86,7 @@ module _ {V : Type 0} where
       let still = still_ends z adds.between d.seen b d.name legal.0 adds.quiet ends in
       let s = leads z hist in
       let x = s.object o in
-      let after : Object = record x { member = put x.member m (empty (kind_of_member m)) } in
+      let after : Object = record x { member = put x.member m (empty (kind_of_member s.owners m)) } in
       let now : state_of e ≡ leads z (entry d.name (ClearMember o m h) ∷ hist) =
       (λ i. leads (opening_of (adds.same.1 i)) (adds.seen i)) in
       let phase : (put s.object o after (s.latest b)).phase ≡ (s.object (s.latest b)).phase =
@@ -118,16 +118,19 @@ module _ {V : Type 0} where
   clears_comes d e x m xs (Last y) all clears =
       (clears.leaves.2, out_apart d clears.between e x.block.0 m _ y.block.0 clears.place xs all clears.takes.event clears.leaves.1)
 
-  pub up_comes : (d e : DeskNow V) (x : Ending V) (xs : List (Ending V)) (left : Left V) → ClearsUp d x left e → Comes e xs left
-  up_comes d e x xs Empty clears = tt
-  up_comes d e x xs Others clears = tt
-  up_comes d e x xs (Last y) clears = absurd clears.told
+  weakly_comes : (d e : DeskNow V) (x : Ending V) (m : ℕ) (xs : List (Ending V)) (left : Left V) → ClearsWeakly d x m left e → Comes e xs left
+  weakly_comes d e x m xs Empty clears = tt
+  weakly_comes d e x m xs Others clears = tt
+  weakly_comes d e x m xs (Last y) clears = absurd clears.told
 
-  pub clearing_comes : (d e : DeskNow V) (x : Ending V) (m : Member) (xs : List (Ending V)) (left : Left V) → AllEnd d xs
-      → IsClearing d x m left e → Comes e xs left
-  clearing_comes d e x First xs left all is = clears_comes d e x 0 xs left all is.0
-  clearing_comes d e x Next xs left all is = clears_comes d e x 1 xs left all is.0
-  clearing_comes d e x Up xs left all is = up_comes d e x xs left is
+  of_comes : (k : Kind) (d e : DeskNow V) (x : Ending V) (m : ℕ) (xs : List (Ending V)) (left : Left V) → AllEnd d xs
+      → ClearsOf k d x m left e → Comes e xs left
+  of_comes Owner d e x m xs left all is = clears_comes d e x m xs left all is.0
+  of_comes Weak d e x m xs left all is = weakly_comes d e x m xs left is
+
+  pub clearing_comes : (d e : DeskNow V) (x : Ending V) (xs : List (Ending V)) (left : Left V) → AllEnd d xs
+      → IsClearing d x left e → Comes e xs left
+  clearing_comes d e x xs left all is = of_comes (kind_of_member d.shape.owners x.cleared) d e x x.cleared xs left all is
 
   -- the pile after a call that keeps what ends
   pub piled_all : (e : DeskNow V) (xs : List (Ending V)) (left : Left V) → AllEnd e xs → Comes e xs left → AllEnd e (piled xs left)
@@ -164,31 +167,31 @@ module _ {V : Type 0} where
       all_append e (xs ++ y ∷ []) z (all_append e xs y t.0.2 t.0.0 t.0.1) t.1 (among_append z.block.0 xs y t.2.1 t.2.0)
 
   -- a member of the one in hand was cleared
-  pub cleared : (d e : DeskNow V) (x y : Ending V) (m : Member) (left : Left V) (xs : List (Ending V)) → AllEnd d (x ∷ xs)
-      → IsClearing d x m left e → KeepsOtherEndings d x.block.0 e → IsBeside x.block.0 left → y.block ≡ x.block → EndsInHand e y
+  pub cleared : (d e : DeskNow V) (x y : Ending V) (left : Left V) (xs : List (Ending V)) → AllEnd d (x ∷ xs)
+      → IsClearing d x left e → KeepsOtherEndings d x.block.0 e → IsBeside x.block.0 left → y.block ≡ x.block → EndsInHand e y
       → AllEnd e (y ∷ piled xs left)
-  cleared d e x y m left xs all clears keeps beside same ends =
+  cleared d e x y left xs all clears keeps beside same ends =
       let block : y.block.0 ≡ x.block.0 = ap (λ (b : Block). b.0) same in (
         ends,
         subst (λ (b : ℕ). NotAmong b (piled xs left)) (sym block) (piled_apart x.block.0 xs left all.1 beside),
-        piled_all e xs left (all_beside d e x.block.0 xs keeps all.1 all.2) (clearing_comes d e x m xs left all.2 clears),
+        piled_all e xs left (all_beside d e x.block.0 xs keeps all.1 all.2) (clearing_comes d e x xs left all.2 clears),
       )
 
   -- one of the top
-  pub cleared_top : (d e : DeskNow V) (x y : Ending V) (m : Member) (left : Left V) (xs : List (Ending V)) → AllEnd d (xs ++ x ∷ [])
-      → IsClearing d x m left e → KeepsOtherEndings d x.block.0 e → IsBeside x.block.0 left → y.block ≡ x.block → EndsInHand e y
+  pub cleared_top : (d e : DeskNow V) (x y : Ending V) (left : Left V) (xs : List (Ending V)) → AllEnd d (xs ++ x ∷ [])
+      → IsClearing d x left e → KeepsOtherEndings d x.block.0 e → IsBeside x.block.0 left → y.block ≡ x.block → EndsInHand e y
       → AllEnd e (piled (xs ++ y ∷ []) left)
-  cleared_top d e x y m left xs all clears keeps beside same ends =
+  cleared_top d e x y left xs all clears keeps beside same ends =
       let t = all_last d xs x all in
-      below_left e y xs left (cleared d e x y m left xs (t.1, t.2, t.0) clears keeps beside same ends)
+      below_left e y xs left (cleared d e x y left xs (t.1, t.2, t.0) clears keeps beside same ends)
 
-  pub stacked_on : (domain : DomainNow) (d e : DeskNow V) (p q : Pile V) (x y : Ending V) (m : Member) (left : Left V) → Stacked domain d p x
-      → IsClearing d x m left e → KeepsOtherEndings d x.block.0 e → IsBeside x.block.0 left → y.block ≡ x.block → EndsInHand e y
+  pub stacked_on : (domain : DomainNow) (d e : DeskNow V) (p q : Pile V) (x y : Ending V) (left : Left V) → Stacked domain d p x
+      → IsClearing d x left e → KeepsOtherEndings d x.block.0 e → IsBeside x.block.0 left → y.block ≡ x.block → EndsInHand e y
       → IsSameDesk d e → q.endings.items ≡ piled p.endings.items left → vec_capacity q.endings ≡ vec_capacity p.endings
       → Stacked domain e q y
-  stacked_on domain d e p q x y m left s clears keeps beside same ends desk are room =
+  stacked_on domain d e p q x y left s clears keeps beside same ends desk are room =
       let t = subst (λ l. AllEnd e (y ∷ l)) (sym are)
-      (cleared d e x y m left p.endings.items (s.ends, s.apart, s.others) clears keeps beside same ends) in
+      (cleared d e x y left p.endings.items (s.ends, s.apart, s.others) clears keeps beside same ends) in
       record {
         belongs = record { table = desk.domain ∙ s.belongs.table; shape = desk.shape ∙ s.belongs.shape };
         ends = t.0;
@@ -198,15 +201,15 @@ module _ {V : Type 0} where
       }
 
   -- an object ended for it, which is in hand then, and that lies on the pile
-  pub stacked_above : (domain : DomainNow) (d e : DeskNow V) (p q : Pile V) (x y z : Ending V) (m : Member) → Stacked domain d p x
-      → IsClearing d x m (Last z) e → KeepsOtherEndings d x.block.0 e → IsBeside x.block.0 (Last z) → y.block ≡ x.block → EndsInHand e y
+  pub stacked_above : (domain : DomainNow) (d e : DeskNow V) (p q : Pile V) (x y z : Ending V) → Stacked domain d p x
+      → IsClearing d x (Last z) e → KeepsOtherEndings d x.block.0 e → IsBeside x.block.0 (Last z) → y.block ≡ x.block → EndsInHand e y
       → IsSameDesk d e → q.endings.items ≡ p.endings.items ++ y ∷ [] → vec_capacity q.endings ≡ vec_capacity p.endings
       → Stacked domain e q z
-  stacked_above domain d e p q x y z m s clears keeps beside same ends desk are room =
+  stacked_above domain d e p q x y z s clears keeps beside same ends desk are room =
       let xs = p.endings.items in
       let t = all_last e q.endings.items z
       (subst (λ l. AllEnd e (l ++ z ∷ [])) (sym are)
-      (below_left e y xs (Last z) (cleared d e x y m (Last z) xs (s.ends, s.apart, s.others) clears keeps beside same ends))) in
+      (below_left e y xs (Last z) (cleared d e x y (Last z) xs (s.ends, s.apart, s.others) clears keeps beside same ends))) in
       record {
         belongs = record { table = desk.domain ∙ s.belongs.table; shape = desk.shape ∙ s.belongs.shape };
         ends = t.1;
@@ -215,15 +218,15 @@ module _ {V : Type 0} where
         room = subst (λ k. domain.shape.blocks ≤ k) (sym room) s.room;
       }
 
-  pub stacked_elsewhere : (d e : DeskNow V) (x y : Ending V) (m : Member) (left : Left V) (xs ys : List (Ending V))
-      → IsClearing d x m left e → KeepsOtherEndings d x.block.0 e → endings_of e ≡ endings_of d + more_ending left → IsBeside x.block.0 left
+  pub stacked_elsewhere : (d e : DeskNow V) (x y : Ending V) (left : Left V) (xs ys : List (Ending V))
+      → IsClearing d x left e → KeepsOtherEndings d x.block.0 e → endings_of e ≡ endings_of d + more_ending left → IsBeside x.block.0 left
       → y.block ≡ x.block → EndsInHand e y → ys ≡ piled xs left → KeepsElsewhere d (x ∷ xs) e (y ∷ ys)
-  stacked_elsewhere d e x y m left xs ys clears keeps count beside same ends are =
+  stacked_elsewhere d e x y left xs ys clears keeps count beside same ends are =
       record {
         count = let a = piled_many xs left in let b = ap length are in omega arith;
         beside = λ w all.
             subst (λ l. AllEnd e (w ∷ (y ∷ l))) (sym are)
             (swapped e y w (piled xs left)
             (subst (λ l. AllEnd e (y ∷ l)) (piled_cons w xs left)
-            (cleared d e x y m left (w ∷ xs) (swapped d w x xs all) clears keeps beside same ends)));
+            (cleared d e x y left (w ∷ xs) (swapped d w x xs all) clears keeps beside same ends)));
       }

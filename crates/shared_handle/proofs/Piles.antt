@@ -1,19 +1,20 @@
 -- Objects that end in the desk's hands, one upon another.
-use Rattle.std.proofs.Common.{◌≡◌, ℕ, ◌+◌, ◌≤◌, Bool, true, false, cond, List, [], ◌∷◌, ◌++◌}
+use Rattle.std.proofs.Common.{◌≡◌, ℕ, ◌+◌, ◌<◌, ◌≤◌, Bool, true, false, cond, nat_lt, List, [], ◌∷◌, ◌++◌}
 use Rattle.std.proofs.Common.{length, Some, None, vec_capacity, Option, sym, refl, ap, ◌∙◌, subst}
-use Rattle.std.proofs.Common.{arith, length-append}
+use Rattle.std.proofs.Common.{⊎_elim, true≢false, arith, length-append, le-ltb, lt-ltb}
 use Rattle.shared_handle.proofs.Prelude
-use Prelude.{AllEnd, Block, Carries, DeskNow, DomainNow, Ending, endings_of, EndsInHand, First}
+use Prelude.{AllEnd, Block, Carries, cond-false, cond-true, DeskNow, DomainNow, Ending, endings_of, EndsInHand}
 use Prelude.{IsAllClear, IsBeside, IsClearing, IsLeft, IsSameDesk, KeepsElsewhere, KeepsEndings}
-use Prelude.{KeepsOtherEndings, Left, Member, more_ending, Next, next_member, Pile, piled, Place}
-use Prelude.{Stacked, Standing, Up, with_clear}
+use Prelude.{KeepsOtherEndings, Left, more_ending, next_member, Pile, piled, Place}
+use Prelude.{Stacked, Standing}
 use Rattle.control_word.specs.declared.shape.Shape.{Shape}
 use Rattle.control_block.specs.Desks.{KeepsStock}
 use Rattle.shared_handle.proofs.Few.{few_listed}
 use Rattle.shared_handle.proofs.PiledEndings.{Comes, all_beside, all_kept, all_last, below_left}
 use Rattle.shared_handle.proofs.PiledEndings.{cleared, cleared_top, left_comes, piled_all, piled_cons}
 use Rattle.shared_handle.proofs.PiledEndings.{piled_many, swapped}
-use Rattle.shared_handle.specs.Piles.{Bears, is_cleared}
+use Rattle.shared_handle.specs.Piles.{Bears}
+use Rattle.std.proofs.lemmas.Bool.{cases_lt}
 
 module _ {V : Type 0} where
   -- no more end than there are blocks, and so there is room
@@ -23,49 +24,49 @@ module _ {V : Type 0} where
       let a = few_listed e zs stands.legal all in let b = stands.endings in
       let c : e.shape.blocks ≡ domain.shape.blocks = ap (λ (k : Shape). k.blocks) shape in omega arith
 
-  pub room_left : (domain : DomainNow) (d e : DeskNow V) (p : Pile V) (x y : Ending V) (m : Member) (left : Left V) → Stacked domain d p x
-      → IsClearing d x m left e → KeepsOtherEndings d x.block.0 e → IsBeside x.block.0 left → y.block ≡ x.block → EndsInHand e y
+  pub room_left : (domain : DomainNow) (d e : DeskNow V) (p : Pile V) (x y : Ending V) (left : Left V) → Stacked domain d p x
+      → IsClearing d x left e → KeepsOtherEndings d x.block.0 e → IsBeside x.block.0 left → y.block ≡ x.block → EndsInHand e y
       → e.shape ≡ d.shape → Standing e → length p.endings.items + more_ending left ≤ vec_capacity p.endings
-  room_left domain d e p x y m left s clears keeps beside same ends shape stands =
-      let t = cleared d e x y m left p.endings.items (s.ends, s.apart, s.others) clears keeps beside same ends in
+  room_left domain d e p x y left s clears keeps beside same ends shape stands =
+      let t = cleared d e x y left p.endings.items (s.ends, s.apart, s.others) clears keeps beside same ends in
       let a = fits domain e (piled p.endings.items left) (vec_capacity p.endings) stands (shape ∙ s.belongs.shape) s.room t.2 in
       let b = piled_many p.endings.items left in omega arith
 
   -- the one in hand goes back, and then what ends for it
-  pub room_above : (domain : DomainNow) (d e : DeskNow V) (p : Pile V) (ys : List (Ending V)) (x y : Ending V) (m : Member) (left : Left V) (n : ℕ)
-      → Stacked domain d p x → IsClearing d x m left e → KeepsOtherEndings d x.block.0 e → IsBeside x.block.0 left → y.block ≡ x.block
+  pub room_above : (domain : DomainNow) (d e : DeskNow V) (p : Pile V) (ys : List (Ending V)) (x y : Ending V) (left : Left V) (n : ℕ)
+      → Stacked domain d p x → IsClearing d x left e → KeepsOtherEndings d x.block.0 e → IsBeside x.block.0 left → y.block ≡ x.block
       → EndsInHand e y → e.shape ≡ d.shape → Standing e → ys ≡ p.endings.items ++ y ∷ [] → n ≡ vec_capacity p.endings
       → length ys + more_ending left ≤ n
-  room_above domain d e p ys x y m left n s clears keeps beside same ends shape stands are is =
+  room_above domain d e p ys x y left n s clears keeps beside same ends shape stands are is =
       let t = below_left e y p.endings.items left
-      (cleared d e x y m left p.endings.items (s.ends, s.apart, s.others) clears keeps beside same ends) in
+      (cleared d e x y left p.endings.items (s.ends, s.apart, s.others) clears keeps beside same ends) in
       let a = fits domain e (piled (p.endings.items ++ y ∷ []) left) (vec_capacity p.endings) stands (shape ∙ s.belongs.shape) s.room t in
       let b = piled_many (p.endings.items ++ y ∷ []) left in let c = ap length are in omega arith
 
-  pub put_back : (domain : DomainNow) (d e : DeskNow V) (p q : Pile V) (x y : Ending V) (m : Member) (left : Left V) → Stacked domain d p x
-      → IsClearing d x m left e → KeepsOtherEndings d x.block.0 e → IsBeside x.block.0 left → y.block ≡ x.block → EndsInHand e y
+  pub put_back : (domain : DomainNow) (d e : DeskNow V) (p q : Pile V) (x y : Ending V) (left : Left V) → Stacked domain d p x
+      → IsClearing d x left e → KeepsOtherEndings d x.block.0 e → IsBeside x.block.0 left → y.block ≡ x.block → EndsInHand e y
       → IsSameDesk d e → q.endings.items ≡ piled (p.endings.items ++ y ∷ []) left → vec_capacity q.endings ≡ vec_capacity p.endings
       → Carries domain e q
-  put_back domain d e p q x y m left s clears keeps beside same ends desk are room =
+  put_back domain d e p q x y left s clears keeps beside same ends desk are room =
       record {
         belongs = record { table = desk.domain ∙ s.belongs.table; shape = desk.shape ∙ s.belongs.shape };
         ends = subst (AllEnd e) (sym are)
             (below_left e y p.endings.items left
-            (cleared d e x y m left p.endings.items (s.ends, s.apart, s.others) clears keeps beside same ends));
+            (cleared d e x y left p.endings.items (s.ends, s.apart, s.others) clears keeps beside same ends));
         room = subst (λ k. domain.shape.blocks ≤ k) (sym room) s.room;
       }
 
-  pub back_elsewhere : (d e : DeskNow V) (x y : Ending V) (m : Member) (left : Left V) (below xs ys : List (Ending V)) → xs ≡ below ++ x ∷ []
-      → IsClearing d x m left e → KeepsOtherEndings d x.block.0 e → endings_of e ≡ endings_of d + more_ending left → IsBeside x.block.0 left
+  pub back_elsewhere : (d e : DeskNow V) (x y : Ending V) (left : Left V) (below xs ys : List (Ending V)) → xs ≡ below ++ x ∷ []
+      → IsClearing d x left e → KeepsOtherEndings d x.block.0 e → endings_of e ≡ endings_of d + more_ending left → IsBeside x.block.0 left
       → y.block ≡ x.block → EndsInHand e y → ys ≡ piled (below ++ y ∷ []) left → KeepsElsewhere d xs e ys
-  back_elsewhere d e x y m left below xs ys were clears keeps count beside same ends are =
+  back_elsewhere d e x y left below xs ys were clears keeps count beside same ends are =
       record {
         count = let a = piled_many (below ++ y ∷ []) left in let b = ap length are in let c = ap length were in
             let k = length-append below (y ∷ []) in let l = length-append below (x ∷ []) in omega arith;
         beside = λ w all.
             subst (λ l. AllEnd e (w ∷ l)) (sym are)
             (subst (AllEnd e) (piled_cons w (below ++ y ∷ []) left)
-            (cleared_top d e x y m left (w ∷ below) (subst (λ l. AllEnd d (w ∷ l)) were all) clears keeps beside same ends));
+            (cleared_top d e x y left (w ∷ below) (subst (λ l. AllEnd d (w ∷ l)) were all) clears keeps beside same ends));
       }
 
   -- the one in hand was finished
@@ -164,20 +165,38 @@ module _ {V : Type 0} where
       let a = fits domain e (piled p.endings.items left) (vec_capacity p.endings) stands (keeps.shape ∙ w.belongs.shape) w.room t in
       let b = piled_many p.endings.items left in omega arith
 
-  -- what is clear
-  pub clear_all : (x : Ending V) → next_member x ≡ None → IsAllClear x
-  clear_all x e = go x.first x.next x.up e
+  -- what is clear, and what isn't
+  pub clear_all : (x : Ending V) → x.cleared ≤ x.members → next_member x ≡ None → IsAllClear x
+  clear_all x few e =
+      ⊎_elim (λ (lt : x.cleared < x.members).
+      absurd (no_none (sym (cond-true (nat_lt x.cleared x.members) (Some x.cleared) None (lt-ltb x.cleared x.members lt)) ∙ e)))
+      (λ (le : x.members ≤ x.cleared). omega arith) (cases_lt x.cleared x.members)
     where
-      go : (a b c : Bool) → cond a (cond b (cond c None (Some Up)) (Some Next)) (Some First) ≡ None → (a ≡ true) × (b ≡ true) × (c ≡ true)
-      go true true true e = (refl, refl, refl)
-      go true true false e = absurd (cc e)
-      go true false c e = absurd (cc e)
-      go false b c e = absurd (cc e)
+      no_none : {n : ℕ} → Some n ≡ None → ⊥
+      no_none e = cc e
 
-  pub clear_same : (x : Ending V) (m : Member) → is_cleared x m ≡ true → x ≡ with_clear m x
-  clear_same x First e = λ i. record x { first = e i }
-  clear_same x Next e = λ i. record x { next = e i }
-  clear_same x Up e = λ i. record x { up = e i }
+  pub next_left : (x : Ending V) (m : ℕ) → next_member x ≡ Some m → (m ≡ x.cleared) × (x.cleared < x.members)
+  next_left x m e =
+      ⊎_elim (λ (lt : x.cleared < x.members).
+      (sym (same (sym (cond-true (nat_lt x.cleared x.members) (Some x.cleared) None (lt-ltb x.cleared x.members lt)) ∙ e)), lt))
+      (λ (le : x.members ≤ x.cleared).
+      absurd (none_some (sym (cond-false (nat_lt x.cleared x.members) (Some x.cleared) None (le-ltb x.cleared x.members le)) ∙ e)))
+      (cases_lt x.cleared x.members)
+    where
+      same : {n k : ℕ} → Some n ≡ Some k → n ≡ k
+      same e = cc e
+
+      none_some : {n : ℕ} → ◌≡◌ {A = Option ℕ} None (Some n) → ⊥
+      none_some e = cc e
+
+  pub some_left : (x : Ending V) (clear : Bool) → x.cleared ≤ x.members → (IsAllClear x → clear ≡ true) → clear ≡ false
+      → x.cleared < x.members
+  some_left x clear few told not =
+      ⊎_elim (λ (lt : x.cleared < x.members). lt) (λ (le : x.members ≤ x.cleared). absurd (true≢false (sym (told (omega arith)) ∙ not)))
+      (cases_lt x.cleared x.members)
+
+  pub next_is : (x : Ending V) → x.cleared < x.members → next_member x ≡ Some x.cleared
+  next_is x lt = cond-true (nat_lt x.cleared x.members) (Some x.cleared) None (lt-ltb x.cleared x.members lt)
 
   pub same_desk : (d : DeskNow V) → IsSameDesk d d
   same_desk d = record { domain = refl; shape = refl; name = refl; allowance = refl }

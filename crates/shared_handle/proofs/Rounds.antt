@@ -3,8 +3,9 @@ use Rattle.std.proofs.Common.{◌≡◌, ℕ, ◌+◌, ◌-◌, ◌<◌, List, [
 use Rattle.std.proofs.Common.{Some, None, Option, MatchOption, option_to_list, sym, refl, ap, ◌∙◌}
 use Rattle.std.proofs.Common.{subst, append-nil, arith}
 use Rattle.shared_handle.proofs.Prelude.{AreRounds, bag_of, Cleared, DeskNow, Ended, Ending}
-use Rattle.shared_handle.proofs.Prelude.{gone_of, IsClearing, Left, Member, next_member, Past}
+use Rattle.shared_handle.proofs.Prelude.{gone_of, IsClearing, Left, Past}
 use Rattle.shared_handle.proofs.Prelude.{piled, values_of, with_clear}
+use Rattle.shared_handle.proofs.Piles.{next_is}
 use Rattle.shared_handle.specs.Piles.{CameLast, IsRound, value_of}
 use Rattle.shared_handle.specs.declared.pile.Round.{Round}
 use Rattle.shared_handle.specs.declared.pile.Round.TheVariants.{Settled}
@@ -47,15 +48,15 @@ module _ {V : Type 0} where
   fewer_left (Some v) (r ∷ rs) left most came are = omega (arith, are)
 
   -- a member of the one in hand is emptied
-  pub clears_in_hand : (d e : DeskNow V) (below zs : List (Ending V)) (x y : Ending V) (m : Member) (left : Left V) → next_member x ≡ Some m
-      → IsClearing d x m left e → y ≡ with_clear m x → zs ≡ piled (below ++ y ∷ []) left → bag_of e ≡ bag_of d
-      → IsRound d (below ++ x ∷ []) (Cleared m (gone_of left)) e zs
-  clears_in_hand d e below zs x y m left next clears noted are bag =
+  pub clears_in_hand : (d e : DeskNow V) (below zs : List (Ending V)) (x y : Ending V) (left : Left V) → x.cleared < x.members
+      → IsClearing d x left e → y ≡ with_clear x → zs ≡ piled (below ++ y ∷ []) left → bag_of e ≡ bag_of d
+      → IsRound d (below ++ x ∷ []) (Cleared x.cleared (gone_of left)) e zs
+  clears_in_hand d e below zs x y left some clears noted are bag =
       record {
         below = below;
         top = x;
         were = refl;
-        next = next;
+        next = next_is x some;
         left = left;
         clears = clears;
         told = refl;

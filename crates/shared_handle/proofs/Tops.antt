@@ -4,7 +4,7 @@ use Rattle.std.proofs.Common.{slice_index_or, slice_set, vec_len, vec_capacity, 
 use Rattle.std.proofs.Common.{subst, arith}
 use Rattle.shared_handle.proofs.Prelude.{AllEnd, Carries, DeskNow, DomainNow, Ending, EndsInHand}
 use Rattle.shared_handle.proofs.Prelude.{IsBeside, IsClearing, IsSameDesk, KeepsOtherEndings, Left}
-use Rattle.shared_handle.proofs.Prelude.{Member, more_ending, Pile, piled, Standing}
+use Rattle.shared_handle.proofs.Prelude.{more_ending, Pile, piled, Standing}
 use Rattle.control_block.specs.Desks.{Belongs}
 use Rattle.shared_handle.proofs.PiledEndings.{all_last, below_left, cleared, piled_many}
 use Rattle.shared_handle.proofs.Piles.{fits}
@@ -48,26 +48,26 @@ module _ {V : Type 0} where
   top_of_pile p x some e = top_at p.endings.items (vec_len p.endings - 1) x (omega arith) e
 
   -- the top was cleared where it lies, and there is room for what ends for it
-  pub top_room : (domain : DomainNow) (d e : DeskNow V) (below ys : List (Ending V)) (x y : Ending V) (m : Member) (left : Left V) (n : ℕ)
+  pub top_room : (domain : DomainNow) (d e : DeskNow V) (below ys : List (Ending V)) (x y : Ending V) (left : Left V) (n : ℕ)
       → Belongs d domain → AllEnd d (below ++ x ∷ []) → domain.shape.blocks ≤ n
-      → IsClearing d x m left e → KeepsOtherEndings d x.block.0 e → IsBeside x.block.0 left → y.block ≡ x.block → EndsInHand e y
+      → IsClearing d x left e → KeepsOtherEndings d x.block.0 e → IsBeside x.block.0 left → y.block ≡ x.block → EndsInHand e y
       → e.shape ≡ d.shape → Standing e → ys ≡ below ++ y ∷ [] → length ys + more_ending left ≤ n
-  top_room domain d e below ys x y m left n belongs all room clears keeps beside same ends shape stands are =
+  top_room domain d e below ys x y left n belongs all room clears keeps beside same ends shape stands are =
       let s = all_last d below x all in
-      let t = below_left e y below left (cleared d e x y m left below (s.1, s.2, s.0) clears keeps beside same ends) in
+      let t = below_left e y below left (cleared d e x y left below (s.1, s.2, s.0) clears keeps beside same ends) in
       let a = fits domain e (piled (below ++ y ∷ []) left) n stands (shape ∙ belongs.shape) room t in
       let b = piled_many (below ++ y ∷ []) left in let c = ap length are in omega arith
 
   -- and that went onto it
-  pub top_back : (domain : DomainNow) (d e : DeskNow V) (q : Pile V) (below : List (Ending V)) (x y : Ending V) (m : Member) (left : Left V) (n : ℕ)
+  pub top_back : (domain : DomainNow) (d e : DeskNow V) (q : Pile V) (below : List (Ending V)) (x y : Ending V) (left : Left V) (n : ℕ)
       → Belongs d domain → AllEnd d (below ++ x ∷ []) → domain.shape.blocks ≤ n
-      → IsClearing d x m left e → KeepsOtherEndings d x.block.0 e → IsBeside x.block.0 left → y.block ≡ x.block → EndsInHand e y
+      → IsClearing d x left e → KeepsOtherEndings d x.block.0 e → IsBeside x.block.0 left → y.block ≡ x.block → EndsInHand e y
       → IsSameDesk d e → q.endings.items ≡ piled (below ++ y ∷ []) left → vec_capacity q.endings ≡ n → Carries domain e q
-  top_back domain d e q below x y m left n belongs all room clears keeps beside same ends desk are capacity =
+  top_back domain d e q below x y left n belongs all room clears keeps beside same ends desk are capacity =
       let s = all_last d below x all in
       record {
         belongs = record { table = desk.domain ∙ belongs.table; shape = desk.shape ∙ belongs.shape };
         ends = subst (AllEnd e) (sym are)
-            (below_left e y below left (cleared d e x y m left below (s.1, s.2, s.0) clears keeps beside same ends));
+            (below_left e y below left (cleared d e x y left below (s.1, s.2, s.0) clears keeps beside same ends));
         room = subst (λ k. domain.shape.blocks ≤ k) (sym capacity) room;
       }

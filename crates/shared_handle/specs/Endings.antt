@@ -1,8 +1,9 @@
 -- What a release says, and which calls are refused.
-use Rattle.std.specs.Prelude.{◌≡◌, ◌≢◌, ℕ, ◌+◌, ◌-◌, Bool, true, false, cond, length, Option}
+use Rattle.std.specs.Prelude.{◌≡◌, ◌≢◌, ℕ, ◌+◌, ◌-◌, ◌<◌, ◌≤◌, Bool, true, false, cond, length, Option}
 use Rattle.std.specs.Prelude.{None, Some, Result, Ok, Err}
-use Rattle.control_word.specs.State.{ending}
+use Rattle.control_word.specs.State.{ending, kind_of_member}
 use Rattle.control_word.specs.declared.model.event.Event.TheVariants.{Leave, Read}
+use Rattle.control_word.specs.declared.model.handle.Kind.{Kind}
 use Rattle.control_word.specs.declared.model.handle.Kind.TheVariants.{Owner, Weak}
 use Rattle.control_word.specs.declared.place.Block.{Block}
 use Rattle.control_word.specs.declared.place.Place.{Place}
@@ -11,12 +12,12 @@ use Rattle.control_word.specs.declared.refusal.Refusal.TheVariants.{Limit, NotEn
 use Rattle.control_block.specs.Desks.{AddsEvent, DeskNow, IsCleared, IsEnding, allowance_of, held_of, object_in}
 use Rattle.control_block.specs.Desks.{on_latest}
 use Rattle.control_block.specs.Desks.{stock_of}
+use Rattle.control_word.specs.declared.shape.Shape.{Shape}
 use Rattle.control_block.specs.Clearing.{TakesOut}
+use Rattle.control_block.specs.Rule.{members_of}
 use Rattle.shared_handle.specs.Calls.{LeavesWeakly, counting}
 use Rattle.shared_handle.specs.declared.endings.Ending.{Ending}
 use Rattle.shared_handle.specs.declared.endings.Left.{Left}
-use Rattle.shared_handle.specs.declared.endings.Member.{Member}
-use Rattle.shared_handle.specs.declared.endings.Member.TheVariants.{First, Next, Up}
 use Rattle.shared_handle.specs.declared.endings.Left.TheVariants.{Empty, Last, Others}
 
 -- the place is one of the object that the handle owns
@@ -35,18 +36,22 @@ IsPlaced b p (Err Outside) = IsOutside b p
 IsPlaced b p (Err why) = ⊥
 
 module _ {V : Type 0} where
-  -- the object ends in the desk's hands, with this value, and the members that are told to be cleared hold nothing
+  -- the ending tells how many members an object of the shape has
+  abbrev pub IsOfShape : Shape → Ending V → Type 0
+  IsOfShape z x = x.members ≡ members_of z
+
+  -- the object ends in the desk's hands, with this value, and its first members, as many as are told, hold nothing
   pub record EndsInHand (d : DeskNow V) (x : Ending V) : Type 0 where
     pub ends : IsEnding d x.block.0 x.value
-    pub first : x.first ≡ true → IsCleared d x.block.0 0
-    pub next : x.next ≡ true → IsCleared d x.block.0 1
-    pub up : x.up ≡ true → IsCleared d x.block.0 2
+    pub shape : IsOfShape d.shape x
+    pub few : x.cleared ≤ x.members
+    pub cleared : (m : ℕ) → m < x.cleared → IsCleared d x.block.0 m
 
   abbrev pub IsUncleared : Ending V → Type 0
-  IsUncleared x = (x.first ≡ false) × (x.next ≡ false) × (x.up ≡ false)
+  IsUncleared x = x.cleared ≡ 0
 
   abbrev pub IsAllClear : Ending V → Type 0
-  IsAllClear x = (x.first ≡ true) × (x.next ≡ true) × (x.up ≡ true)
+  IsAllClear x = x.cleared ≡ x.members
 
   -- an owner left: an empty one, one of several, or the last, whose object ends in the desk's hands
   -- ([util.smartptr.shared.dest])
@@ -56,12 +61,12 @@ module _ {V : Type 0} where
   IsLeft d b p (Last x) e = (b ≡ Some x.block) × AddsEvent d (Leave (on_latest d Owner p x.block.0) true) e
       × EndsInHand e x × IsUncleared x
 
-  -- what it says of an owner that left, by the block of what it owned, and by the value that came out where it was the
-  -- last
-  abbrev pub IsLeftOf : Option Block → Option V → Left V → Type 0
-  IsLeftOf b r Empty = b ≡ None
-  IsLeftOf b r Others = (c : Block) × (b ≡ Some c) × (r ≡ None)
-  IsLeftOf b r (Last x) = (b ≡ Some x.block) × (r ≡ Some x.value) × IsUncleared x
+  -- what it says of an owner that left, by the domain's shape, by the block of what it owned, and by the value that
+  -- came out where it was the last
+  abbrev pub IsLeftOf : Shape → Option Block → Option V → Left V → Type 0
+  IsLeftOf z b r Empty = b ≡ None
+  IsLeftOf z b r Others = (c : Block) × (b ≡ Some c) × (r ≡ None)
+  IsLeftOf z b r (Last x) = (b ≡ Some x.block) × (r ≡ Some x.value) × IsUncleared x × IsOfShape z x
 
   -- what ends for it, if an object does, is not the one in the block
   abbrev pub IsBeside : ℕ → Left V → Type 0
@@ -85,7 +90,7 @@ module _ {V : Type 0} where
   IsGone b Others = (c : Block) × (b ≡ Some c)
   IsGone b (Last x) = ⊥
 
-  -- what a shared member of an object that ends held came out, and left (own)
+  -- what a member of an object that ends held, an owner, came out, and left (own)
   pub record ClearsMember (d : DeskNow V) (x : Ending V) (m : ℕ) (left : Left V) (e : DeskNow V) : Type 0 where
     pub block : Option Block
     pub place : Option Place
@@ -93,27 +98,29 @@ module _ {V : Type 0} where
     pub takes : TakesOut d x.block.0 m Owner block place between
     pub leaves : IsLeft between block place left e
 
-  -- the same of the weak one; whether the block of what it held is vacant now
-  pub record ClearsUp (d : DeskNow V) (x : Ending V) (left : Left V) (e : DeskNow V) : Type 0 where
+  -- the same of a weak handle; whether the block of what it was on is vacant now
+  pub record ClearsWeakly (d : DeskNow V) (x : Ending V) (m : ℕ) (left : Left V) (e : DeskNow V) : Type 0 where
     pub block : Option Block
     pub place : Option Place
     pub between : DeskNow V
-    pub takes : TakesOut d x.block.0 2 Weak block place between
+    pub takes : TakesOut d x.block.0 m Weak block place between
     pub vacant : Bool
     pub leaves : LeavesWeakly between block place vacant e
     pub told : IsGone block left
     pub stock : length (stock_of e) ≡ length (stock_of d) + cond vacant 1 0
 
-  abbrev pub IsClearing : DeskNow V → Ending V → Member → Left V → DeskNow V → Type 0
-  IsClearing d x First left e = ClearsMember d x 0 left e × (length (stock_of e) ≡ length (stock_of d))
-  IsClearing d x Next left e = ClearsMember d x 1 left e × (length (stock_of e) ≡ length (stock_of d))
-  IsClearing d x Up left e = ClearsUp d x left e
+  -- a member that has handles of this kind was emptied
+  abbrev pub ClearsOf : Kind → DeskNow V → Ending V → ℕ → Left V → DeskNow V → Type 0
+  ClearsOf Owner d x m left e = ClearsMember d x m left e × (length (stock_of e) ≡ length (stock_of d))
+  ClearsOf Weak d x m left e = ClearsWeakly d x m left e
 
-  -- the ending with this member cleared too
-  abbrev pub with_clear : Member → Ending V → Ending V
-  with_clear First x = record x { first = true }
-  with_clear Next x = record x { next = true }
-  with_clear Up x = record x { up = true }
+  -- the first member that isn't cleared yet was emptied
+  abbrev pub IsClearing : DeskNow V → Ending V → Left V → DeskNow V → Type 0
+  IsClearing d x left e = ClearsOf (kind_of_member d.shape.owners x.cleared) d x x.cleared left e
+
+  -- the ending with one member more cleared
+  abbrev pub with_clear : Ending V → Ending V
+  with_clear x = record x { cleared = x.cleared + 1 }
 
   -- a field was read, or why not (own)
   abbrev pub IsRead : DeskNow V → Option Block → Option Place → Result ℕ Refusal → DeskNow V → Type 0

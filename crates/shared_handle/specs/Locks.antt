@@ -26,6 +26,11 @@ module _ {V : Type 0} where
   IsLock d b p got e = AddsEvent d (Lock (on_latest d Weak p b.0) got) e
       × (got ≡ not (count (state_before e) (latest_of d b.0) == 0))
 
+  -- the same of a weak handle that isn't empty
+  abbrev pub IsLockBy : DeskNow V → Option Block → Option Place → Bool → DeskNow V → Type 0
+  IsLockBy d None p got e = ⊥
+  IsLockBy d (Some b) p got e = IsLock d b p got e
+
   -- the same of any weak handle: of an empty one there is no owner, and no event
   abbrev pub LocksHandle : DeskNow V → Option Block → Option Place → Bool → DeskNow V → Type 0
   LocksHandle d None p got e = (got ≡ false) × (e ≡ counting (d.held + 1) d)

@@ -1,6 +1,6 @@
 -- A desk's pile of objects that end: the last of the list is the top, and what ends for it lies above it (own).
-use Rattle.std.specs.Prelude.{◌≡◌, ◌≢◌, ℕ, ◌+◌, ◌≤◌, Bool, cond, length, List, [], ◌∷◌}
-use Rattle.std.specs.Prelude.{◌++◌, Option, None, Some, vec_capacity}
+use Rattle.std.specs.Prelude.{◌≡◌, ◌≢◌, ℕ, zero, suc, ◌+◌, ◌<◌, ◌≤◌, Bool, cond, length, List, [], ◌∷◌}
+use Rattle.std.specs.Prelude.{◌++◌, nat_lt, Option, None, Some, vec_capacity}
 use Rattle.control_word.specs.declared.model.event.Event.{Event}
 use Rattle.control_word.specs.declared.model.event.Event.TheVariants.{ClearMember, Finish, Leave, WeakLeave}
 use Rattle.control_word.specs.declared.place.Block.{Block}
@@ -10,8 +10,6 @@ use Rattle.shared_handle.specs.Endings.{EndsInHand, IsAllClear, IsClearing, IsLe
 use Rattle.shared_handle.specs.declared.endings.Ending.{Ending}
 use Rattle.shared_handle.specs.declared.endings.Left.{Left}
 use Rattle.shared_handle.specs.declared.endings.Left.TheVariants as left
-use Rattle.shared_handle.specs.declared.endings.Member.{Member}
-use Rattle.shared_handle.specs.declared.endings.Member.TheVariants.{First, Next, Up}
 use Rattle.shared_handle.specs.declared.pile.Gone.{Gone}
 use Rattle.shared_handle.specs.declared.pile.Gone.TheVariants.{Empty, Last, Others}
 use Rattle.shared_handle.specs.declared.pile.Pile.{Pile}
@@ -23,6 +21,12 @@ pub record Past (V : Type 0) : Type 0 where
   pub round : Round V
   pub desk : DeskNow V
   pub pile : List (Ending V)
+
+-- an object of a pile that is in hand, with the desk and the pile without it
+pub record OffPile (V : Type 0) : Type 0 where
+  pub desk : DeskNow V
+  pub pile : List (Ending V)
+  pub ending : Ending V
 
 module _ {V : Type 0} where
   -- a handle leaves, or an object ends
@@ -90,14 +94,8 @@ module _ {V : Type 0} where
     pub room : domain.shape.blocks ≤ vec_capacity p.endings
 
   -- the first member that isn't cleared yet
-  abbrev pub next_member : Ending V → Option Member
-  next_member x = cond x.first (cond x.next (cond x.up None (Some Up)) (Some Next)) (Some First)
-
-  -- whether this member is cleared
-  abbrev pub is_cleared : Ending V → Member → Bool
-  is_cleared x First = x.first
-  is_cleared x Next = x.next
-  is_cleared x Up = x.up
+  abbrev pub next_member : Ending V → Option ℕ
+  next_member x = cond (nat_lt x.cleared x.members) (Some x.cleared) None
 
   -- an object all of whose members are clear is finished, and its value comes out
   pub record IsFinish (d : DeskNow V) (x : Ending V) (v : V) (e : DeskNow V) : Type 0 where
@@ -109,16 +107,16 @@ module _ {V : Type 0} where
 
   -- the first member of the top that isn't cleared is emptied, and what ends for it lies above the top; what was in the
   -- member is no more in the desk's hands
-  pub record ClearsTop (d : DeskNow V) (ys : List (Ending V)) (m : Member) (gone : Gone) (e : DeskNow V)
+  pub record ClearsTop (d : DeskNow V) (ys : List (Ending V)) (m : ℕ) (gone : Gone) (e : DeskNow V)
       (zs : List (Ending V)) : Type 0 where
     pub below : List (Ending V)
     pub top : Ending V
     pub were : ys ≡ below ++ top ∷ []
     pub next : next_member top ≡ Some m
     pub left : Left V
-    pub clears : IsClearing d top m left e
+    pub clears : IsClearing d top left e
     pub told : gone ≡ gone_of left
-    pub are : zs ≡ piled (below ++ with_clear m top ∷ []) left
+    pub are : zs ≡ piled (below ++ with_clear top ∷ []) left
     pub bag : bag_of e ≡ bag_of d
 
   -- the top is finished
@@ -160,25 +158,62 @@ module _ {V : Type 0} where
   FoldsBack {F} step f [] last = last ≡ f
   FoldsBack {F} step f (v ∷ vs) last = (between : F) × FoldsBack step f vs between × step between v last
 
-  -- this member is emptied, or it was clear already
-  abbrev pub ClearsOnce : DeskNow V → Ending V → Member → Left V → DeskNow V → Type 0
-  ClearsOnce d x m out e = cond (is_cleared x m) ((out ≡ left.Empty) × (e ≡ d)) (IsClearing d x m out e)
+  -- the first of its members that isn't cleared is emptied, and what ends for it goes onto the pile
+  pub record ClearsNext (a b : OffPile V) : Type 0 where
+    pub some : a.ending.cleared < a.ending.members
+    pub left : Left V
+    pub clears : IsClearing a.desk a.ending left b.desk
+    pub pile : b.pile ≡ piled a.pile left
+    pub ending : b.ending ≡ with_clear a.ending
+    pub bag : bag_of b.desk ≡ bag_of a.desk
 
-  -- the top ends: the members that weren't cleared yet are emptied one after the other, what ends for it goes on the
-  -- pile, and then it is finished
+  -- so many of its members are emptied, one after another
+  abbrev pub ClearsInTurn : ℕ → OffPile V → OffPile V → Type 0
+  ClearsInTurn zero a c = c ≡ a
+  ClearsInTurn (suc n) a c = (b : OffPile V) × ClearsInTurn n a b × ClearsNext b c
+
+  -- members of an object that ends, which hold nothing, are cleared in turn by looks, so many, and nothing ends for it
+  abbrev pub ClearsByLooks : DeskNow V → Ending V → DeskNow V → Ending V → Type 0
+  ClearsByLooks d x e y =
+      (n : ℕ) × ((xs : List (Ending V)) → ClearsInTurn n (record { desk = d; pile = xs; ending = x })
+      (record { desk = e; pile = xs; ending = y }))
+
+  -- it ends at once, where all its members are cleared so; else it goes onto the pile
+  pub record FinishesAtOnce (d : DeskNow V) (x : Ending V) (v : V) (e : DeskNow V) : Type 0 where
+    pub between : DeskNow V
+    pub clear : Ending V
+    pub clears : ClearsByLooks d x between clear
+    pub finish : IsFinish between clear v e
+
+  abbrev pub EndsAtOnce : DeskNow V → List (Ending V) → Ending V → Option V → DeskNow V → List (Ending V) → Type 0
+  EndsAtOnce d xs x None e ys = (y : Ending V) × ClearsByLooks d x e y × (ys ≡ xs ++ y ∷ [])
+  EndsAtOnce d xs x (Some v) e ys = FinishesAtOnce d x v e × (ys ≡ xs)
+
+  -- so ends what ends for an owner that left
+  abbrev pub EndsForIt : DeskNow V → List (Ending V) → Left V → Option V → DeskNow V → List (Ending V) → Type 0
+  EndsForIt d xs left.Empty v e ys = (v ≡ None) × (e ≡ d) × (ys ≡ xs)
+  EndsForIt d xs left.Others v e ys = (v ≡ None) × (e ≡ d) × (ys ≡ xs)
+  EndsForIt d xs (left.Last x) v e ys = EndsAtOnce d xs x v e ys
+
+  -- an owner left the desk, and what ended for it did so at once, or went onto the pile
+  -- ([util.smartptr.shared.dest])
+  pub record DropsToEnd (d : DeskNow V) (xs : List (Ending V)) (b : Option Block) (p : Option Place) (gone : Gone)
+      (v : Option V) (e : DeskNow V) (ys : List (Ending V)) : Type 0 where
+    pub between : DeskNow V
+    pub left : Left V
+    pub leaves : IsLeft d b p left between
+    pub told : gone ≡ gone_of left
+    pub ends : EndsForIt between xs left v e ys
+
+  -- the top ends: its members that aren't cleared are emptied in turn, what ends for it goes onto the pile, and then it
+  -- is finished
   pub record EndsTop (d : DeskNow V) (ys : List (Ending V)) (v : V) (e : DeskNow V)
       (zs : List (Ending V)) : Type 0 where
     pub below : List (Ending V)
     pub top : Ending V
     pub were : ys ≡ below ++ top ∷ []
-    pub first : Left V
-    pub after_first : DeskNow V
-    pub clears_first : ClearsOnce d top First first after_first
-    pub next : Left V
-    pub after_next : DeskNow V
-    pub clears_next : ClearsOnce after_first (with_clear First top) Next next after_next
-    pub up : Left V
-    pub after_up : DeskNow V
-    pub clears_up : ClearsOnce after_next (with_clear Next (with_clear First top)) Up up after_up
-    pub finish : IsFinish after_up (with_clear Up (with_clear Next (with_clear First top))) v e
-    pub are : zs ≡ piled (piled (piled below first) next) up
+    pub many : ℕ
+    pub after : OffPile V
+    pub clears : ClearsInTurn many (record { desk = d; pile = below; ending = top }) after
+    pub finish : IsFinish after.desk after.ending v e
+    pub are : zs ≡ after.pile

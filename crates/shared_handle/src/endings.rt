@@ -1,6 +1,7 @@
 //! What comes of a release, and an object whose last owner has left ([util.smartptr.shared.dest]).
 ghost use Rattle.shared_handle.specs.Endings.{IsLeftOf};
 
+use control_block::domain::Domain;
 use control_block::in_place::InPlace;
 use control_word::Block;
 
@@ -13,18 +14,10 @@ pub struct Ending<V> {
     pub(crate) block: Block,
     /// It lies in the block until `finish` hands it out.
     pub(crate) value: InPlace<V>,
-    /// Which members are cleared.
-    pub(crate) first: bool,
-    pub(crate) next: bool,
-    pub(crate) up: bool,
-}
-
-/// A member cell of an object: two hold shared pointers, and `Up` a weak one (own).
-#[derive(Clone, Copy, Drop)]
-pub enum Member {
-    First,
-    Next,
-    Up,
+    /// How many members an object has, by its domain's shape.
+    pub(crate) members: u8,
+    /// How many of them are cleared, in the order of their numbers.
+    pub(crate) cleared: u8,
 }
 
 /// What a released owner was.
@@ -38,18 +31,18 @@ pub enum Left<V> {
 }
 
 impl<V: Drop> Left<V> {
-    /// What an owner was that has left, by the block of what it owned, and by the value that it leaves in its block
-    /// where it was the last (own). It is for the crates whose calls end handles.
+    /// What an owner was that has left a desk of the domain, by the block of what it owned, and by the value that it
+    /// leaves in its block where it was the last (own). It is for the crates whose calls end handles.
     #[inline(always)]
-    pub fn of_parts(block: Option<Block>, value: Option<InPlace<V>>) -> Left<V>
-        ensures { IsLeftOf block value result }
+    pub fn of_parts(domain: &Domain<V>, block: Option<Block>, value: Option<InPlace<V>>) -> Left<V>
+        ensures { IsLeftOf domain.now.shape block value result }
     {
         let Some(block) = block else {
             return Left::Empty;
         };
         match value {
             None => Left::Others,
-            Some(value) => Left::Last(Ending::begin(block, value)),
+            Some(value) => Left::Last(Ending::begin(domain, block, value)),
         }
     }
 }

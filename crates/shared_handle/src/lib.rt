@@ -19,9 +19,9 @@ mod weaks;
 
 pub use control_block::handles::{Held, Shared, Weak};
 pub use downgrades::downgrade;
-pub use drops::{drop_shared, reset};
-pub use endings::{Ending, Left, Member};
-pub use locks::{lock, upgrade};
+pub use drops::{drop_shared, drop_to_end, reset};
+pub use endings::{Ending, Left};
+pub use locks::{lock, lock_once, upgrade};
 pub use looks::{place, read, same_place, use_count};
 pub use makes::{empty, empty_weak, make, make_null};
 pub use owner_order::{HasOwner, owner_before};

@@ -1,9 +1,10 @@
 //! Owners from weak pointers.
-ghost use Rattle.std.specs.Prelude.{◌≡◌, ◌≢◌, ◌↔◌, ◌+◌, is_some, IfErr, IfOk, IsErr, OnOk, None};
+ghost use Rattle.std.specs.Prelude.{◌≡◌, ◌≢◌, ◌↔◌, ◌+◌, cond, is_some, true, IfErr, IfNone, IfOk};
+ghost use Rattle.std.specs.Prelude.{IfSome, IsErr, IsNone, OnOk, None};
 ghost use Rattle.control_word.specs.declared.model.handle.Kind.TheVariants.{Owner, Weak};
 ghost use Rattle.control_block.specs.Desks.{Belongs, Keeps, allowance_of, bag_of, held_of};
 ghost use Rattle.control_block.specs.CellCalls.{HoldsHandle, with_handle};
-ghost use Rattle.shared_handle.specs.Locks.{HasOwner, IsOwnerOf, IsUpgrade, LocksHandle, SawNoOwner};
+ghost use Rattle.shared_handle.specs.Locks.{HasOwner, IsLockBy, IsOwnerOf, IsUpgrade, LocksHandle, SawNoOwner};
 
 use crate::makes::empty_at;
 use crate::pointers::weak_pointer;
@@ -54,10 +55,43 @@ pub fn lock<V: Drop, R: Wait>(
     }
 }
 
+/// One try at a lock, which waits for nobody: an owner that points where the handle does, just where one remains at its
+/// step ([util.smartptr.weak.obs]). It answers nothing where others changed the count of owners meanwhile, where the
+/// desk is at its allowance, and of an empty handle; then nothing changes.
+#[inline(always)]
+pub fn lock_once<V: Drop>(
+    domain: &Domain<V>,
+    desk: &mut Desk<V>,
+    handle: &handles::Weak,
+) -> Option<Option<Shared>>
+    requires domain { Belongs desk.old domain.now }
+    requires holds { HoldsHandle desk.old Weak handle.now.block handle.now.place }
+    ensures limit { held_of desk.old ≡ allowance_of desk.old → IsNone result }
+    ensures missed { IfNone result (desk.new ≡ desk.old) }
+    ensures handle { IfSome result
+        (λ r. IfSome r (λ h. (h.block ≡ handle.now.block) × (h.place ≡ handle.now.place))) }
+    ensures lock { IfSome result
+        (λ r. IsLockBy desk.old handle.now.block handle.now.place (is_some r) desk.new) }
+    ensures expired { SawNoOwner desk.old handle.now.block → IfSome result (λ r. r ≡ None) }
+    ensures owned { HasOwner desk.old handle.now.block → IfSome result (λ r. is_some r ≡ true) }
+    ensures bag { IfSome result (λ r. IfSome r (λ h.
+        bag_of desk.new ≡ with_handle Owner h.block h.place (bag_of desk.old))) }
+    ensures none { IfSome result (λ r. IfNone r (bag_of desk.new ≡ bag_of desk.old)) }
+    ensures held { IfSome result (λ r. desk.new.held ≡ desk.old.held + cond (is_some r) 1 0) }
+    ensures holds { IfSome result (λ r. IfSome r (λ h. HoldsHandle desk.new Owner h.block h.place)) }
+    ensures keeps { IfSome result (λ _. Keeps desk.old desk.new) }
+{
+    let Some(of) = weak_pointer(handle) else {
+        return None;
+    };
+    lock_calls::lock_once(domain, desk, of)
+}
+
 /// The constructor from a weak pointer ([util.smartptr.shared.const]): a shared pointer that owns, and points where the
 /// handle does. It is refused `Limit` just where the desk is at its allowance, and else `BadWeak` just where the handle
 /// is empty or no owner remains at its step ([util.smartptr.weak.bad]); then bag and number of handles are as they
 /// were.
+#[inline(always)]
 pub fn upgrade<V: Drop, R: Wait>(
     rt: &R,
     domain: &Domain<V>,

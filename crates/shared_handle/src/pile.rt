@@ -6,7 +6,7 @@ ghost use Rattle.control_block.specs.Desks.{Belongs, DeskNow, DomainNow, endings
 ghost use Rattle.shared_handle.specs.Endings.{EndsInHand, more_ending};
 ghost use Rattle.shared_handle.specs.Piles.{Bears, Carries, gone_of, piled};
 
-use crate::endings::{Ending, Left, Member};
+use crate::endings::{Ending, Left};
 use control_block::domain::Domain;
 use control_word::Refusal;
 use std::alloc::Global;
@@ -30,8 +30,8 @@ pub enum Gone {
 pub enum Round<V> {
     /// Nothing: the pile was empty.
     Settled,
-    /// A member of the top was emptied, and this was what it held.
-    Cleared(Member, Gone),
+    /// A member of the top, by its number, was emptied, and this was what it held.
+    Cleared(u8, Gone),
     /// The top was finished, and this is its value.
     Ended(V),
 }

@@ -115,5 +115,5 @@ pub fn release<V: Drop>(domain: &Domain<V>, desk: &mut Desk<V>, handle: Shared) 
         place,
     };
     let released = calls::leave(domain, desk, of);
-    Left::of_parts(Some(block), released.value)
+    Left::of_parts(domain, Some(block), released.value)
 }

@@ -13,10 +13,11 @@ use Rattle.step_threads.specs.Programs.{AllHaveCells, IsProgram, Part}
 use Rattle.step_core.specs.Worlds.{WorldState}
 use Rattle.step_table.specs.GhostStates.{GhostState}
 
--- a world of this shape may run the program: both are within the limits, with 40 handles or more for each actor, and
--- the shape has the cells of all calls
+-- a world of this shape may run the program: both are within the limits, objects have two owner members and a weak one,
+-- each actor has 40 handles or more, and the shape has the cells of all calls
 pub record CanBegin (shape : Shape) (parts : List Part) : Type 0 where
   pub limits : IsWithinLimits shape
+  pub members : (shape.owners ≡ 2) × (shape.weaks ≡ 1)
   pub program : IsProgram parts
   pub enough : 40 * length parts ≤ shape.allowance
   pub cells : All (AllHaveCells shape) parts

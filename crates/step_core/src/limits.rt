@@ -275,6 +275,8 @@ pub(crate) fn can_begin(shape: &Shape, actors: &[Actor]) -> bool
     ensures fields { IsTrue result → AllHaveFields (map part_of actors.now) }
 {
     shape.is_within_limits()
+        && shape.owners == 2
+        && shape.weaks == 1
         && is_program(actors)
         && LEAST_ALLOWANCE * actors.len() as u64 <= u64::from(shape.allowance)
         && have_cells(shape, actors)

@@ -119,11 +119,12 @@ impl World {
     /// A world at its start: the words of the shape, all 0, and a thread for each actor of the program, which holds
     /// nothing and has its share of the blocks. It takes all memory that later steps need.
     ///
-    /// Refused `Shape` just where the shape is outside its limits; or there are not 1 to 64 actors; or an actor has
-    /// more than 32 names; or there are more than 65,536 calls; or a call names a name that its actor hasn't, or one of
-    /// the other kind; or it exchanges a name with a member of that name's own object; or it names a cell that the
-    /// shape hasn't, or a fourth member; or the allowance is below 40 for each actor. Refused `Memory` where a growth
-    /// was really refused. The program comes back as it was (own).
+    /// Refused `Shape` just where the shape is outside its limits, or asks for other members than two owners and a
+    /// weak one; or there are not 1 to 64 actors; or an actor has more than 32 names; or there are more than 65,536
+    /// calls; or a call names a name that its actor hasn't, or one of the other kind; or it exchanges a name with a
+    /// member of that name's own object; or it names a cell that the shape hasn't, or a fourth member; or the allowance
+    /// is below 40 for each actor. Refused `Memory` where a growth was really refused. The program comes back as it was
+    /// (own).
     pub fn new(alloc: Global, shape: Shape, program: Program) -> Result<World, Refused<Program>>
         ensures start { IfOk result (λ w. w ≡ first_world_state shape (parts_of program)) }
         ensures kept { IfOk result (λ w. TableInvariant w.ghost_state) }

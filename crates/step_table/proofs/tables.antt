@@ -6,6 +6,7 @@ pub mod Funds
 pub mod Locks
 pub mod Loads
 pub mod Making
+pub mod Members
 pub mod Owners
 pub mod Places
 pub mod Reading

@@ -72,7 +72,7 @@ module _ {V : Type 0} where
   cell_event s (CompareSwap c x y) =
       Some (event.Compare (cell_in s c) (handle_told s c y.expected) (handle_told s c y.new)
       (handle_told s c x) true y.weak)
-  cell_event s (TakeOut b m x) = Some (event.ClearMember (s.latest b.0) m (handle_as s (kind_of_member m) x))
+  cell_event s (TakeOut b m x) = Some (event.ClearMember (s.latest b.0) m (handle_as s (kind_of_member 2 m) x))
 
   -- what is half done after it: the funds that are out
   abbrev pub cell_pending : State → CellStep → Pending V
@@ -85,7 +85,7 @@ module _ {V : Type 0} where
   cell_pending s (Refill c t) = Idle
   cell_pending s (Swap c new x) = owing_funds s (kind_in_state s c) x.owned x.place (256 - x.taken) 0
   cell_pending s (CompareSwap c x y) = owing_funds s (kind_in_state s c) x.owned x.place (256 - x.taken) 0
-  cell_pending s (TakeOut b m x) = owing_funds s (kind_of_member m) x.owned x.place (256 - x.taken) 0
+  cell_pending s (TakeOut b m x) = owing_funds s (kind_of_member 2 m) x.owned x.place (256 - x.taken) 0
 
 -- the words after it, in a table of so many blocks
 abbrev pub cell_words : ℕ → List ℕ → CellStep → List ℕ

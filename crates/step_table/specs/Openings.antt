@@ -15,10 +15,13 @@ abbrev pub share_of : Extent → ℕ → ℕ
 share_of x d = cond (nat_lt d x.actors)
     (x.shape.allowance / x.actors + cond (d == 0) (x.shape.allowance % x.actors) 0) 0
 
+-- an object of a world has three members, of which two are owners
 abbrev pub opening : Extent → Opening
 opening x =
     record {
       blocks = x.shape.blocks;
+      members = 3;
+      owners = 2;
       shared_cells = x.shape.shared_cells;
       cells = x.shape.shared_cells + x.shape.weak_cells;
       allowance = x.shape.allowance;

@@ -10,6 +10,10 @@ pub const SCRIPT_NAMES: u32 = 32;
 pub const SCRIPT_STATEMENTS: u32 = 65_536;
 /// Bytes of a name, which has at least one.
 pub const NAME_BYTES: usize = 16;
+/// Owner members of a script's object: `first` and `next`.
+pub const SCRIPT_OWNERS: u32 = 2;
+/// Weak members of it: `up`.
+pub const SCRIPT_WEAKS: u32 = 1;
 /// Free shared cells that a script has.
 pub const SCRIPT_SHARED_CELLS: u32 = 128;
 /// Free weak cells that a script has.

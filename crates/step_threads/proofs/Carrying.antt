@@ -33,9 +33,9 @@ left_each d v x Owner b y is =
           (λ t. ap (λ (j : ℕ). ((model_state v).object j).phase) (sym q) ∙ is.ending)) (λ q. is.ending);
       within = is.within;
       cleared = λ m lt.
-          put_cases (λ j (u : Object). u.member m ≡ empty (kind_of_member m)) (model_state v).object o (cond b (moved_to (ending d) z) z)
+          put_cases (λ j (u : Object). u.member m ≡ empty (kind_of_member 2 m)) (model_state v).object o (cond b (moved_to (ending d) z) z)
           (object_of_block v y.block)
-          (λ q. cond_both b (moved_to (ending d) z) z (λ (u : Object). u.member m ≡ empty (kind_of_member m))
+          (λ q. cond_both b (moved_to (ending d) z) z (λ (u : Object). u.member m ≡ empty (kind_of_member 2 m))
           (λ t. ap (λ (j : ℕ). ((model_state v).object j).member m) (sym q) ∙ is.cleared m lt)
           (λ t. ap (λ (j : ℕ). ((model_state v).object j).member m) (sym q) ∙ is.cleared m lt)) (λ q. is.cleared m lt);
     }

@@ -10,6 +10,7 @@ use Rattle.control_word.proofs.history.Kept.{cells_led}
 use Rattle.step_table.specs.GhostStates.{handle_in_block, owner_in}
 use Rattle.step_table.proofs.contained.Told.{shared_is}
 use Rattle.step_table.proofs.holding.Inside.{inside_is}
+use Rattle.step_table.proofs.tables.Members.{member_kind, three_members}
 use Rattle.step_threads.specs.declared.programs.call.CellName.TheVariants as cell
 use Rattle.step_threads.specs.declared.programs.call.Name.{Name}
 use Rattle.step_threads.specs.Frames.{block_at}
@@ -19,7 +20,7 @@ pub cell_kind : (v : GhostState) (slots : Slots) (c : CellName) → IsIn v.exten
 cell_kind v slots (cell.Shared n) lt =
     cond-true (nat_lt n (model_state v).shared) Owner Weak (lt-ltb _ _ (let e = shared_is v in omega (arith, e, lt)))
 cell_kind v slots (cell.Weak n) lt = cond-false (nat_lt ((model_state v).shared + n) (model_state v).shared) Owner Weak (le-ltb _ _ (omega arith))
-cell_kind v slots (cell.Member k m) lt = refl
+cell_kind v slots (cell.Member k m) lt = member_kind v m
 
 -- a name that owns an object and points into it
 pub there_inside : (slots : Slots) (k : Name) (m : ℕ) → is_there slots (cell.Member k m) ≡ true
@@ -49,7 +50,8 @@ cell_open v d slots (cell.Shared n) lt holds is = let e = cells_led (opening v.e
 cell_open v d slots (cell.Weak n) lt holds is =
     let e = cells_led (opening v.extent) v.history in let s = shared_is v in omega (arith, e, s, lt)
 cell_open v d slots (cell.Member k m) lt holds is =
-    let o = there_owned v d slots k m holds is in (lt, (owner_in v (block_at slots k.0) o.0.place, (o.1, refl, refl), refl))
+    let o = there_owned v d slots k m holds is in
+    ((let n = (three_members v).0 in omega (arith, lt, n)), (owner_in v (block_at slots k.0) o.0.place, (o.1, refl, refl), refl))
 
 -- what may go into the cell of a name may go into the cell
 pub goes_in : (v : GhostState) (slots : Slots) (c : CellName) (x : Slot) → IsIn v.extent.shape c → is_of (kind_at c) x ≡ true

@@ -72,7 +72,7 @@ pub fits_emptied : (d : ℕ) (t : Thread) (v : GhostState) (e : Ending) (es : Li
     (set t.frame.registers.slots.items (hand t.frame.registers.slots.items) (slot_of (model_state v) (held_in (model_state v) (Member e.block e.stage))))
     t.frame.registers.slots.items
     → HoldsBag d h.slots.items (ghost_after_step v d (OnCell (TakeOut e.block e.stage x))) → r.list ≡ staged_first t.frame.endings.list
-    → t.frame.endings.room ≤ r.room → q ≡ gives_back (kind_of_member e.stage) n x x.owned
+    → t.frame.endings.room ≤ r.room → q ≡ gives_back (kind_of_member 2 e.stage) n x x.owned
     → FitsThread d (record {
       frame = record t.frame { registers = h; endings = r };
       stock = t.stock;
@@ -82,7 +82,7 @@ pub fits_emptied : (d : ℕ) (t : Thread) (v : GhostState) (e : Ending) (es : Li
 fits_emptied d t v e es h r q n x kept fits was list is found slots holds new room back =
     let w = ghost_after_step v d (OnCell (TakeOut e.block e.stage x)) in
     let c = t.frame in
-    let k = kind_of_member e.stage in
+    let k = kind_of_member 2 e.stage in
     let y = slot_of (model_state v) (held_in (model_state v) (Member e.block e.stage)) in
     let handle = held_in (model_state v) (Member e.block e.stage) in
     let clear = subst (λ (l : List Ending). IsClearingMember c.registers.slots.items l) list (is_clearing d t v fits was) in
@@ -124,7 +124,7 @@ pub stepped_emptied : (d : ℕ) (t : Thread) (v w : GhostState) (e : Ending) (es
     (set t.frame.registers.slots.items (hand t.frame.registers.slots.items) (slot_of (model_state v) (held_in (model_state v) (Member e.block e.stage))))
     t.frame.registers.slots.items
     → w ≡ ghost_after_step v d (OnCell (TakeOut e.block e.stage x)) → r.list ≡ staged_first t.frame.endings.list
-    → q ≡ gives_back (kind_of_member e.stage) e.statement x x.owned
+    → q ≡ gives_back (kind_of_member 2 e.stage) e.statement x x.owned
     → HasStepped d t v (Event (silent e.statement)) (record { frame = record t.frame { registers = h; endings = r }; stock = t.stock; pending_call = q }) w
 stepped_emptied d t v w e es h r q x was list found slots ghost_state new back =
     let c = t.frame in
@@ -138,4 +138,4 @@ stepped_emptied d t v w e es h r q x was list found slots ghost_state new back =
     ∙ ap
     (λ (l : List Ending). record { slots = cond (is_some (seen v (Member e.block e.stage)).owned) full old; taken = c.taken; endings = l; todo = todo c })
     (new ∙ ap staged_first list))
-    (back ∙ ap (λ (z : CellWord). gives_back (kind_of_member e.stage) e.statement z z.owned) found)
+    (back ∙ ap (λ (z : CellWord). gives_back (kind_of_member 2 e.stage) e.statement z z.owned) found)

@@ -12,6 +12,7 @@ use Prelude.{task_at, there, Thread, todo, View}
 use Rattle.control_word.specs.declared.model.event.Event.TheVariants.{ClearMember}
 use Rattle.control_word.specs.Histories.{entry}
 use Rattle.step_table.specs.declared.memory.ghost_history.AtomicStep.TheVariants.{Clear}
+use Rattle.step_table.proofs.tables.Members.{member_kind}
 use Rattle.step_threads.proofs.Endings.{finished_store}
 use Rattle.step_threads.proofs.Threads.{own_pending, resting}
 use Rattle.step_threads.proofs.holding.Ends.{each_end, once_first, once_rest, once_staged}
@@ -35,7 +36,7 @@ finished_others d v e es vacant kept ends is =
                 (λ q. i.ending);
             within = i.within;
             cleared = λ m lt.
-                put_cases (λ j (z : Object). z.member m ≡ empty (kind_of_member m)) (model_state v).object o _ (object_of_block v y.block)
+                put_cases (λ j (z : Object). z.member m ≡ empty (kind_of_member 2 m)) (model_state v).object o _ (object_of_block v y.block)
                 (λ q. ap (λ (k : ℕ). ((model_state v).object k).member m) (sym q) ∙ i.cleared m lt) (λ q. i.cleared m lt);
           }) (once_first d v e es ends) (All-tail (λ y. IsEndingAtStage d y v) e es ends.each);
       once = λ b. once_rest d v e es b ends;
@@ -136,16 +137,16 @@ cleared_ghost v d b i h words views =
     record { extent = v.extent; words = words; views = views; history = entry d (ClearMember (object_of_block v b) i h) ∷ v.history }
 
 module _ (d : ℕ) (v : GhostState) (b : Block) (i : ℕ) (h : NumberedHandle) (words : List ℕ) (views : List (View Nothing)) where
-  is_cleared : (j m : ℕ) → (((model_state v).object j).member m ≡ empty (kind_of_member m)) ⊎ ((j ≡ object_of_block v b) × (m ≡ i))
-      → ((model_state (cleared_ghost v d b i h words views)).object j).member m ≡ empty (kind_of_member m)
+  is_cleared : (j m : ℕ) → (((model_state v).object j).member m ≡ empty (kind_of_member 2 m)) ⊎ ((j ≡ object_of_block v b) × (m ≡ i))
+      → ((model_state (cleared_ghost v d b i h words views)).object j).member m ≡ empty (kind_of_member 2 m)
   is_cleared j m was =
-      put_cases (λ k (z : Object). k ≡ j → z.member m ≡ empty (kind_of_member m)) (model_state v).object (object_of_block v b) _ j
-      (λ q r. put_cases (λ k (y : NumberedHandle). k ≡ m → y ≡ empty (kind_of_member m)) ((model_state v).object (object_of_block v b)).member i _ m
-      (λ a e. ap (λ (k : ℕ). empty (kind_of_member k)) (sym a))
-      (λ a e. ⊎_elim (λ (f : ((model_state v).object j).member m ≡ empty (kind_of_member m)). ap
+      put_cases (λ k (z : Object). k ≡ j → z.member m ≡ empty (kind_of_member 2 m)) (model_state v).object (object_of_block v b) _ j
+      (λ q r. put_cases (λ k (y : NumberedHandle). k ≡ m → y ≡ empty (kind_of_member 2 m)) ((model_state v).object (object_of_block v b)).member i _ m
+      (λ a e. ap (λ (k : ℕ). empty (kind_of_member (model_state v).owners k)) (sym a) ∙ ap empty (member_kind v m))
+      (λ a e. ⊎_elim (λ (f : ((model_state v).object j).member m ≡ empty (kind_of_member 2 m)). ap
       (λ (k : ℕ). ((model_state v).object k).member m) (sym q) ∙ f)
       (λ (f : (j ≡ object_of_block v b) × (m ≡ i)). absurd (a f.1)) was) refl)
-      (λ q r. ⊎_elim (λ (f : ((model_state v).object j).member m ≡ empty (kind_of_member m)). f)
+      (λ q r. ⊎_elim (λ (f : ((model_state v).object j).member m ≡ empty (kind_of_member 2 m)). f)
       (λ (f : (j ≡ object_of_block v b) × (m ≡ i)). absurd (q f.0)) was) refl
 
   still_ends : (j : ℕ) → ((model_state v).object j).phase ≡ ending d → ((model_state (cleared_ghost v d b i h words views)).object j).phase ≡ ending d
@@ -202,7 +203,7 @@ fits_clear d t v e r es kept fits rests list new room is lt bare =
       endings =
           record {
             all = subst (λ (l : List Ending). EndsAll d l w) (sym (new ∙ ap staged_first list))
-                (cleared_ends d v e es (empty (kind_of_member e.stage)) w.words w.views
+                (cleared_ends d v e es (empty (kind_of_member 2 e.stage)) w.words w.views
                 (subst (λ (l : List Ending). EndsAll d l v) list fits.endings.all) is lt);
             roomy = (let q = fits.endings.roomy in omega (arith, q, room));
             empty = ⊎_elim (λ (n : t.frame.endings.list ≡ []). absurd cc) (λ (n : t.frame.taken ≡ false). inr n) fits.endings.empty;

@@ -69,7 +69,7 @@ module _ (d : ℕ) (t : Thread) (v : GhostState) (h h' : PendingCall) (fits : Fi
                     each = each_end d v w t.frame.endings.list (λ e is. record {
                       ending = subst (λ (s : State). (s.object (s.latest e.block.0)).phase ≡ ending d) (sym same) is.ending;
                       within = is.within;
-                      cleared = λ m l. subst (λ (s : State). (s.object (s.latest e.block.0)).member m ≡ empty (kind_of_member m))
+                      cleared = λ m l. subst (λ (s : State). (s.object (s.latest e.block.0)).member m ≡ empty (kind_of_member 2 m))
                           (sym same) (is.cleared m l);
                     }) fits.endings.all.each;
                     once = fits.endings.all.once;

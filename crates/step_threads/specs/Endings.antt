@@ -32,7 +32,7 @@ pub record IsEndingAtStage (d : ℕ) (e : Ending) (v : GhostState) : Type 0 wher
   pub ending : ((model_state v).object (object_of_block v e.block)).phase ≡ ending d
   pub within : e.stage ≤ 3
   pub cleared : (m : ℕ) → m < e.stage → ((model_state v).object (object_of_block v e.block)).member m
-      ≡ empty (kind_of_member m)
+      ≡ empty (kind_of_member 2 m)
 
 -- each object is in one ending at most
 pub record EndsAll (d : ℕ) (es : List Ending) (v : GhostState) : Type 0 where

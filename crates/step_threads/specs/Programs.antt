@@ -51,7 +51,7 @@ either name = (name, None)
 abbrev pub kind_at : CellName → Kind
 kind_at (cell.Shared n) = Owner
 kind_at (cell.Weak n) = kind.Weak
-kind_at (cell.Member k m) = kind_of_member m
+kind_at (cell.Member k m) = kind_of_member 2 m
 
 -- a name of that kind
 abbrev pub as_in : CellName → Name → Asked

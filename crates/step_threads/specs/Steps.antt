@@ -264,4 +264,4 @@ empties v w e es =
     (slice_set w.slots (hand w.slots) (slot_of (model_state v) (held_in (model_state v) c))) w.slots in
     within (record { slots = slots; taken = w.taken; endings = staged e ∷ es; todo = w.todo }) e.statement
     (Some (atomic_step.OnCell (cell_step.TakeOut e.block e.stage x)))
-    (gives_back (kind_of_member e.stage) e.statement x x.owned)
+    (gives_back (kind_of_member 2 e.stage) e.statement x x.owned)

@@ -19,7 +19,7 @@ module _ {V : Type 0} where
         let words = ap (λ (y : TableId). y.words) (sym table) ∙ h.sized.words in let blocks = ap (λ (y : Shape). y.blocks) shape in let low = cell.0 in
         (tt, omega arith)
     own_word id z (Member b m) table shape cell at =
-        let t = cell.2 in let lt = cell.0 in
+        let t = cell.2 in let low = cell.0 in let most = h.limits.members.2 in let lt : m < 9 = omega arith in
         let w = word_inside d id Owner _ t.0 b.0 (7 + m) h table (holding_in d (desk_now d) Owner t.0 b.0 h refl t.1) (omega arith) in
         ((w.0, lt), subst (λ j. j < id.words) (sym at) w.1)
 

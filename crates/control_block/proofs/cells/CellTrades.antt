@@ -9,6 +9,7 @@ use Prelude.{known, leads, legal_seen, Load, loses, Member, names_an_object, Num
 use Prelude.{opening_of, Owner, part_has, Pending, Place, same_kept, SeatView, slot, sound, spot}
 use Prelude.{State, Swap, TableId, Weak}
 use Rattle.control_block.proofs.words.Hands.{fills_hands}
+use Rattle.control_block.specs.Rule.{members_of}
 
 pub slot_low : (k : Kind) → slot k < 16
 slot_low Owner = omega arith
@@ -77,7 +78,7 @@ module _ {V : Type 0} where
 
       there : (d : Cell) → IsCellAt v d i → IsCellAt w d i
       there (Free n) at = subst (λ y. (n < y.shared_cells + y.weak_cells) × (i ≡ cell_place y.blocks n)) (sym shape) at
-      there (Member o m) at = let q = at.1 in (at.0, (q.0, q.1, still_holding v w e Owner o q.0 q.1 keeps a q.2, q.3))
+      there (Member o m) at = let q = at.1 in (subst (λ y. m < members_of y) (sym shape) at.0, (q.0, q.1, still_holding v w e Owner o q.0 q.1 keeps a q.2, q.3))
 
 gets_keeps : (d : ℕ) (h : NumberedHandle) (s : State) (x : Held) → Has x s.hands → Has x (gets d h s).hands
 gets_keeps d h s x has = cond_both (has_object h) (held d h ∷ s.hands) s.hands (Has x) (λ _. inr has) (λ _. has)

@@ -14,6 +14,7 @@ use Rattle.control_word.proofs.words.Funds.{slot_low}
 use Rattle.control_word.proofs.words.Members.{member_word}
 use Rattle.control_word.specs.Words.{cell_spot, packed, place_bits}
 use Rattle.control_block.specs.Holders.{owned_by}
+use Rattle.control_block.specs.Rule.{members_of}
 use Rattle.control_block.proofs.closings.Closing.{all_idle, all_seen}
 
 low_part : (n : ℕ) (p : Option Place) (t : ℕ) → n < 65536 → (n + place_bits p + 17179869184 * t) % 65536 ≡ n
@@ -55,7 +56,7 @@ module _ {V : Type 0} where
         ∙ low_of (blocks_of s) (s.cell c) (stands.taken k)
         (bits_fit (blocks_of s) (s.cell c).object (λ r e. busy_fits r (cell_busy z s fine c r (let q = cells_led z h in omega arith) e)))
 
-    pub member_at : (b m : ℕ) → InShape z b → m < 3
+    pub member_at : (b m : ℕ) → InShape z b → m < 9
         → slice_index words (spot b (7 + m)) % 65536 ≡ owned_by (leads z h) (((leads z h).object ((leads z h).latest b)).member m)
     member_at b m inside lt =
         let s = leads z h in let fine = sound z h stands.legal in let k = spot b (7 + m) in let o = s.latest b in let x = (s.object o).member m in
@@ -71,7 +72,7 @@ module _ {V : Type 0} where
         (bits_fit (blocks_of s) x.object (λ r e. busy_fits r (member_busy z s fine o m r (let q = fine.latest_made b in omega arith) lt e)))
 
 abbrev pub census_of : Shape → List ℕ → CensusNow
-census_of k l = record { blocks = k.blocks; shared_cells = k.shared_cells; weak_cells = k.weak_cells; words = l }
+census_of k l = record { blocks = k.blocks; members = members_of k; owners = k.owners; shared_cells = k.shared_cells; weak_cells = k.weak_cells; words = l }
 
 module _ {V : Type 0} where
   module _ (k : Shape) (s : Table.State (Rattle.std.specs.Prelude.Option V) (SeatView V)) (r : Ruled k s) (id : ℕ) (v : SeatView V)
@@ -82,7 +83,7 @@ module _ {V : Type 0} where
         let z = opening_of k in let h = r.history in let none = all_idle k s r id v at awake idle whole in
         record {
           frees = λ i lt. free_word z s.words (map view_of s.views) h r.stands none i lt;
-          members = λ b m has lt. member_at z s.words (map view_of s.views) h r.stands none b m has lt;
+          members = λ b m has lt. member_at z s.words (map view_of s.views) h r.stands none b m has (let n = r.limits.members.2 in omega arith);
         }
 
     -- what the cells hold where a sole desk closes its domain

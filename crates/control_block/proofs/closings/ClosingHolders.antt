@@ -9,6 +9,8 @@ use Prelude.{opening_of, Owner, sound, tally, tally_append, TellsCells, TellsHol
 use Rattle.control_word.specs.State.{count, handles, weak}
 use Rattle.control_block.proofs.CellWords.{shared_led}
 use Rattle.control_block.proofs.closings.Holders.{in_all_cells, in_bag}
+use Rattle.control_block.specs.Rule.{members_of}
+use Rattle.control_word.proofs.history.Kept.{members_led, owners_led}
 
 module _ {V : Type 0} where
   module _ (z : Opening) (h : List (Entry V)) (legal : IsLegal z h) (d : ℕ)
@@ -39,6 +41,7 @@ module _ {V : Type 0} where
 
     pub each_held : (k : Kind) (b : ℕ) (c : CensusNow) → 0 < b → TellsCells (leads z h) c
         → (c.blocks ≡ z.blocks) × (c.shared_cells ≡ (leads z h).shared) × (frees_in c ≡ (leads z h).cells)
+        × (c.members ≡ (leads z h).members) × (c.owners ≡ (leads z h).owners)
         → tally k ((leads z h).latest b) (handles (leads z h))
         ≡ many_of k (holders_of c b)
         + tally k b (map (λ (x : Held). by_block (blocks_of (leads z h)) x.handle) (bag (leads z h) d))
@@ -53,12 +56,19 @@ module _ {V : Type 0} where
       → (b : ℕ) (c : CensusNow) → 0 < b → TellsCells (known d.seat.me.0) c
       → (c.blocks ≡ d.seat.me.0.shape.blocks) × (c.shared_cells ≡ d.seat.me.0.shape.shared_cells)
       × (frees_in c ≡ d.seat.me.0.shape.shared_cells + d.seat.me.0.shape.weak_cells)
+      × (c.members ≡ members_of d.seat.me.0.shape) × (c.owners ≡ d.seat.me.0.shape.owners)
       → TellsHolders (desk_now d) b c
   unfolding count weak
   tells_holders d is whole b c pos tells sized =
       let v = d.seat.me.0 in let z = opening_of v.shape in let h = v.view.seen in
-      let sized' : (c.blocks ≡ z.blocks) × (c.shared_cells ≡ (leads z h).shared) × (frees_in c ≡ (leads z h).cells) =
-      (sized.0, sized.1 ∙ sym (shared_led z h), sized.2 ∙ sym (cells_led z h)) in
+      let sized' : (c.blocks ≡ z.blocks) × (c.shared_cells ≡ (leads z h).shared) × (frees_in c ≡ (leads z h).cells)
+      × (c.members ≡ (leads z h).members) × (c.owners ≡ (leads z h).owners) = (
+        sized.0,
+        sized.1 ∙ sym (shared_led z h),
+        sized.2 ∙ sym (cells_led z h),
+        sized.3 ∙ sym (members_led z h),
+        sized.4 ∙ sym (owners_led z h),
+      ) in
       record {
         owners = each_held z h is.legal v.view.name whole Owner b c pos tells sized';
         weaks = each_held z h is.legal v.view.name whole Weak b c pos tells sized';

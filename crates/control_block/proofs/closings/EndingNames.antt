@@ -46,7 +46,7 @@ named_put s q x all one o = put_cases (λ i (y : Object). IsNamed s.names y.phas
 module _ {V : Type 0} where
   named_after : (s : State) (d : ℕ) (e : Event V) → IsActing s d → AllNamed s → AllNamed (after s d e)
   named_after s d (Make b enabled null fields val) acts all =
-      named_put s (suc s.made) (new_object b.0 enabled null fields) all (λ n is. absurd (live_ends n is))
+      named_put s (suc s.made) (new_object s.owners b.0 enabled null fields) all (λ n is. absurd (live_ends n is))
   named_after s d (Share y p) acts all = all
   named_after s d (Leave y last) acts all =
       let x = s.object (object_of y) in
@@ -68,7 +68,7 @@ module _ {V : Type 0} where
   named_after s d (Compare c u y w false k) acts all = all
   named_after s d (ClearMember o m y) acts all =
       λ q n is. all q n
-      (sym (fills_phase s (Member o m) (Rattle.control_word.specs.Handles.empty (Rattle.control_word.specs.State.kind_of_member m)) q) ∙ is)
+      (sym (fills_phase s (Member o m) (Rattle.control_word.specs.Handles.empty (Rattle.control_word.specs.State.kind_of_member s.owners m)) q) ∙ is)
   named_after s d (Finish o v val) acts all = named_put s o (moved_to gone (s.object o)) all (λ n is. absurd (gone_ends n is))
   named_after s d (Visit y c w) acts all = all
   named_after s d (Split to n hs bs) acts all = λ o i is. let a = all o i is in omega arith

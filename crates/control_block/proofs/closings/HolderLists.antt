@@ -4,6 +4,7 @@ use Rattle.std.proofs.Common.{sym, refl, ap, ◌∙◌, arith, eq-eqb, ne_eqb}
 use Rattle.control_block.proofs.Prelude.{block_holders, CellAt, CensusNow, cond-false, cond-true}
 use Rattle.control_block.proofs.Prelude.{free_cell, free_holders, if_holds, member_holders}
 use Rattle.control_block.proofs.Prelude.{owned_at, site_place}
+use Rattle.control_block.specs.Holders.{member_cell, some_members}
 
 none_right : {A : Type 0} → (l : List A) → l ++ [] ≡ l
 none_right [] = refl
@@ -33,6 +34,13 @@ module _ (c : CensusNow) (b : ℕ) where
       let e : suc n ≡ n + 1 = omega arith in
       q ∙ (ap (λ l. l ++ if_holds c b (free_cell c n)) p
       ∙ (join start (free_holders c b n) (if_holds c b (free_cell c n)) ∙ ap (λ i. start ++ free_holders c b i) e))
+
+  pub next_member : (n m : ℕ) (start so_far next : List CellAt) → so_far ≡ start ++ some_members c b n m
+      → next ≡ so_far ++ if_holds c b (member_cell c n m) → next ≡ start ++ some_members c b n (m + 1)
+  next_member n m start so_far next p q =
+      let e : suc m ≡ m + 1 = omega arith in
+      q ∙ (ap (λ l. l ++ if_holds c b (member_cell c n m)) p
+      ∙ (join start (some_members c b n m) (if_holds c b (member_cell c n m)) ∙ ap (λ i. start ++ some_members c b n i) e))
 
   pub next_block : (n k : ℕ) (start so_far next : List CellAt) → k ≡ n + 1 → so_far ≡ start ++ member_holders c b n
       → next ≡ so_far ++ block_holders c b k → next ≡ start ++ member_holders c b (n + 1)

@@ -11,9 +11,9 @@ use Prelude.{kind_of_free, kind_of_member, many_of, member_busy, member_holders,
 use Prelude.{Object, Opening, owned_at, owned_bits, Owner, Place, same_kind, Sound, State, sum_all}
 use Prelude.{sum_below, sum_set, sum_zero, tally, tally_append, TellsCells, Weak, weak_number}
 use Rattle.control_word.proofs.history.Soundness.{Formed}
-use Rattle.control_word.proofs.lists.Tallies.{tally_cons}
+use Rattle.control_word.proofs.lists.Tallies.{tally_cons, tally_upto_empty}
 use Rattle.control_word.specs.State.{members, upto}
-use Rattle.control_block.specs.Holders.{member_cell}
+use Rattle.control_block.specs.Holders.{member_cell, some_members}
 
 -- lists of one or none
 counted : {A : Type 0} (t : Bool) (x : A) → length (cond t (x ∷ []) []) ≡ cond t 1 0
@@ -45,6 +45,19 @@ tally_one Owner Owner o q p = counted (o == q) (handle Owner (Some q) p)
 tally_one Owner Weak o q p = refl
 tally_one Weak Owner o q p = refl
 tally_one Weak Weak o q p = counted (o == q) (handle Weak (Some q) p)
+
+-- of n lists those from m on hold no such handle
+others_empty : (k : Kind) (o m n : ℕ) (f : ℕ → List NumberedHandle) → m ≤ n → ((i : ℕ) → m ≤ i → tally k o (f i) ≡ 0)
+    → tally k o (upto n f) ≡ tally k o (upto m f)
+others_empty k o m zero f le none = let e : m ≡ 0 = omega arith in ap (λ i. tally k o (upto i f)) (sym e)
+others_empty k o m (suc n) f le none =
+    ⊎_elim (λ (e : m ≡ suc n). ap (λ i. tally k o (upto i f)) (sym e))
+    (λ (ne : m ≢ suc n). omega (
+      arith,
+      tally_append k o (f n) (upto n f),
+      none n (omega arith),
+      others_empty k o m n f (omega arith) none,
+    )) (cases_eq m (suc n))
 
 module _ (z : Opening) (s : State) (fine : Sound z s) (b : ℕ) where
   here : (q : ℕ) → IsBusy s q → q ≡ s.latest b → blocks_of s q ≡ b
@@ -108,7 +121,8 @@ module _ (z : Opening) (s : State) (fine : Sound z s) (b : ℕ) where
       ∙ ((λ i. one i + more i) ∙ (sym (tally_cons k b (f x) (map f rest)) ∙ ap (λ l. tally k b (map f l)) (sym t)))
 
   module _ (k : Kind) (c : CensusNow) (form : Formed s) (tells : TellsCells s c) (pos : 0 < b)
-      (sized : (c.blocks ≡ z.blocks) × (c.shared_cells ≡ s.shared) × (frees_in c ≡ s.cells)) where
+      (sized : (c.blocks ≡ z.blocks) × (c.shared_cells ≡ s.shared) × (frees_in c ≡ s.cells)
+      × (c.members ≡ s.members) × (c.owners ≡ s.owners)) where
     in_frees : (n : ℕ) → n ≤ s.cells
         → many_of k (free_holders c b n) ≡ tally k (s.latest b) (upto n (λ i. s.cell i ∷ []))
     in_frees zero le = refl
@@ -124,31 +138,37 @@ module _ (z : Opening) (s : State) (fine : Sound z s) (b : ℕ) where
           tally_append k (s.latest b) (h ∷ []) (upto n (λ i. s.cell i ∷ [])),
         )
 
-    in_member : (n m : ℕ) → InShape z n → m < 3
-        → many_of k (if_holds c b (member_cell n m)) ≡ tally k (s.latest b) ((s.object (s.latest n)).member m ∷ [])
+    in_member : (n m : ℕ) → InShape z n → m < s.members
+        → many_of k (if_holds c b (member_cell c n m)) ≡ tally k (s.latest b) ((s.object (s.latest n)).member m ∷ [])
     in_member n m inside lt =
         let o = s.latest n in let h = (s.object o).member m in let size = sized.0 in let made = fine.latest_made n in
-        one_cell k c (member_cell n m) h.kind h.object h.place pos (sym (form.members o m lt).1)
-        (tells.members n m (inside.0, let i = inside.1 in omega arith) lt)
-        (λ q e. member_busy z s fine o m q (omega arith) lt e)
+        let kind = (λ i. kind_of_member (sized.4 i) m) ∙ sym (form.members o m).1 in let few = fine.few in let same = sized.3 in
+        one_cell k c (member_cell c n m) h.kind h.object h.place pos kind
+        (tells.members n m (inside.0, let i = inside.1 in omega arith) (omega arith))
+        (λ q e. member_busy z s fine o m q (omega arith) (omega arith) e)
+
+    in_members : (n : ℕ) → InShape z n → (m : ℕ) → m ≤ s.members → many_of k (some_members c b n m)
+        ≡ tally k (s.latest b) (upto m (λ i. (s.object (s.latest n)).member i ∷ []))
+    in_members n inside zero le = refl
+    in_members n inside (suc m) le =
+        let x = s.object (s.latest n) in
+        omega (
+          arith,
+          in_members n inside m (omega arith),
+          in_member n m inside (omega arith),
+          many_append k (some_members c b n m) (if_holds c b (member_cell c n m)),
+          tally_append k (s.latest b) (x.member m ∷ []) (upto m (λ i. x.member i ∷ [])),
+        )
 
     in_block : (n : ℕ) → InShape z n
         → many_of k (block_holders c b n) ≡ tally k (s.latest b) (members (s.object (s.latest n)))
     in_block n inside =
-        let x = s.object (s.latest n) in
-        let h0 = if_holds c b (member_cell n 0) in
-        let h1 = if_holds c b (member_cell n 1) in
-        let h2 = if_holds c b (member_cell n 2) in
-        omega (
-          arith,
-          in_member n 0 inside (omega arith),
-          in_member n 1 inside (omega arith),
-          in_member n 2 inside (omega arith),
-          many_append k h0 (h1 ++ h2),
-          many_append k h1 h2,
-          tally_cons k (s.latest b) (x.member 0) (x.member 1 ∷ x.member 2 ∷ []),
-          tally_cons k (s.latest b) (x.member 1) (x.member 2 ∷ []),
-        )
+        let x = s.object (s.latest n) in let f : ℕ → List NumberedHandle = λ i. x.member i ∷ [] in
+        ap (λ m. many_of k (some_members c b n m)) sized.3
+        ∙ (in_members n inside s.members (omega arith)
+        ∙ sym (others_empty k (s.latest b) s.members 9 f fine.few
+        (λ i le. ap (λ (h : NumberedHandle). tally k (s.latest b) (h ∷ [])) (fine.unused (s.latest n) i le)
+        ∙ tally_none k (kind_of_member s.owners i) (s.latest b) None)))
 
     -- how many such handles the members of object q are, and those of the object last made in block j + 1
     of_object : ℕ → ℕ
@@ -177,21 +197,12 @@ module _ (z : Opening) (s : State) (fine : Sound z s) (b : ℕ) where
         )
 
     -- an object with such a member is busy
-    cleared_none : (x : Object) → ((m : ℕ) → m < 3 → x.member m ≡ empty (kind_of_member m))
+    cleared_none : (x : Object) → ((m : ℕ) → m < 9 → x.member m ≡ empty (kind_of_member s.owners m))
         → tally k (s.latest b) (members x) ≡ 0
     cleared_none x cleared =
-        let a = cleared 0 (omega arith) in
-        let e = cleared 1 (omega arith) in
-        let u = cleared 2 (omega arith) in
-        let p : members x ≡ empty Owner ∷ empty Owner ∷ empty Weak ∷ [] = λ i. a i ∷ e i ∷ u i ∷ [] in
-        let t = ap (tally k (s.latest b)) p in
-        omega (
-          arith,
-          tally_cons k (s.latest b) (empty Owner) (empty Owner ∷ empty Weak ∷ []),
-          tally_cons k (s.latest b) (empty Owner) (empty Weak ∷ []),
-          tally_none k Owner (s.latest b) None,
-          tally_none k Weak (s.latest b) None,
-        )
+        tally_upto_empty k (s.latest b) 9 (λ m. x.member m ∷ [])
+        (λ m lt. ap (λ (h : NumberedHandle). tally k (s.latest b) (h ∷ [])) (cleared m lt)
+        ∙ tally_none k (kind_of_member s.owners m) (s.latest b) None)
 
     some_busy : (q : ℕ) → 0 < of_object q → IsBusy s q
     unfolding of_object

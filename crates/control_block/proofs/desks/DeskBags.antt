@@ -168,6 +168,7 @@ module _ {V : Type 0} where
               phase = ap (λ (o : ℕ). ((leads z (entry n e ∷ before)).object o).phase) r.latest ∙ r.phase;
               kept = ap (value z (entry n e ∷ before)) r.latest ∙ (r.value ∙ (ap (value z before) t.latest ∙ (t.value ∙ was.kept)));
             };
+            shape = refl;
             members = λ q. ap (λ (o : ℕ). ((leads z (entry n e ∷ before)).object o).member q) r.latest
                 ∙ (r.members q ∙ (ap (λ (o : ℕ). ((leads z before).object o).member q) t.latest ∙ t.object.member q));
           })

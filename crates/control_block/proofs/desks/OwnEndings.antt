@@ -10,6 +10,7 @@ use Prelude.{Object, object_of, Opening, opening_of, Owner, owner, Place, put, p
 use Prelude.{SeatView, Sound, sound, State, TableId, value, Visit}
 use Rattle.control_block.proofs.desks.DeskBags.{Spares, before, legal_now, now_of}
 use Rattle.control_block.proofs.Endings.{ends_busy, ends_here, not_live}
+use Rattle.control_block.specs.Rule.{members_of}
 
 module _ {V : Type 0} where
   module _ (z : Opening) (t : State) (f : ℕ → Option V) (n b : ℕ) (fine : Sound z t) (ends : (t.object (t.latest b)).phase ≡ ending n) where
@@ -43,9 +44,9 @@ module _ {V : Type 0} where
         let new : t.latest b ≢ suc t.made = λ q. let m = fine.latest_made b in omega arith in
         record {
           latest = put_other t.latest c.0 (suc t.made) b apart;
-          phase = ap (λ (y : Object). y.phase) (put_other t.object (suc t.made) (new_object c.0 enabled null fields) (t.latest b) new) ∙ ends;
+          phase = ap (λ (y : Object). y.phase) (put_other t.object (suc t.made) (new_object t.owners c.0 enabled null fields) (t.latest b) new) ∙ ends;
           value = cond-false (t.latest b == suc t.made) (Some x) (f (t.latest b)) (ne_eqb (t.latest b) (suc t.made) new);
-          members = λ m. ap (λ (y : Object). y.member m) (put_other t.object (suc t.made) (new_object c.0 enabled null fields) (t.latest b) new);
+          members = λ m. ap (λ (y : Object). y.member m) (put_other t.object (suc t.made) (new_object t.owners c.0 enabled null fields) (t.latest b) new);
         }
 
     pub finish_spares : (o c : ℕ) (vacant : Bool) (x : V) → (t.object o).block ≡ c → b ≢ c → Spares t f n (Finish o vacant x) b
@@ -62,7 +63,7 @@ module _ {V : Type 0} where
     pub clear_spares : (o m : ℕ) (h : NumberedHandle) (c : ℕ) → (t.object o).block ≡ c → b ≢ c → Spares t f n (ClearMember o m h) b
     clear_spares o m h c there apart =
         let x = t.object o in
-        let other = put_other t.object o (record x { member = put x.member m (empty (kind_of_member m)) }) (t.latest b)
+        let other = put_other t.object o (record x { member = put x.member m (empty (kind_of_member t.owners m)) }) (t.latest b)
         (λ q. apart (sym (ends_here z t b n fine ends) ∙ (ap (λ y. (t.object y).block) q ∙ there))) in
         record {
           latest = refl;
@@ -79,9 +80,11 @@ module _ {V : Type 0} where
       → value (opening_of d.seat.me.0.shape) d.seat.me.0.view.seen ((known d.seat.me.0).latest b) ≡ Some x
   ends_value d y b x is ends = (subst (λ (q : DeskNow V). IsEnding q b x) (sym is) ends).kept
 
-  pub clear_in : (d : Inside V) (y : DeskNow V) (b : ℕ) → desk_now d ≡ y → ((m : ℕ) → m < 3 → IsCleared y b m)
+  pub clear_in : (d : Inside V) (y : DeskNow V) (b : ℕ) → desk_now d ≡ y → ((m : ℕ) → m < members_of y.shape → IsCleared y b m)
       → IsClear d.seat.me.0 ((known d.seat.me.0).latest b)
-  clear_in d y b is clear m lt = subst (λ (q : DeskNow V). IsCleared q b m) (sym is) (clear m lt)
+  clear_in d y b is clear m lt =
+      subst (λ (q : DeskNow V). IsCleared q b m) (sym is)
+      (clear m (subst (λ (q : DeskNow V). m < members_of q.shape) is lt))
 
   -- its block is one of the shape's
   pub ends_inside : {n' : ℕ} (d : Inside V) (b : ℕ) → IsDeskWith n' d → Ends d.seat.me.0 ((known d.seat.me.0).latest b) b
@@ -137,6 +140,6 @@ module _ {V : Type 0} where
 
 -- where a new object is
 pub made_block : (t : State) (b : Block) (enabled null : Bool) (fields : List ℕ)
-    → (put t.object (suc t.made) (new_object b.0 enabled null fields) (suc t.made)).block ≡ b.0
+    → (put t.object (suc t.made) (new_object t.owners b.0 enabled null fields) (suc t.made)).block ≡ b.0
 made_block t b enabled null fields = ap (λ (x : Object). x.block)
-    (put_same t.object (suc t.made) (new_object b.0 enabled null fields) (suc t.made) refl)
+    (put_same t.object (suc t.made) (new_object t.owners b.0 enabled null fields) (suc t.made) refl)

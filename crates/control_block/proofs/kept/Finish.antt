@@ -7,7 +7,11 @@ use Prelude.{Allows, At, Block, cases_eq, Ends, Entry, entry, Event, Finish, get
 use Prelude.{gone, Idle, IsClear, IsSlotOf, kept, leads, moved_to, none, opening_of, put, put_back}
 use Prelude.{put_same, rest, Ruled, seeing, sees_as, set_else, set_here, Shape, some, sound, spot}
 use Prelude.{Stands, step, until_gone, value, view_of}
+use Rattle.control_word.proofs.history.Kept.{members_led, owners_led}
 use Rattle.control_word.proofs.steps.WeakLeave as law
+use Rattle.control_word.specs.State.{kind_of_member}
+use Rattle.control_word.specs.Handles.{empty}
+use Rattle.control_block.specs.Rule.{members_of}
 use Rattle.control_block.specs.StepKinds.{finished}
 use Rattle.control_block.proofs.Endings.{ends_here, ends_unmade}
 use Rattle.control_block.proofs.Passage.{adds, next, point, ready, still_ending}
@@ -24,7 +28,10 @@ module _ {V : Type 0} where
       let still = still_ending k s r id v at awake o b.0 ends in
       let phase = still.1.phase ∙ ends.1 in
       let there = ap (λ y. (t.object y).block) (sym still.0) ∙ ends_here z t b.0 d fine (ap (λ y. (t.object y).phase) still.0 ∙ phase) in
-      let l = law.finishes' (point k s r id v) o x (ready k s r id v at awake Idle idle) (still.2 ∙ val) phase (λ m lt. still.1.member m ∙ clear m lt) in
+      let l = law.finishes' (point k s r id v) o x (ready k s r id v at awake Idle idle) (still.2 ∙ val) phase (λ m lt. still.1.member m
+      ∙ (clear m (subst (λ (y : Shape). m < members_of y) (sym (r.shapes id v at awake)) (let w = members_led z r.history in omega arith))
+      ∙ ap (λ n. empty (kind_of_member n m))
+      (ap (λ (y : Shape). y.owners) (r.shapes id v at awake) ∙ sym (owners_led z r.history)))) in
       let same = ap (λ y. spot y 1) there ∙ sym e in
       let ev : Event V = Finish o (get_or s.words i 0 == 1) x in
       let h : ℕ → List (Entry V) = λ y. entry d (Finish o (get_or s.words y 0 == 1) x) ∷ r.history in

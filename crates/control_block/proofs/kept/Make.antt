@@ -83,7 +83,7 @@ module _ {V : Type 0} where
       let now = claim.claims (point k s r id v) b enabled null fields x (ready k s r id v at awake (Making b
       (flags_of enabled null ∷ fields)) pending) four
       (still_room k s r id v at awake more) in
-      let asks = now.legal.1.asks in let inside = (fine.stores d b.0 asks.0).1 in let new = new_object b.0 enabled null fields in
+      let asks = now.legal.1.asks in let inside = (fine.stores d b.0 asks.0).1 in let new = new_object t.owners b.0 enabled null fields in
       let m = suc t.made in
       let homes = set s.homes (b.0 - 1) (some (Some x)) in (
         w,
@@ -112,10 +112,10 @@ module _ {V : Type 0} where
           → kept z (entry d (Make b enabled null fields x) ∷ h) b.0 ≡ Some x
       fresh_kept z h d b enabled null fields x =
           let s = leads z h in let m = suc s.made in
-          ap (λ o. until_gone (put s.object m (new_object b.0 enabled null fields) o).phase (valued s (Make b enabled null fields x)
+          ap (λ o. until_gone (put s.object m (new_object s.owners b.0 enabled null fields) o).phase (valued s (Make b enabled null fields x)
           (value z h) o)) (put_same s.latest b.0 m b.0 refl)
           ∙ (ap (λ y. until_gone y.phase (valued s (Make b enabled null fields x) (value z h) m)) (put_same s.object m
-          (new_object b.0 enabled null fields) m refl)
+          (new_object s.owners b.0 enabled null fields) m refl)
           ∙ put_same (value z h) m (Some x) m refl)
 
       other_kept : (z : Rattle.control_word.specs.State.Opening) (h : List (Entry V)) (d : ℕ) (b : Block) (enabled null : Bool)
@@ -123,8 +123,8 @@ module _ {V : Type 0} where
           → (leads z h).latest c ≤ (leads z h).made → kept z (entry d (Make b enabled null fields x) ∷ h) c ≡ kept z h c
       other_kept z h d b enabled null fields x c n le =
           let s = leads z h in let m = suc s.made in let ne : s.latest c ≢ m = λ q. omega arith in
-          ap (λ o. until_gone (put s.object m (new_object b.0 enabled null fields) o).phase (valued s (Make b enabled null fields x)
+          ap (λ o. until_gone (put s.object m (new_object s.owners b.0 enabled null fields) o).phase (valued s (Make b enabled null fields x)
           (value z h) o)) (put_other s.latest b.0 m c n)
           ∙ (ap (λ y. until_gone y.phase (valued s (Make b enabled null fields x) (value z h) (s.latest c))) (put_other s.object m
-          (new_object b.0 enabled null fields) (s.latest c) ne)
+          (new_object s.owners b.0 enabled null fields) (s.latest c) ne)
           ∙ ap (until_gone (s.object (s.latest c)).phase) (put_other (value z h) m (Some x) (s.latest c) ne))

@@ -7,6 +7,8 @@ use Prelude.{cond-true, desk_now, empty, ending, Ends, entry, Event, handle_in, 
 use Prelude.{Inside, IsDesk, IsDeskWith, IsEnding, IsProper, IsSameDesk, Kind, kind_of_member}
 use Prelude.{known, leads, many_ending, Member, member_in, NumberedHandle, Object, opening_of, put}
 use Prelude.{put_same, SeatView, sound, State, StaysEnding, stock_of, value, with_handle}
+use Rattle.control_word.proofs.history.Kept.{owners_led}
+use Rattle.control_block.specs.Desks.{IsCleared}
 use Rattle.control_block.proofs.Bags.{shown}
 use Rattle.control_block.proofs.cells.CellDesks.{bag_is, event_is, formed_in, in_seat, one}
 use Rattle.control_block.proofs.cells.CellDesks.{size_is}
@@ -99,7 +101,7 @@ module _ {V : Type 0} (d : Inside V) (h : IsDesk d) (b m : ℕ) (ends : Ends d.s
     last = still.latest
 
     abbrev after : Object
-    after = let u = s.object o in record u { member = put u.member m (empty (kind_of_member m)) }
+    after = let u = s.object o in record u { member = put u.member m (empty (kind_of_member s.owners m)) }
 
     now_is : known w ≡ leads (opening_of v.shape) (entry v.view.name (e got) ∷ hist)
     now_is = λ i. leads (opening_of (ap (λ (u : SeatView V). u.shape) event.now i)) (ap (λ (u : SeatView V). u.view.seen) event.now i)
@@ -117,11 +119,14 @@ module _ {V : Type 0} (d : Inside V) (h : IsDesk d) (b m : ℕ) (ends : Ends d.s
           (ap (value (opening_of v.shape) hist) last ∙ (still.value ∙ was.kept));
     }
 
-    pub members_out : (q : ℕ) → member_in (desk_now t) b q ≡ cond (q == m) (empty (kind_of_member m)) (member_in (desk_now d) b q)
-    members_out q = ap (λ (u : Object). u.member q) object_is ∙ ap (λ r. cond (q == m) (empty (kind_of_member m)) r) (still.object.member q)
+    pub members_out : (q : ℕ) → member_in (desk_now t) b q ≡ cond (q == m) (empty (kind_of_member s.owners m)) (member_in (desk_now d) b q)
+    members_out q = ap (λ (u : Object). u.member q) object_is ∙ ap (λ r. cond (q == m) (empty (kind_of_member s.owners m)) r) (still.object.member q)
 
-  pub cleared_out : (y : V) → IsEnding (desk_now d) b y → member_in (desk_now t) b m ≡ empty (kind_of_member m)
-  cleared_out y was = members_out y was m ∙ cond-true (m == m) _ _ (eq-eqb m m refl)
+  pub cleared_out : (y : V) → IsEnding (desk_now d) b y → IsCleared (desk_now t) b m
+  cleared_out y was =
+      members_out y was m ∙ (cond-true (m == m) _ _ (eq-eqb m m refl)
+      ∙ ap (λ n. empty (kind_of_member n m)) (owners_led (opening_of v.shape) (hist y was)
+      ∙ ap (λ (u : SeatView V). u.shape.owners) (sym event.now)))
 
   pub kept_out : (y : V) → IsEnding (desk_now d) b y → (q : ℕ) → q ≢ m → member_in (desk_now t) b q ≡ member_in (desk_now d) b q
   kept_out y was q ne = members_out y was q ∙ cond-false (q == m) _ _ (ne_eqb q m ne)

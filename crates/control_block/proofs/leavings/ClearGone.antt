@@ -1,5 +1,5 @@
 -- What a desk has when a member of an object that ends in its hands was emptied, and what that held has left, of either kind.
-use Rattle.std.proofs.Common.{◌≡◌, ℕ, ◌+◌, ◌≤◌, min, ◌≢◌, [], length, IfSome, refl, ap, ◌∙◌, arith}
+use Rattle.std.proofs.Common.{◌≡◌, ℕ, ◌+◌, ◌≤◌, min, ◌≢◌, [], length, IfSome, refl, sym, ap, ◌∙◌, arith}
 use Rattle.control_block.proofs.Prelude
 use Prelude.{bag_of, bag_size, CameOut, CellWord, ClearMember, desk_now, DeskNow, empty}
 use Prelude.{endings_of, Ends, HoldingInBlock, Inside, IsCleared, IsDesk, IsDeskWith, IsEnding}
@@ -12,6 +12,8 @@ use Rattle.control_block.proofs.cells.CellRetries.{came_holding}
 use Rattle.control_block.proofs.cells.CellTrades.{clear_trades}
 use Rattle.control_block.proofs.leavings.ClearDesks as clear
 use Rattle.control_block.proofs.leavings.GoneDesks.{Going, HasGone, front_out}
+use Rattle.control_word.specs.State.{kind_of_member}
+use Rattle.control_word.specs.declared.shape.Shape.{Shape}
 
 module _ {V : Type 0} where
   -- what is so once a member is empty: s blocks more are vacant, and n objects more end with the desk
@@ -73,12 +75,13 @@ module _ {V : Type 0} (k : Kind) (d f : Inside V) (h : IsDesk d) (b m : ℕ) (en
         record {
           bag = gone.bag ∙ (ap (without_handle k x.owned x.place) (clear.bag_out d h b m ends k t x out table)
               ∙ front_out k x.owned x.place (bag_of (desk_now d)));
-          cleared = λ y was. (still y was).members m ∙ clear.cleared_out d h b m ends k t x out table y was;
+          cleared = λ y was. (still y was).members m ∙ (clear.cleared_out d h b m ends k t x out table y was
+              ∙ ap (λ (z : Shape). empty (kind_of_member z.owners m)) (sym c.shape));
           kept = λ y was q ne. (still y was).members q ∙ clear.kept_out d h b m ends k t x out table y was q ne;
           ending = λ y was. (still y was).ends;
           endings = λ i y apart was.
               let u = clear.others_out d h b m ends k t x out table i y apart was in let w = gone.still i y u.ends in
-              record { ends = w.ends; members = λ q. w.members q ∙ u.members q };
+              record { ends = w.ends; shape = w.shape ∙ u.shape; members = λ q. w.members q ∙ u.members q };
           desk = record { domain = c.domain ∙ a.domain; shape = c.shape ∙ a.shape; name = c.name ∙ a.name; allowance = c.allowance ∙ a.allowance };
           stock = gone.stock ∙ ap (λ z. z + s) (clear.stock_out d h b m ends k t x out table);
           count = gone.count ∙ ap (λ z. z + n) (clear.count_out d h b m ends k t x out table);

@@ -63,6 +63,7 @@ module _ {V : Type 0} (t f : Inside V) (e : f.seat.me.0 ≡ t.seat.me.0) (table 
           phase = subst (λ (u : SeatView V). ((known u).object ((known u).latest b)).phase ≡ ending u.view.name) (sym e) was.phase;
           kept = subst (λ (u : SeatView V). value (opening_of u.shape) u.view.seen ((known u).latest b) ≡ Some y) (sym e) was.kept;
         };
+        shape = ap (λ (u : SeatView V). u.shape) e;
         members = λ m. ap (λ (u : SeatView V). ((known u).object ((known u).latest b)).member m) e;
       }
 

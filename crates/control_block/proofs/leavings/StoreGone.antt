@@ -83,7 +83,9 @@ module _ {V : Type 0} (k : Kind) (d f : Inside V) (h : IsDesk d) (cell : Cell) (
         bag = gone.bag ∙ (ap (without_handle k x.owned x.place) (bag_then h came (desk_now d) refl)
             ∙ front_out k x.owned x.place (without_handle k b p (bag_of (desk_now d))));
         endings = λ i y was.
-            let u = a.endings i y was in let w = gone.still i y u.ends in record { ends = w.ends; members = λ q. w.members q ∙ u.members q };
+            let u = a.endings i y was in
+            let w = gone.still i y u.ends in
+            record { ends = w.ends; shape = w.shape ∙ u.shape; members = λ q. w.members q ∙ u.members q };
         desk = record { domain = c.domain ∙ a.domain; shape = c.shape ∙ a.shape; name = c.name ∙ a.name; allowance = c.allowance ∙ a.allowance };
         stock = gone.stock ∙ ap (λ z. z + s) a.stock;
         count = gone.count ∙ ap (λ z. z + n) a.count;

@@ -186,6 +186,7 @@ splits d e new h hs holds a k p tables counts many tallies least =
           phase = ending_left d h hs holds a bs w u p b x ends ∙ ap ending (sym name);
           kept = value_left d h hs holds a bs w u p b x ends;
         };
+        shape = shape;
         members = members_left d h hs holds a bs w u p b x ends;
       };
     }

@@ -19,6 +19,8 @@ proper k fine =
     let b = fine.blocks in let c = fine.cells in let a = fine.allowance in let s = fine.some_handle in
     record {
       limits = (b, c, a);
+      members = let m = fine.members in let o = m.0 in let w = m.1 in let n = m.2 in (omega arith, omega arith);
+      owners = let m = fine.members in let o = m.0 in let w = m.1 in (o, omega arith);
       holders = λ n. omega arith;
       shares = omega arith;
       positive = λ d lt. let e : d ≡ 0 = omega arith in subst (λ (x : ℕ). 0 < cond (x == 0) k.allowance 0) (sym e) s;

@@ -1,5 +1,6 @@
 //! Calls on cells. Each makes its events, and when it returns nothing is under way: no fund is out, and no load.
-ghost use Rattle.std.specs.Prelude.{◌≡◌, ◌↔◌, ◌+◌, IfErr, IfOk, IsErr, OnOk};
+ghost use Rattle.std.specs.Prelude.{◌≡◌, ◌↔◌, ◌+◌, IfErr, IfNone, IfOk, IfSome, IsErr};
+ghost use Rattle.std.specs.Prelude.{IsNone, OnOk};
 ghost use Rattle.control_word.specs.declared.model.event.Event.TheVariants.{Load, Same, Swap};
 ghost use Rattle.control_block.specs.Desks.{Belongs, AddsEvent, Keeps, allowance_of, bag_of, held_of};
 ghost use Rattle.control_block.specs.CellCalls.{HoldsHandle, IsOpenAt, cell_of_site, handle_in, with_handle};
@@ -48,6 +49,45 @@ pub fn load<V: Drop, A: CellArgs, R: Wait>(
         block: seen.owned,
         place: seen.place,
     })
+}
+
+/// One try at the same, which waits for nobody. It answers none where others change the cell meanwhile, where many of
+/// its funds are taken, and where the desk is at its allowance; then nothing changes.
+#[inline(always)]
+pub fn load_once<V: Drop, A: CellArgs>(
+    domain: &Domain<V>,
+    desk: &mut Desk<V>,
+    cell: CellAt,
+) -> Option<Content>
+    requires domain { Belongs desk.old domain.now }
+    requires cell { IsOpenAt desk.old cell.site cell.kind × (A.cell ≡ cell_of_site desk.old cell.site) }
+    ensures limit { held_of desk.old ≡ allowance_of desk.old → IsNone result }
+    ensures missed { IfNone result (desk.new ≡ desk.old) }
+    ensures event { IfSome result
+        (λ h. AddsEvent desk.old (Load A.cell (handle_in desk.new cell.kind h.block h.place)) desk.new) }
+    ensures bag { IfSome result (λ h. bag_of desk.new ≡ with_handle cell.kind h.block h.place (bag_of desk.old)) }
+    ensures held { IfSome result (λ _. desk.new.held ≡ desk.old.held + 1) }
+    ensures holds { IfSome result (λ h. HoldsHandle desk.new cell.kind h.block h.place) }
+    ensures kind { IfSome result (λ h. h.kind ≡ cell.kind) }
+    ensures keeps { IfSome result (λ _. Keeps desk.old desk.new) }
+{
+    if desk.is_full() {
+        return None;
+    }
+    let table = &domain.table.shared;
+    let word = site_word(domain.shape.blocks, cell.site);
+    desk.held += 1; // here, since each locked instruction that follows waits for what was stored before it
+    match retries::loads::load_once::<V, A>(table, &mut desk.seat, word, cell.kind) {
+        Ok(seen) => Some(Content {
+            kind: cell.kind,
+            block: seen.owned,
+            place: seen.place,
+        }),
+        Err(_) => {
+            desk.held -= 1;
+            None
+        }
+    }
 }
 
 /// Whether what a cell holds is equivalent to a handle that the desk has: the same place, and the same object or none

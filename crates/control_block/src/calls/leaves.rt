@@ -8,6 +8,7 @@ ghost use Rattle.control_block.specs.Clearing.{Lets};
 ghost use Rattle.control_block.specs.Desks.{Belongs, AddsEvent, HasHandle, IsCleared, IsEnding, IsSameDesk};
 ghost use Rattle.control_block.specs.Desks.{KeepsEndings, KeepsOtherEndings, bag_of, endings_of, latest_of, stock_of};
 ghost use Rattle.control_block.specs.Leaving.{freed};
+ghost use Rattle.control_block.specs.Rule.{members_of};
 
 use crate::desk::Desk;
 use crate::domain::Domain;
@@ -41,10 +42,11 @@ pub fn leave<V: Drop>(domain: &Domain<V>, desk: &mut Desk<V>, of: Handle) -> Rel
 
 /// An object that ends in the desk's hands is gone, and its value comes out (own). It says whether the block is vacant
 /// now, and in the desk's store.
+#[inline(always)]
 pub fn finish<V: Drop>(domain: &Domain<V>, desk: &mut Desk<V>, block: Block) -> (V, bool)
     requires domain { Belongs desk.old domain.now }
     requires ending { (x : V) × IsEnding desk.old block.0 x }
-    requires clear { (m : ℕ) → m < 3 → IsCleared desk.old block.0 m }
+    requires clear { (m : ℕ) → m < members_of desk.old.shape → IsCleared desk.old block.0 m }
     ensures value { (x : V) → IsEnding desk.old block.0 x → result.0 ≡ x }
     ensures event { (x : V) → IsEnding desk.old block.0 x
         → AddsEvent desk.old (Finish (latest_of desk.old block.0) result.1 x) desk.new }

@@ -4,7 +4,7 @@ ghost use Rattle.control_word.specs.State.{kind_of_free};
 ghost use Rattle.control_word.specs.declared.model.handle.Kind.TheVariants.{Owner, Weak};
 ghost use Rattle.control_block.specs.Census.{HasBlock, owners_in, weaks_in};
 ghost use Rattle.control_block.specs.Holders.{IsCellOf, block_holders, free_cell, free_holders, frees_in, holders_of};
-ghost use Rattle.control_block.specs.Holders.{if_holds};
+ghost use Rattle.control_block.specs.Holders.{if_holds, member_cell};
 ghost use Rattle.control_block.specs.Holders.{many_of, member_holders};
 
 use crate::cell_calls::CellAt;
@@ -99,6 +99,16 @@ impl<V: Drop> Census<V> {
         CellAt { site, kind }
     }
 
+    /// A member of the object in a block.
+    fn member(&self, of: Block, member: u8) -> CellAt
+        ensures { result ≡ member_cell self.now of.0 member }
+    {
+        CellAt {
+            site: Site::Member { block: of, member },
+            kind: self.shape.kind_of_member(member),
+        }
+    }
+
     /// Adds a cell, where it holds a handle on the object in the block.
     fn add(&self, cell: CellAt, block: Block, cells: &mut Vec<CellAt>) -> Result<(), AllocError>
         requires { IsCellOf self.now cell.site }
@@ -132,23 +142,10 @@ impl<V: Drop> Census<V> {
         requires { HasBlock self.now of.0 }
         ensures { OnOk result (cells.new.items ≡ cells.old.items ++ block_holders self.now block.0 of.0) }
     {
-        let kind = Kind::Owner;
-        let site = Site::Member {
-            block: of,
-            member: 0,
-        };
-        self.add(CellAt { site, kind }, block, cells)?;
-        let site = Site::Member {
-            block: of,
-            member: 1,
-        };
-        self.add(CellAt { site, kind }, block, cells)?;
-        let kind = Kind::Weak;
-        let site = Site::Member {
-            block: of,
-            member: 2,
-        };
-        self.add(CellAt { site, kind }, block, cells)
+        for member in 0..self.shape.members() {
+            self.add(self.member(of, member), block, cells)?;
+        }
+        Ok(())
     }
 
     /// Adds those of all members.

@@ -186,9 +186,40 @@ fn load_with_retries<V, A: CellArgs, R: Wait>(
     unreachable!()
 }
 
-/// Load: what a cell holds comes out as a handle more ([util.smartptr.atomic.shared], [util.smartptr.atomic.weak]): an
-/// empty one by the look alone, else by a fund that is taken and turned into a handle. Where others change the cell
-/// meanwhile, or many of its funds would be left taken, it goes on by tries that may wait.
+/// A load's first try: what a cell holds comes out as a handle more, an empty one by the look alone, else by a fund
+/// that is taken and turned into a handle. Where others change the cell meanwhile, or many of its funds would be left
+/// taken, nothing changes, and what the cell shows by then is told.
+#[inline(always)]
+pub fn load_once<V, A: CellArgs>(
+    table: &Table<V>,
+    seat: &mut Seat<V>,
+    word: usize,
+    kind: Kind,
+) -> Result<CellWord, CellWord>
+    requires aim { IsAim A.cell kind word table.now.table_id seat.old.table_id seat.old.me }
+    requires room { HasRoomFor seat.old.me.0 }
+    ensures table { seat.new.table_id ≡ seat.old.table_id }
+    ensures loaded { IfOk result (λ x. IsOut (λ h. Load A.cell h) kind seat.old.me.0 x seat.new.me) }
+    ensures missed { IfErr result (λ x. IsCellWord x × (seat.new.me ≡ seat.old.me)) }
+{
+    let shown = cells::look::<V, A>(table, seat, word);
+    let Some(block) = shown.owned else {
+        return Ok(shown);
+    };
+    if shown.taken + 1 >= MANY_TAKEN {
+        return Err(shown);
+    }
+    match cells::take::<V, A>(table, seat, word, shown) {
+        Ok(()) => {
+            funds::turn(table, seat, kind, block);
+            Ok(shown)
+        }
+        Err(found) => Err(found),
+    }
+}
+
+/// Load: what a cell holds comes out as a handle more ([util.smartptr.atomic.shared], [util.smartptr.atomic.weak]).
+/// Where the first try doesn't do, it goes on by tries that may wait.
 #[inline(always)]
 pub fn load<V, A: CellArgs, R: Wait>(
     rt: &R,
@@ -202,20 +233,9 @@ pub fn load<V, A: CellArgs, R: Wait>(
     ensures table { seat.new.table_id ≡ seat.old.table_id }
     ensures loaded { IsOut (λ h. Load A.cell h) kind seat.old.me.0 result seat.new.me }
 {
-    let shown = cells::look::<V, A>(table, seat, word);
-    let Some(block) = shown.owned else {
-        return shown;
-    };
-    let found = if shown.taken + 1 < MANY_TAKEN {
-        match cells::take::<V, A>(table, seat, word, shown) {
-            Ok(()) => {
-                funds::turn(table, seat, kind, block);
-                return shown;
-            }
-            Err(found) => found,
-        }
-    } else {
-        shown
+    let found = match load_once::<V, A>(table, seat, word, kind) {
+        Ok(loaded) => return loaded,
+        Err(found) => found,
     };
     // in hand, since what a call that isn't inlined answers is kept in memory
     let loaded = load_with_retries::<V, A, R>(rt, table, seat, word, kind, found);

@@ -9,6 +9,7 @@ ghost use Rattle.control_word.specs.declared.model.event.Event.TheVariants.{Clea
 ghost use Rattle.control_block.specs.CellStepKinds.{Gave};
 ghost use Rattle.control_block.specs.Inside.{IsSized};
 ghost use Rattle.control_block.specs.Leaving.{OutAndGone};
+ghost use Rattle.control_block.specs.Rule.{members_of};
 ghost use Rattle.control_block.specs.StepKinds.{Ends, HasRoomFor, Rests, tells};
 
 use crate::released::Released;
@@ -31,15 +32,23 @@ const EMPTY: CellWord = CellWord {
 
 /// Look: whether a member of an object that ends in the desk's hands holds nothing (own). Then this look clears it;
 /// else nothing changes.
-fn is_empty<V, M: StepArgs>(table: &Table<V>, seat: &mut Seat<V>, block: Block, member: u8) -> bool
+#[inline(always)]
+pub fn is_empty<V, M: StepArgs>(
+    table: &Table<V>,
+    seat: &mut Seat<V>,
+    block: Block,
+    member: u8,
+) -> bool
     requires table { seat.old.table_id ≡ table.now.table_id }
     requires rests { Rests seat.old.me }
-    requires word { (0 < block.0) × (member < 3) × (M.word ≡ member)
+    requires used { member < members_of seat.old.me.0.shape }
+    requires word { (0 < block.0) × (member < 9) × (M.word ≡ member)
         × (spot block.0 (7 + member) < table.now.table_id.words) }
     requires ends { Ends seat.old.me.0 M.object block.0 }
     requires room { HasRoomFor seat.old.me.0 }
     ensures seat { (seat.new.table_id ≡ seat.old.table_id) × (seat.new.id ≡ seat.old.id) }
-    ensures cleared { result ≡ true → tells (ClearMember M.object M.word (empty (kind_of_member M.word)))
+    ensures cleared { result ≡ true → tells
+        (ClearMember M.object M.word (empty (kind_of_member seat.old.me.0.shape.owners M.word)))
         seat.old.me.0 seat.new.me.0 × (seat.new.me.1 ≡ seat.old.me.1) }
     ensures same { result ≡ false → seat.new.me ≡ seat.old.me }
 {
@@ -56,7 +65,8 @@ fn swap_out<V, M: StepArgs>(
 ) -> CellWord
     requires table { seat.old.table_id ≡ table.now.table_id }
     requires rests { Rests seat.old.me }
-    requires word { (0 < block.0) × (member < 3) × (M.word ≡ member)
+    requires used { member < members_of seat.old.me.0.shape }
+    requires word { (0 < block.0) × (member < 9) × (M.word ≡ member)
         × (spot block.0 (7 + member) < table.now.table_id.words) }
     requires ends { Ends seat.old.me.0 M.object block.0 }
     requires room { HasRoomFor seat.old.me.0 }
@@ -64,7 +74,7 @@ fn swap_out<V, M: StepArgs>(
         × (seat.new.me.1 ≡ []) }
     ensures cell { IsCellWord result }
     ensures gave { Gave (λ h. ClearMember M.object M.word h)
-        (kind_of_member M.word) seat.old.me.0 result seat.new.me.0 }
+        (kind_of_member seat.old.me.0.shape.owners M.word) seat.old.me.0 result seat.new.me.0 }
 {
     unpack(words::swap::<V, Clears<M>>(
         table,
@@ -85,9 +95,10 @@ pub fn clear<V: Drop, M: StepArgs>(
 ) -> (CellWord, Released<V>)
     requires table { (seat.old.table_id ≡ table.now.table_id) × IsSized seat.old.table_id seat.old.me.0.shape }
     requires rests { Rests seat.old.me }
-    requires word { (0 < block.0) × (member < 3) × (M.word ≡ member)
+    requires used { member < members_of seat.old.me.0.shape }
+    requires word { (0 < block.0) × (member < 9) × (M.word ≡ member)
         × (spot block.0 (7 + member) < table.now.table_id.words) }
-    requires kind { kind_of_member member ≡ kind }
+    requires kind { kind_of_member seat.old.me.0.shape.owners member ≡ kind }
     requires ends { Ends seat.old.me.0 M.object block.0 }
     requires room { HasRoomFor seat.old.me.0 }
     ensures seat { (seat.new.table_id ≡ seat.old.table_id)

@@ -31,6 +31,7 @@ pub fn remember<V: Drop>(table: &Table<V>, seat: &mut Seat<V>, block: Block) -> 
 }
 
 /// The value of an object that has ended comes out of the block's cell.
+#[inline(always)]
 pub fn take<V: Drop>(table: &Table<V>, seat: &mut Seat<V>, block: Block) -> V
     requires table { seat.old.table_id ≡ table.now.table_id }
     requires hand { (0 < block.0) × (x : V) × (seat.old.me.1 ≡ (block.0 - 1, Some x) ∷ []) }

@@ -1,14 +1,15 @@
--- How many handles are in cells: at most one object a block is there, with two owner members and a weak one.
+-- How many handles are in cells: at most one object a block is there, with nine members.
 use Rattle.std.proofs.Common.{◌≡◌, ℕ, zero, suc, ◌+◌, ◌*◌, ◌<◌, ◌≤◌, ◌≢◌, ◌⊎◌, List, [], ◌∷◌}
-use Rattle.std.proofs.Common.{length, sym, refl, ap, ◌∙◌, inl, inr, ⊎_elim, arith}
-use Rattle.control_word.proofs.Prelude.{cases_eq, cases_lt, common, empty, ending, gone, handle}
+use Rattle.std.proofs.Common.{◌==◌, cond, length, sym, refl, ap, ◌∙◌, inl, inr, ⊎_elim, arith}
+use Rattle.control_word.proofs.Prelude.{cases_eq, cases_lt, common, cond_both, cond-false, cond-true}
+use Rattle.control_word.proofs.Prelude.{empty, ending, gone, handle}
 use Rattle.control_word.proofs.Prelude.{in_cells, is_on, Kind, kind_of_member, live, members, more}
 use Rattle.control_word.proofs.Prelude.{NumberedHandle, Object, Opening, Owner, Phase, State}
 use Rattle.control_word.proofs.Prelude.{sum_below, tally, unmade, upto, Weak}
 use Rattle.control_word.proofs.history.Making.{empty_counts}
 use Rattle.control_word.proofs.history.Soundness.{Formed, IsBusy, Sound}
 use Rattle.control_word.proofs.lists.Sums.{num_length, sum_zero}
-use Rattle.control_word.proofs.lists.Tallies.{tally_append, tally_cons}
+use Rattle.control_word.proofs.lists.Tallies.{tally_append, tally_upto_empty}
 
 -- where g is f, and at most one more at a single place
 sum_one_more : (n p : ℕ) (f g : ℕ → ℕ) → ((i : ℕ) → i ≢ p → g i ≤ f i) → ((i : ℕ) → g i ≤ f i + 1)
@@ -33,46 +34,20 @@ tally_length k q l = num_length (is_on k q) l
 one_few : (k : Kind) (q : ℕ) (x : NumberedHandle) → tally k q (x ∷ []) ≤ 1
 one_few k q x = tally_length k q (x ∷ [])
 
--- a handle of the other kind isn't counted
-weak_uncounted : (q : ℕ) (x : NumberedHandle) → x.kind ≡ Weak → tally Owner q (x ∷ []) ≡ 0
-weak_uncounted q x e = ap (λ k. tally Owner q (handle k x.object x.place ∷ [])) e
-
-owner_uncounted : (q : ℕ) (x : NumberedHandle) → x.kind ≡ Owner → tally Weak q (x ∷ []) ≡ 0
-owner_uncounted q x e = ap (λ k. tally Weak q (handle k x.object x.place ∷ [])) e
-
 free_few : (k : Kind) (q : ℕ) (f : ℕ → NumberedHandle) (n : ℕ) → tally k q (upto n (λ c. f c ∷ [])) ≤ n
 free_few k q f zero = omega arith
 free_few k q f (suc n) =
     omega (arith, tally_append k q (f n ∷ []) (upto n (λ c. f c ∷ [])), one_few k q (f n), free_few k q f n)
 
--- two owner members and a weak one
-three_few : (q : ℕ) (x : Object) → ((m : ℕ) → m < 3 → (x.member m).kind ≡ kind_of_member m)
-    → (tally Owner q (members x) ≤ 2) × (tally Weak q (members x) ≤ 1)
-three_few q x kinds =
-    let a = x.member 0 in
-    let b = x.member 1 in
-    let c = x.member 2 in (
-      (let t = weak_uncounted q c (kinds 2 (omega arith)) in
-          let u = one_few Owner q a in
-          let v = one_few Owner q b in
-          omega (arith, tally_cons Owner q a (b ∷ c ∷ []), tally_cons Owner q b (c ∷ []))),
-      (let t = owner_uncounted q a (kinds 0 (omega arith)) in
-          let u = owner_uncounted q b (kinds 1 (omega arith)) in
-          let v = one_few Weak q c in
-          omega (arith, tally_cons Weak q a (b ∷ c ∷ []), tally_cons Weak q b (c ∷ []))),
-    )
+-- nine members hold nine handles
+nine_few : (k : Kind) (q : ℕ) (x : Object) → tally k q (members x) ≤ 9
+nine_few k q x = tally_length k q (members x)
 
-none_few : (k : Kind) (q : ℕ) (x : Object) → ((m : ℕ) → m < 3 → x.member m ≡ empty (kind_of_member m))
+none_few : (w : ℕ) (k : Kind) (q : ℕ) (x : Object) → ((m : ℕ) → m < 9 → x.member m ≡ empty (kind_of_member w m))
     → tally k q (members x) ≡ 0
-none_few k q x cleared =
-    let a = cleared 0 (omega arith) in
-    let b = cleared 1 (omega arith) in
-    let c = cleared 2 (omega arith) in
-    let p : members x ≡ empty Owner ∷ empty Owner ∷ empty Weak ∷ [] = λ i. a i ∷ b i ∷ c i ∷ [] in
-    let t = ap (tally k q) p in
-    let u = empty_counts k Owner q (empty Owner ∷ empty Weak ∷ []) in
-    let v = empty_counts k Owner q (empty Weak ∷ []) in
-    let w = empty_counts k Weak q [] in omega arith
+none_few w k q x cleared =
+    tally_upto_empty k q 9 (λ m. x.member m ∷ [])
+    (λ m lt. ap (λ (h : NumberedHandle). tally k q (h ∷ [])) (cleared m lt) ∙ empty_counts k (kind_of_member w m) q [])
 
 module _ (z : Opening) (s : State) (sound : Sound z s) where
   -- 1 where the object is there or is ending, in one of the first b blocks
@@ -149,24 +124,23 @@ module _ (z : Opening) (s : State) (sound : Sound z s) where
 
   module _ (formed : Formed s) where
     members_few : (q o : ℕ)
-        → (tally Owner q (members (s.object o)) ≤ 2 * there z.blocks o)
-        × (tally Weak q (members (s.object o)) ≤ there z.blocks o)
+        → (tally Owner q (members (s.object o)) ≤ 9 * there z.blocks o)
+        × (tally Weak q (members (s.object o)) ≤ 9 * there z.blocks o)
     members_few q o =
         let x = s.object o in
         ⊎_elim
         (λ (e : common x.phase ≡ 0).
-        let t = λ (k : Kind). none_few k q x (λ m lt. sound.cleared o m lt e) in
+        let t = λ (k : Kind). none_few s.owners k q x (λ m lt. sound.cleared o m lt e) in
         let a = t Owner in let b = t Weak in (omega arith, omega arith))
         (λ ne.
         let p = placed_there o (omega arith) in
         let t = there_in z.blocks o p.2 in
-        let u = three_few q x (λ m lt. (formed.members o m lt).1) in
-        let a = u.0 in let b = u.1 in (omega arith, omega arith))
+        let a = nine_few Owner q x in let b = nine_few Weak q x in (omega arith, omega arith))
         (cases_eq (common x.phase) 0)
 
     all_members : (q n : ℕ)
-        → (tally Owner q (upto n (λ o. members (s.object o))) ≤ 2 * sum_below n (there z.blocks))
-        × (tally Weak q (upto n (λ o. members (s.object o))) ≤ sum_below n (there z.blocks))
+        → (tally Owner q (upto n (λ o. members (s.object o))) ≤ 9 * sum_below n (there z.blocks))
+        × (tally Weak q (upto n (λ o. members (s.object o))) ≤ 9 * sum_below n (there z.blocks))
     all_members q zero = (omega arith, omega arith)
     all_members q (suc n) =
         let rest = upto n (λ o. members (s.object o)) in
@@ -177,8 +151,8 @@ module _ (z : Opening) (s : State) (sound : Sound z s) where
         )
 
     pub in_cells_few : (q : ℕ)
-        → (tally Owner q (in_cells s) ≤ s.cells + 2 * z.blocks)
-        × (tally Weak q (in_cells s) ≤ s.cells + z.blocks)
+        → (tally Owner q (in_cells s) ≤ s.cells + 9 * z.blocks)
+        × (tally Weak q (in_cells s) ≤ s.cells + 9 * z.blocks)
     in_cells_few q =
         let cells = upto s.cells (λ c. s.cell c ∷ []) in
         let rest = upto (suc s.made) (λ o. members (s.object o)) in

@@ -11,26 +11,18 @@ use Rattle.control_word.proofs.history.Moving.{counted_live, fits_same, owner_co
 use Rattle.control_word.proofs.history.Moving.{sound_owner, sound_weak}
 use Rattle.control_word.proofs.history.Soundness.{OwnersFit, Sound}
 use Rattle.control_word.proofs.lists.Tallies.{put_cases, put_other, put_same, tally_append}
-use Rattle.control_word.proofs.lists.Tallies.{tally_cons, tally_here, tally_without, upto_same}
+use Rattle.control_word.proofs.lists.Tallies.{tally_here, tally_without, upto_change}
 use Rattle.control_word.specs.State.{count, weak}
-
--- the handles in cells are counted, so their objects were made
-pub member_counted : (k : Kind) (r : ℕ) (x : Object) (m : ℕ) → m < 3 → tally k r (x.member m ∷ []) ≤ tally k r (members x)
-member_counted k r x zero lt = omega (arith, tally_cons k r (x.member 0) (x.member 1 ∷ x.member 2 ∷ []))
-member_counted k r x (suc zero) lt =
-    omega (arith, tally_cons k r (x.member 0) (x.member 1 ∷ x.member 2 ∷ []), tally_cons k r (x.member 1) (x.member 2 ∷ []))
-member_counted k r x (suc (suc zero)) lt = omega (
-  arith,
-  tally_cons k r (x.member 0) (x.member 1 ∷ x.member 2 ∷ []),
-  tally_cons k r (x.member 1) (x.member 2 ∷ []),
-)
-member_counted k r x (suc (suc (suc m))) lt = absurd (omega arith)
 
 pub tally_upto : (k : Kind) (r n j : ℕ) (f : ℕ → List NumberedHandle) → j < n → tally k r (f j) ≤ tally k r (upto n f)
 tally_upto k r zero j f lt = absurd (omega arith)
 tally_upto k r (suc n) j f lt =
     ⊎_elim (λ (e : j ≡ n). let t = ap (λ x. tally k r (f x)) e in omega (arith, tally_append k r (f n) (upto n f)))
     (λ (ne : j ≢ n). let t = tally_upto k r n j f (omega arith) in omega (arith, tally_append k r (f n) (upto n f))) (cases_eq j n)
+
+-- the handles in cells are counted, so their objects were made
+pub member_counted : (k : Kind) (r : ℕ) (x : Object) (m : ℕ) → m < 9 → tally k r (x.member m ∷ []) ≤ tally k r (members x)
+member_counted k r x m lt = tally_upto k r 9 m (λ j. x.member j ∷ []) lt
 
 pub one_of : (k : Kind) (r : ℕ) (x : NumberedHandle) → x.kind ≡ k → x.object ≡ Some r → tally k r (x ∷ []) ≡ 1
 one_of k r x kind object =
@@ -55,7 +47,7 @@ module _ (z : Opening) (s : State) (sound : Sound z s) where
       let t = tally_upto k r s.cells c (λ j. s.cell j ∷ []) lt in let u = one_of k r (s.cell c) refl e in
       in_cells_made r k (let w = tally_append k r cells rest in omega arith)
 
-  pub member_made : (q m r : ℕ) → q < suc s.made → m < 3 → ((s.object q).member m).object ≡ Some r → r < suc s.made
+  pub member_made : (q m r : ℕ) → q < suc s.made → m < 9 → ((s.object q).member m).object ≡ Some r → r < suc s.made
   member_made q m r lt le e =
       let x = (s.object q).member m in
       let k = x.kind in
@@ -77,40 +69,18 @@ sound_gets z s d Weak (Some o) p sound h =
     let t = h Weak o in let u = tally_here Weak o p [] in
     let c : 0 < weak s o = omega arith in sound_weak z s d o p sound (omega arith)
 
--- one of n lists changes
-upto_change : (k : Kind) (q n o : ℕ) (f g : ℕ → List NumberedHandle) → o < n → ((i : ℕ) → i ≢ o → g i ≡ f i)
-    → tally k q (upto n g) + tally k q (f o) ≡ tally k q (upto n f) + tally k q (g o)
-upto_change k q zero o f g lt same = absurd (omega arith)
-upto_change k q (suc n) o f g lt same =
-    ⊎_elim
-    (λ (e : n ≡ o).
-    let old = upto_same n g f (λ i h. same i (λ u. omega arith)) in
-    let b = ap (tally k q) old in let c : tally k q (f n) ≡ tally k q (f o) = ap (λ i. tally k q (f i)) e in
-    let d : tally k q (g n) ≡ tally k q (g o) = ap (λ i. tally k q (g i)) e in
-    omega (arith, tally_append k q (g n) (upto n g), tally_append k q (f n) (upto n f)))
-    (λ (ne : n ≢ o).
-    let a = ap (tally k q) (same n ne) in
-    let ih = upto_change k q n o f g (omega arith) same in
-    omega (arith, tally_append k q (g n) (upto n g), tally_append k q (f n) (upto n f)))
-    (cases_eq n o)
-
-member_put : (x : Object) (m : ℕ) (h : NumberedHandle) → m < 3 → (k : Kind) (q : ℕ)
+member_put : (x : Object) (m : ℕ) (h : NumberedHandle) → m < 9 → (k : Kind) (q : ℕ)
     → tally k q (members (record x { member = put x.member m h })) + tally k q (x.member m ∷ []) ≡ tally k q (members x) + tally k q (h ∷ [])
-member_put x zero h lt k q =
-    let a = x.member 0 in let b = x.member 1 in let c = x.member 2 in
-    omega (arith, tally_cons k q h (b ∷ c ∷ []), tally_cons k q a (b ∷ c ∷ []))
-member_put x (suc zero) h lt k q =
-    let a = x.member 0 in let b = x.member 1 in let c = x.member 2 in
-    omega (arith, tally_cons k q a (h ∷ c ∷ []), tally_cons k q h (c ∷ []), tally_cons k q a (b ∷ c ∷ []), tally_cons k q b (c ∷ []))
-member_put x (suc (suc zero)) h lt k q =
-    let a = x.member 0 in let b = x.member 1 in let c = x.member 2 in
-    omega (arith, tally_cons k q a (b ∷ h ∷ []), tally_cons k q b (h ∷ []), tally_cons k q a (b ∷ c ∷ []), tally_cons k q b (c ∷ []))
-member_put x (suc (suc (suc m))) h lt k q = absurd (omega arith)
+member_put x m h lt k q =
+    let f : ℕ → List NumberedHandle = λ j. x.member j ∷ [] in
+    let g : ℕ → List NumberedHandle = λ j. put x.member m h j ∷ [] in
+    upto_change k q 9 m f g lt (λ i n. ap (λ (y : NumberedHandle). y ∷ []) (put_other x.member m h i n))
+    ∙ ap (λ (y : NumberedHandle). tally k q (upto 9 f) + tally k q (y ∷ [])) (put_same x.member m h m refl)
 
 -- the cell is one of those that are counted
 abbrev pub InState : State → Cell → Type 0
 InState s (Free c) = c < s.cells
-InState s (Member o m) = (m < 3) × (o < suc s.made)
+InState s (Member o m) = (m < 9) × (o < suc s.made)
 
 cells_change : (s : State) (c : Cell) (x : NumberedHandle) → InState s c → (k : Kind) (q : ℕ)
     → tally k q (in_cells (fills c x s)) + tally k q (cell_of s c ∷ []) ≡ tally k q (in_cells s) + tally k q (x ∷ [])
@@ -192,7 +162,10 @@ open_live z s d o m sound open' =
 
 pub open_in : (z : Opening) (s : State) (d : ℕ) (c : Cell) → Sound z s → IsOpen s d c → InState s c
 open_in z s d (Free c) sound open' = open'
-open_in z s d (Member o m) sound open' = (open'.0, was_made z s o sound (λ u. let t = open_live z s d o m sound open' in cc))
+open_in z s d (Member o m) sound open' = (
+  (let t = open'.0 in let u = sound.few in omega arith),
+  was_made z s o sound (λ u. let t = open_live z s d o m sound open' in cc),
+)
 
 pub cell_counted : (s : State) (c : Cell) → InState s c → (k : Kind) (q : ℕ) → tally k q (cell_of s c ∷ []) ≤ tally k q (handles s)
 cell_counted s (Free c) there k q =
@@ -232,6 +205,7 @@ sound_swap z s d (Free c) new sound open' hand =
       block = λ q. refl;
       made = λ q. ((λ u. u), λ u. u);
       cleared = sound.cleared;
+      unused = sound.unused;
     })
 sound_swap z s d (Member o m) new sound open' hand =
     let t = swaps d (Member o m) new ((s.object o).member m) s in
@@ -246,6 +220,8 @@ sound_swap z s d (Member o m) new sound open' hand =
       weaks = λ q busy. let e = swap_weak s d (Member o m) new there hand q in let u = ap common (phase q) in omega arith;
       block = λ q. put_cases (λ j y. y.block ≡ (s.object j).block) s.object o x q (λ e. ap (λ n. (s.object n).block) (sym e)) (λ n. refl);
       made = λ q. ((λ u. phase q ∙ u), λ u. sym (phase q) ∙ u);
-      cleared = λ q i le. put_cases (λ j y. common y.phase ≡ 0 → y.member i ≡ empty (kind_of_member i)) s.object o x q
+      cleared = λ q i le. put_cases (λ j y. common y.phase ≡ 0 → y.member i ≡ empty (kind_of_member s.owners i)) s.object o x q
           (λ e u. let a : common (s.object o).phase ≡ 1 = ap common alive in absurd (omega arith)) (λ n. sound.cleared q i le);
+      unused = λ q i le. put_cases (λ j y. y.member i ≡ empty (kind_of_member s.owners i)) s.object o x q
+          (λ e. put_other (s.object o).member m new i (λ n. let t = open'.0 in omega arith) ∙ sound.unused o i le) (λ n. sound.unused q i le);
     })

@@ -62,7 +62,7 @@ join_free s d other ne acts free (ending x) was e is =
 module _ {V : Type 0} where
   free_after : (s : State) (d : ℕ) (a : Event V) → Asks s d a → IsActing s d → EndFree s → EndFree (after s d a)
   free_after s d (Make b enabled null fields val) asks acts free =
-      put_free s (suc s.made) (new_object b.0 enabled null fields) free (λ e q. absurd cc)
+      put_free s (suc s.made) (new_object s.owners b.0 enabled null fields) free (λ e q. absurd cc)
   free_after s d (Share h p) asks acts free = free
   free_after s d (Leave h true) asks acts free =
       put_free s (object_of h) (moved_to (ending d) (s.object (object_of h))) free
@@ -84,7 +84,7 @@ module _ {V : Type 0} where
   free_after s d (Compare (Member o m) g x y true w) asks acts free =
       put_free s o (record (s.object o) { member = put (s.object o).member m x }) free (free o)
   free_after s d (Compare c g x y false w) asks acts free = free
-  free_after s d (ClearMember o m h) asks acts free = put_free s o (emptied (s.object o) m) free (free o)
+  free_after s d (ClearMember o m h) asks acts free = put_free s o (emptied s.owners (s.object o) m) free (free o)
   free_after s d (Finish o v val) asks acts free = put_free s o (moved_to gone (s.object o)) free (λ e q. absurd cc)
   free_after s d (Visit h x y) asks acts free = free
   free_after s d (Split to n hs bs) asks acts free = λ o e q. let t = free o e q in let u = t.0 in (omega arith, t.1)
@@ -113,7 +113,7 @@ module _ {V : Type 0} where
   still_after : (z : Opening) (s : State) (e d o : ℕ) (a : Event V) → Sound z s → Asks s e a → e ≢ d → (Names a d → ⊥)
       → (s.object o).phase ≡ ending d → ((after s e a).object o).phase ≡ ending d
   still_after z s e d o (Make b enabled null fields val) fine asks n m ends =
-      ap (λ (x : Object). x.phase) (put_other s.object (suc s.made) (new_object b.0 enabled null fields) o
+      ap (λ (x : Object). x.phase) (put_other s.object (suc s.made) (new_object s.owners b.0 enabled null fields) o
       (λ q. let fresh = fine.fresh (suc s.made) (omega arith) in let is = ap (λ i. (s.object i).phase) q in absurd cc))
       ∙ ends
   still_after z s e d o (Share h p) fine asks n m ends = ends
@@ -137,7 +137,7 @@ module _ {V : Type 0} where
   still_after z s e d o (Compare (Free c) g x y true w) fine asks n m ends = ends
   still_after z s e d o (Compare (Member q c) g x y true w) fine asks n m ends = filled s q c x o ∙ ends
   still_after z s e d o (Compare c g x y false w) fine asks n m ends = ends
-  still_after z s e d o (ClearMember q c h) fine asks n m ends = filled s q c (empty (kind_of_member c)) o ∙ ends
+  still_after z s e d o (ClearMember q c h) fine asks n m ends = filled s q c (empty (kind_of_member s.owners c)) o ∙ ends
   still_after z s e d o (Finish q c val) fine asks n m ends =
       ap (λ (x : Object). x.phase) (put_other s.object q (moved_to gone (s.object q)) o
       (λ i. n (ends_same e d (sym asks.0 ∙ (ap (λ j. (s.object j).phase) (sym i) ∙ ends))))) ∙ ends

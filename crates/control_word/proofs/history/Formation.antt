@@ -83,7 +83,7 @@ origin_formed b false low high = place_formed b low high
 cell_formed : (s : State) (d : ℕ) (c : Cell) → Formed s → IsOpen s d c
     → IsFormed (cell_of s c) × ((cell_of s c).kind ≡ kind_of s c)
 cell_formed s d (Free c) formed open' = formed.frees c open'
-cell_formed s d (Member o m) formed open' = formed.members o m open'.0
+cell_formed s d (Member o m) formed open' = formed.members o m
 
 hand_formed : (s : State) (d : ℕ) (k : Kind) (h : NumberedHandle) → Formed s → InHand s d k h → IsFormed h
 hand_formed s d k h formed hand = ⊎_elim (λ t. t.1) (λ t. (formed.bags (held d h) t.0).0) hand.1
@@ -96,12 +96,12 @@ formed_hands s l r f n j a formed all same = record {
   bags = all;
   frees = formed.frees;
   members =
-      λ o m lt. subst (λ h. IsFormed h × (h.kind ≡ kind_of_member m)) (sym (same o m)) (formed.members o m lt);
+      λ o m. subst (λ h. IsFormed h × (h.kind ≡ kind_of_member s.owners m)) (sym (same o m)) (formed.members o m);
 }
 
 -- one member of an object, or one free cell, changes
 formed_member : (s : State) (l : List Held) (o i : ℕ) (h : NumberedHandle) → Formed s → AllGood l → IsFormed h
-    → h.kind ≡ kind_of_member i
+    → h.kind ≡ kind_of_member s.owners i
     → let x = record (s.object o) { member = put (s.object o).member i h } in
     Formed (record s { hands = l; object = put s.object o x })
 formed_member s l o i h formed all good kind =
@@ -109,11 +109,11 @@ formed_member s l o i h formed all good kind =
     record {
       bags = all;
       frees = formed.frees;
-      members = λ q m lt.
-          put_cases (λ j y. IsFormed (y.member m) × ((y.member m).kind ≡ kind_of_member m)) s.object o x q
-          (λ e. put_cases (λ j y. IsFormed y × (y.kind ≡ kind_of_member j)) (s.object o).member i h m
-          (λ e2. (good, kind ∙ ap kind_of_member (sym e2))) (λ ne. formed.members o m lt))
-          (λ ne. formed.members q m lt);
+      members = λ q m.
+          put_cases (λ j y. IsFormed (y.member m) × ((y.member m).kind ≡ kind_of_member s.owners m)) s.object o x q
+          (λ e. put_cases (λ j y. IsFormed y × (y.kind ≡ kind_of_member s.owners j)) (s.object o).member i h m
+          (λ e2. (good, kind ∙ ap (kind_of_member s.owners) (sym e2))) (λ ne. formed.members o m))
+          (λ ne. formed.members q m);
     }
 
 formed_free : (s : State) (l : List Held) (i : ℕ) (h : NumberedHandle) → Formed s → AllGood l → IsFormed h
@@ -147,16 +147,16 @@ formed_load s d c got formed open' is =
 formed_make : (z : Opening) (s : State) (d b : ℕ) (enabled null : Bool) (fields : List ℕ) → Formed s
     → 1 ≤ b → b ≤ 65535 → Formed (made_state z s d b enabled null fields)
 formed_make z s d b enabled null fields formed low high =
-    let x = new_object b enabled null fields in
+    let x = new_object s.owners b enabled null fields in
     record {
       bags =
           let new = good_owner (suc s.made) (origin b null) (origin_formed b null low high) in
           good_cons d _ s.hands formed.bags new;
       frees = formed.frees;
-      members = λ q m lt.
-          put_cases (λ j y. IsFormed (y.member m) × ((y.member m).kind ≡ kind_of_member m))
+      members = λ q m.
+          put_cases (λ j y. IsFormed (y.member m) × ((y.member m).kind ≡ kind_of_member s.owners m))
           s.object (suc s.made) x q
-          (λ e. (empty_formed (kind_of_member m), refl)) (λ ne. formed.members q m lt);
+          (λ e. (empty_formed (kind_of_member s.owners m), refl)) (λ ne. formed.members q m);
     }
 
 -- a weak handle has the place of another handle of the object, or the object's own
@@ -224,9 +224,9 @@ module _ {V : Type 0} where
       (λ e. good_cons d (handle Owner h.object h.place) s.hands formed.bags (good_shared h h.place hold.2 was))
       (λ e. formed.bags)) (λ o m. refl)
   formed_after z s d (ClearMember o m h) few fine formed asks =
-      let was = subst (λ u. IsFormed u) (sym asks.2) (formed.members o m asks.1).0 in
-      formed_member s (gets d h s).hands o m (empty (kind_of_member m)) formed (good_gets s d h formed.bags was)
-      (empty_formed (kind_of_member m)) refl
+      let was = subst (λ u. IsFormed u) (sym asks.2) (formed.members o m).0 in
+      formed_member s (gets d h s).hands o m (empty (kind_of_member s.owners m)) formed (good_gets s d h formed.bags was)
+      (empty_formed (kind_of_member s.owners m)) refl
   formed_after z s d (Finish o x val) few fine formed asks =
       let y = moved_to gone (s.object o) in
       formed_hands s s.hands _ (put s.object o y) s.names s.joined s.allowance formed formed.bags
@@ -252,7 +252,7 @@ module _ {V : Type 0} where
   formed z [] legal = record {
     bags = λ x has. absurd has;
     frees = λ c lt. (empty_formed (kind_of_free z.shared_cells c), refl);
-    members = λ o m lt. (empty_formed (kind_of_member m), refl);
+    members = λ o m. (empty_formed (kind_of_member z.owners m), refl);
   }
   formed z (e ∷ h) legal =
       let few = (opened z h legal.0).limits.0 in
@@ -262,4 +262,4 @@ module _ {V : Type 0} where
   are_formed z h legal =
       let s = leads z h in
       let t = formed z h legal in
-      ((λ d x has. (t.bags (held d x) has).0), elim [ Free c ↦ t.frees c | Member o m ↦ t.members o m ])
+      ((λ d x has. (t.bags (held d x) has).0), elim [ Free c ↦ t.frees c | Member o m ↦ λ lt. t.members o m ])

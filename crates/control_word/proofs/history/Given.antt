@@ -40,7 +40,7 @@ module _ {V : Type 0} where
   over_after : (z : Opening) (s : State) (d : ℕ) (a : Event V) → Sound z s → Asks s d a → (q : ℕ)
       → over ((after s d a).object q).phase ≡ ends_by q a + over (s.object q).phase
   over_after z s d (Make b enabled null fields val) sound asks q =
-      over_put s (suc s.made) q (new_object b.0 enabled null fields) 0
+      over_put s (suc s.made) q (new_object s.owners b.0 enabled null fields) 0
       (λ e. let t : over (s.object (suc s.made)).phase ≡ 0 = ap over (sound.fresh (suc s.made) (omega arith)) in omega arith) (λ n. refl)
   over_after z s d (Share h p) sound asks q = omega arith
   over_after z s d (Leave h true) sound asks q =
@@ -58,7 +58,7 @@ module _ {V : Type 0} where
   over_after z s d (WeakShare o p) sound asks q = omega arith
   over_after z s d (WeakLeave h x) sound asks q = omega arith
   over_after z s d (Lock h x) sound asks q = omega arith
-  over_after z s d (ClearMember o m h) sound asks q = over_put s o q (emptied (s.object o) m) 0 (λ e. omega arith) (λ n. refl)
+  over_after z s d (ClearMember o m h) sound asks q = over_put s o q (emptied s.owners (s.object o) m) 0 (λ e. omega arith) (λ n. refl)
   over_after z s d (Finish o x val) sound asks q =
       over_put s o q (moved_to gone (s.object o)) 0 (λ e. let t : over (s.object o).phase ≡ 1 = ap over asks.0 in omega arith) (λ n. refl)
   over_after z s d (Load c x) sound asks q = omega arith

@@ -138,11 +138,11 @@ kept_swap z s d (Member o m) new kept there hand =
     let t = swap_weak s d (Member o m) new there hand q in let u = common_put s o q x refl in omega arith)
 
 -- an ending object's member goes as by a swap with an empty handle
-pub kept_clear : (z : Opening) (s : State) (d o m : ℕ) → Kept z s → m < 3 → o < suc s.made
+pub kept_clear : (z : Opening) (s : State) (d o m : ℕ) → Kept z s → m < 9 → o < suc s.made
     → Kept z (clears d o m ((s.object o).member m) s)
 kept_clear z s d o m kept lt made =
-    kept_swap z s d (Member o m) (empty (kind_of_member m)) kept (lt, made)
-    (refl, inl (refl, (tt, bare (kind_of_member m))))
+    kept_swap z s d (Member o m) (empty (kind_of_member s.owners m)) kept (lt, made)
+    (refl, inl (refl, (tt, bare (kind_of_member s.owners m))))
   where
     bare : (k : Kind) → IsBare k None None
     bare Owner = tt
@@ -151,7 +151,7 @@ kept_clear z s d o m kept lt made =
 pub kept_make : (z : Opening) (s : State) (d b : ℕ) (enabled null : Bool) (fields : List ℕ) → Sound z s
     → Kept z s → Has (stored d b) s.stores → Kept z (made_state z s d b enabled null fields)
 kept_make z s d b enabled null fields fine kept has c shape vacant =
-    let x = new_object b enabled null fields in
+    let x = new_object s.owners b enabled null fields in
     let t = made_state z s d b enabled null fields in
     let n = suc s.made in
     let new : t.object n ≡ x = put_same s.object n x n refl in

@@ -188,7 +188,7 @@ module _ {A : Type 0} (f : Object → A) (members : (x : Object) (m : ℕ → Nu
     -- what neither members nor phase tell of an object stays as the object was made
     alike_after : (s : State) (d o : ℕ) (a : Event V) → o ≤ s.made → f ((after s d a).object o) ≡ f (s.object o)
     alike_after s d o (Make b enabled null fields val) le =
-        ap f (put_other s.object (suc s.made) (new_object b.0 enabled null fields) o (λ e. omega arith))
+        ap f (put_other s.object (suc s.made) (new_object s.owners b.0 enabled null fields) o (λ e. omega arith))
     alike_after s d o (Share y p) le = refl
     alike_after s d o (Leave y true) le =
         let q = object_of y in put_alike s q o (moved_to (ending d) (s.object q)) (phases (s.object q) (ending d))
@@ -200,7 +200,7 @@ module _ {A : Type 0} (f : Object → A) (members : (x : Object) (m : ℕ → Nu
     alike_after s d o (WeakShare q p) le = refl
     alike_after s d o (WeakLeave y c) le = refl
     alike_after s d o (Lock y got) le = refl
-    alike_after s d o (ClearMember q m y) le = member_alike s q o m (empty (kind_of_member m))
+    alike_after s d o (ClearMember q m y) le = member_alike s q o m (empty (kind_of_member s.owners m))
     alike_after s d o (Finish q c val) le = put_alike s q o (moved_to gone (s.object q)) (phases (s.object q) gone)
     alike_after s d o (Load c x) le = refl
     alike_after s d o (Swap (Free c) x y) le = refl
@@ -250,6 +250,28 @@ module _ {V : Type 0} where
   cells_after s d (Compare (Free c) e x y true w) = refl
   cells_after s d (Compare (Member o m) e x y true w) = refl
   cells_after s d a = refl
+
+  members_after : (s : State) (d : ℕ) (a : Event V) → (after s d a).members ≡ s.members
+  members_after s d (Swap (Free c) x y) = refl
+  members_after s d (Swap (Member o m) x y) = refl
+  members_after s d (Compare (Free c) e x y true w) = refl
+  members_after s d (Compare (Member o m) e x y true w) = refl
+  members_after s d a = refl
+
+  pub members_led : (z : Opening) (h : List (Entry V)) → (leads z h).members ≡ z.members
+  members_led z [] = refl
+  members_led z (e ∷ h) = members_after (leads z h) e.desk e.event ∙ members_led z h
+
+  owners_after : (s : State) (d : ℕ) (a : Event V) → (after s d a).owners ≡ s.owners
+  owners_after s d (Swap (Free c) x y) = refl
+  owners_after s d (Swap (Member o m) x y) = refl
+  owners_after s d (Compare (Free c) e x y true w) = refl
+  owners_after s d (Compare (Member o m) e x y true w) = refl
+  owners_after s d a = refl
+
+  pub owners_led : (z : Opening) (h : List (Entry V)) → (leads z h).owners ≡ z.owners
+  owners_led z [] = refl
+  owners_led z (e ∷ h) = owners_after (leads z h) e.desk e.event ∙ owners_led z h
 
   pub cells_led : (z : Opening) (h : List (Entry V)) → (leads z h).cells ≡ z.cells
   cells_led z [] = refl

@@ -3,7 +3,7 @@ use Rattle.std.proofs.Common.{◌≡◌, ℕ, zero, suc, ◌+◌, ◌<◌, Bool,
 use Rattle.std.proofs.Common.{◌==◌, Some, Option, sym, refl, ap, ◌∙◌, subst, ⊎_elim, arith}
 use Rattle.std.proofs.Common.{eqb-true}
 use Rattle.control_word.proofs.Prelude
-use Prelude.{and_parts, cases_eq, changes, common, empty, ending, eqb-false, finishes, gone}
+use Prelude.{and_parts, cases_eq, cases_lt, changes, common, empty, ending, eqb-false, finishes, gone}
 use Prelude.{handle, Has, Held, held, is_gone, IsVacant, kind_of_member, leaves, live, loses}
 use Prelude.{members, moved_to, Object, Opening, Owner, Phase, Place, put, same_held, State}
 use Prelude.{times_kept, unmade, Weak, weak_leaves, weak_number, without}
@@ -53,7 +53,8 @@ last_owner z s d o p sound h one = sound_moves z s hs f s.cell sound (record {
       q
       (λ e. ((λ u. let v : (s.object q).phase ≡ live = ap (λ n. (s.object n).phase) e ∙ alive in cc), λ u. cc)) (λ n. ((λ u. u), λ u. u));
   cleared = λ q m lt. put_cases (λ j y. common y.phase ≡ 0
-      → y.member m ≡ empty (kind_of_member m)) s.object o x q (λ e u. absurd (omega arith)) (λ n. sound.cleared q m lt);
+      → y.member m ≡ empty (kind_of_member s.owners m)) s.object o x q (λ e u. absurd (omega arith)) (λ n. sound.cleared q m lt);
+  unused = λ q m le. put_cases (λ j y. y.member m ≡ empty (kind_of_member s.owners m)) s.object o x q (λ e. sound.unused o m le) (λ n. sound.unused q m le);
 })
   where
     hs : List Held
@@ -122,8 +123,8 @@ sound_weak_leave z s d o p true sound h e =
     sound_vacates z s' d (s.object o).block (sound_loses_weak z s d o p sound h)
     (becomes_vacant z s s' o sound busy none (weak_numbers_fall s d o p h) (λ q. refl)) ((sound.placed o busy).1) (busy_absent z s o sound busy)
 
-pub finish_phase : (z : Opening) (s : State) (d o : ℕ) → Sound z s → (s.object o).phase ≡ ending d → ((m : ℕ) → m < 3
-    → (s.object o).member m ≡ empty (kind_of_member m))
+pub finish_phase : (z : Opening) (s : State) (d o : ℕ) → Sound z s → (s.object o).phase ≡ ending d → ((m : ℕ) → m < s.members
+    → (s.object o).member m ≡ empty (kind_of_member s.owners m))
     → Sound z (changes o (moved_to gone (s.object o)) s)
     × ((q : ℕ) → 0 < weak_number (changes o (moved_to gone (s.object o)) s) q → 0 < weak_number s q)
     × (weak_number (changes o (moved_to gone (s.object o)) s) o ≡ weak s o)
@@ -138,7 +139,9 @@ finish_phase z s d o sound end cleared' = (
         x q
         (λ e. ((λ u. let v : (s.object q).phase ≡ ending d = ap (λ n. (s.object n).phase) e ∙ end in cc), λ u. cc)) (λ n. ((λ u. u), λ u. u));
     cleared = λ q m lt. put_cases (λ j y. common y.phase ≡ 0
-        → y.member m ≡ empty (kind_of_member m)) s.object o x q (λ e u. cleared' m lt) (λ n. sound.cleared q m lt);
+        → y.member m ≡ empty (kind_of_member s.owners m)) s.object o x q (λ e u.
+        ⊎_elim (λ low. cleared' m low) (λ high. sound.unused o m high) (cases_lt m s.members)) (λ n. sound.cleared q m lt);
+    unused = λ q m le. put_cases (λ j y. y.member m ≡ empty (kind_of_member s.owners m)) s.object o x q (λ e. sound.unused o m le) (λ n. sound.unused q m le);
   }),
   fall,
   put_cases (λ j y. j ≡ o
@@ -161,8 +164,8 @@ finish_phase z s d o sound end cleared' = (
         put_cases (λ j y. j ≡ q → 0 < weak (record s { object = f }) q + common y.phase
         → 0 < weak_number s q) s.object o x q (λ e e2 w. omega arith) (λ n e2 w. omega arith) refl
 
-pub sound_finish : (z : Opening) (s : State) (d o : ℕ) (vacant : Bool) → Sound z s → (s.object o).phase ≡ ending d → ((m : ℕ) → m < 3
-    → (s.object o).member m ≡ empty (kind_of_member m))
+pub sound_finish : (z : Opening) (s : State) (d o : ℕ) (vacant : Bool) → Sound z s → (s.object o).phase ≡ ending d → ((m : ℕ) → m < s.members
+    → (s.object o).member m ≡ empty (kind_of_member s.owners m))
     → vacant ≡ (weak s o == 0) → Sound z (finishes d o vacant s)
 sound_finish z s d o false sound end cleared' e = (finish_phase z s d o sound end cleared').0
 sound_finish z s d o true sound end cleared' e =

@@ -13,7 +13,7 @@ use Rattle.std.proofs.lemmas.Bool.{not-true}
 use Rattle.control_word.proofs.history.Cells.{sound_load, sound_swap}
 use Rattle.control_word.proofs.history.Clearing.{sound_clear}
 use Rattle.control_word.proofs.history.Leaving.{sound_finish, sound_leave, sound_weak_leave}
-use Rattle.control_word.proofs.history.Making.{empty_counts, sound_make}
+use Rattle.control_word.proofs.history.Making.{empty_counts, empty_members, sound_make}
 use Rattle.control_word.proofs.history.Moving.{counted_live, live_busy, owner_counted, sound_owner}
 use Rattle.control_word.proofs.history.Moving.{sound_weak, weak_counted}
 use Rattle.control_word.proofs.history.Passing.{sound_join, sound_split}
@@ -76,7 +76,8 @@ module _ {V : Type 0} where
       subst (λ (n : Option ℕ). Sound z (record s { hands = held d (handle Owner n h.place) ∷ s.hands })) (sym (asks.0.2)) (sound_owner z s d
       (object_of h) h.place sound alive))
       (λ e. sound)
-  sound_after z s d (ClearMember o m h) sound asks = subst (λ u. Sound z (clears d o m u s)) (sym asks.2) (sound_clear z s d o m sound asks.0 asks.1)
+  sound_after z s d (ClearMember o m h) sound asks = subst (λ u. Sound z (clears d o m u s)) (sym asks.2) (sound_clear z s d o m sound asks.0
+      (let t = asks.1 in let u = sound.few in omega arith))
   sound_after z s d (Finish o vacant val) sound asks = sound_finish z s d o vacant sound asks.0 asks.1 asks.2
   sound_after z s d (Load c got) sound asks = subst (λ u. Sound z (gets d u s)) (sym asks.1) (sound_load z s d c sound asks.0)
   sound_after z s d (Swap c new old) sound asks = subst (λ u. Sound z (swaps d c new u s)) (sym asks.2) (sound_swap z s d c new sound asks.0 asks.1)
@@ -106,11 +107,10 @@ stored_once f (suc n) b =
 pub nothing : (k : Kind) (z : Opening) (q : ℕ) → tally k q (handles (start z)) ≡ 0
 nothing k z q =
     let cells = upto z.cells (λ c. empty (kind_of_free z.shared_cells c) ∷ []) in
-    let rest = upto 1 (λ o. members nobody) in
+    let rest = upto 1 (λ o. members (nobody z.owners)) in
     let a = tally_upto_empty k q z.cells (λ c. empty (kind_of_free z.shared_cells c) ∷ []) (λ i lt. empty_counts k (kind_of_free z.shared_cells i) q []) in
-    let b : tally k q (members nobody) ≡ 0 = empty_counts k Owner q (empty Owner ∷ empty Weak ∷ []) ∙ (empty_counts k Owner q (empty Weak ∷ [])
-    ∙ empty_counts k Weak q []) in
-    let c = tally_upto_empty k q 1 (λ o. members nobody) (λ i lt. b) in
+    let b : tally k q (members (nobody z.owners)) ≡ 0 = empty_members z.owners k q in
+    let c = tally_upto_empty k q 1 (λ o. members (nobody z.owners)) (λ i lt. b) in
     omega (arith, tally_append k q cells rest)
 
 no_owner : (z : Opening) (q : ℕ) → count (start z) q ≡ 0
@@ -121,8 +121,8 @@ no_weak : (z : Opening) (q : ℕ) → weak (start z) q ≡ 0
 unfolding weak
 no_weak z q = nothing Weak z q
 
-pub sound_start : (z : Opening) → Sound z (start z)
-sound_start z = record {
+pub sound_start : (z : Opening) → z.members ≤ 9 → Sound z (start z)
+sound_start z few = record {
   owners = no_owner z;
   unmade_free = λ o e. let t = no_weak z o in omega arith;
   fresh = λ o lt. refl;
@@ -134,9 +134,11 @@ sound_start z = record {
   shelf = λ b e. absurd cc;
   once = λ b. let t = (stored_once z.holder z.blocks b).0 in omega arith;
   cleared = λ o m lt e. refl;
+  few = few;
+  unused = λ o m le. refl;
 }
 
 module _ {V : Type 0} where
   pub sound : (z : Opening) (h : List (Entry V)) → IsLegal z h → Sound z (leads z h)
-  sound z [] legal = sound_start z
+  sound z [] legal = sound_start z legal.members.1
   sound z (e ∷ h) legal = sound_after z (leads z h) e.desk e.event (sound z h legal.0) legal.1.asks

@@ -30,7 +30,7 @@ made_handed e d (ending x) = refl
 
 module _ {V : Type 0} where
   made_after : (s : State) (d : ℕ) (a : Event V) (q : ℕ) → 0 < is_made (s.object q).phase → 0 < is_made ((after s d a).object q).phase
-  made_after s d (Make b enabled null fields val) q m = made_put s (suc s.made) q (new_object b.0 enabled null fields) (λ e. omega arith) m
+  made_after s d (Make b enabled null fields val) q m = made_put s (suc s.made) q (new_object s.owners b.0 enabled null fields) (λ e. omega arith) m
   made_after s d (Share h p) q m = m
   made_after s d (Leave h true) q m = made_put s (object_of h) q (moved_to (ending d) (s.object (object_of h))) (λ e. omega arith) m
   made_after s d (Leave h false) q m = made_put s (object_of h) q (s.object (object_of h)) (λ e. let t = ap
@@ -42,7 +42,8 @@ module _ {V : Type 0} where
   made_after s d (WeakShare o p) q m = m
   made_after s d (WeakLeave h x) q m = m
   made_after s d (Lock h x) q m = m
-  made_after s d (ClearMember o n h) q m = made_put s o q (emptied (s.object o) n) (λ e. let t = ap (λ n. is_made (s.object n).phase) e in omega arith) m
+  made_after s d (ClearMember o n h) q m =
+      made_put s o q (emptied s.owners (s.object o) n) (λ e. let t = ap (λ n. is_made (s.object n).phase) e in omega arith) m
   made_after s d (Finish o x val) q m = made_put s o q (moved_to gone (s.object o)) (λ e. omega arith) m
   made_after s d (Load c x) q m = m
   made_after s d (Swap (Free c) x y) q m = m
@@ -62,7 +63,7 @@ module _ {V : Type 0} where
       → ((after s d a).made ≡ s.made) ⊎ (((after s d a).made ≡ suc s.made) × (0 < is_made ((after s d a).object (suc s.made)).phase))
   made_grows s d (Make b enabled null fields val) = inr (
     refl,
-    let x = new_object b.0 enabled null fields in subst
+    let x = new_object s.owners b.0 enabled null fields in subst
         (λ (y : Object). 0 < is_made y.phase) (sym (put_same s.object (suc s.made) x (suc s.made) refl)) (omega arith),
   )
   made_grows s d (Share h p) = inl refl

@@ -10,7 +10,7 @@ use Rattle.control_word.proofs.history.Soundness.{IsBusy, OwnersFit, Sound}
 use Rattle.control_word.proofs.lists.Tallies.{has_before, num_has, num_without, put_cases}
 use Rattle.control_word.proofs.lists.Tallies.{put_other, put_same, stored_self, stored_true}
 use Rattle.control_word.proofs.lists.Tallies.{tally_append, tally_cons, tally_here, tally_other}
-use Rattle.control_word.proofs.lists.Tallies.{upto_same}
+use Rattle.control_word.proofs.lists.Tallies.{tally_upto_empty, upto_same}
 use Rattle.control_word.specs.State.{count, weak}
 
 pub empty_counts : (k m : Kind) (o : ℕ) (l : List NumberedHandle) → tally k o (empty m ∷ l) ≡ tally k o l
@@ -19,17 +19,22 @@ empty_counts Owner Weak o l = refl
 empty_counts Weak Owner o l = refl
 empty_counts Weak Weak o l = refl
 
+-- empty members count nothing
+pub empty_members : (w : ℕ) (k : Kind) (q : ℕ) → tally k q (upto 9 (λ m. empty (kind_of_member w m) ∷ [])) ≡ 0
+empty_members w k q =
+    tally_upto_empty k q 9 (λ m. empty (kind_of_member w m) ∷ []) (λ m lt. empty_counts k (kind_of_member w m) q [])
+
 -- what a Make changes in the counts is its owner
 make_tally : (s : State) (d b : ℕ) (enabled null : Bool) (fields : List ℕ) (k : Kind) (q : ℕ)
     → tally k q (handles (record s {
       hands = held d (handle Owner (Some (suc s.made))
           (origin b null)) ∷ s.hands;
       made = suc s.made;
-      object = put s.object (suc s.made) (new_object b enabled null fields);
+      object = put s.object (suc s.made) (new_object s.owners b enabled null fields);
     }))
     ≡ tally k q (handle Owner (Some (suc s.made)) (origin b null) ∷ handles s)
 make_tally s d b enabled null fields k q =
-    let x = new_object b enabled null fields in
+    let x = new_object s.owners b enabled null fields in
     let f = put s.object (suc s.made) x in
     let here : members (f (suc s.made)) ≡ members x = ap members (put_same s.object (suc s.made) x (suc s.made) refl) in
     let old = upto_same (suc s.made) (λ o. members (f o)) (λ o. members (s.object o)) (λ i h. ap members (put_other s.object (suc s.made) x i
@@ -40,8 +45,7 @@ make_tally s d b enabled null fields k q =
     let rest = upto (suc s.made) (λ o. members (s.object o)) in
     let p : handles (record s { hands = held d new ∷ s.hands; made = suc s.made; object = f }) ≡ new ∷ (hands ++ (cells ++ (members x ++ rest)))
     = λ i. new ∷ (hands ++ (cells ++ (here i ++ old i))) in
-    let plain : tally k q (members x) ≡ 0 = empty_counts k Owner q (empty Owner ∷ empty Weak ∷ []) ∙ (empty_counts k Owner q (empty Weak ∷ [])
-    ∙ empty_counts k Weak q []) in
+    let plain : tally k q (members x) ≡ 0 = empty_members s.owners k q in
     ap (tally k q) p
     ∙ omega (
       arith,
@@ -61,7 +65,7 @@ module _ (z : Opening) (s : State) (d b : ℕ) (enabled null : Bool) (fields : L
         hands = held d (handle Owner (Some (suc s.made)) (origin b null)) ∷ s.hands;
         stores = without same_stored (stored d b) s.stores;
         made = suc s.made;
-        object = put s.object (suc s.made) (new_object b enabled null fields);
+        object = put s.object (suc s.made) (new_object s.owners b enabled null fields);
         latest = put s.latest b (suc s.made);
       }
 
@@ -98,7 +102,7 @@ module _ (z : Opening) (s : State) (d b : ℕ) (enabled null : Bool) (fields : L
   pub sound_make : Sound z s → Has (stored d b) s.stores → Sound z made_state
   sound_make sound h =
       let n = suc s.made in
-      let x = new_object b enabled null fields in
+      let x = new_object s.owners b enabled null fields in
       let vacant = sound.stores d b h in
       let fresh_counts = new_counts sound in
       record {
@@ -142,5 +146,7 @@ module _ (z : Opening) (s : State) (d b : ℕ) (enabled null : Bool) (fields : L
         once = λ c. let t = num_without same_stored stored_true stored_self (λ x. x.block == c) (stored d b) s.stores h in
             let u = sound.once c in omega arith;
         cleared = λ q m lt. put_cases (λ j y. common y.phase ≡ 0
-            → y.member m ≡ empty (kind_of_member m)) s.object n x q (λ e u. absurd (omega arith)) (λ ne u. sound.cleared q m lt u);
+            → y.member m ≡ empty (kind_of_member s.owners m)) s.object n x q (λ e u. absurd (omega arith)) (λ ne u. sound.cleared q m lt u);
+        few = sound.few;
+        unused = λ q m le. put_cases (λ j y. y.member m ≡ empty (kind_of_member s.owners m)) s.object n x q (λ e. refl) (λ ne. sound.unused q m le);
       }

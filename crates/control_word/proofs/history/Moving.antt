@@ -18,7 +18,8 @@ pub record Moves (s : State) (hs : List Held) (f : ℕ → Object) (g : ℕ → 
   pub weaks : (o : ℕ) → 0 < weak_number (record s { hands = hs; object = f; cell = g }) o → 0 < weak_number s o
   pub block : (o : ℕ) → (f o).block ≡ (s.object o).block
   pub made : (o : ℕ) → ((s.object o).phase ≡ unmade → (f o).phase ≡ unmade) × ((f o).phase ≡ unmade → (s.object o).phase ≡ unmade)
-  pub cleared : (o m : ℕ) → m < 3 → common (f o).phase ≡ 0 → (f o).member m ≡ empty (kind_of_member m)
+  pub cleared : (o m : ℕ) → m < 9 → common (f o).phase ≡ 0 → (f o).member m ≡ empty (kind_of_member s.owners m)
+  pub unused : (o m : ℕ) → s.members ≤ m → (f o).member m ≡ empty (kind_of_member s.owners m)
 
 zero_from : (a b : ℕ) → (0 < a → 0 < b) → b ≡ 0 → a ≡ 0
 zero_from a b f e = go a refl
@@ -52,6 +53,8 @@ sound_moves z s hs f g sound moves =
       );
       once = sound.once;
       cleared = moves.cleared;
+      few = sound.few;
+      unused = moves.unused;
     }
 
 -- the same where only the hands change
@@ -69,6 +72,7 @@ sound_hands z s hs sound owners weaks =
         λ e. e,
       );
       cleared = sound.cleared;
+      unused = sound.unused;
     })
 
 -- a vacant block that no store has goes to a store
@@ -91,6 +95,8 @@ sound_vacates z s d b sound vacant there absent = record {
       (λ e. let q : times_kept s c ≡ 0 = subst (λ n. times_kept s n ≡ 0) (eqb-true b c e) absent in omega arith)
       (λ e. sound.once c);
   cleared = sound.cleared;
+  few = sound.few;
+  unused = sound.unused;
 }
 
 -- the object of a handle that is held

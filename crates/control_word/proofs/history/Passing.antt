@@ -49,6 +49,8 @@ sound_stores z s r f n j a sound same = record {
   shelf = λ c e. let t : ◌≡◌ {A = ℕ} (cond (f c) 1 0) 1 = ap (λ (y : Bool). cond y 1 0) e in let u = same c in kept_vacant z s sound c (omega arith);
   once = λ c. let t = same c in let u = sound.once c in omega arith;
   cleared = sound.cleared;
+  few = sound.few;
+  unused = sound.unused;
 }
 
 hands_tally : (k : Kind) (q : ℕ) (l m : List Held) (r : List NumberedHandle)
@@ -124,5 +126,6 @@ sound_join z s d e sound =
       block = λ q. refl;
       made = λ q. ((λ u. ap (handed e d) u), handed_unmade e d (s.object q).phase);
       cleared = λ q m lt u. sound.cleared q m lt (sym (handed_common e d (s.object q).phase) ∙ u);
+      unused = sound.unused;
     }))
     (λ c. let u = num_map (λ (x : Stored). x.block == c) (λ (x : Stored). stored (renamed e d x.desk) x.block) s.stores in omega arith)

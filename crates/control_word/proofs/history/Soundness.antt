@@ -29,7 +29,9 @@ pub record Sound (z : Opening) (s : State) : Type 0 where
   pub stores : (d b : ℕ) → Has (stored d b) s.stores → IsVacant s b × InShape z b
   pub shelf : (b : ℕ) → s.shelved b ≡ true → IsVacant s b × InShape z b
   pub once : (b : ℕ) → times_kept s b ≤ 1
-  pub cleared : (o m : ℕ) → m < 3 → common (s.object o).phase ≡ 0 → (s.object o).member m ≡ empty (kind_of_member m)
+  pub cleared : (o m : ℕ) → m < 9 → common (s.object o).phase ≡ 0 → (s.object o).member m ≡ empty (kind_of_member s.owners m)
+  pub few : s.members ≤ 9
+  pub unused : (o m : ℕ) → s.members ≤ m → (s.object o).member m ≡ empty (kind_of_member s.owners m)
 
 -- what a bit tells
 pub on_is : (x : Bool) → 0 < cond x 1 0 → x ≡ true
@@ -55,4 +57,4 @@ pub record Allowed (z : Opening) (s : State) : Type 0 where
 pub record Formed (s : State) : Type 0 where
   pub bags : (x : Held) → Has x s.hands → IsFormed x.handle × (has_object x.handle ≡ true)
   pub frees : (c : ℕ) → c < s.cells → IsFormed (s.cell c) × ((s.cell c).kind ≡ kind_of_free s.shared c)
-  pub members : (o m : ℕ) → m < 3 → IsFormed ((s.object o).member m) × (((s.object o).member m).kind ≡ kind_of_member m)
+  pub members : (o m : ℕ) → IsFormed ((s.object o).member m) × (((s.object o).member m).kind ≡ kind_of_member s.owners m)

@@ -62,7 +62,8 @@ module _ {V : Type 0} where
       (λ e. kept)
   kept_after z s d (ClearMember o m h) fine kept asks =
       let made = was_made z s o fine (λ u. cc) in
-      subst (λ u. Kept z (clears d o m u s)) (sym asks.2) (kept_clear z s d o m kept asks.1 made)
+      subst (λ u. Kept z (clears d o m u s)) (sym asks.2) (kept_clear z s d o m kept
+      (let t = asks.1 in let u = fine.few in omega arith) made)
   kept_after z s d (Finish o vacant val) fine kept asks = kept_finish z s d o vacant kept asks.2
   kept_after z s d (Load c x) fine kept asks = kept_load z s d x kept
   kept_after z s d (Swap c x y) fine kept asks =

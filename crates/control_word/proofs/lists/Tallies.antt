@@ -177,6 +177,23 @@ pub tally_upto_empty : (k : Kind) (o n : ℕ) (f : ℕ → List NumberedHandle) 
 tally_upto_empty k o zero f e = refl
 tally_upto_empty k o (suc n) f e = omega (arith, tally_append k o (f n) (upto n f), e n (omega arith), tally_upto_empty k o n f (λ i h. e i (omega arith)))
 
+-- one of n lists changes
+pub upto_change : (k : Kind) (q n o : ℕ) (f g : ℕ → List NumberedHandle) → o < n → ((i : ℕ) → i ≢ o → g i ≡ f i)
+    → tally k q (upto n g) + tally k q (f o) ≡ tally k q (upto n f) + tally k q (g o)
+upto_change k q zero o f g lt same = absurd (omega arith)
+upto_change k q (suc n) o f g lt same =
+    ⊎_elim
+    (λ (e : n ≡ o).
+    let old = upto_same n g f (λ i h. same i (λ u. omega arith)) in
+    let b = ap (tally k q) old in let c : tally k q (f n) ≡ tally k q (f o) = ap (λ i. tally k q (f i)) e in
+    let d : tally k q (g n) ≡ tally k q (g o) = ap (λ i. tally k q (g i)) e in
+    omega (arith, tally_append k q (g n) (upto n g), tally_append k q (f n) (upto n f)))
+    (λ (ne : n ≢ o).
+    let a = ap (tally k q) (same n ne) in
+    let ih = upto_change k q n o f g (omega arith) same in
+    omega (arith, tally_append k q (g n) (upto n g), tally_append k q (f n) (upto n f)))
+    (cases_eq n o)
+
 pub store_found : (b : ℕ) (l : List Stored) → 0 < how_often b l → (d : ℕ) × Has (stored d b) l
 store_found b [] h = absurd (omega arith)
 store_found b (x ∷ xs) h =

@@ -24,6 +24,7 @@ use Rattle.control_word.proofs.views.Teams.{plain_step}
 use Rattle.control_word.proofs.words.Banks.{sum_all}
 use Rattle.control_word.proofs.words.Counting.{bag_one}
 use Rattle.control_word.proofs.words.Frames.{shows_write, spot_apart}
+use Rattle.control_word.proofs.words.Listed.{listed_at, listed_equal}
 use Rattle.control_word.proofs.words.Members.{packed_empty}
 use Rattle.control_word.specs.State.{count, weak}
 use Rattle.control_word.specs.Steps.{Claims}
@@ -37,55 +38,53 @@ packed_put : (f g : ℕ → ℕ) (x : NumberedHandle) → ((r : ℕ) → x.objec
 unfolding packed
 packed_put f g x e = ap (λ n. n + place_bits x.place) (owned_put f g x.object e)
 
-words_put : (f g : ℕ → ℕ) (x : Object) → ((m r : ℕ) → m < 3 → (x.member m).object ≡ Some r → f r ≡ g r)
+words_put : (f g : ℕ → ℕ) (x : Object) → ((m r : ℕ) → m < 9 → (x.member m).object ≡ Some r → f r ≡ g r)
     → object_words f x ≡ object_words g x
 unfolding object_words
 words_put f g x e =
-    let a = packed_put f g (x.member 0) (λ r t. e 0 r (omega arith) t) in
-    let b = packed_put f g (x.member 1) (λ r t. e 1 r (omega arith) t) in
-    let c = packed_put f g (x.member 2) (λ r t. e 2 r (omega arith) t) in
+    let t = listed_equal 9 (λ m. packed f (x.member m)) (λ m. packed g (x.member m))
+    (λ m lt. packed_put f g (x.member m) (λ r u. e m r lt u)) in
     λ i. flags_of x.enabled x.null ∷ slice_index x.fields 0 ∷ slice_index x.fields 1 ∷ slice_index x.fields 2 ∷ slice_index x.fields 3
-    ∷ a i ∷ b i ∷ c i ∷ []
+    ∷ t i
 
 -- the words of an object with empty members
-words_plain : (f : ℕ → ℕ) (x : Object) (j : ℕ) → 5 ≤ j → j < 8 → ((m : ℕ) → m < 3 → x.member m ≡ empty (kind_of_member m))
+words_plain : (w : ℕ) (f : ℕ → ℕ) (x : Object) (j : ℕ) → 5 ≤ j → j < 14 → ((m : ℕ) → m < 9 → x.member m ≡ empty (kind_of_member w m))
     → get_or (object_words f x) j 0 ≡ 0
 unfolding object_words
-words_plain f x zero le lt e = absurd (omega arith)
-words_plain f x (suc zero) le lt e = absurd (omega arith)
-words_plain f x (suc (suc zero)) le lt e = absurd (omega arith)
-words_plain f x (suc (suc (suc zero))) le lt e = absurd (omega arith)
-words_plain f x (suc (suc (suc (suc zero)))) le lt e = absurd (omega arith)
-words_plain f x (suc (suc (suc (suc (suc zero))))) le lt e = ap (packed f) (e 0 (omega arith)) ∙ packed_empty f Owner
-words_plain f x (suc (suc (suc (suc (suc (suc zero)))))) le lt e = ap (packed f) (e 1 (omega arith)) ∙ packed_empty f Owner
-words_plain f x (suc (suc (suc (suc (suc (suc (suc zero))))))) le lt e = ap (packed f) (e 2 (omega arith)) ∙ packed_empty f Weak
-words_plain f x (suc (suc (suc (suc (suc (suc (suc (suc j)))))))) le lt e = absurd (omega arith)
+words_plain w f x zero le lt e = absurd (omega arith)
+words_plain w f x (suc zero) le lt e = absurd (omega arith)
+words_plain w f x (suc (suc zero)) le lt e = absurd (omega arith)
+words_plain w f x (suc (suc (suc zero))) le lt e = absurd (omega arith)
+words_plain w f x (suc (suc (suc (suc zero)))) le lt e = absurd (omega arith)
+words_plain w f x (suc (suc (suc (suc (suc j))))) le lt e =
+    listed_at 9 (λ m. packed f (x.member m)) j (omega arith)
+    ∙ (ap (packed f) (e j (omega arith)) ∙ packed_empty f (kind_of_member w j))
 
-words_new : (f : ℕ → ℕ) (b : ℕ) (enabled null : Bool) (fields : List ℕ) (j : ℕ) → j < 5
-    → get_or (object_words f (new_object b enabled null fields)) j 0 ≡ get_or (flags_of enabled null ∷ fields) j 0
+words_new : (w : ℕ) (f : ℕ → ℕ) (b : ℕ) (enabled null : Bool) (fields : List ℕ) (j : ℕ) → j < 5
+    → get_or (object_words f (new_object w b enabled null fields)) j 0 ≡ get_or (flags_of enabled null ∷ fields) j 0
 unfolding object_words
-words_new f b enabled null fields zero lt = refl
-words_new f b enabled null fields (suc zero) lt = refl
-words_new f b enabled null fields (suc (suc zero)) lt = refl
-words_new f b enabled null fields (suc (suc (suc zero))) lt = refl
-words_new f b enabled null fields (suc (suc (suc (suc zero)))) lt = refl
-words_new f b enabled null fields (suc (suc (suc (suc (suc j))))) lt = absurd (omega arith)
+words_new w f b enabled null fields zero lt = refl
+words_new w f b enabled null fields (suc zero) lt = refl
+words_new w f b enabled null fields (suc (suc zero)) lt = refl
+words_new w f b enabled null fields (suc (suc (suc zero))) lt = refl
+words_new w f b enabled null fields (suc (suc (suc (suc zero)))) lt = refl
+words_new w f b enabled null fields (suc (suc (suc (suc (suc j))))) lt = absurd (omega arith)
 
 -- the words of the blocks that a Make leaves alone
 module _ (z : Opening) (s : State) (sound : Sound z s) (d b : ℕ) (mine : Has (stored d b) s.stores) (enabled null : Bool) (fields : List ℕ) where
-  block_put : (r : ℕ) → r < suc s.made → (put s.object (suc s.made) (new_object b enabled null fields) r).block ≡ (s.object r).block
-  block_put r lt = ap (λ (x : Object). x.block) (put_other s.object (suc s.made) (new_object b enabled null fields) r (λ e. omega arith))
+  block_put : (r : ℕ) → r < suc s.made → (put s.object (suc s.made) (new_object s.owners b enabled null fields) r).block ≡ (s.object r).block
+  block_put r lt = ap (λ (x : Object). x.block) (put_other s.object (suc s.made) (new_object s.owners b enabled null fields) r (λ e. omega arith))
 
   made_vacant : (c : ℕ) → c ≢ b → IsVacant s c → IsVacant (made_state z s d b enabled null fields) c
   made_vacant c n v q = put_cases (λ j y. y.block ≡ c
-      → weak (made_state z s d b enabled null fields) j + common y.phase ≡ 0) s.object (suc s.made) (new_object b enabled null fields) q
+      → weak (made_state z s d b enabled null fields) j + common y.phase ≡ 0) s.object (suc s.made) (new_object s.owners b enabled null fields) q
       (λ e u. absurd (n (sym u))) (λ ne u. let t = made_weak z s d b enabled null fields q in let w = v q u in omega arith)
 
   made_words : (c j : ℕ) → c ≢ b → get_or (block_words (made_state z s d b enabled null fields) c) j 0 ≡ get_or (block_words s c) j 0
   made_words c j n =
       let t = made_state z s d b enabled null fields in
       let n' = suc s.made in
-      let x = new_object b enabled null fields in
+      let x = new_object s.owners b enabled null fields in
       let q = s.latest c in
       let low = sound.latest_made c in
       let e : t.latest c ≡ q = put_other s.latest b n' c n in
@@ -102,11 +101,12 @@ module _ (z : Opening) (s : State) (sound : Sound z s) (d b : ℕ) (mine : Has (
   made_latest : put s.latest b (suc s.made) b ≡ suc s.made
   made_latest = put_same s.latest b (suc s.made) b refl
 
-  made_object : put s.object (suc s.made) (new_object b enabled null fields) (put s.latest b (suc s.made) b) ≡ new_object b enabled null fields
-  made_object = put_same s.object (suc s.made) (new_object b enabled null fields) (put s.latest b (suc s.made) b) made_latest
+  made_object : put s.object (suc s.made) (new_object s.owners b enabled null fields) (put s.latest b (suc s.made) b)
+      ≡ new_object s.owners b enabled null fields
+  made_object = put_same s.object (suc s.made) (new_object s.owners b enabled null fields) (put s.latest b (suc s.made) b) made_latest
 
   -- before the Make all but its flags and fields say nothing
-  vacant_words : (j : ℕ) → j < 10 → (j < 2) ⊎ (6 < j) → get_or (block_words s b) j 0 ≡ 0
+  vacant_words : (j : ℕ) → j < 16 → (j < 2) ⊎ (6 < j) → get_or (block_words s b) j 0 ≡ 0
   vacant_words j lt low = go j lt low
     where
       q : ℕ
@@ -120,13 +120,13 @@ module _ (z : Opening) (s : State) (sound : Sound z s) (d b : ℕ) (mine : Has (
       owners = ⊎_elim (λ x. x) (λ (x : count s (s.latest b) ≢ 0). let m = none in
           let a = live_busy s (s.latest b) (counted_live z s (s.latest b) sound (omega arith)) in absurd (omega arith)) (cases_eq (count s (s.latest b)) 0)
 
-      clear : (m : ℕ) → m < 3 → (s.object (s.latest b)).member m ≡ empty (kind_of_member m)
+      clear : (m : ℕ) → m < 9 → (s.object (s.latest b)).member m ≡ empty (kind_of_member s.owners m)
       clear m le = sound.cleared (s.latest b) m le (let a = none in omega arith)
 
-      go : (j : ℕ) → j < 10 → (j < 2) ⊎ (6 < j) → get_or (block_words s b) j 0 ≡ 0
+      go : (j : ℕ) → j < 16 → (j < 2) ⊎ (6 < j) → get_or (block_words s b) j 0 ≡ 0
       go zero lt low = owners
       go (suc zero) lt low = none
-      go (suc (suc j)) lt low = words_plain (blocks_of s) (s.object (s.latest b)) j (⊎_elim (λ a. absurd (omega arith))
+      go (suc (suc j)) lt low = words_plain s.owners (blocks_of s) (s.object (s.latest b)) j (⊎_elim (λ a. absurd (omega arith))
           (λ a. omega arith) low) (omega arith) clear
 
   worth_put : (f g : ℕ → ℕ) (m : Kind) (n : Option ℕ) (p : Option Place) (t i : ℕ) → ((r : ℕ) → n ≡ Some r → f r ≡ g r)
@@ -139,7 +139,7 @@ module _ (z : Opening) (s : State) (sound : Sound z s) (d b : ℕ) (mine : Has (
   unfolding bank
   bank_made taken i =
       let t = made_state z s d b enabled null fields in
-      let x = new_object b enabled null fields in
+      let x = new_object s.owners b enabled null fields in
       let n = suc s.made in
       let a = sum_all s.cells (λ c. worth (blocks_of s) (s.cell c) (taken (cell_spot z c)) i) (λ c. worth (blocks_of t) (s.cell c) (taken (cell_spot z c)) i)
       (λ c lt. let y = s.cell c in worth_put (blocks_of t) (blocks_of s) y.kind y.object y.place (taken (cell_spot z c)) i
@@ -147,26 +147,27 @@ module _ (z : Opening) (s : State) (sound : Sound z s) (d b : ℕ) (mine : Has (
       let c = sum_all n (λ q. member_funds (blocks_of s) taken (s.object q) i) (λ q. member_funds (blocks_of t) taken (put s.object n x q) i)
       (λ q lt.
       let y = s.object q in
-      let w = λ (m : ℕ) (le : m < 3). let u = y.member m in worth_put (blocks_of t) (blocks_of s) u.kind u.object u.place (taken (spot y.block
+      let w = λ (m : ℕ) (le : m < 9). let u = y.member m in worth_put (blocks_of t) (blocks_of s) u.kind u.object u.place (taken (spot y.block
       (7 + m))) i (λ r e. block_put r (member_made z s sound q m r lt le e)) in
-      let w0 = w 0 (omega arith) in let w1 = w 1 (omega arith) in let w2 = w 2 (omega arith) in
-      ap (λ u. member_funds (blocks_of t) taken u i) (put_other s.object n x q (λ e. omega arith)) ∙ omega arith) in
+      ap (λ u. member_funds (blocks_of t) taken u i) (put_other s.object n x q (λ e. omega arith))
+      ∙ sum_all 9 (λ m. worth (blocks_of s) (y.member m) (taken (spot y.block (7 + m))) i)
+      (λ m. worth (blocks_of t) (y.member m) (taken (spot y.block (7 + m))) i) w) in
       let none : member_funds (blocks_of t) taken (put s.object n x n) i ≡ 0 =
       ap (λ u. member_funds (blocks_of t) taken u i) (put_same s.object n x n refl) in
       omega arith
 
   own_words : (words : List ℕ) (u f v g : ℕ → ℕ) (known : List ℕ) → ((j : ℕ) → j < 5 → get_or words (spot b (2 + j)) 0 ≡ get_or known j 0)
       → known ≡ flags_of enabled null ∷ fields
-      → ((k : ℕ) → k < 10 → (u (spot b k) ≡ 0) × (v (spot b k) ≡ 0)) → f (spot b 1) ≡ 1 → g (spot b 1) ≡ 0
-      → ((k : ℕ) → k < 10 → k ≢ 1
+      → ((k : ℕ) → k < 16 → (u (spot b k) ≡ 0) × (v (spot b k) ≡ 0)) → f (spot b 1) ≡ 1 → g (spot b 1) ≡ 0
+      → ((k : ℕ) → k < 16 → k ≢ 1
       → (f (spot b k) ≡ 0) × (g (spot b k) ≡ 0))
-      → (j : ℕ) → j < 10 → j ≢ 0 → Says s u f b j (get_or words (spot b j) 0)
+      → (j : ℕ) → j < 16 → j ≢ 0 → Says s u f b j (get_or words (spot b j) 0)
       → Says (made_state z s d b enabled null fields) v g b j (get_or words (spot b j) 0)
   own_words words u f v g known fits is zeros one none rest zero lt n says = absurd (n refl)
   own_words words u f v g known fits is zeros one none rest (suc zero) lt n says =
       let zs = zeros 1 (omega arith) in let z0 = zs.0 in let z1 = zs.1 in
       let t = made_state z s d b enabled null fields in
-      let x = new_object b enabled null fields in
+      let x = new_object s.owners b enabled null fields in
       let c : common (put s.object (suc s.made) x (suc s.made)).phase ≡ 1 = ap
       (λ (y : Object). common y.phase) (put_same s.object (suc s.made) x (suc s.made) refl) in
       let l = ap (weak_number t) made_latest in
@@ -175,7 +176,7 @@ module _ (z : Opening) (s : State) (sound : Sound z s) (d b : ℕ) (mine : Has (
   own_words words u f v g known fits is zeros one none rest (suc (suc j)) lt n says =
       let zs = zeros (suc (suc j)) lt in let z0 = zs.0 in let z1 = zs.1 in
       let t = made_state z s d b enabled null fields in
-      let x = new_object b enabled null fields in
+      let x = new_object s.owners b enabled null fields in
       let k = suc (suc j) in
       let r = rest k lt (λ e. omega arith) in
       let m = ap (λ (y : Object). get_or (object_words (blocks_of t) y) j 0) made_object in
@@ -184,12 +185,12 @@ module _ (z : Opening) (s : State) (sound : Sound z s) (d b : ℕ) (mine : Has (
       let e : 2 + j ≡ k = omega arith in
       let a : get_or words (spot b k) 0 ≡ get_or known j 0 = ap (λ y. get_or words (spot b y) 0) (sym e) ∙ fits j low in
       let c = ap (λ l. get_or l j 0) is in
-      let q = words_new (blocks_of t) b enabled null fields j low in
+      let q = words_new s.owners (blocks_of t) b enabled null fields j low in
       inr (let y = r.1 in omega arith))
       (λ (high : 5 ≤ j).
       ⊎_elim (λ l. absurd (let l1 = l.1 in omega arith))
       (λ eq. inr (let y0 = r.0 in let y1 = r.1 in let vw = vacant_words k lt (inr (omega arith)) in
-      let q = words_plain (blocks_of t) x j high (omega arith) (λ i le. refl) in omega arith)) says)
+      let q = words_plain s.owners (blocks_of t) x j high (omega arith) (λ i le. refl) in omega arith)) says)
       (cases_lt j 5)
 
 module _ {V : Type 0} where
@@ -208,7 +209,7 @@ module _ {V : Type 0} where
         let e = entry v.name (Make b enabled null fields val) in
         let w = sees v (e ∷ h) in
         let t = made_state z s v.name b.0 enabled null fields in
-        let x = new_object b.0 enabled null fields in
+        let x = new_object s.owners b.0 enabled null fields in
         let gone = made_more z words views h stands i v at awake Idle (e ∷ h) in
         let moved = λ (m : ℕ). gone m (λ x. ap (λ q. owes q x) busy) (λ x. ap (λ q. pays q x) busy) (λ x. refl) (λ x. refl) in
         let none : added (set views i w) (spot b.0 1) ≡ 0 = others_none z words views h stands i v at awake b.0 w mine refl in
@@ -223,7 +224,7 @@ module _ {V : Type 0} where
         let latest' = made_latest z s fine v.name b.0 mine enabled null fields in
         let object' = made_object z s fine v.name b.0 mine enabled null fields in
         let bank' = λ (m : ℕ). bank_made z s fine v.name b.0 mine enabled null fields stands.taken m in
-        let free : (k : ℕ) → k < 10
+        let free : (k : ℕ) → k < 16
         → (owed views (spot b.0 k) ≡ 0) × (owed (set views i w) (spot b.0 k) ≡ 0)
         × (more z s views stands.taken (spot b.0 k) ≡ added views (spot b.0 k))
         × (more z t (set views i w) stands.taken (spot b.0 k) ≡ added (set views i w) (spot b.0 k)) =

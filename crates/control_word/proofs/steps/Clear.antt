@@ -5,6 +5,7 @@ use Rattle.control_word.proofs.Prelude.{Adds, after, blocks_of, cell_word, Clear
 use Rattle.control_word.proofs.Prelude.{empty, ending, Entry, entry, get_elem?, HasRoom, Idle}
 use Rattle.control_word.proofs.Prelude.{kind_of_member, leads, Member, Opening, purse, some, spot}
 use Rattle.control_word.proofs.Prelude.{Stands, state, View}
+use Rattle.control_word.proofs.history.Legal.{sound}
 use Rattle.control_word.proofs.steps.Swap.{exchange_step}
 use Rattle.control_word.proofs.words.CellWords.{cell_read}
 use Rattle.control_word.proofs.words.Purses.{formed_empty}
@@ -15,7 +16,7 @@ module _ {V : Type 0} where
   -- the desk that ends the object takes a member's value out
   pub clear_step : (z : Opening) (words : List ℕ) (views : List (View V)) (h : List (Entry V)) (stands : Stands z words views h)
       (i : ℕ) (v : View V) (at : get_elem? views i ≡ some v) (awake : v.spent ≡ false) (o m : ℕ)
-      → ((leads z h).object o).phase ≡ ending v.name → m < 3
+      → ((leads z h).object o).phase ≡ ending v.name → m < (leads z h).members
       → v.pending ≡ Idle
       → let s = leads z h in let k = spot (s.object o).block (7 + m) in let old = (s.object o).member m in
       HasRoom (after {V = V} s v.name (ClearMember o m old)) v.name
@@ -26,13 +27,13 @@ module _ {V : Type 0} where
       let s = leads z h in
       let one : common (s.object o).phase ≡ 1 = ap common end in
       exchange_step z words views h stands i v at awake (Member o m) (
-        lt,
+        (let u = (sound z h stands.legal).few in omega arith),
         omega arith,
-      ) (ClearMember o m ((s.object o).member m)) (empty (kind_of_member m)) tt (end, lt, refl) tt refl idle (
+      ) (ClearMember o m ((s.object o).member m)) (empty (kind_of_member s.owners m)) tt (end, lt, refl) tt refl idle (
         refl,
         inl (
           refl,
-          formed_empty (kind_of_member m),
+          formed_empty (kind_of_member s.owners m),
         ),
       ) room
 
@@ -41,7 +42,8 @@ module _ {V : Type 0} where
   clears' at o m ready end lt room taken found =
       let s = state at in
       let one : common (s.object o).phase ≡ 1 = ap common end in
-      let r = cell_read at.opening at.words at.views at.history ready.stands at.seat at.view ready.seated ready.awake (Member o m) (lt, omega arith) in
+      let r = cell_read at.opening at.words at.views at.history ready.stands at.seat at.view ready.seated ready.awake (Member o m)
+      ((let u = (sound at.opening at.history ready.stands.legal).few in omega arith), omega arith) in
       let old = (s.object o).member m in
       let e : ready.stands.taken (cell_word at (Member o m)) ≡ taken = omega arith in
       subst (λ t. Adds at (cell_word at (Member o m)) 0 (ClearMember o m old) (purse (blocks_of s) old (256 - t))) e

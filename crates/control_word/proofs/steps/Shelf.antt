@@ -90,7 +90,7 @@ module _ {V : Type 0} where
       (i : ℕ) (v : View V) (at : get_elem? views i ≡ some v) (awake : v.spent ≡ false) (idle : v.pending ≡ Idle)
       (b : ℕ) (low : b < 65536) (n : ℕ) where
     -- a write of a shelf word leaves the other words
-    apart : (c j : ℕ) → InShape z c → j < 10 → spot c j ≢ shelf_spot z b
+    apart : (c j : ℕ) → InShape z c → j < 16 → spot c j ≢ shelf_spot z b
     apart c j hc lt e = let l = spot_fits z c j hc lt in omega arith
 
     known : (d : ℕ) (q : Pending V) → Fits words (leads z h) (value z h) d q

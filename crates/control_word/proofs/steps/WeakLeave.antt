@@ -85,8 +85,8 @@ module _ {V : Type 0} where
   module _ (z : Opening) (words : List ℕ) (views : List (View V)) (h : List (Entry V)) (stands : Stands z words views h)
       (i : ℕ) (v : View V) (at : get_elem? views i ≡ some v) (awake : v.spent ≡ false) (idle : v.pending ≡ Idle) (o : ℕ) (p : Option Place) where
     -- the owners' common count goes, and the block is vacant just where the whole word was 1
-    pub finish_step : (val : V) → value z h o ≡ Some val → ((leads z h).object o).phase ≡ ending v.name → ((m : ℕ) → m < 3
-        → ((leads z h).object o).member m ≡ empty (kind_of_member m))
+    pub finish_step : (val : V) → value z h o ≡ Some val → ((leads z h).object o).phase ≡ ending v.name → ((m : ℕ) → m < (leads z h).members
+        → ((leads z h).object o).member m ≡ empty (kind_of_member (leads z h).owners m))
         → let k = spot ((leads z h).object o).block 1 in let e = entry v.name (Finish o (get_or words k 0 == 1) val) in
         Stands z (set words k (get_or words k 0 - 1)) (set views i (sees v (e ∷ h))) (e ∷ h)
     unfolding weak

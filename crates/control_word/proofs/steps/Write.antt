@@ -72,7 +72,7 @@ module _ {V : Type 0} where
             adds_mine u.name b u.pending mine (λ q. n (stands.team.names j i u v e at t awake v.name (inl q) (inl refl))) (stands.team.seated j u e t).fits
 
     -- nobody has added to the other words of a vacant block
-    adds_high : (b k e : ℕ) (p : Pending V) → Has (stored v.name b) (leads z h).stores → k < 10 → k ≢ 1 → Fits words (leads z h) (value z h) e p
+    adds_high : (b k e : ℕ) (p : Pending V) → Has (stored v.name b) (leads z h).stores → k < 16 → k ≢ 1 → Fits words (leads z h) (value z h) e p
         → adds p (spot b k) ≡ 0
     adds_high b k e Idle mine lt n fits = refl
     adds_high b k e (Making c known) mine lt n fits = cond-false _ 1 0 (ne_eqb (spot b k) (spot c.0 1) (λ e. omega arith))
@@ -89,11 +89,11 @@ module _ {V : Type 0} where
         let t = spot_apart b k (s.object o).block 2 u.1.0 place.0 lt (omega arith) (q ∙ fits.1) in
         let none = u.0 o (sym t.0) in omega arith))
 
-    pub added_high : (b k : ℕ) → Has (stored v.name b) (leads z h).stores → k < 10 → k ≢ 1 → added views (spot b k) ≡ 0
+    pub added_high : (b k : ℕ) → Has (stored v.name b) (leads z h).stores → k < 16 → k ≢ 1 → added views (spot b k) ≡ 0
     added_high b k mine lt n = none_of z words views h stands (λ p. adds p (spot b k)) refl (λ e p fits. adds_high b k e p mine lt n fits)
 
     -- what other half-done calls know of is not at a block that the desk has
-    pub words_mine : (b k n d : ℕ) → Has (stored v.name b) (leads z h).stores → k < 10 → d ≢ v.name
+    pub words_mine : (b k n d : ℕ) → Has (stored v.name b) (leads z h).stores → k < 16 → d ≢ v.name
         → (c : ℕ) → Has (stored d c) (leads z h).stores → (j : ℕ) → j < 5
         → get_or (set words (spot b k) n) (spot c (2 + j)) 0 ≡ get_or words (spot c (2 + j)) 0
     words_mine b k n d mine lt other c theirs j l =
@@ -104,7 +104,7 @@ module _ {V : Type 0} where
         let both = two_stores v.name d b (leads z h).stores mine (subst (λ x. Has (stored d x) (leads z h).stores) q.0 theirs) (λ x. other (sym x)) in
         let once = fine.once b in omega arith)
 
-    fits_mine : (b k n d : ℕ) (p : Pending V) → Has (stored v.name b) (leads z h).stores → k < 10 → d ≢ v.name
+    fits_mine : (b k n d : ℕ) (p : Pending V) → Has (stored v.name b) (leads z h).stores → k < 16 → d ≢ v.name
         → Fits words (leads z h) (value z h) d p → Fits (set words (spot b k) n) (leads z h) (value z h) d p
     fits_mine b k n d Idle mine lt other fits = tt
     fits_mine b k n d (Making c known) mine lt other fits = (fits.0, λ j l. words_mine b k n d mine lt other c.0 fits.0 j l ∙ fits.1 j l)
@@ -114,7 +114,7 @@ module _ {V : Type 0} where
     fits_mine b k n d (Merging with' x y) mine lt other fits = tt
 
     -- nothing is owed to the words of a vacant block, and nobody has funds on them
-    pub vacant_free : (b k : ℕ) → Has (stored v.name b) (leads z h).stores → k < 10
+    pub vacant_free : (b k : ℕ) → Has (stored v.name b) (leads z h).stores → k < 16
         → (owed views (spot b k) ≡ 0) × (more z (leads z h) views stands.taken (spot b k) ≡ added views (spot b k)) × (stands.taken (spot b k) ≡ 0)
     vacant_free b k mine lt =
         let s = leads z h in

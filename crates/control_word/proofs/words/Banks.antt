@@ -10,6 +10,7 @@ use Rattle.control_word.proofs.history.Clearing.{was_made}
 use Rattle.control_word.proofs.history.Moving.{live_busy}
 use Rattle.control_word.proofs.history.Soundness.{IsBusy, Sound}
 use Rattle.control_word.proofs.history.Storing.{kept}
+use Rattle.control_word.proofs.lists.Sums.{sum_zero}
 use Rattle.control_word.proofs.lists.Tallies.{put_cases, put_other, put_same}
 use Rattle.control_word.proofs.words.Frames.{spot_apart, spot_fits}
 use Rattle.control_word.proofs.words.Funds.{cell_busy, member_busy}
@@ -34,34 +35,33 @@ sum_all (suc n) f g h = let a = h n (omega arith) in let b = sum_all n f g (λ j
 -- the cell is free, or a member of a busy object
 abbrev pub IsKept : State → Cell → Type 0
 IsKept s (Free c) = c < s.cells
-IsKept s (Member o m) = (m < 3) × IsBusy s o
+IsKept s (Member o m) = (m < 9) × IsBusy s o
 
 pub open_kept : (z : Opening) (s : State) (d : ℕ) (c : Cell) → Sound z s → IsOpen s d c → IsKept s c
 open_kept z s d (Free c) fine open' = open'
-open_kept z s d (Member o m) fine open' = (open'.0, live_busy s o (open_live z s d o m fine open'))
+open_kept z s d (Member o m) fine open' = ((let t = open'.0 in let u = fine.few in omega arith), live_busy s o (open_live z s d o m fine open'))
 
 module _ (z : Opening) (s : State) (fine : Sound z s) (taken : ℕ → ℕ) (i : ℕ) where
   -- an object that is gone keeps no funds
   gone_funds : (u : ℕ → ℕ) (q : ℕ) → common (s.object q).phase ≡ 0 → member_funds (blocks_of s) u (s.object q) i ≡ 0
   gone_funds u q e =
-      let c = λ (m : ℕ) (lt : m < 3). fine.cleared q m lt e in
-      let a = ap (λ (x : NumberedHandle). worth (blocks_of s) x (u (spot (s.object q).block 7)) i) (c 0 (omega arith)) in
-      let b = ap (λ (x : NumberedHandle). worth (blocks_of s) x (u (spot (s.object q).block 8)) i) (c 1 (omega arith)) in
-      let d = ap (λ (x : NumberedHandle). worth (blocks_of s) x (u (spot (s.object q).block 9)) i) (c 2 (omega arith)) in
-      omega arith
+      let x = s.object q in
+      sum_zero 9 (λ m. worth (blocks_of s) (x.member m) (u (spot x.block (7 + m))) i)
+      (λ m lt. ap (λ (h : NumberedHandle). worth (blocks_of s) h (u (spot x.block (7 + m))) i) (fine.cleared q m lt e))
 
   -- an object of which no cell's word is k
-  other_funds : (k t : ℕ) (q : ℕ) → (0 < common (s.object q).phase → (j : ℕ) → 6 < j → j < 10 → spot (s.object q).block j ≢ k)
+  other_funds : (k t : ℕ) (q : ℕ) → (0 < common (s.object q).phase → (j : ℕ) → 6 < j → j < 16 → spot (s.object q).block j ≢ k)
       → member_funds (blocks_of s) (put taken k t) (s.object q) i ≡ member_funds (blocks_of s) taken (s.object q) i
   other_funds k t q apart =
       ⊎_elim (λ (e : common (s.object q).phase ≡ 0). gone_funds (put taken k t) q e ∙ sym (gone_funds taken q e))
       (λ (ne : common (s.object q).phase ≢ 0).
       let x = s.object q in
       let n = apart (omega arith) in
-      let a = ap (λ y. worth (blocks_of s) (x.member 0) y i) (put_other taken k t (spot x.block 7) (n 7 (omega arith) (omega arith))) in
-      let b = ap (λ y. worth (blocks_of s) (x.member 1) y i) (put_other taken k t (spot x.block 8) (n 8 (omega arith) (omega arith))) in
-      let c = ap (λ y. worth (blocks_of s) (x.member 2) y i) (put_other taken k t (spot x.block 9) (n 9 (omega arith) (omega arith))) in
-      omega arith) (cases_eq (common (s.object q).phase) 0)
+      sum_all 9 (λ m. worth (blocks_of s) (x.member m) (taken (spot x.block (7 + m))) i)
+      (λ m. worth (blocks_of s) (x.member m) (put taken k t (spot x.block (7 + m))) i)
+      (λ m lt. ap (λ y. worth (blocks_of s) (x.member m) y i)
+      (put_other taken k t (spot x.block (7 + m)) (n (7 + m) (omega arith) (omega arith)))))
+      (cases_eq (common (s.object q).phase) 0)
 
   bank_free : (c : ℕ) (new : NumberedHandle) (hs : List Held) (t : ℕ) → c < s.cells → s.cells ≡ z.cells
       → bank z (record s { hands = hs; cell = put s.cell c new }) (put taken (cell_spot z c) t) i + worth (blocks_of s) (s.cell c) (taken (cell_spot z c)) i
@@ -79,25 +79,18 @@ module _ (z : Opening) (s : State) (fine : Sound z s) (taken : ℕ → ℕ) (i :
       omega arith
 
   -- of one object one member changes
-  own_funds : (x : Object) (m t : ℕ) (new : NumberedHandle) → m < 3 → 1 ≤ x.block → let k = spot x.block (7 + m) in
+  own_funds : (x : Object) (m t : ℕ) (new : NumberedHandle) → m < 9 → 1 ≤ x.block → let k = spot x.block (7 + m) in
       member_funds (blocks_of s) (put taken k t) (record x { member = put x.member m new }) i + worth (blocks_of s) (x.member m) (taken k) i
       ≡ member_funds (blocks_of s) taken x i + worth (blocks_of s) new t i
   own_funds x m t new lt pos =
       let b = blocks_of s in
       let k = spot x.block (7 + m) in
-      let same : (j : ℕ) → j ≡ m → worth b (put x.member m new j) (put taken k t (spot x.block (7 + j))) i ≡ worth b new t i =
-      λ j e y. worth b (put_same x.member m new j e y) (put_same taken k t (spot x.block (7 + j)) (ap (λ n. spot x.block (7 + n)) e) y) i in
-      let else' : (j : ℕ) → j ≢ m
-      → worth b (put x.member m new j) (put taken k t (spot x.block (7 + j))) i ≡ worth b (x.member j) (taken (spot x.block (7 + j))) i =
-      λ j n y. worth b (put_other x.member m new j n y) (put_other taken k t (spot x.block (7 + j)) (λ e. n (omega arith)) y) i in
-      let old : (j : ℕ) → j ≡ m → worth b (x.member m) (taken k) i ≡ worth b (x.member j) (taken (spot x.block (7 + j))) i =
-      λ j e. ap (λ n. worth b (x.member n) (taken (spot x.block (7 + n))) i) (sym e) in
-      ⊎_elim (λ (e : 0 ≡ m). let p = same 0 e in let q = else' 1 (λ u. omega arith) in let r = else' 2 (λ u. omega arith) in
-      let o = old 0 e in omega arith)
-      (λ (n : 0 ≢ m). ⊎_elim
-      (λ (e : 1 ≡ m). let p = same 1 e in let q = else' 0 n in let r = else' 2 (λ u. omega arith) in let o = old 1 e in omega arith)
-      (λ (n' : 1 ≢ m). let e : 2 ≡ m = omega arith in let p = same 2 e in let q = else' 0 n in let r = else' 1 n' in
-      let o = old 2 e in omega arith) (cases_eq 1 m)) (cases_eq 0 m)
+      let f : ℕ → ℕ = λ j. worth b (x.member j) (taken (spot x.block (7 + j))) i in
+      let g : ℕ → ℕ = λ j. worth b (put x.member m new j) (put taken k t (spot x.block (7 + j))) i in
+      let here : g m ≡ worth b new t i = λ y. worth b (put_same x.member m new m refl y) (put_same taken k t k refl y) i in
+      let all : sum_below 9 g + f m ≡ sum_below 9 f + g m = sum_set 9 m f g lt
+      (λ j l n y. worth b (put_other x.member m new j n y) (put_other taken k t (spot x.block (7 + j)) (λ e. n (omega arith)) y) i) in
+      all ∙ ap (λ n. sum_below 9 f + n) here
 
   pub member_blocks : (o m : ℕ) (new : NumberedHandle) → ◌≡◌ {A = ℕ
       → ℕ} (λ q. (put s.object o (record (s.object o) { member = put (s.object o).member m new }) q).block) (blocks_of s)
@@ -105,7 +98,7 @@ module _ (z : Opening) (s : State) (fine : Sound z s) (taken : ℕ → ℕ) (i :
       (λ j y. y.block ≡ (s.object j).block) s.object o (record (s.object o) { member = put (s.object o).member m new }) q
       (λ e. ap (λ n. (s.object n).block) (sym e)) (λ n. refl))
 
-  bank_member : (o m : ℕ) (new : NumberedHandle) (hs : List Held) (t : ℕ) → m < 3 → IsBusy s o → s.cells ≡ z.cells
+  bank_member : (o m : ℕ) (new : NumberedHandle) (hs : List Held) (t : ℕ) → m < 9 → IsBusy s o → s.cells ≡ z.cells
       → let x = s.object o in let k = spot x.block (7 + m) in
       bank z (record s { hands = hs; object = put s.object o (record x { member = put x.member m new }) }) (put taken k t) i + worth (blocks_of s)
       (x.member m) (taken k) i
@@ -160,15 +153,11 @@ bank_none z s fine taken i none =
     let b = sum_zero (suc s.made) (λ q. member_funds (blocks_of s) taken (s.object q) i)
     (λ q lt.
     let x = s.object q in
-    let c = λ (m : ℕ) (le : m < 3). let y = x.member m in worth_none y.kind y.object y.place (taken (spot x.block (7 + m)))
-    (λ r. member_busy z s fine q m r lt le) in
-    let c0 = c 0 (omega arith) in let c1 = c 1 (omega arith) in let c2 = c 2 (omega arith) in omega arith) in
+    sum_zero 9 (λ m. worth (blocks_of s) (x.member m) (taken (spot x.block (7 + m))) i)
+    (λ m le. let y = x.member m in worth_none y.kind y.object y.place (taken (spot x.block (7 + m)))
+    (λ r. member_busy z s fine q m r lt le))) in
     omega arith
   where
-    sum_zero : (n : ℕ) (f : ℕ → ℕ) → ((j : ℕ) → j < n → f j ≡ 0) → sum_below n f ≡ 0
-    sum_zero zero f h = refl
-    sum_zero (suc n) f h = let a = h n (omega arith) in let b = sum_zero n f (λ j l. h j (omega arith)) in omega arith
-
     worth_none : (m : Kind) (n : Option ℕ) (p : Option Place) (t : ℕ) → ((r : ℕ) → n ≡ Some r → IsBusy s r)
         → worth (blocks_of s) (handle m n p) t i ≡ 0
     worth_none m None p t busy = refl

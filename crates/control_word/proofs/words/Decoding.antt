@@ -74,7 +74,7 @@ module _ {V : Type 0} where
 
         well : (d : Cell) → IsKept (leads z h) d → IsFormed (cell_of (leads z h) d)
         well (Free d) op = ((formed z h stands.legal).frees d op).0
-        well (Member o m) op = ((formed z h stands.legal).members o m op.0).0
+        well (Member o m) op = ((formed z h stands.legal).members o m).0
 
         there : (d : Cell) → IsKept (leads z h) d → (r : ℕ) → (cell_of (leads z h) d).object ≡ Some r
             → (1 ≤ blocks_of (leads z h) r) × (blocks_of (leads z h) r ≤ 65535)

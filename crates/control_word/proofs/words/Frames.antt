@@ -11,10 +11,10 @@ use Rattle.control_word.proofs.history.Soundness.{IsBusy, Sound}
 use Rattle.control_word.specs.State.{count, weak}
 use Rattle.control_word.specs.Words.{object_words, packed}
 
-pub spot_apart : (b k c j : ℕ) → 1 ≤ b → 1 ≤ c → k < 10 → j < 10 → spot b k ≡ spot c j → (b ≡ c) × (k ≡ j)
+pub spot_apart : (b k c j : ℕ) → 1 ≤ b → 1 ≤ c → k < 16 → j < 16 → spot b k ≡ spot c j → (b ≡ c) × (k ≡ j)
 spot_apart b k c j hb hc hk hj e = (omega arith, omega arith)
 
-pub spot_fits : (z : Opening) (b k : ℕ) → InShape z b → k < 10 → spot b k < 16 * z.blocks
+pub spot_fits : (z : Opening) (b k : ℕ) → InShape z b → k < 16 → spot b k < 16 * z.blocks
 spot_fits z b k h hk = omega arith
 
 -- a write before the shelf leaves the shelf
@@ -24,8 +24,8 @@ shelf_kept z words s k n lt shows b low =
     ap (λ m. bit_at m (b % 64)) (get_or-set_other words k (shelf_spot z b) n 0 (λ e. omega arith)) ∙ shows b low
 
 -- the other words are as they were
-pub shows_write : (z : Opening) (words : List ℕ) (u f v g : ℕ → ℕ) (s t : State) (b k n : ℕ) → InShape z b → k < 10 → Shows z words u f s
-    → ((c j : ℕ) → InShape z c → j < 10 → ((c ≡ b) × (j ≡ k) → ⊥) → Says s u f c j (get_or words (spot c j) 0)
+pub shows_write : (z : Opening) (words : List ℕ) (u f v g : ℕ → ℕ) (s t : State) (b k n : ℕ) → InShape z b → k < 16 → Shows z words u f s
+    → ((c j : ℕ) → InShape z c → j < 16 → ((c ≡ b) × (j ≡ k) → ⊥) → Says s u f c j (get_or words (spot c j) 0)
     → Says t v g c j (get_or words (spot c j) 0))
     → Says t v g b k n
     → ((c w : ℕ) → c < z.cells → w ≡ packed (blocks_of s) (s.cell c) + f (cell_spot z c)

@@ -12,7 +12,7 @@ use Rattle.control_word.proofs.history.Kept.{still}
 use Rattle.control_word.proofs.history.Legal.{sound}
 use Rattle.control_word.proofs.history.Moving.{counted_live, live_busy}
 use Rattle.control_word.proofs.history.Soundness.{IsBusy, Sound}
-use Rattle.control_word.proofs.lists.Tallies.{tally_append, tally_cons}
+use Rattle.control_word.proofs.lists.Tallies.{tally_append}
 use Rattle.control_word.proofs.words.Frames.{spot_apart}
 use Rattle.control_word.specs.State.{count, weak}
 use Rattle.control_word.specs.Words.{bank}
@@ -64,7 +64,7 @@ module _ (z : Opening) (s : State) (fine : Sound z s) where
       let t = tally_upto m r s.cells c (λ j. s.cell j ∷ []) lt in let u = one_of m r (s.cell c) refl e in
       in_cells_busy r m (let w = tally_append m r cells rest in omega arith)
 
-  pub member_busy : (q m r : ℕ) → q < suc s.made → m < 3 → ((s.object q).member m).object ≡ Some r → IsBusy s r
+  pub member_busy : (q m r : ℕ) → q < suc s.made → m < 9 → ((s.object q).member m).object ≡ Some r → IsBusy s r
   member_busy q m r lt le e =
       let x = (s.object q).member m in
       let j = x.kind in
@@ -90,15 +90,20 @@ module _ (z : Opening) (s : State) (fine : Sound z s) where
         (ne_eqb _ _ ne) in omega arith)
         (cases_eq (counts_at (blocks_of s) k o) (counts_at (blocks_of s) m q))
 
+    members_below : (taken : ℕ → ℕ) (q : ℕ) → q < suc s.made → (n : ℕ) → n ≤ 9 → let x = s.object q in
+        sum_below n (λ m. worth (blocks_of s) (x.member m) (taken (spot x.block (7 + m))) (counts_at (blocks_of s) k o))
+        ≤ 256 * tally k o (upto n (λ m. x.member m ∷ []))
+    members_below taken q lt zero le = omega arith
+    members_below taken q lt (suc n) le =
+        let x = s.object q in
+        let y = x.member n in
+        let a = worth_few y.kind y.object y.place (taken (spot x.block (7 + n))) (λ r. member_busy q n r lt (omega arith)) in
+        let b = members_below taken q lt n (omega arith) in
+        omega (arith, tally_append k o (y ∷ []) (upto n (λ m. x.member m ∷ [])))
+
     members_few : (taken : ℕ → ℕ) (q : ℕ) → q < suc s.made
         → member_funds (blocks_of s) taken (s.object q) (counts_at (blocks_of s) k o) ≤ 256 * tally k o (members (s.object q))
-    members_few taken q lt =
-        let x = s.object q in
-        let a = x.member 0 in let b = x.member 1 in let c = x.member 2 in
-        let wa = worth_few a.kind a.object a.place (taken (spot x.block 7)) (λ r. member_busy q 0 r lt (omega arith)) in
-        let wb = worth_few b.kind b.object b.place (taken (spot x.block 8)) (λ r. member_busy q 1 r lt (omega arith)) in
-        let wc = worth_few c.kind c.object c.place (taken (spot x.block 9)) (λ r. member_busy q 2 r lt (omega arith)) in
-        omega (arith, tally_cons k o a (b ∷ c ∷ []), tally_cons k o b (c ∷ []))
+    members_few taken q lt = members_below taken q lt 9 (omega arith)
 
     frees_few : (taken : ℕ → ℕ) (n : ℕ) → n ≤ s.cells
         → sum_below n (λ c. worth (blocks_of s) (s.cell c) (taken (cell_spot z c)) (counts_at (blocks_of s) k o)) ≤ 256 * tally k o (upto n

@@ -9,6 +9,7 @@ use Rattle.control_word.proofs.history.Cells.{swap_count, swap_weak}
 use Rattle.control_word.proofs.history.Soundness.{Sound}
 use Rattle.control_word.proofs.lists.Tallies.{put_cases, put_other}
 use Rattle.control_word.proofs.words.Banks.{IsKept}
+use Rattle.control_word.proofs.words.Listed.{listed_at, listed_same, words_high}
 use Rattle.control_word.proofs.words.Payments.{kept_in}
 use Rattle.control_word.specs.Words.{object_words, packed}
 
@@ -17,27 +18,27 @@ unfolding packed
 packed_empty f k = refl
 
 -- the word of a member among the words of its block
-pub member_word : (s : State) (b o m : ℕ) → m < 3 → s.latest b ≡ o
+pub member_word : (s : State) (b o m : ℕ) → m < 9 → s.latest b ≡ o
     → get_or (block_words s b) (7 + m) 0 ≡ packed (blocks_of s) ((s.object o).member m)
-unfolding object_words
-member_word s b o zero lt e = ap (λ n. packed (blocks_of s) ((s.object n).member 0)) e
-member_word s b o (suc zero) lt e = ap (λ n. packed (blocks_of s) ((s.object n).member 1)) e
-member_word s b o (suc (suc zero)) lt e = ap (λ n. packed (blocks_of s) ((s.object n).member 2)) e
-member_word s b o (suc (suc (suc m))) lt e = absurd (omega arith)
+member_word s b o m lt e =
+    let seven : 7 + m ≡ suc (suc (suc (suc (suc (suc (suc m)))))) = omega arith in
+    ap (λ j. get_or (block_words s b) j 0) seven
+    ∙ (words_high (blocks_of s) (s.object (s.latest b)) m
+    ∙ (listed_at 9 (λ i. packed (blocks_of s) ((s.object (s.latest b)).member i)) m lt
+    ∙ ap (λ n. packed (blocks_of s) ((s.object n).member m)) e))
 
 -- the other words of an object of which one member changed
-words_member : (f : ℕ → ℕ) (x : Object) (m : ℕ) (h : NumberedHandle) (j : ℕ) → m < 3 → j ≢ 5 + m
+words_member : (f : ℕ → ℕ) (x : Object) (m : ℕ) (h : NumberedHandle) (j : ℕ) → j ≢ 5 + m
     → get_or (object_words f (record x { member = put x.member m h })) j 0 ≡ get_or (object_words f x) j 0
 unfolding object_words
-words_member f x m h zero lt n = refl
-words_member f x m h (suc zero) lt n = refl
-words_member f x m h (suc (suc zero)) lt n = refl
-words_member f x m h (suc (suc (suc zero))) lt n = refl
-words_member f x m h (suc (suc (suc (suc zero)))) lt n = refl
-words_member f x m h (suc (suc (suc (suc (suc zero))))) lt n = ap (packed f) (put_other x.member m h 0 (λ e. n (omega arith)))
-words_member f x m h (suc (suc (suc (suc (suc (suc zero)))))) lt n = ap (packed f) (put_other x.member m h 1 (λ e. n (omega arith)))
-words_member f x m h (suc (suc (suc (suc (suc (suc (suc zero))))))) lt n = ap (packed f) (put_other x.member m h 2 (λ e. n (omega arith)))
-words_member f x m h (suc (suc (suc (suc (suc (suc (suc (suc j)))))))) lt n = refl
+words_member f x m h zero n = refl
+words_member f x m h (suc zero) n = refl
+words_member f x m h (suc (suc zero)) n = refl
+words_member f x m h (suc (suc (suc zero))) n = refl
+words_member f x m h (suc (suc (suc (suc zero)))) n = refl
+words_member f x m h (suc (suc (suc (suc (suc j))))) n =
+    listed_same 9 (λ i. packed f (put x.member m h i)) (λ i. packed f (x.member i)) j
+    (ap (packed f) (put_other x.member m h j (λ e. n (omega arith))))
 
 module _ (z : Opening) (s : State) (sound : Sound z s) (d : ℕ) (new : NumberedHandle) where
   -- in a free cell
@@ -82,7 +83,7 @@ module _ (z : Opening) (s : State) (sound : Sound z s) (d : ℕ) (new : Numbered
         ap (λ (f : ℕ → ℕ). get_or (object_words f (put s.object o x (s.latest b))) j 0) member_blocks
         ∙ put_cases (λ q y. q ≡ s.latest b
         → get_or (object_words (blocks_of s) y) j 0 ≡ get_or (object_words (blocks_of s) (s.object q)) j 0) s.object o x (s.latest b)
-        (λ e e2. words_member (blocks_of s) (s.object o) m new j open'.0 (λ u. n (
+        (λ e e2. words_member (blocks_of s) (s.object o) m new j (λ u. n (
           ⊎_elim (λ (y : s.latest b ≡ 0). let w = ap (weak_number s) (sym e ∙ y) in let none = sound.unmade_free 0 sound.none in absurd (omega arith))
               (λ y. sym (sound.latest_in b y) ∙ ap (λ q. (s.object q).block) e) (cases_eq (s.latest b) 0),
           omega arith,

@@ -1,17 +1,18 @@
 -- At the start all words are 0, and one desk has the whole allowance.
-use Rattle.std.proofs.Common.{◌≡◌, ℕ, zero, suc, ◌+◌, ◌%◌, ◌<◌, false, [], length, get_or}
+use Rattle.std.proofs.Common.{◌≡◌, ℕ, zero, suc, ◌+◌, ◌%◌, ◌<◌, ◌≤◌, false, [], length, get_or}
 use Rattle.std.proofs.Common.{replicate, sym, refl, ap, ◌∙◌, subst, inr, ⊎_elim, arith}
 use Rattle.control_word.proofs.Prelude
 use Prelude.{added, adds, bit_at, block_words, blocks_of, cell_spot, get_elem?, Idle, IsOpening}
-use Prelude.{kind_of_free, nobody, Opening, owed, owes, Owner, paid, pays, Pending, Seated}
+use Prelude.{empty, kind_of_free, kind_of_member, nobody, Opening, owed, owes, Owner, paid, pays, Pending, Seated}
 use Prelude.{shelf_place, shelf_spot, some, some-injective, some-ne-none, spot, Stands, StandsFor}
 use Prelude.{start, total, View, Weak}
 use Rattle.std.proofs.lemmas.Nat.Bits.{bit_at-zero}
 use Rattle.control_word.proofs.history.Legal.{sound_start}
 use Rattle.control_word.proofs.words.Banks.{bank_none}
+use Rattle.control_word.proofs.words.Listed.{listed_zero}
 use Rattle.control_word.proofs.words.Members.{packed_empty}
 use Rattle.control_word.specs.Views.{fresh}
-use Rattle.control_word.specs.Words.{bank, object_words}
+use Rattle.control_word.specs.Words.{bank, object_words, packed}
 
 zero_read : (n i : ℕ) → get_or {A = ℕ} (replicate n 0) i 0 ≡ 0
 zero_read zero i = refl
@@ -22,25 +23,25 @@ zero_length : (n : ℕ) → length {A = ℕ} (replicate n 0) ≡ n
 zero_length zero = refl
 zero_length (suc n) = ap suc (zero_length n)
 
-nobody_words : (f : ℕ → ℕ) (j : ℕ) → get_or (object_words f nobody) j 0 ≡ 0
+nobody_words : (w : ℕ) (f : ℕ → ℕ) (j : ℕ) → get_or (object_words f (nobody w)) j 0 ≡ 0
 unfolding object_words
-nobody_words f zero = refl
-nobody_words f (suc zero) = refl
-nobody_words f (suc (suc zero)) = refl
-nobody_words f (suc (suc (suc zero))) = refl
-nobody_words f (suc (suc (suc (suc zero)))) = refl
-nobody_words f (suc (suc (suc (suc (suc zero))))) = packed_empty f Owner
-nobody_words f (suc (suc (suc (suc (suc (suc zero)))))) = packed_empty f Owner
-nobody_words f (suc (suc (suc (suc (suc (suc (suc zero))))))) = packed_empty f Weak
-nobody_words f (suc (suc (suc (suc (suc (suc (suc (suc j)))))))) = refl
+nobody_words w f zero = refl
+nobody_words w f (suc zero) = refl
+nobody_words w f (suc (suc zero)) = refl
+nobody_words w f (suc (suc (suc zero))) = refl
+nobody_words w f (suc (suc (suc (suc zero)))) = refl
+nobody_words w f (suc (suc (suc (suc (suc j))))) =
+    listed_zero 9 (λ m. packed f (empty (kind_of_member w m))) j (λ m. packed_empty f (kind_of_member w m))
 
-start_words : (z : Opening) (b j : ℕ) → get_or (block_words (start z) b) j 0 ≡ 0
-start_words z b zero = (sound_start z).owners 0
-start_words z b (suc zero) = (sound_start z).unmade_free 0 refl
-start_words z b (suc (suc j)) = nobody_words (blocks_of (start z)) j
+start_words : (z : Opening) → z.members ≤ 9 → (b j : ℕ) → get_or (block_words (start z) b) j 0 ≡ 0
+start_words z few b zero = (sound_start z few).owners 0
+start_words z few b (suc zero) = (sound_start z few).unmade_free 0 refl
+start_words z few b (suc (suc j)) = nobody_words z.owners (blocks_of (start z)) j
 
-pub bank_start : (z : Opening) (i : ℕ) → bank z (start z) (λ j. 0) i ≡ 0
-bank_start z i = bank_none z (start z) (sound_start z) (λ j. 0) i (λ m o busy e. let t = (sound_start z).unmade_free o refl in omega arith)
+pub bank_start : (z : Opening) → z.members ≤ 9 → (i : ℕ) → bank z (start z) (λ j. 0) i ≡ 0
+bank_start z few i =
+    bank_none z (start z) (sound_start z few) (λ j. 0) i
+    (λ m o busy e. let t = (sound_start z few).unmade_free o refl in omega arith)
 
 module _ {V : Type 0} where
   -- what a view of a desk that was there from the start is
@@ -83,10 +84,10 @@ module _ {V : Type 0} where
         doors = λ b hb. let t = a (spot b 2) in omega arith;
         shows = record {
           sized = zero_length (shelf_place z.blocks z.cells 1024);
-          blocks = λ b k hb hk. inr (let t = zero_read (shelf_place z.blocks z.cells 1024) (spot b k) in let c = start_words z b k in
-              let d = bank_start z (spot b k) in
+          blocks = λ b k hb hk. inr (let t = zero_read (shelf_place z.blocks z.cells 1024) (spot b k) in let c = start_words z proper.members.1 b k in
+              let d = bank_start z proper.members.1 (spot b k) in
               let o' = o (spot b k) in let a' = a (spot b k) in let m' = m (spot b k) in omega arith);
-          free = λ c hc. let t = zero_read (shelf_place z.blocks z.cells 1024) (cell_spot z c) in let d = bank_start z (cell_spot z c) in
+          free = λ c hc. let t = zero_read (shelf_place z.blocks z.cells 1024) (cell_spot z c) in let d = bank_start z proper.members.1 (cell_spot z c) in
               let e = packed_empty (blocks_of (start z)) (kind_of_free z.shared_cells c) in let a' = a (cell_spot z c) in
               let m' = m (cell_spot z c) in omega arith;
           shelf = λ b low. ap (λ n. bit_at n (b % 64)) (zero_read (shelf_place z.blocks z.cells 1024) (shelf_spot z b)) ∙ bit_at-zero (b % 64);

@@ -31,7 +31,7 @@ kept_in z s (Member o m) fine kept = (kept.0, was_made z s o fine (λ e. let u =
 -- words and state change alike
 pub shows_all : (z : Opening) (words words' : List ℕ) (u f v g : ℕ → ℕ) (s t : State) → length words' ≡ length words → Shows z words u f s
     → ((b : ℕ) → IsVacant s b → IsVacant t b)
-    → ((b j : ℕ) → InShape z b → j < 10
+    → ((b j : ℕ) → InShape z b → j < 16
     → get_or words' (spot b j) 0 + v (spot b j) + (get_or (block_words s b) j 0 + f (spot b j)) ≡ get_or words (spot b j) 0 + u (spot b j) + (get_or
     (block_words t b) j 0 + g (spot b j)))
     → ((c : ℕ) → c < z.cells
@@ -70,7 +70,7 @@ latest_is z s b o fine busy e =
     (λ n. sym (fine.latest_in b n) ∙ ap (λ q. (s.object q).block) e) (cases_eq (s.latest b) 0)
 
 -- one more handle in a bag: one more in its number
-pub words_gain : (z : Opening) (s : State) (d o : ℕ) (m : Kind) (p : Option Place) → Sound z s → IsBusy s o → (b j : ℕ) → InShape z b → j < 10
+pub words_gain : (z : Opening) (s : State) (d o : ℕ) (m : Kind) (p : Option Place) → Sound z s → IsBusy s o → (b j : ℕ) → InShape z b → j < 16
     → get_or (block_words (record s { hands = held d (handle m (Some o) p) ∷ s.hands }) b) j 0 ≡ get_or (block_words s b) j 0 + one_at (counts_at
     (blocks_of s) m o) (spot b j)
 words_gain z s d o m p fine busy b j hb lt = go m j lt
@@ -78,7 +78,7 @@ words_gain z s d o m p fine busy b j hb lt = go m j lt
     place : InShape z (s.object o).block
     place = (fine.placed o busy).1
 
-    apart : (j k : ℕ) → j < 10 → k < 2 → j ≢ k → one_at (spot (s.object o).block k) (spot b j) ≡ 0
+    apart : (j k : ℕ) → j < 16 → k < 2 → j ≢ k → one_at (spot (s.object o).block k) (spot b j) ≡ 0
     apart j k lt low n = one_else _ _ (λ e. n ((spot_apart b j (s.object o).block k hb.0 place.0 lt (omega arith) e).1))
 
     here : (k : ℕ) → k < 2 → s.latest b ≡ o → one_at (spot (s.object o).block k) (spot b k) ≡ 1
@@ -88,7 +88,7 @@ words_gain z s d o m p fine busy b j hb lt = go m j lt
     else' k low n = one_else _ _ (λ e. n (ap s.latest (spot_apart b k (s.object o).block k hb.0 place.0 (omega arith) (omega arith) e).0
         ∙ (fine.placed o busy).0))
 
-    go : (m : Kind) (j : ℕ) → j < 10
+    go : (m : Kind) (j : ℕ) → j < 16
         → get_or (block_words (record s { hands = held d (handle m (Some o) p) ∷ s.hands }) b) j 0 ≡ get_or (block_words s b) j 0 + one_at (counts_at
         (blocks_of s) m o) (spot b j)
     go Owner zero lt = ⊎_elim (λ e. let t = (more_owners s d o p (s.latest b)).0 e in

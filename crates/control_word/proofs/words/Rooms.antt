@@ -31,12 +31,12 @@ relaxed n l m f low high e a b c d g =
 
 module _ {V : Type 0} where
   -- no more handles of a kind are in cells than cells and members
-  cells_room : (z : Opening) (h : List (Entry V)) → IsLegal z h → (k : Kind) (o : ℕ) → tally k o (in_cells (leads z h)) ≤ z.cells + 2 * z.blocks
+  cells_room : (z : Opening) (h : List (Entry V)) → IsLegal z h → (k : Kind) (o : ℕ) → tally k o (in_cells (leads z h)) ≤ z.cells + 9 * z.blocks
   cells_room z h legal Owner o = let t = (in_cells_few z (leads z h) (sound z h legal) (formed z h legal) o).0 in let e = cells_led z h in omega arith
   cells_room z h legal Weak o = let t = (in_cells_few z (leads z h) (sound z h legal) (formed z h legal) o).1 in let e = cells_led z h in omega arith
 
-  pub number_room : (z : Opening) (h : List (Entry V)) → IsLegal z h → (k : Kind) (o : ℕ) → number (leads z h) k o ≤ 4325630
-  number_room z h legal Owner o = (numbers_fit z h legal o).0
+  pub number_room : (z : Opening) (h : List (Entry V)) → IsLegal z h → (k : Kind) (o : ℕ) → number (leads z h) k o ≤ 4784376
+  number_room z h legal Owner o = let t = (numbers_fit z h legal o).0 in omega arith
   number_room z h legal Weak o = let t = (numbers_fit z h legal o).1 in omega arith
 
   module _ (z : Opening) (words : List ℕ) (views : List (View V)) (h : List (Entry V)) (stands : Stands z words views h) where

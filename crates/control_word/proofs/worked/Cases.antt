@@ -195,12 +195,12 @@ unfolding count weak
 cycle_stays = (cycle_legal, (refl, refl), (refl, refl), refl, refl, refl, refl, (refl, refl), (refl, refl))
 
 -- the first object's members, once its first one went out
-no_member_left : (m : ℕ) → m < 3 → ((reached member_cleared).object 1).member m ≡ empty (kind_of_member m)
+no_member_left : (m : ℕ) → m < 3 → ((reached member_cleared).object 1).member m ≡ empty (kind_of_member 2 m)
 no_member_left m lt = by (m == 0) refl
   where
     by : (b : Bool) → (m == 0) ≡ b
-        → cond b (empty Owner) (cond b (owner_at 2 2) (empty (kind_of_member m))) ≡ empty (kind_of_member m)
-    by true e = ap (λ (k : ℕ). empty (kind_of_member k)) (sym (eqb-true m 0 e))
+        → cond b (empty Owner) (cond b (owner_at 2 2) (empty (kind_of_member 2 m))) ≡ empty (kind_of_member 2 m)
+    by true e = ap (λ (k : ℕ). empty (kind_of_member 2 k)) (sym (eqb-true m 0 e))
     by false e = refl
 
 member_legal : IsLegal four_blocks member_ended

@@ -9,6 +9,8 @@ use Rattle.control_word.proofs.history.Storing.{stored_once}
 pub opening_fits : IsOpening four_blocks
 opening_fits = record {
   limits = (omega arith, omega arith, omega arith);
+  members = (omega arith, omega arith);
+  owners = (omega arith, omega arith);
   holders = λ b. omega arith;
   shares = refl;
   positive = λ d lt.

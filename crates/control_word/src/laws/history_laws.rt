@@ -48,8 +48,8 @@ pub fn handles<V>()
 
 /// Of every legal history: how many handles there are.
 pub fn counts<V>()
-    // No object has more than 4,325,630 owners, nor weak handles with the common one above
-    // 4,260,096 (own).
+    // No object has more than 4,784,375 owners, nor weak handles with the common one above
+    // 4,784,376 (own).
     ensures numbers_fit { NumbersFit V }
     // Between any two steps: whenever a block is at rest, its owner and weak counts are exactly the
     // handles on it, in desks and cells together (own).

@@ -6,7 +6,7 @@
 //! | 1 | `WEAKS`: the same of the weak handles, with 1 more while the object is live or ending |
 //! | 2 | `FLAGS` |
 //! | 3 to 6 | `FIELDS`: fields 0 to 3 |
-//! | 7, 8, 9 | `MEMBERS`: the cells `first`, `next` and `up` |
+//! | 7 to 15 | `MEMBERS`: the cells `first`, `next` and `up`, and further owners |
 //!
 //! A vacant block has 0 in its counts and members; its flags and fields may be anything. Bit
 //! `b % 64` of shelf word `b / 64` is 1 while block `b` is on the shelf.
@@ -20,7 +20,7 @@ use crate::place::Block;
 use crate::shape::Shape;
 use crate::site::Site;
 
-/// Words from a block to the next: ten used and six that stay 0, so that a count never shares a
+/// Words from a block to the next: seven, and up to nine members, so that a count never shares a
 /// cache line with another block.
 pub const BLOCK_STRIDE: usize = 16;
 /// Words from a free cell to the next: one used and seven that stay 0, for the same reason.
@@ -28,7 +28,7 @@ pub const CELL_STRIDE: usize = 8;
 /// Words of the shelf, one after another: a bit for each block that there may be.
 pub const SHELF_WORDS: usize = 1024;
 /// Words of a block that are used.
-pub const BLOCK_WORDS: usize = 10;
+pub const BLOCK_WORDS: usize = 16;
 
 /// Word of a block: the owners, as a `Count`.
 pub const OWNERS: usize = 0;
@@ -45,7 +45,7 @@ pub const WEAKS: usize = 1;
 pub const FLAGS: usize = 2;
 /// First of four words of a block: the object's fields.
 pub const FIELDS: usize = 3;
-/// First of three words of a block: the object's member cells, each as a `CellWord`.
+/// First of nine words of a block: the object's member cells, each as a `CellWord`.
 pub const MEMBERS: usize = 7;
 
 /// Flag: the object has the from-this flag.
@@ -86,7 +86,7 @@ pub fn cell_word(blocks: u32, cell: u32) -> usize
 }
 
 /// Where a cell's word lies (own), in a table of so many blocks. Conditions: a member's block is from 1 on, its number
-/// below 3.
+/// below 9.
 #[inline]
 pub fn site_word(blocks: u32, site: Site) -> usize
     requires { IsSite site }

@@ -3,12 +3,12 @@ ghost use Rattle.std.specs.Prelude.{◌≡◌, ◌+◌};
 ghost use Rattle.shared_handle.specs.Prelude.{Owner, Belongs, IsSameDesk, bag_of, HoldsHandle, EndsInHand};
 ghost use Rattle.shared_handle.specs.Prelude.{without_handle};
 
-use crate::parts::{Found, Was, end, end_of, shape, shut, told};
+use crate::parts::{Found, Was, clear, end, end_of, shape, shut, told};
 use crate::same::same;
 use atomic_cells::{SharedAt, SharedMember};
 use control_block::desk::Desk;
 use control_block::domain::{Domain, open};
-use shared_handle::{Ending, Left, Member, Shared, make, release};
+use shared_handle::{Ending, Left, Shared, make, release};
 use std::alloc::Global;
 
 // What two ends find: that within and that around it.
@@ -24,17 +24,20 @@ fn end_both(domain: &Domain<u64>, desk: &mut Desk<u64>, around: Ending<u64>) -> 
     ensures held { desk.new.held ≡ desk.old.held }
 {
     let mut around = around;
-    match around.clear_member(domain, desk, Member::First) {
+    if around.is_clear() {
+        around.forget();
+        return None;
+    }
+    match around.clear_next(domain, desk) {
         Left::Empty | Left::Others => {
             around.forget();
             None
         }
         Left::Last(within) => {
-            let next = around.clear_member(domain, desk, Member::Next);
+            let next = clear(domain, desk, &mut around);
             let inner = end_of(domain, desk, within);
-            let up = around.clear_member(domain, desk, Member::Up);
-            let value = around.finish(domain, desk);
-            Some((inner, (Was::Last, told(next), told(up), value)))
+            let (up, _, _, value) = end_of(domain, desk, around);
+            Some((inner, (Was::Last, next, up, value)))
         }
     }
 }

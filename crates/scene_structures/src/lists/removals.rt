@@ -17,11 +17,11 @@ ghost use Rattle.scene_structures.specs.Puts.{PutsOnly, in_no_cell};
 ghost use Rattle.scene_structures.specs.Others.{KeepsOthers};
 ghost use Rattle.scene_structures.specs.Orders.{EndsInOrder};
 
-use crate::pause::Pause;
 use crate::tree::endings::let_go;
 use atomic_cells::{Compared, SharedAt, SharedMember};
 use control_block::desk::Desk;
 use control_block::domain::Domain;
+use control_block::pause::Pause;
 use shared_handle::{Pile, Shared};
 use std::sync::Wait;
 

@@ -32,17 +32,15 @@ impl<V: Drop> Ended<V> {
         })
     }
 
-    /// Whether no more rounds are to be made: no slot is empty, or it was four rounds a block, or more objects have
+    /// Whether no more rounds are to be made: no slot is empty, or it was as many as there may be, or more objects have
     /// ended than there are blocks.
-    pub(crate) fn is_over(&self, rounds: usize, blocks: u32) -> bool
+    pub(crate) fn is_over(&self, rounds: usize, most: usize, blocks: u32) -> bool
         ensures over { IsTrue result → (self.now.vacant.items ≡ [])
-            ⊎ ((4 * blocks ≤ rounds) ⊎ (blocks < length self.now.slots.items)) }
-        ensures not { IsFalse result → (self.now.vacant.items ≢ []) × (rounds < 4 * blocks)
+            ⊎ ((most ≤ rounds) ⊎ (blocks < length self.now.slots.items)) }
+        ensures not { IsFalse result → (self.now.vacant.items ≢ []) × (rounds < most)
             × (length self.now.slots.items ≤ blocks) }
     {
-        self.vacant.is_empty()
-            || 4 * blocks as usize <= rounds
-            || (blocks as usize) < self.slots.len()
+        self.vacant.is_empty() || most <= rounds || (blocks as usize) < self.slots.len()
     }
 
     /// One more ends.

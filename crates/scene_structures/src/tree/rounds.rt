@@ -10,8 +10,8 @@ use control_block::desk::Desk;
 use control_block::domain::Domain;
 use shared_handle::Pile;
 
-/// Rounds of the pile, until no slot is empty; but at most four a block, and none when more objects have ended than
-/// there are blocks.
+/// Rounds of the pile, until no slot is empty; but at most one a block for each member of an object and one for its
+/// end, and none when more objects have ended than there are blocks.
 pub(crate) fn run_down<V: Drop>(
     domain: &Domain<V>,
     desk: &mut Desk<V>,
@@ -29,12 +29,13 @@ pub(crate) fn run_down<V: Drop>(
     ensures desk { IsSameDesk desk.old desk.new }
     ensures room { HasRoomForEnds (domain.now.shape.blocks + 1) ended.new }
     ensures few { length ended.new.slots.items ≤ domain.now.shape.blocks + 1 }
-    ensures rounds { RunsDown domain.now.shape.blocks desk.old pile.old.endings.items ended.old.slots.items desk.new
+    ensures rounds { RunsDown domain.now.shape desk.old pile.old.endings.items ended.old.slots.items desk.new
         pile.new.endings.items ended.new.slots.items }
 {
     let blocks = domain.blocks();
+    let most = (domain.members() as usize + 1) * blocks as usize;
     let mut rounds = 0;
-    while !ended.is_over(rounds, blocks) {
+    while !ended.is_over(rounds, most, blocks) {
         let round = pile.round(domain, desk);
         ended.take(round);
         rounds += 1;

@@ -19,13 +19,14 @@ use shared_handle::{Gone, Pile, Shared, drop_shared};
 use std::alloc::Global;
 
 /// The root leaves, and what ends by that does so (own): for an object first what its `first` alone owned, then its
-/// `next`. The answer has the value of each object that ended, in the order in which they did. It waits for nobody:
-/// where other desks lengthen meanwhile what ends, it makes four rounds a block, or stops when more objects have ended
-/// than there are blocks; then the rest stays on the pile, above what lay there. For a desk that has the whole
-/// allowance nothing of it stays there, and where nobody else owns an object of the root's tree, these are the values
-/// of all of them. All memory is reserved before the root leaves. It is refused `Memory` where a growth was really
-/// refused: then the root comes back, and nothing changes. What ends in the desk's hands elsewhere than on the pile
-/// stays as it is. Condition: what was left on the pile ends with this desk.
+/// `next`, then its further members in their order. The answer has the value of each object that ended, in the order in
+/// which they did. It waits for nobody: where other desks lengthen meanwhile what ends, it makes one round a block for
+/// each member of an object and one for its end, or stops when more objects have ended than there are blocks; then the
+/// rest stays on the pile, above what lay there. For a desk that has the whole allowance nothing of it stays there, and
+/// where nobody else owns an object of the root's tree, and further members own nothing, these are the values of all of
+/// them. All memory is reserved before the root leaves. It is refused `Memory` where a growth was really refused: then
+/// the root comes back, and nothing changes. What ends in the desk's hands elsewhere than on the pile stays as it is.
+/// Condition: what was left on the pile ends with this desk.
 pub fn tear_down<V: Drop>(
     alloc: Global,
     domain: &Domain<V>,
@@ -42,7 +43,7 @@ pub fn tear_down<V: Drop>(
     ensures desk { IsSameDesk desk.old desk.new }
     ensures bag { OnOk result (bag_of desk.new ≡ without_handle Owner root.block root.place (bag_of desk.old)) }
     ensures held { OnOk result (desk.new.held + 1 ≡ desk.old.held) }
-    ensures ends { IfOk result (λ values. TearsDown domain.now.shape.blocks desk.old pile.old.endings.items root
+    ensures ends { IfOk result (λ values. TearsDown domain.now.shape desk.old pile.old.endings.items root
         values.items desk.new pile.new.endings.items) }
     ensures whole { IfOk result (λ values. IsSole desk.old → IsTornDown desk.old root values.items) }
     ensures settled { OnOk result (IsSole desk.old → pile.new.endings.items ≡ pile.old.endings.items) }
@@ -83,7 +84,7 @@ impl<V: Drop> Scene<V> {
         ensures desk { IsSameDesk desk.old desk.new }
         ensures bag { OnOk result (bag_of desk.new ≡ without_handle Owner root.block root.place (bag_of desk.old)) }
         ensures held { OnOk result (desk.new.held + 1 ≡ desk.old.held) }
-        ensures ends { IfOk result (λ values. TearsDown domain.now.shape.blocks desk.old self.old.endings.items root
+        ensures ends { IfOk result (λ values. TearsDown domain.now.shape desk.old self.old.endings.items root
             values.items desk.new self.new.endings.items) }
         ensures whole { IfOk result (λ values. IsSole desk.old → IsTornDown desk.old root values.items) }
         ensures settled { OnOk result (IsSole desk.old → self.new.endings.items ≡ self.old.endings.items) }

@@ -1,5 +1,5 @@
 //! What an object that ends still gives, and its end.
-ghost use Rattle.std.specs.Prelude.{◌≡◌, ◌≢◌, ℕ, ◌+◌, ◌<◌, Bool, cond, ◌&&◌, true, false};
+ghost use Rattle.std.specs.Prelude.{◌≡◌, ◌≢◌, ◌↔◌, ℕ, ◌+◌, ◌<◌, Bool, IsTrue, cond, true, false};
 ghost use Rattle.std.specs.Prelude.{length, slice_index, Err, IfErr, IfOk, OnOk, Some};
 ghost use Rattle.control_word.specs.declared.model.event.Event.TheVariants.{Finish};
 ghost use Rattle.control_word.specs.declared.model.handle.Kind.TheVariants.{Weak};
@@ -9,7 +9,7 @@ ghost use Rattle.control_block.specs.Desks.{Belongs, AddsEvent, IsEnding, IsSame
 ghost use Rattle.control_block.specs.Desks.{allowance_of, bag_of, endings_of, held_of, latest_of, object_in, stock_of};
 ghost use Rattle.shared_handle.specs.Calls.{IsOfThis, SharesWeakly};
 ghost use Rattle.control_block.specs.CellCalls.{HoldsHandle, with_handle};
-ghost use Rattle.shared_handle.specs.Endings.{EndsInHand, IsAllClear, IsUncleared, WhyNoWeakThis};
+ghost use Rattle.shared_handle.specs.Endings.{EndsInHand, IsAllClear, IsOfShape, IsUncleared, WhyNoWeakThis};
 
 use crate::endings::Ending;
 use control_block::desk::Desk;
@@ -42,23 +42,25 @@ impl<V: Drop> Ending<V> {
     }
 
     /// An object that begins to end: no member is cleared yet.
-    pub(crate) fn begin(block: Block, value: InPlace<V>) -> Self
-        ensures { (result.block ≡ block) × (result.value ≡ value) × IsUncleared result }
+    #[inline(always)]
+    pub(crate) fn begin(domain: &Domain<V>, block: Block, value: InPlace<V>) -> Self
+        ensures { (result.block ≡ block) × (result.value ≡ value) × IsUncleared result
+            × IsOfShape domain.now.shape result }
     {
         Self {
             block,
             value,
-            first: false,
-            next: false,
-            up: false,
+            members: domain.members(),
+            cleared: 0,
         }
     }
 
-    /// Whether all three members are cleared (own).
+    /// Whether all members are cleared (own).
+    #[inline(always)]
     pub fn is_clear(&self) -> bool
-        ensures { result ≡ (self.now.first && self.now.next && self.now.up) }
+        ensures { IsTrue result ↔ IsAllClear self.now }
     {
-        self.first && self.next && self.up
+        self.cleared == self.members
     }
 
     /// No owner comes of an object that ends ([util.smartptr.enab], [util.smartptr.weak.bad]): it is refused
@@ -111,9 +113,10 @@ impl<V: Drop> Ending<V> {
         calls::share_weak(domain, desk, block, Some(Place { block, field: 0 }))
     }
 
-    /// The end ([util.smartptr.shared.dest]). Condition: all three members were cleared. The value comes out, which is
+    /// The end ([util.smartptr.shared.dest]). Condition: all members were cleared. The value comes out, which is
     /// the one that the object was made with, as the visits left it, and dropping it is the deleter's call. Where no
     /// weak handle is left, the block is vacant, and in the desk's store. It refuses nothing.
+    #[inline(always)]
     pub fn finish(self, domain: &Domain<V>, desk: &mut Desk<V>) -> V
         requires domain { Belongs desk.old domain.now }
         requires ends { EndsInHand desk.old self }
@@ -131,9 +134,8 @@ impl<V: Drop> Ending<V> {
         let Self {
             block,
             value: _,
-            first: _,
-            next: _,
-            up: _,
+            members: _,
+            cleared: _,
         } = self;
         let (value, _) = calls::finish(domain, desk, block);
         value
@@ -150,9 +152,8 @@ impl<V: Drop> Ending<V> {
         let Self {
             block,
             value: _,
-            first: _,
-            next: _,
-            up: _,
+            members: _,
+            cleared: _,
         } = self;
         block
     }

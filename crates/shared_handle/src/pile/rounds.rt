@@ -1,49 +1,33 @@
 //! Objects of a pile end, the top first, and what ends for an object before it is finished.
-ghost use Rattle.std.specs.Prelude.{◌≡◌, ◌⊎◌, ◌+◌, [], ◌∷◌, List, IfNone, IfSome, MatchOption, length};
+ghost use Rattle.std.specs.Prelude.{◌≡◌, ◌⊎◌, ◌+◌, ◌<◌, [], ◌∷◌, List, IfNone, IfSome, MatchOption, length};
 ghost use Rattle.control_block.specs.Desks.{IsSameDesk, bag_of};
-ghost use Rattle.control_block.specs.Own.{Does};
-ghost use Rattle.shared_handle.specs.Endings.{with_clear};
-ghost use Rattle.shared_handle.specs.Piles.{AreRounds, CameLast, Carries, ClearsOnce, EndsTop, IsParting, IsRound};
-ghost use Rattle.shared_handle.specs.Piles.{KeepsElsewhere, Past, Stacked, is_cleared, next_member, piled, values_of};
+ghost use Rattle.control_block.specs.Own.{Does, KeepsLatest};
+ghost use Rattle.shared_handle.specs.Piles.{AreRounds, CameLast, Carries, ClearsNext, EndsAtOnce, EndsTop};
+ghost use Rattle.shared_handle.specs.Piles.{IsParting, IsRound};
+ghost use Rattle.shared_handle.specs.Piles.{KeepsElsewhere, Past, Stacked, next_member, values_of};
 
-use crate::endings::{Ending, Left, Member};
+use crate::endings::{Ending, Left};
 use crate::pile::{Pile, Round};
 use control_block::desk::Desk;
 use control_block::domain::Domain;
 
 impl<V: Drop> Ending<V> {
-    /// The first member that isn't cleared yet (own).
+    /// The number of the first member that isn't cleared yet (own).
     #[inline(always)]
-    fn next_member(&self) -> Option<Member>
+    fn next_member(&self) -> Option<u8>
         ensures { result ≡ next_member self.now }
     {
-        if !self.first {
-            Some(Member::First)
-        } else if !self.next {
-            Some(Member::Next)
-        } else if !self.up {
-            Some(Member::Up)
+        if self.cleared < self.members {
+            Some(self.cleared)
         } else {
             None
-        }
-    }
-
-    /// Whether a member is cleared (own).
-    #[inline(always)]
-    fn is_cleared(&self, member: Member) -> bool
-        ensures { result ≡ is_cleared self.now member }
-    {
-        match member {
-            Member::First => self.first,
-            Member::Next => self.next,
-            Member::Up => self.up,
         }
     }
 }
 
 impl<V: Drop> Pile<V> {
     /// One round (own): the first member of the top that isn't cleared is emptied, and what ends for it lies above the
-    /// top; or the top is finished, where all three are clear, and its value comes out. So an object is finished after
+    /// top; or the top is finished, where all are clear, and its value comes out. So an object is finished after
     /// what its members alone owned. What ends in the desk's hands elsewhere stays as it is.
     #[inline(always)]
     pub fn round(&mut self, domain: &Domain<V>, desk: &mut Desk<V>) -> Round<V>
@@ -64,35 +48,26 @@ impl<V: Drop> Pile<V> {
             let top = self.endings.take_last();
             return Round::Ended(top.finish(domain, desk));
         };
-        let left = top.clear_member(domain, desk, member);
+        let left = top.clear_next(domain, desk);
         desk.assert_invariant();
         Round::Cleared(member, self.put(left))
     }
 
-    /// A member of the one in hand is emptied, unless it is clear already.
-    fn clear_once(
-        &mut self,
-        domain: &Domain<V>,
-        desk: &mut Desk<V>,
-        ending: &mut Ending<V>,
-        member: Member,
-    )
+    /// The first member of the one in hand that isn't cleared is emptied.
+    fn clear_once(&mut self, domain: &Domain<V>, desk: &mut Desk<V>, ending: &mut Ending<V>)
         requires stacked { Stacked domain.now desk.old self.old ending.old }
+        requires some { ending.old.cleared < ending.old.members }
         ensures stacked { Stacked domain.now desk.new self.new ending.new }
         ensures elsewhere { KeepsElsewhere desk.old (ending.old ∷ self.old.endings.items)
             desk.new (ending.new ∷ self.new.endings.items) }
-        ensures noted { ending.new ≡ with_clear member ending.old }
-        ensures once { (left : Left V) × ClearsOnce desk.old ending.old member left desk.new
-            × (self.new.endings.items ≡ piled self.old.endings.items left) }
+        ensures clears { ClearsNext (record { desk = desk.old; pile = self.old.endings.items; ending = ending.old })
+            (record { desk = desk.new; pile = self.new.endings.items; ending = ending.new }) }
         ensures parting { Does IsParting desk.old desk.new }
         ensures bag { bag_of desk.new ≡ bag_of desk.old }
         ensures held { desk.new.held ≡ desk.old.held }
         ensures desk { IsSameDesk desk.old desk.new }
     {
-        if ending.is_cleared(member) {
-            return;
-        }
-        let left = ending.clear_member(domain, desk, member);
+        let left = ending.clear_next(domain, desk);
         desk.assert_invariant();
         self.put(left);
     }
@@ -123,10 +98,10 @@ impl<V: Drop> Pile<V> {
         let mut top = self.endings.pop()?;
         while *rounds > 0 {
             *rounds -= 1;
-            let Some(member) = top.next_member() else {
+            if top.is_clear() {
                 return Some(top.finish(domain, desk));
-            };
-            let left = top.clear_member(domain, desk, member);
+            }
+            let left = top.clear_next(domain, desk);
             desk.assert_invariant();
             match left {
                 Left::Empty => {}
@@ -159,9 +134,40 @@ impl<V: Drop> Pile<V> {
         ensures desk { IsSameDesk desk.old desk.new }
     {
         let mut ending = self.endings.pop()?;
-        self.clear_once(domain, desk, &mut ending, Member::First);
-        self.clear_once(domain, desk, &mut ending, Member::Next);
-        self.clear_once(domain, desk, &mut ending, Member::Up);
+        while !ending.is_clear() {
+            self.clear_once(domain, desk, &mut ending);
+        }
         Some(ending.finish(domain, desk))
+    }
+
+    /// An object that ends, and whose members hold nothing, does so at once (own): looks clear them, and its value
+    /// comes out. Else it goes onto the pile, with the members cleared that come before the first that holds
+    /// something. It waits for nobody.
+    #[inline(always)]
+    pub fn end_at_once(
+        &mut self,
+        domain: &Domain<V>,
+        desk: &mut Desk<V>,
+        ending: Ending<V>,
+    ) -> Option<V>
+        requires stacked { Stacked domain.now desk.old self.old ending }
+        ensures carries { Carries domain.now desk.new self.new }
+        ensures elsewhere { KeepsElsewhere desk.old (ending ∷ self.old.endings.items)
+            desk.new self.new.endings.items }
+        ensures ends { EndsAtOnce
+            desk.old self.old.endings.items ending result desk.new self.new.endings.items }
+        ensures parting { Does IsParting desk.old desk.new }
+        ensures bag { bag_of desk.new ≡ bag_of desk.old }
+        ensures held { desk.new.held ≡ desk.old.held }
+        ensures latest { KeepsLatest desk.old desk.new }
+        ensures desk { IsSameDesk desk.old desk.new }
+    {
+        let mut ending = ending;
+        if ending.clear_empties(domain, desk) {
+            return Some(ending.finish(domain, desk));
+        }
+        desk.assert_invariant();
+        self.endings.push_reserved(ending);
+        None
     }
 }

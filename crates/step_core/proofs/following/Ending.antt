@@ -108,6 +108,6 @@ module _ (d : ℕ) (u : WorldState) (e : Ending) (es : List Ending) (lt : d < le
       let less : e.stage < 3 = omega (arith, most, ne) in
       cond_both (word_of_cell v (Member e.block e.stage) == 0) m l
       (λ (x : Step). Performs d u (stepped v (Some x)) (world_state_by d u (Some x)))
-      (λ z. ending_made m (Some (cleared_event (empty (kind_of_member e.stage)))) refl
-      (inl (record { held = empty (kind_of_member e.stage); some = less; makes = refl; says = refl; goes = refl })))
+      (λ z. ending_made m (Some (cleared_event (empty (kind_of_member 2 e.stage)))) refl
+      (inl (record { held = empty (kind_of_member 2 e.stage); some = less; makes = refl; says = refl; goes = refl })))
       (λ z. passed d u l refl (abstraction_as u _ _ _ _ refl (same_frames d u))))

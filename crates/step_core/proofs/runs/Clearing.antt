@@ -41,7 +41,7 @@ out_less v d w (e ∷ es) is held =
     let x = seen v (Member e.block e.stage) in
     let a = taken_out w y.frame_view.slots e es is held.0 in
     let b = carried_most (staged e ∷ es) y.frame_view.slots in
-    let r = alone_back (ghost_after v d y.atomic_step) y.frame_view (kind_of_member e.stage) e.statement x x.owned in
+    let r = alone_back (ghost_after v d y.atomic_step) y.frame_view (kind_of_member 2 e.stage) e.statement x x.owned in
     let l = r.0 in
     let s = r.1 in
     record { own = omega (arith, a, b, l); most = omega (arith, a, b, s) }

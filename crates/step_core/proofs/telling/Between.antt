@@ -79,10 +79,10 @@ module _ (v : GhostState) (threads : List Thread) (b : ℕ) (fit : AllFit v thre
       let makes = added_makes v threads b fit kept size inside.0 in omega (arith, e, owes, makes)
 
   -- they stay within a count's range
-  pub owners_few : count (model_state v) ((model_state v).latest b) ≤ 4325630
+  pub owners_few : count (model_state v) ((model_state v).latest b) ≤ 4784376
   owners_few = number_room (opening v.extent) v.history kept.stands.legal Owner ((model_state v).latest b)
 
-  pub weaks_few : weak_number (model_state v) ((model_state v).latest b) + makes_in b (map thread_pending threads) ≤ 4325694
+  pub weaks_few : weak_number (model_state v) ((model_state v).latest b) + makes_in b (map thread_pending threads) ≤ 4784440
   weaks_few =
       let room = number_room (opening v.extent) v.history kept.stands.legal Weak ((model_state v).latest b) in
       let few = added_few v threads b fit kept size inside.0 in

@@ -198,7 +198,7 @@ ended v d w e es f at was all kept =
     (λ c. finished v d w e es vacant f (at ∙ was) all kept)
     (λ c. cond_both (word_of_cell v (Member e.block e.stage) == 0) cleared looked P
     (λ z. staged_right v d e.stage w (with_endings w (staged e ∷ es)) e es (atomic_step.Clear e.block e.stage) Rest
-    (empty (kind_of_member e.stage)) f was refl refl at
+    (empty (kind_of_member (model_state v).owners e.stage)) f was refl refl at
     all)
     (λ z. on_the_way v d e.statement w None Clearing f refl at all))
 
@@ -208,9 +208,8 @@ emptying v d w f at all [] was = same v d w f None refl refl at all
 emptying v d w f at all (e ∷ es) was =
     let x = empties v w e es in
     let found = seen v (Member e.block e.stage) in
-    staged_right v d e.stage w x.frame_view e es (atomic_step.OnCell (cell_step.TakeOut e.block e.stage found)) x.pending_call (empty (kind_of_member e.stage))
-    f was refl refl
-    at all
+    staged_right v d e.stage w x.frame_view e es (atomic_step.OnCell (cell_step.TakeOut e.block e.stage found)) x.pending_call
+    (empty (kind_of_member (model_state v).owners e.stage)) f was refl refl at all
 
 rested : (v : GhostState) (d : ℕ) (w : FrameView) (f : Lists) → f d ≡ w.endings → AllEndInThreads (model_state v) f → TableInvariant v → (es : List Ending)
     → w.endings ≡ es

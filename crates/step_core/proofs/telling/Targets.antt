@@ -16,7 +16,7 @@ busy v (Member b m) kept is o e =
     let fine = sound (opening v.extent) v.history kept.stands.legal in
     let i = (model_state v).latest b.0 in
     member_busy (opening v.extent) (model_state v) fine i m o (was_made (opening v.extent) (model_state v) i fine
-    (λ u. let a = fine.unmade_free i u in let p = is.1 in omega (arith, a, p))) is.0 e
+    (λ u. let a = fine.unmade_free i u in let p = is.1 in omega (arith, a, p))) (let few = is.0 in omega (arith, few)) e
 
 abbrev IsInside : GhostState → Block → Type 0
 IsInside v b = (0 < b.0) × (b.0 ≤ v.extent.shape.blocks)

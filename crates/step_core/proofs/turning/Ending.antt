@@ -1,5 +1,5 @@
 -- The endings of a thread, step by step.
-use Rattle.std.proofs.Common.{◌≡◌, ℕ, ◌-◌, ◌<◌, true, false, cond, ◌⊎◌, List, [], ◌∷◌, length, set}
+use Rattle.std.proofs.Common.{◌≡◌, ℕ, ◌<◌, true, false, cond, ◌⊎◌, List, [], ◌∷◌, length, set}
 use Rattle.std.proofs.Common.{is_some, ◌==◌, Some, None, Option, sym, refl, ap, ◌∙◌, inl, ⊎_elim}
 use Rattle.std.proofs.Common.{arith, get_or-set_same, set-set, eqb-true}
 use Rattle.step_core.proofs.Prelude
@@ -151,10 +151,10 @@ module _ (d : ℕ) (u : WorldState) (e : Ending) (es : List Ending) (lt : d < le
         let s = model_state u.ghost_state in
         let slots = cond (is_some o) (set w.slots (hand w.slots) (slot_of s (held_in s (Member e.block e.stage)))) w.slots in
         within (record { slots = slots; taken = w.taken; endings = staged e ∷ es; todo = w.todo }) e.statement
-        (Some (atomic_step.OnCell (cell_step.TakeOut e.block e.stage x))) (gives_back (kind_of_member e.stage) e.statement x o)
+        (Some (atomic_step.OnCell (cell_step.TakeOut e.block e.stage x))) (gives_back (kind_of_member 2 e.stage) e.statement x o)
 
     module _ (x : CellWord)
-        (told : handle_as (model_state u.ghost_state) (kind_of_member e.stage) x ≡
+        (told : handle_as (model_state u.ghost_state) (kind_of_member 2 e.stage) x ≡
         ((model_state u.ghost_state).object (object_of_block u.ghost_state e.block)).member
         e.stage) where
       taken_bare : has_object (((model_state u.ghost_state).object (object_of_block u.ghost_state e.block)).member e.stage) ≡ false → Same d u (taken x None)
@@ -170,7 +170,7 @@ module _ (d : ℕ) (u : WorldState) (e : Ending) (es : List Ending) (lt : d < le
           ∷ u.ghost_state.history in
           let l = set w.slots (hand w.slots) (slot_of s ((s.object (object_of_block u.ghost_state e.block)).member e.stage)) in
           let w' : FrameView = record { slots = l; taken = w.taken; endings = staged e ∷ es; todo = w.todo } in (
-            rested_moved (abstraction u) d w' (f (handle_as s (kind_of_member e.stage) x)) lt
+            rested_moved (abstraction u) d w' (f (handle_as s (kind_of_member 2 e.stage) x)) lt
                 ∙ ap (put_frame (abstraction u) d w) (cond-true (is_full (slot_pointer l (hand l))) _ _ (hand_out s w.slots _ some full)
                 ∙ ap (λ (y : NumberedHandle). record { history = f y; slots = l; endings = staged e ∷ es }) told
                 ∙ sym (unwound_full z d w.slots e es u.ghost_state.history less full) ∙ sym unwound_now),

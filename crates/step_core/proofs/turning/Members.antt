@@ -3,12 +3,13 @@ use Rattle.std.proofs.Common.{◌≡◌, ℕ, ◌<◌, true, get_or, is_some, �
 use Rattle.std.proofs.Common.{refl, ap, ◌∙◌, subst, eqb-true}
 use Rattle.step_core.proofs.Prelude.{Block, block_of, blocks_of, cell_bits, cell_in, CellWord}
 use Rattle.step_core.proofs.Prelude.{empty, ending, Found, GhostState, handle_as, has_object}
-use Rattle.step_core.proofs.Prelude.{held_in, kind_of_member, Member, model_state, NumberedHandle}
+use Rattle.step_core.proofs.Prelude.{held_in, Kind, kind_of_member, Member, model_state, NumberedHandle}
 use Rattle.step_core.proofs.Prelude.{object_of_block, seen, TableInvariant, word_of_cell}
 use Rattle.control_word.specs.Words.{shown}
 use Rattle.step_table.proofs.contained.Told.{shows_seen}
 use Rattle.step_table.proofs.tables.Cells.{decoded}
 use Rattle.step_table.proofs.tables.Endings.{member_shows}
+use Rattle.step_table.proofs.tables.Members.{member_kind}
 use Rattle.step_table.proofs.tables.Shown.{cell_there, found_in}
 use Rattle.step_table.proofs.tables.Swaps.{ending_cell}
 
@@ -25,11 +26,11 @@ module _ (v : GhostState) (d : ℕ) (b : Block) (m : ℕ) (kept : TableInvariant
       let f = found_in v d c x kept lt is code.valid bits in
       subst (λ (y : CellWord). Found v c y) (shows_seen v d c x f) f
 
-  pub told_member : handle_as (model_state v) (kind_of_member m) (seen v (Member b m)) ≡ ((model_state v).object (object_of_block v b)).member m
-  told_member = ending_seen.shows.holds
+  pub told_member : handle_as (model_state v) (kind_of_member 2 m) (seen v (Member b m)) ≡ ((model_state v).object (object_of_block v b)).member m
+  told_member = ap (λ (k : Kind). handle_as (model_state v) k (seen v (Member b m))) (sym (member_kind v m)) ∙ ending_seen.shows.holds
 
   -- a word of 0 is that of an empty member
-  pub zero_member : (word_of_cell v (Member b m) == 0) ≡ true → ((model_state v).object (object_of_block v b)).member m ≡ empty (kind_of_member m)
+  pub zero_member : (word_of_cell v (Member b m) == 0) ≡ true → ((model_state v).object (object_of_block v b)).member m ≡ empty (kind_of_member 2 m)
   zero_member zero = (member_shows v d b m kept lt end few).0 (eqb-true _ _ zero)
 
 some_block : (block : ℕ → ℕ) (o : Option ℕ) → is_some (block_of block o) ≡ is_some o

@@ -21,7 +21,7 @@ use Rattle.step_core.proofs.watching.Words.{Watch, bit, flag, more_told, same_to
 -- a cell of the shape has a place
 pub somewhere : (z : Shape) (c : Site) → IsCellOfShape z c → IsSite c
 somewhere z (Free n) is = tt
-somewhere z (Member b m) is = (is.0, is.2)
+somewhere z (Member b m) is = (is.0, (let few = is.2 in omega (arith, few)))
 
 in_words : (v : GhostState) (c : Site) → TableInvariant v → IsCellOfShape v.extent.shape c → site_place v.extent.shape.blocks c < length v.words
 in_words v (Free n) kept lt = let s = kept.stands.shows.sized in omega (arith, s, lt)

@@ -156,7 +156,7 @@ module _ (v : GhostState) (d : ℕ) (w : FrameView) (kept : TableInvariant v) (s
   emptied_watch (e ∷ es) =
       let c = Member e.block e.stage in
       let x = seen v c in
-      changed v c 0 Clearing (gives_back (kind_of_member e.stage) e.statement x x.owned) kept (inr (inl (omega arith))) (λ p a ne. refl)
+      changed v c 0 Clearing (gives_back (kind_of_member 2 e.stage) e.statement x x.owned) kept (inr (inl (omega arith))) (λ p a ne. refl)
 
   begun_watch : (ts : List Task) → IsWatch v d Rest (begun v d w ts)
   begun_watch [] = tt

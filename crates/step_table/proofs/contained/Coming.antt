@@ -11,6 +11,7 @@ use Prelude.{word_of_cell}
 use Rattle.step_table.proofs.contained.Told.{shows_seen, shows_slot}
 use Rattle.step_table.proofs.holding.Owning.{holds_empty, holds_look, holds_more}
 use Rattle.step_table.proofs.tables.Cells.{decoded}
+use Rattle.step_table.proofs.tables.Members.{member_kind}
 use Rattle.step_table.proofs.tables.Places.{ending_busy}
 use Rattle.step_table.proofs.tables.Shown.{Found, cell_there, found_in, kept_cell}
 
@@ -56,7 +57,8 @@ module _ (d : ℕ) (slots : Slots) (v : GhostState) (i : ℕ) (c : Site) (x : Ce
       → HoldsBag d (set slots i (slot_of (model_state v) (held_in (model_state v) c))) (ghost_after_step v d (OnCell (TakeOut b m x)))
   holds_came b m is =
       came (ghost_after_step v d (OnCell (TakeOut b m x)))
-      (ap (λ (k : Kind). (gets d (handle_as (model_state v) k x) (model_state v)).hands) (sym (ap (kind_in_state (model_state v)) is))) refl
+      (ap (λ (k : Kind). (gets d (handle_as (model_state v) k x) (model_state v)).hands)
+      (sym (ap (kind_in_state (model_state v)) is ∙ member_kind v m))) refl
 
 pub holds_taken_out : (d : ℕ) (slots : Slots) (v : GhostState) (i : ℕ) (b : Block) (m : ℕ) (x : CellWord) → HoldsBag d slots v → Found v (Member b m) x
     → i < length slots → slot_pointer slots i ≡ None
@@ -72,7 +74,7 @@ pub holds_taken_bare : (d : ℕ) (slots : Slots) (v : GhostState) (b : Block) (m
     → HoldsBag d slots (ghost_after_step v d (OnCell (TakeOut b m x)))
 holds_taken_bare d slots v b m x holds none =
     holds_look d slots v (ghost_after_step v d (OnCell (TakeOut b m x)))
-    (ap (λ (o : Option Block). (gets d (handle (kind_of_member m) (object_at (model_state v) o) x.place) (model_state v)).hands) none) refl holds
+    (ap (λ (o : Option Block). (gets d (handle (kind_of_member 2 m) (object_at (model_state v) o) x.place) (model_state v)).hands) none) refl holds
 
 -- what a word that was found tells, of a cell that is open and of a member of an ending object
 pub open_found : (v : GhostState) (d : ℕ) (c : Site) (x : CellWord) → TableInvariant v → d < v.extent.actors → IsOpenTo v d c → IsCellWord x
@@ -84,7 +86,7 @@ open_shown v d c x kept lt way shows = open_found v d c x kept lt way shows.vali
 
 pub member_found : (v : GhostState) (d : ℕ) (b : Block) (m : ℕ) (x : CellWord) → TableInvariant v → d < v.extent.actors
     → ((model_state v).object (object_of_block v b)).phase ≡ ending d → m < 3 → ShowsCell v (Member b m) x → Found v (Member b m) x
-member_found v d b m x kept lt end few shows = found_in v d (Member b m) x kept lt (few, ending_busy v d b end) shows.valid shows.bits
+member_found v d b m x kept lt end few shows = found_in v d (Member b m) x kept lt (omega (arith, few), ending_busy v d b end) shows.valid shows.bits
 
 -- the slot that the code makes of it
 pub comes : (v : GhostState) (d : ℕ) (c : Site) (x : CellWord) (k : Kind) (y : Slot) → Found v c x → k ≡ kind_in_state (model_state v) c

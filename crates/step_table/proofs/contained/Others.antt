@@ -16,6 +16,7 @@ use Rattle.step_table.specs.GhostStates.{event_added}
 use Rattle.step_table.proofs.contained.Told.{kind_stays}
 use Rattle.step_table.proofs.holding.Keeping.{kept_object, same_atomic_step, same_pending}
 use Rattle.step_table.proofs.holding.Owning.{holds_look}
+use Rattle.step_table.proofs.tables.Members.{three_members}
 use Rattle.step_table.proofs.tables.Places.{handle_busy, named}
 use Rattle.step_table.proofs.tables.Standing.{point, ready}
 
@@ -82,7 +83,9 @@ module _ (d e : ℕ) (v : GhostState) (x : AtomicStep) (n : e ≢ d) (kept : Tab
       let busy' = held_busy (opening v.extent) t d (object_of h) Owner h.place (sound (opening v.extent) (ghost_after_step v e x).history kept'.stands.legal)
       (has_same s t d _ same has) in
       let o = kept_object v e b x kept kept' (subst (IsBusy s) here busy) (subst (IsBusy t) here busy') in
-      (way.0, (h, (has_same s t d h same hold.0, hold.1, hold.2), here ∙ sym o))
+      let few : m < t.members =
+      (let a = (three_members v).0 in let b = (three_members (ghost_after_step v e x)).0 in let lt = way.0 in omega (arith, a, b, lt)) in
+      (few, (h, (has_same s t d h same hold.0, hold.1, hold.2), here ∙ sym o))
 
   stage_others : (stage : Stage) (k : Kind) (b : Block) (y : CellWord) → d < v.extent.actors → StageFits d stage k b y v
       → StageFits d stage k b y (ghost_after_step v e x)

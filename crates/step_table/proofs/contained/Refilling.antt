@@ -61,7 +61,7 @@ owes_after v d x kept lt =
         owing_at v w c x.owned x.place (256 - x.taken) 0 refl (cell_latest v d (Swap c new x))
     go (CompareSwap c x y) =
         let w = ghost_after_step v d (OnCell (CompareSwap c x y)) in owing_at v w c x.owned x.place (256 - x.taken) 0 refl (cell_latest v d (CompareSwap c x y))
-    go (TakeOut b m x) = same_owing (model_state v) (model_state (ghost_after_step v d (OnCell (TakeOut b m x)))) (kind_of_member m) x.owned x.place
+    go (TakeOut b m x) = same_owing (model_state v) (model_state (ghost_after_step v d (OnCell (TakeOut b m x)))) (kind_of_member 2 m) x.owned x.place
         (256 - x.taken) 0 refl
 
 kind_got : (s : State) (d : ℕ) (h : NumberedHandle) (c : Site) → kind_in_state (gets d h s) c ≡ kind_in_state s c

@@ -23,6 +23,7 @@ use Rattle.control_word.specs.State.{kind_of_free}
 use Rattle.control_word.specs.declared.site.Site.TheVariants as at
 use Rattle.step_table.specs.Contents.{same_block}
 use Rattle.step_table.proofs.holding.Owning.{slot_held}
+use Rattle.step_table.proofs.tables.Members.{member_kind}
 use Rattle.step_table.proofs.tables.Places.{handle_busy, there}
 use Rattle.step_table.proofs.tables.Shown.{Found}
 
@@ -216,4 +217,4 @@ shared_is v = shared_led (opening v.extent) v.history
 pub kind_stays : (v w : GhostState) (c : Site) → w.extent ≡ v.extent → kind_in_state (model_state w) c ≡ kind_in_state (model_state v) c
 kind_stays v w (at.Free n) same =
     ap (λ (i : ℕ). kind_of_free i n) (shared_is w ∙ ap (λ (x : Extent). x.shape.shared_cells) same ∙ sym (shared_is v))
-kind_stays v w (at.Member b m) same = refl
+kind_stays v w (at.Member b m) same = member_kind w m ∙ sym (member_kind v m)

@@ -48,7 +48,7 @@ same_atomic_step v e d (Lock b p got) n = same_after {V = Nothing} (model_state 
 same_atomic_step v e d (Count k b p m) n = still (model_state v) d
 same_atomic_step v e d (Expired k b p x) n = still (model_state v) d
 same_atomic_step v e d (Read b p m) n = still (model_state v) d
-same_atomic_step v e d (Clear b m) n = same_after {V = Nothing} (model_state v) d e (event.ClearMember (object_of_block v b) m (empty (kind_of_member m))) n
+same_atomic_step v e d (Clear b m) n = same_after {V = Nothing} (model_state v) d e (event.ClearMember (object_of_block v b) m (empty (kind_of_member 2 m))) n
     (λ z. z)
 same_atomic_step v e d (Finish b vacant) n = same_after {V = Nothing} (model_state v) d e (event.Finish (object_of_block v b) vacant tt) n (λ z. z)
 same_atomic_step v e d (OnShelf b Shelve) n = same_after {V = Nothing} (model_state v) d e (event.Shelve b) n (λ z. z)
@@ -70,7 +70,7 @@ block_stays v e o (Lock b p got) le = refl
 block_stays v e o (Count k b p m) le = refl
 block_stays v e o (Expired k b p x) le = refl
 block_stays v e o (Read b p m) le = refl
-block_stays v e o (Clear b m) le = (block_after {V = Nothing} (model_state v) e o (event.ClearMember (object_of_block v b) m (empty (kind_of_member m))) le).0
+block_stays v e o (Clear b m) le = (block_after {V = Nothing} (model_state v) e o (event.ClearMember (object_of_block v b) m (empty (kind_of_member 2 m))) le).0
 block_stays v e o (Finish b vacant) le = (block_after {V = Nothing} (model_state v) e o (event.Finish (object_of_block v b) vacant tt) le).0
 block_stays v e o (OnShelf b x) le = ap (λ (s : State). (s.object o).block) (shelf_framed v e b x).2
 block_stays v e o (OnCell x) le = (framed v e x).block o
@@ -81,7 +81,8 @@ pub enabled_stays : (v : GhostState) (e o : ℕ) (x : AtomicStep) → o ≤ (mod
 enabled_stays v e o (Prepare b) le = refl
 enabled_stays v e o (Write b j m) le = refl
 enabled_stays v e o (Claim b enabled null fields) le =
-    ap (λ (y : Object). y.enabled) (put_other (model_state v).object (suc (model_state v).made) (new_object b.0 enabled null fields) o (λ q. omega arith))
+    ap (λ (y : Object). y.enabled) (put_other (model_state v).object (suc (model_state v).made)
+    (new_object (model_state v).owners b.0 enabled null fields) o (λ q. omega arith))
 enabled_stays v e o (Share b p q) le = refl
 enabled_stays v e o (Leave b p last) le =
     let i = object_of_block v b in

@@ -25,7 +25,7 @@ shuts_cell s (Turn k b) = tt
 shuts_cell s (Refill c t) = tt
 shuts_cell s (Swap c new x) = shuts_owing s (kind_in_state s c) x.owned x.place _ 0
 shuts_cell s (CompareSwap c x y) = shuts_owing s (kind_in_state s c) x.owned x.place _ 0
-shuts_cell s (TakeOut b m x) = shuts_owing s (kind_of_member m) x.owned x.place _ 0
+shuts_cell s (TakeOut b m x) = shuts_owing s (kind_of_member 2 m) x.owned x.place _ 0
 
 -- nothing but hands, cells and members differs
 pub record IsFramed (s t : State) : Type 0 where
@@ -84,7 +84,7 @@ framed v d (Refill c t) = same_framed (model_state v)
 framed v d (Swap c new x) = swaps_framed d (cell_in (model_state v) c) (handle_told (model_state v) c new) (handle_told (model_state v) c x) (model_state v)
 framed v d (CompareSwap c x y) =
     swaps_framed d (cell_in (model_state v) c) (handle_told (model_state v) c y.new) (handle_told (model_state v) c x) (model_state v)
-framed v d (TakeOut b m x) = clears_framed d (object_of_block v b) m (handle_as (model_state v) (kind_of_member m) x) (model_state v)
+framed v d (TakeOut b m x) = clears_framed d (object_of_block v b) m (handle_as (model_state v) (kind_of_member 2 m) x) (model_state v)
 
 pub whole_framed : (v : GhostState) (d : ℕ) (x : CellStep) → AllWhole (model_state v) → AllWhole (model_state (ghost_after_step v d (OnCell x)))
 whole_framed v d x whole o some le =
@@ -118,4 +118,4 @@ same_cell v e d (CompareSwap c x y) n =
     (handle_told (model_state v) c y.new)
     (handle_told (model_state v) c x) true y.weak) n (λ z. z)
 same_cell v e d (TakeOut b m x) n =
-    same_after {V = Nothing} (model_state v) d e (event.ClearMember (object_of_block v b) m (handle_as (model_state v) (kind_of_member m) x)) n (λ z. z)
+    same_after {V = Nothing} (model_state v) d e (event.ClearMember (object_of_block v b) m (handle_as (model_state v) (kind_of_member 2 m) x)) n (λ z. z)

@@ -32,7 +32,7 @@ none_taken v (Member o m) kept is e =
 
 of_kind : (v : GhostState) (c : Cell) → TableInvariant v → IsKept (model_state v) c → (cell_of (model_state v) c).kind ≡ kind_of (model_state v) c
 of_kind v (Free c) kept is = ((formed (opening v.extent) v.history kept.stands.legal).frees c is).1
-of_kind v (Member o m) kept is = ((formed (opening v.extent) v.history kept.stands.legal).members o m is.0).1
+of_kind v (Member o m) kept is = ((formed (opening v.extent) v.history kept.stands.legal).members o m).1
 
 pub decoded : (v : GhostState) (d : ℕ) (c : Cell) → TableInvariant v → d < v.extent.actors → IsKept (model_state v) c → Decoded v c
 decoded v d c kept lt is =

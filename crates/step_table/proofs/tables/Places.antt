@@ -11,7 +11,7 @@ use Rattle.step_table.proofs.tables.Standing.{point, ready}
 
 -- a word of a block of the shape
 pub inside : (v : GhostState) (b : Block) (k : ℕ) → TableInvariant v → InShape (opening v.extent) b.0 → k < 10 → spot b.0 k < length v.words
-inside v b k kept shape lt = let f = spot_fits (opening v.extent) b.0 k shape lt in let s = kept.stands.shows.sized in omega arith
+inside v b k kept shape lt = let f = spot_fits (opening v.extent) b.0 k shape (omega (arith, lt)) in let s = kept.stands.shows.sized in omega arith
 
 pub vacant_place : (v : GhostState) (d : ℕ) (b : Block) → TableInvariant v → Has (stored d b.0) (model_state v).stores → InShape (opening v.extent) b.0
 vacant_place v d b kept has = ((sound (opening v.extent) v.history kept.stands.legal).stores d b.0 has).1

@@ -56,6 +56,8 @@ pub proper : (x : Extent) → IsExtent x → IsOpening (opening x)
 proper x fine =
     record {
       limits = (fine.blocks, fine.cells, fine.allowance);
+      members = (omega arith, omega arith);
+      owners = (omega arith, omega arith);
       holders = λ b. holder_low x b fine;
       shares = all_shares x fine;
       positive = λ d lt. let f = forty x fine d lt in omega (arith, f);

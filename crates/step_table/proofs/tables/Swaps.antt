@@ -6,7 +6,7 @@ use Rattle.step_table.proofs.Prelude
 use Prelude.{allowed, bag_one, bag_size, Block, block_fits, blocks_of, cell_bits, cell_in, cell_of}
 use Prelude.{cell_shown, CellWord, clears, clears', Compared, CompareSwap, cond_both, counts_at}
 use Prelude.{empty, ending, equivalent, field_fits, filter, gets, ghost_after_step, GhostState}
-use Prelude.{handle, handle_told, Has, has_object, HasInHand, HasRoom, Held, held, held_self}
+use Prelude.{handle, handle_as, handle_told, Has, has_object, HasInHand, HasRoom, Held, held, held_self}
 use Prelude.{held_true, Idle, InHand, IsCellWord, IsKept, IsOpen, IsOpenTo, Kind, kind_in_state}
 use Prelude.{kind_of_member, loses, Member, model_state, Nothing, num_without, NumberedHandle}
 use Prelude.{object_at, object_of_block, OnCell, opening, owing_funds, owned_fits, Paying, Pending}
@@ -21,6 +21,7 @@ use Rattle.control_word.specs.declared.model.event.Cell.TheVariants as named
 use Rattle.control_word.specs.declared.model.event.Event.TheVariants as event
 use Rattle.control_word.specs.Events.{changes}
 use Rattle.control_word.specs.Words.{packed}
+use Rattle.step_table.proofs.tables.Members.{member_kind, three_members}
 use Rattle.step_table.proofs.tables.Places.{ending_busy, handle_busy, named as own, there}
 use Rattle.step_table.proofs.tables.Shown.{Found, adds_by, cell_there, found_in, kept_cell}
 use Rattle.step_table.proofs.tables.Standing.{kept_after, point, ready}
@@ -186,7 +187,7 @@ kept_compare v d c x y kept lt way full alike wanted hand owes more valid bits =
 -- an ending object's member is one that words are kept for
 pub ending_cell : (v : GhostState) (d : ℕ) (b : Block) (m : ℕ) → ((model_state v).object (object_of_block v b)).phase ≡ ending d → m < 3
     → IsKept (model_state v) (cell_in (model_state v) (Member b m))
-ending_cell v d b m end few = (few, ending_busy v d b end)
+ending_cell v d b m end few = (omega (arith, few), ending_busy v d b end)
 
 pub kept_take_out : (v : GhostState) (d : ℕ) (b : Block) (m : ℕ) (x : CellWord) → TableInvariant v → d < v.extent.actors → pending v d ≡ Idle
     → ((model_state v).object (object_of_block v b)).phase ≡ ending d → m < 3 → bag_size (model_state v) d < (model_state v).allowance d
@@ -200,13 +201,14 @@ kept_take_out v d b m x kept lt idle end few room shows =
     let is = ending_cell v d b m end few in
     let f = found_in v d c x kept lt is shows.valid shows.bits in
     let q = own v d kept lt in
-    let g = gets_most (changes o (record (s.object o) { member = put (s.object o).member m (empty (kind_of_member m)) }) s) d old in
+    let g = gets_most (changes o (record (s.object o) { member = put (s.object o).member m (empty (kind_of_member s.owners m)) }) s) d old in
     let law =
-    clears' (point v d) o m (ready v d Idle kept lt idle) (end ∙ ap ending (sym q)) few
+    clears' (point v d) o m (ready v d Idle kept lt idle) (end ∙ ap ending (sym q)) (let n = (three_members v).0 in omega (arith, few, n))
     (subst (λ (n : ℕ). HasRoom (clears n o m old s) n) (sym q) (omega (arith, g, room))) x.taken f.bits in
     kept_after v d (OnCell (TakeOut b m x)) kept lt
-    (adds_by v d _ (spot b.0 (7 + m)) _ 0 _ _ _ _ kept lt (cell_there v c kept is) refl (ap (event.ClearMember o m) (sym shows.holds))
-    (f.owed (256 - x.taken)) law)
+    (adds_by v d _ (spot b.0 (7 + m)) _ 0 _ _ _ _ kept lt (cell_there v c kept is) refl
+    (ap (event.ClearMember o m) (sym shows.holds) ∙ ap (λ (k : Kind). event.ClearMember o m (handle_as s k x)) (member_kind v m))
+    (f.owed (256 - x.taken) ∙ ap (λ (k : Kind). owing_funds s k x.owned x.place (256 - x.taken) 0) (member_kind v m)) law)
 
 pub kept_take_differing : (v : GhostState) (d : ℕ) (c : Site) (x : CellWord) (y : Compared) → TableInvariant v → d < v.extent.actors → pending v d ≡ Idle
     → IsOpenTo v d c → x.owned ≢ None → x.taken < 256

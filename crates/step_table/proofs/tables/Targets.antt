@@ -9,7 +9,7 @@ use Rattle.step_table.proofs.tables.Shown.{Found}
 
 pub kept_there : (v : GhostState) (c : Site) → IsCellInUse v c → IsKept (model_state v) (cell_in (model_state v) c)
 kept_there v (Free n) is = is
-kept_there v (Member b m) is = is
+kept_there v (Member b m) is = let few = is.0 in (omega (arith, few), is.1)
 
 pub seat_first : (v : GhostState) → TableInvariant v → 0 < v.extent.actors
 seat_first v kept = let some = kept.proper.some in omega arith

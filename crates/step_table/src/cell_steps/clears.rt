@@ -26,7 +26,7 @@ impl Table {
         ensures found { result ≡ slice_index self.old.words (spot block.0 (7 + member)) }
         ensures empty { (result ≡ 0)
             ↔ (((model_state self.old).object (object_of_block self.old block)).member member ≡ empty
-            (kind_of_member member)) }
+            (kind_of_member 2 member)) }
         ensures after { self.new ≡ cond (result == 0)
             (ghost_after_step self.old desk (AtomicStep.Clear block member)) self.old }
     {

@@ -33,11 +33,11 @@ impl Table {
     }
 }
 
-/// Members 0 and 1 hold owners, and member 2 a weak handle.
+/// Members 0 and 1 hold owners, and others a weak handle.
 fn kind_of_member(member: u8) -> Kind
-    ensures { result ≡ kind_of_member member }
+    ensures { result ≡ kind_of_member 2 member }
 {
-    if member == 2 { Kind::Weak } else { Kind::Owner }
+    if member < 2 { Kind::Owner } else { Kind::Weak }
 }
 
 impl Slot {

@@ -242,7 +242,7 @@ impl Table {
         requires ending { ((model_state self.old).object (object_of_block self.old block)).phase ≡ ending desk }
         requires cleared { (m : ℕ) → m < 3
             → ((model_state self.old).object (object_of_block self.old block)).member m
-            ≡ empty (kind_of_member m) }
+            ≡ empty (kind_of_member 2 m) }
         ensures vacant { result ≡ (weak (model_state self.old) (object_of_block self.old block) == 0) }
         ensures after { self.new ≡ ghost_after_step self.old desk (AtomicStep.Finish block result) }
     {

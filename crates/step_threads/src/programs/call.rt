@@ -27,8 +27,9 @@ impl CellName {
         ensures { result ≡ kind_at self }
     {
         match self {
-            CellName::Weak(_) | CellName::Member { member: 2, .. } => Kind::Weak,
-            CellName::Shared(_) | CellName::Member { .. } => Kind::Owner,
+            CellName::Shared(_) => Kind::Owner,
+            CellName::Weak(_) => Kind::Weak,
+            CellName::Member { member, .. } => { if member < 2 { Kind::Owner } else { Kind::Weak } }
         }
     }
 

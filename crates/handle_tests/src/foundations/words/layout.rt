@@ -1,5 +1,6 @@
 //! Rows of the layout, and the limits.
 use crate::same::same;
+use control_word::model::handle::Kind;
 use control_word::packed::layout::{
     DOOR, ENABLED, FIELDS, FLAGS, MEMBERS, NULL, OWNERS, WEAKS, block_word, cell_word, table_words,
     words_lie_apart,
@@ -18,6 +19,8 @@ fn words_lie_where_the_layout_says(rt: HostRuntime) {
     ];
     let shape = Shape {
         blocks: 4,
+        owners: 2,
+        weaks: 1,
         shared_cells: 1,
         weak_cells: 2,
         allowance: 8,
@@ -61,6 +64,8 @@ fn a_shape_has_limits(rt: HostRuntime) {
     for (blocks, shared_cells, weak_cells, allowance, within) in SHAPES {
         let shape = Shape {
             blocks,
+            owners: 2,
+            weaks: 1,
             shared_cells,
             weak_cells,
             allowance,
@@ -69,10 +74,72 @@ fn a_shape_has_limits(rt: HostRuntime) {
     }
 }
 
+/// Owner and weak members of an object, and whether a shape may have them.
+const MEMBERS_OF_SHAPES: [(u32, u32, bool); 10] = [
+    (2, 1, true),
+    (8, 1, true),
+    (2, 7, true),
+    (5, 4, true),
+    (1, 1, false),
+    (0, 1, false),
+    (2, 0, false),
+    (8, 2, false),
+    (u32::MAX, 1, false),
+    (u32::MAX, u32::MAX, false),
+];
+
+#[test]
+fn a_shape_has_so_many_members(rt: HostRuntime) {
+    for (owners, weaks, within) in MEMBERS_OF_SHAPES {
+        let shape = Shape {
+            blocks: 1,
+            owners,
+            weaks,
+            shared_cells: 0,
+            weak_cells: 0,
+            allowance: 1,
+        };
+        same(&rt, (shape, shape.is_within_limits()), (shape, within));
+    }
+}
+
+/// Owner members, a member, and the kind of its handles.
+const KINDS: [(u32, u8, Kind); 12] = [
+    (2, 0, Kind::Owner),
+    (2, 1, Kind::Owner),
+    (2, 2, Kind::Weak),
+    (2, 3, Kind::Weak),
+    (2, 8, Kind::Weak),
+    (3, 3, Kind::Owner),
+    (3, 4, Kind::Weak),
+    (8, 0, Kind::Owner),
+    (8, 2, Kind::Weak),
+    (8, 3, Kind::Owner),
+    (8, 8, Kind::Owner),
+    (7, 8, Kind::Weak),
+];
+
+#[test]
+fn a_member_has_its_kind(rt: HostRuntime) {
+    for (owners, member, kind) in KINDS {
+        let shape = Shape {
+            blocks: 1,
+            owners,
+            weaks: 1,
+            shared_cells: 0,
+            weak_cells: 0,
+            allowance: 1,
+        };
+        let told = shape.kind_of_member(member);
+        same(&rt, (owners, member, told), (owners, member, kind));
+    }
+}
+
 #[test]
 fn limits_have_their_numbers(rt: HostRuntime) {
     let of_domains = [
         shape::MOST_BLOCKS,
+        shape::MOST_MEMBERS,
         shape::MOST_FREE_CELLS,
         shape::MOST_ALLOWANCE,
         shape::MOST_OWNERS,
@@ -82,6 +149,6 @@ fn limits_have_their_numbers(rt: HostRuntime) {
     same(
         &rt,
         of_domains,
-        [65_535, 256, 4_194_304, 4_325_630, 4_260_096, 256],
+        [65_535, 9, 256, 4_194_304, 4_784_375, 4_784_376, 256],
     );
 }

@@ -1,6 +1,7 @@
 use Rattle.std.proofs.Common.{◌≡◌, ℕ, ◌+◌, cond, Some, Option, sym, ap, ◌∙◌, subst, arith}
-use Rattle.shared_handle.proofs.Prelude.{Block, endings_of, IsLeft, Place}
+use Rattle.shared_handle.proofs.Prelude.{Block, endings_of, IsLeft, Place, Shape}
 use Rattle.shared_handle.proofs.Beside.{left_apart, left_of, more_of}
+use Rattle.shared_handle.specs.Endings.{IsLeftOf}
 use Rattle.shared_handle.proofs.shares.release.Goals as goal
 
 pub returns-clause-left : goal.returns-clause-left
@@ -11,7 +12,8 @@ returns-clause-left g c =
     let place : parts.result.1 ≡ h.place = ap (λ (r : Option Block × Option Place). r.1) parts.ensures in
     subst (λ (b : Option Block). IsLeft d b h.place left e) same
     (subst (λ (p : Option Place). IsLeft d (Some block) p left e) place
-    (left_of d e (Some block) parts.result.1 t.result left t.ensures.left c.of_parts.ensures))
+    (left_of d e (Some block) parts.result.1 t.result left t.ensures.left
+    (subst (λ (z : Shape). IsLeftOf z (Some block) t.result.value left) (sym (t.ensures.desk.shape ∙ c.requires.domain.shape)) c.of_parts.ensures)))
 
 pub returns-clause-keeps : goal.returns-clause-keeps
 returns-clause-keeps g c =
@@ -30,7 +32,9 @@ pub returns-clause-count : goal.returns-clause-count
 returns-clause-count g c =
     let d = c.args.desk.now in let t = c.leave-released in
     t.ensures.count ∙ ap (λ n. endings_of d + n)
-    (more_of d t.new.desk (Some c.in-Some.block) c.into_parts-block.result.1 t.result c.of_parts.result t.ensures.left c.of_parts.ensures)
+    (more_of d t.new.desk (Some c.in-Some.block) c.into_parts-block.result.1 t.result c.of_parts.result t.ensures.left
+    (subst (λ (z : Shape). IsLeftOf z (Some c.in-Some.block) t.result.value c.of_parts.result) (sym (t.ensures.desk.shape ∙ c.requires.domain.shape))
+    c.of_parts.ensures))
 
 pub returns-clause-apart : goal.returns-clause-apart
 returns-clause-apart g c =

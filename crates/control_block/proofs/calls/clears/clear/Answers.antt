@@ -1,7 +1,9 @@
-use Rattle.std.proofs.Common.{◌≡◌, ◌+◌, cond, is_some, sym, refl, ap, ◌∙◌, subst, arith}
+use Rattle.std.proofs.Common.{◌≡◌, ◌+◌, ◌<◌, cond, is_some, sym, refl, ap, ◌∙◌, subst, arith}
 use Rattle.control_block.proofs.Prelude.{bool_byte, CellWord, ClearMember, desk_now, DeskNow, Ends}
 use Rattle.control_block.proofs.Prelude.{Inside, Kind, known, OutAndGone, Released}
+use Rattle.control_word.specs.State.{kind_of_member}
 use Rattle.control_block.specs.Clearing.{Empties}
+use Rattle.control_block.specs.Rule.{members_of}
 use Rattle.control_block.proofs.leavings.ClearDesks.{room_out}
 use Rattle.control_block.proofs.leavings.ClearGone as clear
 use Rattle.control_block.proofs.leavings.ClearGone.{IsEmptied}
@@ -15,11 +17,23 @@ use Rattle.control_block.proofs.calls.clears.clear.Goals as goal
 
 pub clear-released-requires-clause-word : goal.clear-released-requires-clause-word
 clear-released-requires-clause-word g c =
+    let used = subst (λ (y : DeskNow g.row.V.Denot). c.args.member < members_of y.shape) (sym c.desk.view_is) c.requires.member.0 in
+    let most = c.desk.invariant.limits.members.2 in
+    let low : c.args.member < 9 = omega arith in
     let w = ending_word c.desk.inside c.domain.inside.table.shared.table_id c.args.block.0 (7 + c.args.member) c.desk.invariant
     (ap (λ z. z.domain) c.desk.view_is ∙ (c.requires.domain.table ∙ sym (ap (λ z. z.id) c.domain.view_is)))
-    (ends_in c.desk.inside c.args.desk.now c.args.block.0 c.requires.ending.0 c.desk.view_is c.requires.ending.1) (let lt = c.requires.member.0 in omega arith)
+    (ends_in c.desk.inside c.args.desk.now c.args.block.0 c.requires.ending.0 c.desk.view_is c.requires.ending.1) (omega arith)
     in
-    (w.0, c.requires.member.0, refl, w.1)
+    (w.0, low, refl, w.1)
+
+pub clear-released-requires-clause-used : goal.clear-released-requires-clause-used
+clear-released-requires-clause-used g c =
+    subst (λ (y : DeskNow g.row.V.Denot). c.args.member < members_of y.shape) (sym c.desk.view_is) c.requires.member.0
+
+pub clear-released-requires-clause-kind : goal.clear-released-requires-clause-kind
+clear-released-requires-clause-kind g c =
+    subst (λ (y : DeskNow g.row.V.Denot). kind_of_member y.shape.owners c.args.member ≡ c.args.kind) (sym c.desk.view_is)
+    c.requires.member.1
 
 pub clear-released-requires-clause-ends : goal.clear-released-requires-clause-ends
 clear-released-requires-clause-ends g c =

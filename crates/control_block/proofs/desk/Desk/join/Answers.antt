@@ -137,6 +137,7 @@ returns-clause-endings g c =
           (joining.own_name d o h k shapes u j) b is.phase in
           record {
             ends = record { phase = t.0 ∙ ap Rattle.control_word.specs.State.ending (sym name); kept = t.1 ∙ is.kept };
+            shape = joining.shape d o h k shapes u j ∙ ap (λ (y : DeskNow g.row.V.Denot). y.shape) c.self.view_is;
             members = λ m. t.2 m ∙ ap (λ (y : DeskNow g.row.V.Denot). member_in y b m) c.self.view_is;
           }),
       (λ b x e.
@@ -145,6 +146,7 @@ returns-clause-endings g c =
           (joining.other_name d o h k shapes u j) b is.phase in
           record {
             ends = record { phase = t.0 ∙ ap Rattle.control_word.specs.State.ending (sym name); kept = t.1 ∙ is.kept };
+            shape = joining.shape d o h k shapes u j ∙ (sym shapes ∙ ap (λ (y : DeskNow g.row.V.Denot). y.shape) c.other.view_is);
             members = λ m. t.2 m ∙ ap (λ (y : DeskNow g.row.V.Denot). member_in y b m) c.other.view_is;
           }),
     )

@@ -6,6 +6,7 @@ use Rattle.control_block.proofs.closings.ClosedCells.{census_of, tells_cells}
 use Rattle.control_block.proofs.closings.Closing.{exact_counts, nothing_ends, tells_of}
 use Rattle.control_block.proofs.closings.ClosingHolders.{tells_holders}
 use Rattle.control_block.proofs.parting.close.close.Goals as goal
+use Rattle.control_block.specs.Rule.{members_of}
 
 pub returns-clause-census : goal.returns-clause-census
 returns-clause-census g c =
@@ -50,8 +51,13 @@ returns-clause-holders g c = λ b has.
     let same : v.shape ≡ c.domain.inside.shape = shape ∙ c.domain.invariant.told in
     subst (λ (y : DeskNow g.row.V.Denot). TellsHolders y b n) c.desk.view_is
     (tells_holders d h whole b n has.0
-    (subst (λ (y : DeskNow g.row.V.Denot). TellsCells (state_of y) n) (sym c.desk.view_is) (returns-clause-cells g c))
-    (ap (λ y. y.blocks) (sym same), ap (λ y. y.shared_cells) (sym same), ap (λ y. y.shared_cells + y.weak_cells) (sym same)))
+    (subst (λ (y : DeskNow g.row.V.Denot). TellsCells (state_of y) n) (sym c.desk.view_is) (returns-clause-cells g c)) (
+      ap (λ y. y.blocks) (sym same),
+      ap (λ y. y.shared_cells) (sym same),
+      ap (λ y. y.shared_cells + y.weak_cells) (sym same),
+      ap members_of (sym same),
+      ap (λ y. y.owners) (sym same),
+    ))
 
 pub returns-clause-whole : goal.returns-clause-whole
 returns-clause-whole g c = λ none b lo hi.

@@ -14,9 +14,10 @@ let_go-released-requires-clause-count g c =
     let r = c.requires in let o = g.M.StepArgs.object in let q = c.args.member in let x = c.swap_out-out.result in let w = c.swap_out-out.new.seat.me.0 in
     let v = c.args.seat.now.me.0 in
     let t : Gave (λ h. ClearMember o q h) c.args.kind v x w =
-    subst (λ (y : At g.row.V.Denot). Gave (λ h. ClearMember o q h) c.args.kind y.0 x w) (c.is_empty.ensures.same c.if-is_empty.false)
-    (subst (λ (y : Kind). Gave (λ h. ClearMember o q h) y c.is_empty.new.seat.me.0 x w) r.kind
-    (subst (λ y. Gave (λ h. ClearMember o y h) (kind_of_member y) c.is_empty.new.seat.me.0 x w) r.word.2 c.swap_out-out.ensures.gave)) in
+    subst (λ (y : Kind). Gave (λ h. ClearMember o q h) y v x w) r.kind
+    (subst (λ y. Gave (λ h. ClearMember o y h) (kind_of_member v.shape.owners y) v x w) r.word.2
+    (subst (λ (y : At g.row.V.Denot). Gave (λ h. ClearMember o g.M.StepArgs.word h) (kind_of_member y.0.shape.owners g.M.StepArgs.word) y.0 x w)
+    (c.is_empty.ensures.same c.if-is_empty.false) c.swap_out-out.ensures.gave)) in
     gave_there (λ h. ClearMember o q h) c.args.kind v x (empty c.args.kind) (clear_trades g.row.V.Denot o q c.args.kind) w c.args.table.now.table_id t
     (subst (λ (y : TableId). IsSized y v.shape) r.table.0 r.table.1)
 
@@ -25,9 +26,10 @@ let_go-released-requires-clause-owes g c =
     let r = c.requires in let o = g.M.StepArgs.object in let q = c.args.member in let x = c.swap_out-out.result in let w = c.swap_out-out.new.seat.me.0 in
     let v = c.args.seat.now.me.0 in
     let t : Gave (λ h. ClearMember o q h) c.args.kind v x w =
-    subst (λ (y : At g.row.V.Denot). Gave (λ h. ClearMember o q h) c.args.kind y.0 x w) (c.is_empty.ensures.same c.if-is_empty.false)
-    (subst (λ (y : Kind). Gave (λ h. ClearMember o q h) y c.is_empty.new.seat.me.0 x w) r.kind
-    (subst (λ y. Gave (λ h. ClearMember o y h) (kind_of_member y) c.is_empty.new.seat.me.0 x w) r.word.2 c.swap_out-out.ensures.gave)) in
+    subst (λ (y : Kind). Gave (λ h. ClearMember o q h) y v x w) r.kind
+    (subst (λ y. Gave (λ h. ClearMember o y h) (kind_of_member v.shape.owners y) v x w) r.word.2
+    (subst (λ (y : At g.row.V.Denot). Gave (λ h. ClearMember o g.M.StepArgs.word h) (kind_of_member y.0.shape.owners g.M.StepArgs.word) y.0 x w)
+    (c.is_empty.ensures.same c.if-is_empty.false) c.swap_out-out.ensures.gave)) in
     gave_owes (λ h. ClearMember o q h) c.args.kind v x (empty c.args.kind) (clear_trades g.row.V.Denot o q c.args.kind) c.swap_out-out.new.seat.me t
     r.rests.awake
     c.swap_out-out.ensures.seat.2
@@ -37,9 +39,10 @@ returns-clause-cleared g c =
     let r = c.requires in let o = g.M.StepArgs.object in let q = c.args.member in let x = c.swap_out-out.result in let w = c.swap_out-out.new.seat.me.0 in
     let v = c.args.seat.now.me.0 in
     let t : Gave (λ h. ClearMember o q h) c.args.kind v x w =
-    subst (λ (y : At g.row.V.Denot). Gave (λ h. ClearMember o q h) c.args.kind y.0 x w) (c.is_empty.ensures.same c.if-is_empty.false)
-    (subst (λ (y : Kind). Gave (λ h. ClearMember o q h) y c.is_empty.new.seat.me.0 x w) r.kind
-    (subst (λ y. Gave (λ h. ClearMember o y h) (kind_of_member y) c.is_empty.new.seat.me.0 x w) r.word.2 c.swap_out-out.ensures.gave)) in
+    subst (λ (y : Kind). Gave (λ h. ClearMember o q h) y v x w) r.kind
+    (subst (λ y. Gave (λ h. ClearMember o y h) (kind_of_member v.shape.owners y) v x w) r.word.2
+    (subst (λ (y : At g.row.V.Denot). Gave (λ h. ClearMember o g.M.StepArgs.word h) (kind_of_member y.0.shape.owners g.M.StepArgs.word) y.0 x w)
+    (c.is_empty.ensures.same c.if-is_empty.false) c.swap_out-out.ensures.gave)) in
     out_and_gone (λ h. ClearMember o q h) c.args.kind v w c.let_go-released.new.seat.me.0 x c.let_go-released.result t c.let_go-released.ensures.gone
 
 pub is_empty-requires-clause-table : goal.is_empty-requires-clause-table
@@ -72,7 +75,7 @@ returns-then-is_empty-clause-cleared g c =
         kind = refl;
         shows = refl;
         event = subst (λ (y : ℕ × Kind). tells (ClearMember g.M.StepArgs.object y.0 (empty y.1)) v w)
-            (λ i. (r.word.2 i, (ap kind_of_member r.word.2 ∙ r.kind) i)) t.0;
+            (λ i. (r.word.2 i, (ap (kind_of_member v.shape.owners) r.word.2 ∙ r.kind) i)) t.0;
       };
       gone = (c.nothing.ensures, refl);
     }

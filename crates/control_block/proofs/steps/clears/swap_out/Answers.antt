@@ -2,6 +2,7 @@ use Rattle.std.proofs.Common.{◌+◌, ◌<◌, sym, ap, ◌∙◌, subst}
 use Rattle.control_block.proofs.Prelude.{spot}
 use Rattle.control_block.proofs.kept.Clear.{allows_clear}
 use Rattle.control_block.proofs.steps.clears.swap_out.Goals as goal
+use Rattle.control_block.specs.Rule.{members_of}
 
 pub swap-requires : goal.swap-requires
 swap-requires g c =
@@ -11,7 +12,7 @@ swap-requires g c =
       record {
         allows = allows_clear table.key table.table_id.slots seat.id c.args.block.0 g.M.StepArgs.object g.M.StepArgs.word c.block_word.result seat.me
             r.rests r.ends
-            (subst (λ x. x < 3) (sym r.word.2) r.word.1) (e ∙ ap (λ x. spot c.args.block.0 (7 + x)) (sym r.word.2)) r.room;
+            (subst (λ x. x < members_of c.args.seat.now.me.0.shape) (sym r.word.2) r.used) (e ∙ ap (λ x. spot c.args.block.0 (7 + x)) (sym r.word.2)) r.room;
       },
     )
 

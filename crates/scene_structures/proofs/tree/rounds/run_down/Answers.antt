@@ -1,4 +1,4 @@
-use Rattle.std.proofs.Common.{◌+◌, refl, ◌∙◌, arith, rules}
+use Rattle.std.proofs.Common.{◌+◌, ◌*◌, refl, ◌∙◌, arith, rules}
 use Rattle.scene_structures.proofs.Prelude.{same_both, same_desk}
 use Rattle.scene_structures.proofs.RunsDown.{runs_none, runs_on, runs_over}
 use Rattle.scene_structures.proofs.Others.{others_both, others_none, others_round}
@@ -16,7 +16,8 @@ loop-pile-init g c =
       vacant = r.vacant;
       room = r.room;
       few = r.few;
-      most = omega arith;
+      few_rounds = omega arith;
+      most = λ i. (c.members.ensures i + 1) * c.blocks-blocks.ensures i;
       blocks = search rules;
       runs = runs_none c.args.desk.now c.args.pile.now.endings.items c.args.ended.now.slots.items;
     }
@@ -36,7 +37,8 @@ loop-pile-preserved g c =
       vacant = t.vacant;
       room = t.room _ i.room;
       few = omega arith;
-      most = omega arith;
+      few_rounds = omega arith;
+      most = i.most;
       blocks = i.blocks;
       runs = runs_on c.args.desk.now c.loop-pile.desk c.round-round.new.desk c.args.pile.now.endings.items c.loop-pile.pile.endings.items
           c.round-round.new.self.endings.items c.args.ended.now.slots.items c.loop-pile.ended.slots.items c.take.new.self.slots.items
@@ -46,9 +48,10 @@ loop-pile-preserved g c =
 pub returns-clause-rounds : goal.returns-clause-rounds
 returns-clause-rounds g c =
     let i = c.loop-pile.invariant in
-    runs_over c.args.domain.now.shape.blocks c.blocks-blocks.result c.args.desk.now c.loop-pile.desk c.args.pile.now.endings.items
+    runs_over c.args.domain.now.shape c.blocks-blocks.result ((c.members.result + 1) * c.blocks-blocks.result) c.args.desk.now c.loop-pile.desk
+    c.args.pile.now.endings.items
     c.loop-pile.pile.endings.items c.args.ended.now.slots.items c.loop-pile.ended.slots.items c.loop-pile.ended.vacant.items c.loop-pile.rounds i.blocks
-    i.runs i.most i.vacant (c.is_over.ensures.over c.loop-pile-test.false)
+    i.most i.runs i.few_rounds i.vacant (c.is_over.ensures.over c.loop-pile-test.false)
 
 pub take-requires-clause-room : goal.take-requires-clause-room
 take-requires-clause-room g c =

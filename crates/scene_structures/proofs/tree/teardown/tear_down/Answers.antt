@@ -26,36 +26,37 @@ returns-clause-ends g c =
     let d = c.args.desk.now in let m = c.drop_shared.new.desk in let e = c.run_down.new.desk in let root = c.args.root in
     let xs = c.args.pile.now.endings.items in let ps = c.drop_shared.new.pile.endings.items in let ys = c.run_down.new.pile.endings.items in
     let ss = c.match-drop_shared.ended.slots.items in let ts = c.run_down.new.ended.slots.items in let values = c.into_values.result.items in
-    let blocks = c.args.domain.now.shape.blocks in let none = c.in-Ok.ensures.none.0 in let left = c.drop_shared.ensures.left in
+    let shape = c.args.domain.now.shape in let none = c.in-Ok.ensures.none.0 in let left = c.drop_shared.ensures.left in
     let runs = c.run_down.ensures.rounds in
     elim c.match-drop_shared.branch [
       | in-Last w ↦ (
           let drops = subst (λ (k : Gone). Drops d xs root.block root.place k m ps) w.in-Last.is left in
           let more = ap (λ (x : Ended V). x.slots.items) w.ended-is ∙ w.begin.ensures.slots in
           let z = out_root d m xs ps root.block root.place c.in-Ok.ended.slots.items ss drops none more in
-          tears_down blocks d m e xs ps ys root _ ss ts values drops z.0 z.1 z.2 runs c.into_values.ensures
+          tears_down shape d m e xs ps ys root _ ss ts values drops z.0 z.1 z.2 runs c.into_values.ensures
           )
       | in-Empty w ↦ (
           let drops = subst (λ (k : Gone). Drops d xs root.block root.place k m ps) w.in-Empty.is left in
           let z = out_rest d m xs ps root.block root.place Empty ss (λ same. cc same) drops (ap (λ (x : Ended V). x.slots.items) w.ended-is ∙ none) in
-          tears_down blocks d m e xs ps ys root _ ss ts values drops z.0 z.1 z.2 runs c.into_values.ensures
+          tears_down shape d m e xs ps ys root _ ss ts values drops z.0 z.1 z.2 runs c.into_values.ensures
           )
       | in-Others w ↦ (
           let drops = subst (λ (k : Gone). Drops d xs root.block root.place k m ps) w.in-Others.is left in
           let z = out_rest d m xs ps root.block root.place Others ss (λ same. cc same) drops (ap (λ (x : Ended V). x.slots.items) w.ended-is ∙ none) in
-          tears_down blocks d m e xs ps ys root _ ss ts values drops z.0 z.1 z.2 runs c.into_values.ensures
+          tears_down shape d m e xs ps ys root _ ss ts values drops z.0 z.1 z.2 runs c.into_values.ensures
           )
     ]
 
 whole : (g : Over) (c : goal.After-into_values g)
-    → TearsDown c.args.domain.now.shape.blocks c.args.desk.now c.args.pile.now.endings.items c.args.root c.into_values.result.items c.run_down.new.desk
+    → TearsDown c.args.domain.now.shape c.args.desk.now c.args.pile.now.endings.items c.args.root c.into_values.result.items c.run_down.new.desk
     c.run_down.new.pile.endings.items
 whole g c = returns-clause-ends g c
 
 none : (g : Over) (c : goal.After-into_values g) → IsSole c.args.desk.now → (whole g c).rest ≡ []
 none g c sole =
     none_left c.args.domain.now c.args.desk.now c.run_down.new.desk c.args.pile.now.endings.items c.run_down.new.pile.endings.items c.run_down.new.pile
-    c.args.root c.into_values.result.items (whole g c) c.assert_invariant.ensures.legal sole c.run_down.ensures.carries refl
+    c.args.root c.into_values.result.items (whole g c) c.assert_invariant.ensures.legal sole c.requires.carries.ends
+    c.run_down.ensures.carries refl
 
 pub returns-clause-settled : goal.returns-clause-settled
 returns-clause-settled g c sole =
@@ -63,7 +64,7 @@ returns-clause-settled g c sole =
 
 pub returns-clause-whole : goal.returns-clause-whole
 returns-clause-whole g c sole =
-    torn_down c.args.domain.now.shape.blocks c.args.desk.now c.run_down.new.desk c.args.pile.now.endings.items c.run_down.new.pile.endings.items c.args.root
+    torn_down c.args.domain.now.shape c.args.desk.now c.run_down.new.desk c.args.pile.now.endings.items c.run_down.new.pile.endings.items c.args.root
     c.into_values.result.items (whole g c) c.assert_invariant.ensures.legal sole (none g c sole)
 
 pub returns-clause-others : goal.returns-clause-others

@@ -1,4 +1,4 @@
-use Rattle.std.proofs.Common.{sym, subst}
+use Rattle.std.proofs.Common.{sym, subst, arith}
 use Rattle.shared_handle.proofs.Prelude.{AddsEvent, latest_of}
 use Rattle.control_word.specs.declared.model.event.Event.TheVariants.{Finish}
 use Rattle.shared_handle.proofs.endings.Ending.finish.Goals as goal
@@ -11,3 +11,7 @@ returns-clause-event g c =
           (t.ensures.event x.value v),
       t.ensures.stock,
     )
+
+pub finish-value-requires-clause-clear : goal.finish-value-requires-clause-clear
+finish-value-requires-clause-clear g c =
+    λ m low. let e = c.requires.ends.shape in let all = c.requires.clear in c.requires.ends.cleared m (omega arith)

@@ -1,67 +1,104 @@
-use Rattle.std.proofs.Common.{◌≡◌, List, ◌∷◌, sym, refl, ap, ◌∙◌, subst}
-use Rattle.shared_handle.proofs.Prelude.{Ending, First, IsAllClear, IsParting, KeepsElsewhere}
-use Rattle.shared_handle.proofs.Prelude.{Next, piled, Up, with_clear}
-use Rattle.shared_handle.specs.Piles.{ClearsOnce, IsFinish}
-use Rattle.shared_handle.proofs.Goings.{does_both, does_one, does_none}
+use Rattle.std.proofs.Common.{◌≡◌, ℕ, suc, ◌+◌, ◌<◌, IsTrue, List, ◌∷◌, sym, refl, ap, ◌∙◌, subst, arith}
+use Rattle.shared_handle.proofs.Prelude.{Ending, IsParting, KeepsElsewhere}
+use Rattle.shared_handle.proofs.Goings.{does_both, does_none, does_one}
 use Rattle.shared_handle.proofs.PiledEndings.{popped}
-use Rattle.shared_handle.proofs.Piles.{elsewhere_both, finished, finished_elsewhere, from_top}
-use Rattle.shared_handle.proofs.Piles.{elsewhere_none}
+use Rattle.shared_handle.proofs.Piles.{elsewhere_both, elsewhere_none, finished, finished_elsewhere}
+use Rattle.shared_handle.proofs.Piles.{from_top, same_both, same_desk, some_left}
 use Rattle.shared_handle.proofs.Rounds.{popped_none}
 use Rattle.shared_handle.proofs.pile.Pile.end_next.Goals as goal
 
+pub loop-self-init : goal.loop-self-init
+loop-self-init g c =
+    let d = c.args.desk.now in let x = c.in_ok-ending.ending in (
+      popped c.args.domain.now d c.args.self.now record { endings = c.pop.new.self } x c.requires.carries c.in_ok-ending.ensures.items
+          c.pop.ensures.capacity,
+      elsewhere_none d (x ∷ c.pop.new.self.items),
+      (0, refl),
+      does_none IsParting d,
+      refl,
+      refl,
+      same_desk d,
+    )
+
 pub clear_once-requires : goal.clear_once-requires
-clear_once-requires g c = record {
-  stacked = (popped c.args.domain.now c.args.desk.now c.args.self.now record { endings = c.pop.new.self } c.in_ok-ending.ending c.requires.carries
-      c.in_ok-ending.ensures.items c.pop.ensures.capacity);
-}
+clear_once-requires g c =
+    let i = c.loop-self.invariant in let x = c.loop-self.ending in
+    record {
+      stacked = i.0;
+      some = some_left x c.is_clear.result i.0.ends.few c.is_clear.ensures.1 c.loop-self-test.true;
+    }
+
+pub loop-self-preserved : goal.loop-self-preserved
+loop-self-preserved g c =
+    let l = c.loop-self in let i = l.invariant in let t = c.clear_once in let e = t.ensures in
+    let d = c.args.desk.now in let below = c.pop.new.self.items in let top = c.in_ok-ending.ending in (
+      e.stacked,
+      elsewhere_both d l.desk t.new.desk (top ∷ below) (l.ending ∷ l.self.endings.items) (t.new.ending ∷ t.new.self.endings.items) i.1 e.elsewhere,
+      (suc i.2.0, (record { desk = l.desk; pile = l.self.endings.items; ending = l.ending }, i.2.1, e.clears)),
+      does_both IsParting d l.desk t.new.desk i.3 e.parting,
+      e.bag ∙ i.4,
+      e.held ∙ i.5,
+      same_both d l.desk t.new.desk i.6 e.desk,
+    )
+
+pub loop-self-smaller : goal.loop-self-smaller
+loop-self-smaller g c =
+    let e = c.clear_once.ensures.clears in let some = e.some in
+    let more = ap (λ (x : Ending g.row.V.Denot). x.cleared) e.ending in let many = ap (λ (x : Ending g.row.V.Denot). x.members) e.ending in
+    omega arith
+
+pub finish-requires : goal.finish-requires
+finish-requires g c =
+    let i = c.loop-self.invariant in
+    record { domain = i.0.belongs; ends = i.0.ends; clear = c.is_clear.ensures.0 c.loop-self-test.false }
 
 pub returns-clause-carries : goal.returns-clause-carries
 returns-clause-carries g c =
-    let t = c.clear_once-3 in let e = c.finish.ensures in
-    finished c.args.domain.now t.new.desk c.finish.new.desk t.new.self t.new.ending t.ensures.stacked e.endings e.desk
+    let l = c.loop-self in let e = c.finish.ensures in
+    finished c.args.domain.now l.desk c.finish.new.desk l.self l.ending l.invariant.0 e.endings e.desk
 
 pub returns-clause-elsewhere : goal.returns-clause-elsewhere
 returns-clause-elsewhere g c =
-    let a = c.clear_once in let b = c.clear_once-2 in let t = c.clear_once-3 in let e = c.finish.ensures in
-    let from = c.args.desk.now in let top = c.in_ok-ending.ending in let below = c.pop.new.self.items in
-    let zs = t.new.self.endings.items in
-    from_top from c.finish.new.desk top below c.args.self.now.endings.items zs c.in_ok-ending.ensures.items
-    (elsewhere_both from t.new.desk c.finish.new.desk (top ∷ below) (t.new.ending ∷ zs) zs
-    (elsewhere_both from b.new.desk t.new.desk (top ∷ below) (b.new.ending ∷ b.new.self.endings.items) (t.new.ending ∷ zs)
-    (elsewhere_both from a.new.desk b.new.desk (top ∷ below) (a.new.ending ∷ a.new.self.endings.items) (b.new.ending ∷ b.new.self.endings.items)
-    a.ensures.elsewhere b.ensures.elsewhere) t.ensures.elsewhere)
-    (finished_elsewhere t.new.desk c.finish.new.desk t.new.ending zs e.endings e.count))
+    let l = c.loop-self in let e = c.finish.ensures in let d = c.args.desk.now in let top = c.in_ok-ending.ending in
+    let below = c.pop.new.self.items in let zs = l.self.endings.items in
+    from_top d c.finish.new.desk top below c.args.self.now.endings.items zs c.in_ok-ending.ensures.items
+    (elsewhere_both d l.desk c.finish.new.desk (top ∷ below) (l.ending ∷ zs) zs l.invariant.1
+    (finished_elsewhere l.desk c.finish.new.desk l.ending zs e.endings e.count))
 
 pub returns-clause-ended : goal.returns-clause-ended
 returns-clause-ended g c =
-    let a = c.clear_once in let b = c.clear_once-2 in let d = c.clear_once-3 in let e = c.finish.ensures in let top = c.in_ok-ending.ending in
-    let one = a.ensures.once in let two = b.ensures.once in let three = d.ensures.once in
-    let second : b.new.ending ≡ with_clear Next (with_clear First top) = b.ensures.noted ∙ ap (with_clear Next) a.ensures.noted in
-    let third : d.new.ending ≡ with_clear Up (with_clear Next (with_clear First top)) = d.ensures.noted ∙ ap (with_clear Up) second in
+    let l = c.loop-self in let i = l.invariant.2 in let e = c.finish.ensures in
     record {
       below = c.pop.new.self.items;
-      top = top;
+      top = c.in_ok-ending.ending;
       were = c.in_ok-ending.ensures.items;
-      first = one.0;
-      after_first = a.new.desk;
-      clears_first = one.1;
-      next = two.0;
-      after_next = b.new.desk;
-      clears_next = subst (λ (y : Ending g.row.V.Denot). ClearsOnce a.new.desk y Next two.0 b.new.desk) a.ensures.noted two.1;
-      up = three.0;
-      after_up = d.new.desk;
-      clears_up = subst (λ (y : Ending g.row.V.Denot). ClearsOnce b.new.desk y Up three.0 d.new.desk) second three.1;
-      finish = subst (λ (y : Ending g.row.V.Denot). IsFinish d.new.desk y c.finish.result c.finish.new.desk) third
-          record { clear = subst IsAllClear (sym third) (refl, refl, refl); value = e.value.0; vacant = e.event.0; event = e.event.1; stock = e.event.2 };
-      are = three.2 ∙ ap (λ l. piled l three.0) (two.2 ∙ ap (λ l. piled l two.0) one.2);
+      many = i.0;
+      after = record { desk = l.desk; pile = l.self.endings.items; ending = l.ending };
+      clears = i.1;
+      finish = record {
+        clear = c.is_clear.ensures.0 c.loop-self-test.false;
+        value = e.value.0;
+        vacant = e.event.0;
+        event = e.event.1;
+        stock = e.event.2;
+      };
+      are = refl;
     }
 
 pub returns-clause-parting : goal.returns-clause-parting
 returns-clause-parting g c =
-    let a = c.clear_once in let b = c.clear_once-2 in let d = c.clear_once-3 in let from = c.args.desk.now in
-    does_both IsParting from d.new.desk c.finish.new.desk
-    (does_both IsParting from b.new.desk d.new.desk (does_both IsParting from a.new.desk b.new.desk a.ensures.parting b.ensures.parting) d.ensures.parting)
-    (does_one IsParting d.new.desk c.finish.new.desk _ c.finish.ensures.event.1 tt)
+    let l = c.loop-self in
+    does_both IsParting c.args.desk.now l.desk c.finish.new.desk l.invariant.3
+    (does_one IsParting l.desk c.finish.new.desk _ c.finish.ensures.event.1 tt)
+
+pub returns-clause-bag : goal.returns-clause-bag
+returns-clause-bag g c = c.finish.ensures.bag ∙ c.loop-self.invariant.4
+
+pub returns-clause-held : goal.returns-clause-held
+returns-clause-held g c = c.finish.ensures.held ∙ c.loop-self.invariant.5
+
+pub returns-clause-desk : goal.returns-clause-desk
+returns-clause-desk g c = same_both c.args.desk.now c.loop-self.desk c.finish.new.desk c.loop-self.invariant.6 c.finish.ensures.desk
 
 pub returns-in_err-ending-clause-elsewhere : goal.returns-in_err-ending-clause-elsewhere
 returns-in_err-ending-clause-elsewhere g c =

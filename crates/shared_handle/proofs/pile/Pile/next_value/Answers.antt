@@ -4,9 +4,9 @@ use Rattle.shared_handle.proofs.Prelude.{AllEnd, AreRounds, Cleared, Empty, Ende
 use Rattle.shared_handle.proofs.Prelude.{IsParting, KeepsElsewhere, Last, Others}
 use Rattle.shared_handle.proofs.Goings.{clearing_does, does_both, does_none, does_one}
 use Rattle.shared_handle.proofs.PiledEndings.{all_append, popped, stacked_above, stacked_on}
-use Rattle.shared_handle.proofs.Piles.{back_elsewhere, clear_all, elsewhere_both, elsewhere_none}
+use Rattle.shared_handle.proofs.Piles.{back_elsewhere, elsewhere_both, elsewhere_none}
 use Rattle.shared_handle.proofs.Piles.{finished, finished_elsewhere, fits, from_top, room_above}
-use Rattle.shared_handle.proofs.Piles.{same_both, same_desk}
+use Rattle.shared_handle.proofs.Piles.{same_both, same_desk, some_left}
 use Rattle.shared_handle.proofs.Rounds.{clears_in_hand, popped_none}
 use Rattle.shared_handle.proofs.pile.Pile.next_value.Goals as goal
 
@@ -23,29 +23,37 @@ loop-rounds-init g c =
       same_desk d,
     )
 
-pub clear_member-left-requires-clause-domain : goal.clear_member-left-requires-clause-domain
-clear_member-left-requires-clause-domain g c = c.loop-rounds.invariant.0.belongs
+pub clear_next-left-requires-clause-domain : goal.clear_next-left-requires-clause-domain
+clear_next-left-requires-clause-domain g c = c.loop-rounds.invariant.0.belongs
 
-pub clear_member-left-requires-clause-ends : goal.clear_member-left-requires-clause-ends
-clear_member-left-requires-clause-ends g c = c.loop-rounds.invariant.0.ends
+pub clear_next-left-requires-clause-ends : goal.clear_next-left-requires-clause-ends
+clear_next-left-requires-clause-ends g c = c.loop-rounds.invariant.0.ends
+
+pub clear_next-left-requires-clause-some : goal.clear_next-left-requires-clause-some
+clear_next-left-requires-clause-some g c =
+    let l = c.loop-rounds in some_left l.top c.is_clear.result l.invariant.0.ends.few c.is_clear.ensures.1 c.if-is_clear.false
 
 pub loop-rounds-preserved-in-Empty : goal.loop-rounds-preserved-in-Empty
 loop-rounds-preserved-in-Empty g c =
-    let t = c.clear_member-left in let e = c.in-Empty.ensures in let l = c.loop-rounds in let i = l.invariant in
+    let t = c.clear_next-left in let e = c.in-Empty.ensures in let l = c.loop-rounds in let i = l.invariant in
     let d = c.args.desk.now in
-    let xs = l.self.endings.items in let m = c.in-Some.member in let was = c.args.self.now.endings.items in (
-      stacked_on c.args.domain.now l.desk t.new.desk l.self l.self l.top t.new.self m Empty i.0 e.clears e.endings e.beside e.object.0 e.ends e.desk
+    let xs = l.self.endings.items in let was = c.args.self.now.endings.items in (
+      stacked_on c.args.domain.now l.desk t.new.desk l.self l.self l.top t.new.self Empty i.0 e.clears e.endings e.beside e.object.0 e.ends e.desk
           refl refl,
       elsewhere_both d l.desk t.new.desk was (xs ++ l.top ∷ []) (xs ++ t.new.self ∷ []) i.1
-          (back_elsewhere l.desk t.new.desk l.top t.new.self m Empty xs (xs ++ l.top ∷ []) (xs ++ t.new.self ∷ []) refl
+          (back_elsewhere l.desk t.new.desk l.top t.new.self Empty xs (xs ++ l.top ∷ []) (xs ++ t.new.self ∷ []) refl
           e.clears e.endings e.count e.beside e.object.0 e.ends refl),
       (
-        record { round = Cleared m (gone_of {V = g.row.V.Denot} Empty); desk = l.desk; pile = xs ++ l.top ∷ [] } ∷ i.2.0,
-        (i.2.1, clears_in_hand l.desk t.new.desk xs (xs ++ t.new.self ∷ []) l.top t.new.self m Empty (sym c.in-Some.ensures) e.clears e.noted refl e.bag),
+        record { round = Cleared l.top.cleared (gone_of {V = g.row.V.Denot} Empty); desk = l.desk; pile = xs ++ l.top ∷ [] } ∷ i.2.0,
+        (
+          i.2.1,
+          clears_in_hand l.desk t.new.desk xs (xs ++ t.new.self ∷ []) l.top t.new.self Empty
+              (some_left l.top c.is_clear.result i.0.ends.few c.is_clear.ensures.1 c.if-is_clear.false) e.clears e.noted refl e.bag,
+        ),
         (let a = i.2.2 in let b = c.loop-rounds-test.true in omega arith),
         i.2.3,
       ),
-      does_both IsParting d l.desk t.new.desk i.3 (clearing_does l.desk t.new.desk l.top m Empty e.clears),
+      does_both IsParting d l.desk t.new.desk i.3 (clearing_does l.desk t.new.desk l.top Empty e.clears),
       e.bag ∙ i.4,
       e.held ∙ i.5,
       same_both d l.desk t.new.desk i.6 e.desk,
@@ -53,21 +61,25 @@ loop-rounds-preserved-in-Empty g c =
 
 pub loop-rounds-preserved-in-Others : goal.loop-rounds-preserved-in-Others
 loop-rounds-preserved-in-Others g c =
-    let t = c.clear_member-left in let e = c.in-Others.ensures in let l = c.loop-rounds in let i = l.invariant in
+    let t = c.clear_next-left in let e = c.in-Others.ensures in let l = c.loop-rounds in let i = l.invariant in
     let d = c.args.desk.now in
-    let xs = l.self.endings.items in let m = c.in-Some.member in let was = c.args.self.now.endings.items in (
-      stacked_on c.args.domain.now l.desk t.new.desk l.self l.self l.top t.new.self m Others i.0 e.clears e.endings e.beside e.object.0 e.ends e.desk
+    let xs = l.self.endings.items in let was = c.args.self.now.endings.items in (
+      stacked_on c.args.domain.now l.desk t.new.desk l.self l.self l.top t.new.self Others i.0 e.clears e.endings e.beside e.object.0 e.ends e.desk
           refl refl,
       elsewhere_both d l.desk t.new.desk was (xs ++ l.top ∷ []) (xs ++ t.new.self ∷ []) i.1
-          (back_elsewhere l.desk t.new.desk l.top t.new.self m Others xs (xs ++ l.top ∷ []) (xs ++ t.new.self ∷ []) refl
+          (back_elsewhere l.desk t.new.desk l.top t.new.self Others xs (xs ++ l.top ∷ []) (xs ++ t.new.self ∷ []) refl
           e.clears e.endings e.count e.beside e.object.0 e.ends refl),
       (
-        record { round = Cleared m (gone_of {V = g.row.V.Denot} Others); desk = l.desk; pile = xs ++ l.top ∷ [] } ∷ i.2.0,
-        (i.2.1, clears_in_hand l.desk t.new.desk xs (xs ++ t.new.self ∷ []) l.top t.new.self m Others (sym c.in-Some.ensures) e.clears e.noted refl e.bag),
+        record { round = Cleared l.top.cleared (gone_of {V = g.row.V.Denot} Others); desk = l.desk; pile = xs ++ l.top ∷ [] } ∷ i.2.0,
+        (
+          i.2.1,
+          clears_in_hand l.desk t.new.desk xs (xs ++ t.new.self ∷ []) l.top t.new.self Others
+              (some_left l.top c.is_clear.result i.0.ends.few c.is_clear.ensures.1 c.if-is_clear.false) e.clears e.noted refl e.bag,
+        ),
         (let a = i.2.2 in let b = c.loop-rounds-test.true in omega arith),
         i.2.3,
       ),
-      does_both IsParting d l.desk t.new.desk i.3 (clearing_does l.desk t.new.desk l.top m Others e.clears),
+      does_both IsParting d l.desk t.new.desk i.3 (clearing_does l.desk t.new.desk l.top Others e.clears),
       e.bag ∙ i.4,
       e.held ∙ i.5,
       same_both d l.desk t.new.desk i.6 e.desk,
@@ -75,30 +87,34 @@ loop-rounds-preserved-in-Others g c =
 
 pub push_reserved-requires : goal.push_reserved-requires
 push_reserved-requires g c =
-    let t = c.clear_member-left in let e = c.in-Last.ensures in let l = c.loop-rounds in let xs = l.self.endings.items in
+    let t = c.clear_next-left in let e = c.in-Last.ensures in let l = c.loop-rounds in let xs = l.self.endings.items in
     let room : length (xs ++ t.new.self ∷ []) + 1 ≤ vec_capacity l.self.endings =
-    room_above c.args.domain.now l.desk t.new.desk l.self (xs ++ t.new.self ∷ []) l.top t.new.self c.in-Some.member (Last c.in-Last.next)
+    room_above c.args.domain.now l.desk t.new.desk l.self (xs ++ t.new.self ∷ []) l.top t.new.self (Last c.in-Last.next)
     (vec_capacity l.self.endings) l.invariant.0 e.clears e.endings e.beside e.object.0 e.ends e.desk.shape c.assert_invariant.ensures refl refl in
     let many = length-append xs (t.new.self ∷ []) in omega arith
 
 pub loop-rounds-preserved : goal.loop-rounds-preserved
 loop-rounds-preserved g c =
-    let t = c.clear_member-left in let e = c.in-Last.ensures in let l = c.loop-rounds in let i = l.invariant in
+    let t = c.clear_next-left in let e = c.in-Last.ensures in let l = c.loop-rounds in let i = l.invariant in
     let d = c.args.desk.now in let put = c.push_reserved in let next = c.in-Last.next in
-    let xs = l.self.endings.items in let ys = put.new.self.items in let m = c.in-Some.member in let was = c.args.self.now.endings.items in
+    let xs = l.self.endings.items in let ys = put.new.self.items in let was = c.args.self.now.endings.items in
     let above : ys ++ next ∷ [] ≡ (xs ++ t.new.self ∷ []) ++ next ∷ [] = ap (λ zs. zs ++ next ∷ []) put.ensures.items in (
-      stacked_above c.args.domain.now l.desk t.new.desk l.self record { endings = put.new.self } l.top t.new.self next m i.0 e.clears e.endings e.beside
+      stacked_above c.args.domain.now l.desk t.new.desk l.self record { endings = put.new.self } l.top t.new.self next i.0 e.clears e.endings e.beside
           e.object.0 e.ends e.desk put.ensures.items put.ensures.capacity,
       elsewhere_both d l.desk t.new.desk was (xs ++ l.top ∷ []) (ys ++ next ∷ []) i.1
-          (back_elsewhere l.desk t.new.desk l.top t.new.self m (Last next) xs (xs ++ l.top ∷ []) (ys ++ next ∷ []) refl
+          (back_elsewhere l.desk t.new.desk l.top t.new.self (Last next) xs (xs ++ l.top ∷ []) (ys ++ next ∷ []) refl
           e.clears e.endings e.count e.beside e.object.0 e.ends above),
       (
-        record { round = Cleared m (gone_of (Last next)); desk = l.desk; pile = xs ++ l.top ∷ [] } ∷ i.2.0,
-        (i.2.1, clears_in_hand l.desk t.new.desk xs (ys ++ next ∷ []) l.top t.new.self m (Last next) (sym c.in-Some.ensures) e.clears e.noted above e.bag),
+        record { round = Cleared l.top.cleared (gone_of (Last next)); desk = l.desk; pile = xs ++ l.top ∷ [] } ∷ i.2.0,
+        (
+          i.2.1,
+          clears_in_hand l.desk t.new.desk xs (ys ++ next ∷ []) l.top t.new.self (Last next)
+              (some_left l.top c.is_clear.result i.0.ends.few c.is_clear.ensures.1 c.if-is_clear.false) e.clears e.noted above e.bag,
+        ),
         (let a = i.2.2 in let b = c.loop-rounds-test.true in omega arith),
         i.2.3,
       ),
-      does_both IsParting d l.desk t.new.desk i.3 (clearing_does l.desk t.new.desk l.top m (Last next) e.clears),
+      does_both IsParting d l.desk t.new.desk i.3 (clearing_does l.desk t.new.desk l.top (Last next) e.clears),
       e.bag ∙ i.4,
       e.held ∙ i.5,
       same_both d l.desk t.new.desk i.6 e.desk,
@@ -110,20 +126,20 @@ finish-requires-clause-domain g c = c.loop-rounds.invariant.0.belongs
 pub finish-requires-clause-ends : goal.finish-requires-clause-ends
 finish-requires-clause-ends g c = c.loop-rounds.invariant.0.ends
 
-pub returns-in_default-clause-carries : goal.returns-in_default-clause-carries
-returns-in_default-clause-carries g c =
+pub returns-then-is_clear-clause-carries : goal.returns-then-is_clear-clause-carries
+returns-then-is_clear-clause-carries g c =
     let e = c.finish.ensures in
     finished c.args.domain.now c.loop-rounds.desk c.finish.new.desk c.loop-rounds.self c.loop-rounds.top c.loop-rounds.invariant.0 e.endings e.desk
 
-pub returns-in_default-clause-elsewhere : goal.returns-in_default-clause-elsewhere
-returns-in_default-clause-elsewhere g c =
+pub returns-then-is_clear-clause-elsewhere : goal.returns-then-is_clear-clause-elsewhere
+returns-then-is_clear-clause-elsewhere g c =
     let e = c.finish.ensures in let l = c.loop-rounds in let xs = l.self.endings.items in
     elsewhere_both c.args.desk.now l.desk c.finish.new.desk c.args.self.now.endings.items (xs ++ l.top ∷ []) xs l.invariant.1
     (from_top l.desk c.finish.new.desk l.top xs (xs ++ l.top ∷ []) xs refl
     (finished_elsewhere l.desk c.finish.new.desk l.top xs e.endings e.count))
 
-pub returns-in_default-clause-rounds : goal.returns-in_default-clause-rounds
-returns-in_default-clause-rounds g c =
+pub returns-then-is_clear-clause-rounds : goal.returns-then-is_clear-clause-rounds
+returns-then-is_clear-clause-rounds g c =
     let e = c.finish.ensures in let l = c.loop-rounds in let i = l.invariant.2 in let v = c.finish.result in (
       record { round = Ended v; desk = l.desk; pile = l.self.endings.items ++ l.top ∷ [] } ∷ i.0,
       (
@@ -132,7 +148,7 @@ returns-in_default-clause-rounds g c =
           top = l.top;
           were = refl;
           finish = record {
-            clear = clear_all l.top (sym c.in_default.ensures);
+            clear = c.is_clear.ensures.0 c.if-is_clear.true;
             value = e.value.0;
             vacant = e.event.0;
             event = e.event.1;
@@ -145,19 +161,19 @@ returns-in_default-clause-rounds g c =
       (refl, i.3),
     )
 
-pub returns-in_default-clause-parting : goal.returns-in_default-clause-parting
-returns-in_default-clause-parting g c =
+pub returns-then-is_clear-clause-parting : goal.returns-then-is_clear-clause-parting
+returns-then-is_clear-clause-parting g c =
     does_both IsParting c.args.desk.now c.loop-rounds.desk c.finish.new.desk c.loop-rounds.invariant.3
     (does_one IsParting c.loop-rounds.desk c.finish.new.desk _ c.finish.ensures.event.1 tt)
 
-pub returns-in_default-clause-bag : goal.returns-in_default-clause-bag
-returns-in_default-clause-bag g c = c.finish.ensures.bag ∙ c.loop-rounds.invariant.4
+pub returns-then-is_clear-clause-bag : goal.returns-then-is_clear-clause-bag
+returns-then-is_clear-clause-bag g c = c.finish.ensures.bag ∙ c.loop-rounds.invariant.4
 
-pub returns-in_default-clause-held : goal.returns-in_default-clause-held
-returns-in_default-clause-held g c = c.finish.ensures.held ∙ c.loop-rounds.invariant.5
+pub returns-then-is_clear-clause-held : goal.returns-then-is_clear-clause-held
+returns-then-is_clear-clause-held g c = c.finish.ensures.held ∙ c.loop-rounds.invariant.5
 
-pub returns-in_default-clause-desk : goal.returns-in_default-clause-desk
-returns-in_default-clause-desk g c = same_both c.args.desk.now c.loop-rounds.desk c.finish.new.desk c.loop-rounds.invariant.6 c.finish.ensures.desk
+pub returns-then-is_clear-clause-desk : goal.returns-then-is_clear-clause-desk
+returns-then-is_clear-clause-desk g c = same_both c.args.desk.now c.loop-rounds.desk c.finish.new.desk c.loop-rounds.invariant.6 c.finish.ensures.desk
 
 pub push_reserved-requires-2 : goal.push_reserved-requires-2
 push_reserved-requires-2 g c =

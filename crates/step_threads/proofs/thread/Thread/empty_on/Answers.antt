@@ -2,6 +2,7 @@ use Rattle.std.proofs.Common.{ℕ, cond, drop, set, is_some, sym, ap, ◌∙◌,
 use Rattle.step_threads.proofs.Prelude.{Event, FitsThread, GhostState, gives_back, HasStepped}
 use Rattle.step_threads.proofs.Prelude.{held_in, HoldsBag, Kind, Member, model_state, Said}
 use Rattle.step_threads.proofs.Prelude.{slot_of, slot_pointer}
+use Rattle.step_table.proofs.tables.Members.{member_kind}
 use Rattle.step_threads.proofs.Emptying.{clearing_here, fits_emptied, idle_clearing, is_clearing}
 use Rattle.step_threads.proofs.Emptying.{none_full, stepped_emptied}
 use Rattle.step_threads.proofs.holding.Ends.{ending_here, first_is}
@@ -64,7 +65,8 @@ returns-clause-fits c =
     c.hand-hand.ensures)
     (subst (λ (u : GhostState). HoldsBag d h.slots.items u) c.take_out-found.ensures.table c.take_out-found.ensures.holds)
     c.advance.ensures.list c.advance.ensures.room
-    (c.returning-self.ensures ∙ ap (λ (k : Kind). gives_back k e.statement x x.owned) c.kind_in-kind.ensures))
+    (c.returning-self.ensures
+    ∙ ap (λ (k : Kind). gives_back k e.statement x x.owned) (c.kind_in-kind.ensures ∙ member_kind v e.stage)))
 
 pub returns-clause-stepped : goal.returns-clause-stepped
 returns-clause-stepped c =
@@ -85,4 +87,5 @@ returns-clause-stepped c =
     ∙ ap (λ (i : ℕ). cond (is_some x.owned) (set slots i (slot_of (model_state v) (held_in (model_state v) (Member e.block e.stage)))) slots)
     c.hand-hand.ensures)
     c.take_out-found.ensures.table c.advance.ensures.list
-    (c.returning-self.ensures ∙ ap (λ (k : Kind). gives_back k e.statement x x.owned) c.kind_in-kind.ensures))
+    (c.returning-self.ensures
+    ∙ ap (λ (k : Kind). gives_back k e.statement x x.owned) (c.kind_in-kind.ensures ∙ member_kind v e.stage)))

@@ -4,7 +4,7 @@ use Rattle.control_block.proofs.cells.CellRetries.{took_owes}
 use Rattle.control_block.proofs.cells.CellTrades.{load_trades}
 use Rattle.control_block.proofs.cells.CellTries.{aim_at, counted_out, none_shown, out_since}
 use Rattle.control_block.proofs.cells.CellTries.{out_turned}
-use Rattle.control_block.proofs.retries.loads.load.Goals as goal
+use Rattle.control_block.proofs.retries.loads.load_once.Goals as goal
 
 pub turn-requires-clause-word : goal.turn-requires-clause-word
 turn-requires-clause-word g c =
