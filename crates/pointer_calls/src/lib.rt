@@ -19,6 +19,6 @@ pub use crate::answers::Answer;
 pub use crate::hands::Hands;
 pub use crate::players::{BLOCKS, Lists, played};
 pub use crate::running::{all, answer};
-pub use crate::runs::{Worked, row, worked};
+pub use crate::runs::{Worked, row, worked, worked_in};
 pub use crate::steps::{ByLink, Cell, Form, Look, New, Pair, Row, Step, Way};
 pub use crate::values::{Ends, Told, Value, begin, ended, made, new_ends, numbered, object, order};

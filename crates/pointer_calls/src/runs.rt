@@ -1,6 +1,6 @@
 //! Runs of several workers, over objects whose values are numbers.
 
-use pointers::{Fault, NotRun, Program, Ran, Team, run};
+use pointers::{Fault, NotRun, Program, Ran, Shape, Team, run};
 use std::alloc::Global;
 use std::sync::Wait;
 use std::thread::Threads;
@@ -16,6 +16,17 @@ fn told(ran: Result<Ran<u64>, NotRun>) -> Worked {
     }
 }
 
+/// The program's workers work in a domain of that shape.
+pub fn worked_in<R: Threads + Wait + Sync, P: Program<u64, R> + Sync>(
+    rt: &R,
+    alloc: Global,
+    team: Team,
+    shape: Shape,
+    program: &P,
+) -> Worked {
+    told(run(rt, alloc, shape, team, program))
+}
+
 /// The program's workers work in a domain of so many blocks, and free cells of each kind.
 pub fn worked<R: Threads + Wait + Sync, P: Program<u64, R> + Sync>(
     rt: &R,
@@ -24,7 +35,7 @@ pub fn worked<R: Threads + Wait + Sync, P: Program<u64, R> + Sync>(
     (blocks, cells): (u32, u32),
     program: &P,
 ) -> Worked {
-    told(run(rt, alloc, team.shape(blocks, cells, cells), team, program))
+    worked_in(rt, alloc, team, team.shape(blocks, cells, cells), program)
 }
 
 /// The row is as it should be, or the fault has its number.

@@ -1,21 +1,20 @@
 -- Calls on a structure go on by one node.
 use Rattle.std.proofs.Common.{◌≡◌, ◌⊎◌, refl, sym, subst, inl, inr}
 use Rattle.std.proofs.lemmas.List.Elements.{All-nil, All-push}
-use Rattle.std.specs.Prelude.{ℕ, All, Bool, false, IfOk, IsTrue, List, [], ◌∷◌, ◌++◌, IsSomeAnd}
+use Rattle.std.specs.Prelude.{All, Bool, false, IfOk, IsTrue, List, [], ◌∷◌, ◌++◌, IsSomeAnd}
 use Rattle.std.specs.Prelude.{Option, None, Some, Result, Ok, Err, OnOk}
-use Rattle.control_word.specs.declared.model.handle.Kind.TheVariants.{Owner}
+use Rattle.control_word.specs.declared.model.handle.Kind.TheVariants.{Owner, Weak}
 use Rattle.control_block.specs.Desks.{DeskNow}
-use Rattle.atomic_cells.specs.declared.sites.SharedMember.{SharedMember}
-use Rattle.atomic_cells.specs.declared.sites.SharedMember.TheVariants.{First}
 use Rattle.pointers.proofs.ListSteps.{passes_on, place_passed, refused_at, refused_first, swaps_of}
-use Rattle.pointers.specs.Cells.{StoredWeaklyAt, WhyNotDoneAt, shared_cell_at, weak_cell_at}
 use Rattle.pointers.specs.Compares.{ComparedAt}
 use Rattle.pointers.specs.Faults.{WhyNoMore}
 use Rattle.pointers.specs.Known.{owned}
 use Rattle.pointers.specs.ListChanges.{AreAlike, Comes, IsPlaceOf, IsRefusedAt, Passes, Swaps}
 use Rattle.pointers.specs.ListRemovals.{IsOther}
 use Rattle.pointers.specs.Lists.{Leads, behind, next_of}
-use Rattle.pointers.specs.Sites.{Site, site}
+use Rattle.pointers.specs.Places.{WhyNotDoneAt, cell_at}
+use Rattle.pointers.specs.SiteCalls.{Stored}
+use Rattle.pointers.specs.Sites.{Site, member_site, owner_of}
 use Rattle.pointers.specs.declared.fault.Fault.{Fault}
 use Rattle.pointers.specs.declared.fault.call.Call.{Call}
 use Rattle.pointers.specs.declared.fault.call.Call.TheVariants.{Share}
@@ -54,68 +53,27 @@ module _ {V : Type 0} (o : DeskNow V) where
     out = swaps;
   }
 
-  -- a place in a node is known by which member it is
-  member_site : (s : Site V) (c : Known V) (m : SharedMember) → s.of ≡ Some c → s.which ≡ m
-      → s ≡ record { of = Some c; which = m; number = s.number }
-  member_site s c m of which = λ i. record { of = of i; which = which i; number = s.number }
-
-  swaps_in : (c : Known V) (m : SharedMember) (n : ℕ) (hoped new : Option (Known V))
-      → Swaps o (record { of = Some c; which = m; number = n }) hoped new
-      → Swaps o (record { of = Some c; which = m; number = 0 }) hoped new
-  swaps_in c m n hoped new swaps = swaps
-
-  goes_first_by : (parent child : Known V) (n : ℕ) → GoesFirst o (record { of = Some parent; which = First; number = n }) child
+  pub child_first : (s : Site V) (parent child : Known V) → s ≡ first_of parent → GoesFirst o s child
       → GoesFirst o (first_of parent) child
-  goes_first_by parent child n goes = record {
-    first = goes.first;
-    follows = goes.follows;
-    copy = goes.copy;
-    same = goes.same;
-    comes = goes.comes;
-  }
+  child_first s parent child same goes = subst (λ (y : Site V). GoesFirst o y child) same goes
 
-  chain_by : (parent : Known V) (n : ℕ) (why : Fault)
-      → IsChainRefused o (record { of = Some parent; which = First; number = n }) why
-      → IsChainRefused o (first_of parent) why
-  chain_by parent n why (t, inl same, inl not) =
-      (first_of parent, inl refl, inl (subst (λ (y : Site V). IsRefusedAt o y why) (sym same) not))
-  chain_by parent n why (t, inl same, inr (c, leads, not)) =
-      (first_of parent, inl refl, inr (c, subst (λ (y : Site V). Leads o y (Some c)) (sym same) leads, not))
-  chain_by parent n why (t, inr walk, not) = (t, inr walk, not)
-
-  pub child_first : (s : Site V) (parent child : Known V) → s.of ≡ Some parent → s.which ≡ First → GoesFirst o s child
-      → GoesFirst o (first_of parent) child
-  child_first s parent child of which goes = goes_first_by parent child s.number
-      (subst (λ (y : Site V). GoesFirst o y child) (member_site s parent First of which) goes)
-
-  pub child_refused : (s : Site V) (parent child : Known V) (why : Fault) → s.of ≡ Some parent → s.which ≡ First
+  pub child_refused : (s : Site V) (parent child : Known V) (why : Fault) → s ≡ first_of parent
       → WhyNotPushed o s child why → WhyNotPushed o (first_of parent) child why
-  child_refused s parent child why of which (inl not) = inl not
-  child_refused s parent child why of which (inr not) = inr (chain_by parent s.number why
-      (subst (λ (y : Site V). IsChainRefused o y why) (member_site s parent First of which) not))
+  child_refused s parent child why same not = subst (λ (y : Site V). WhyNotPushed o y child why) same not
 
   -- a compare on a member of a node, that put there what another one's `next` owned
-  pub unlinks : (s : Site V) (c : Known V) (m : SharedMember) (of : Option (Known V)) (which : SharedMember) (n : ℕ)
-      (child node : Known V) (rest hoped new : Option (Known V)) (r : Result Bool Fault)
-      → s ≡ record { of = Some c; which = m; number = 0 } → of ≡ Some c → which ≡ m → Leads o (next_of node) rest
-      → IfOk r (λ (b : Bool). ComparedAt o of (shared_cell_at o of which n) Owner false (Some child) rest b hoped new)
+  pub unlinks : (s at : Site V) (child node : Known V) (rest hoped new : Option (Known V)) (r : Result Bool Fault)
+      → s ≡ at → Leads o (next_of node) rest
+      → IfOk r (λ (b : Bool). ComparedAt o (owner_of at) (cell_at o Owner at) Owner false (Some child) rest b hoped new)
       → IfOk r (λ (b : Bool). IsTrue b → Unlinks o s child node)
-  unlinks s c m of which n child node rest hoped new (Err why) here there that leads is = tt
-  unlinks s c m of which n child node rest hoped new (Ok b) here there that leads is = λ did.
-      let at = site of which n in
+  unlinks s at child node rest hoped new (Err why) here leads is = tt
+  unlinks s at child node rest hoped new (Ok b) here leads is = λ did.
       let swaps : Swaps o at (Some child) rest = swaps_of o at false (Some child) rest hoped new (Ok b) is did in
-      let in_node = swaps_in c m n (Some child) rest
-      (subst (λ (y : Site V). Swaps o y (Some child) rest) (member_site at c m there that) swaps) in
-      (rest, leads, subst (λ (y : Site V). Swaps o y (Some child) rest) (sym here) in_node)
+      (rest, leads, subst (λ (y : Site V). Swaps o y (Some child) rest) (sym here) swaps)
 
   -- a refused call on a member of a node
-  pub refused_in : (s : Site V) (c : Known V) (m : SharedMember) (of : Option (Known V)) (n : ℕ) (call : Call) (why : Fault)
-      → s ≡ record { of = Some c; which = m; number = 0 } → of ≡ Some c
-      → WhyNotDoneAt o o.shape.shared_cells of n call why → IsRefusedAt o s why
-  refused_in s c m of n call why here there not =
-      let in_node : WhyNotDoneAt o o.shape.shared_cells (Some c) n call why =
-      subst (λ (y : Option (Known V)). WhyNotDoneAt o o.shape.shared_cells y n call why) there not in
-      subst (λ (y : Site V). IsRefusedAt o y why) (sym here) (call, in_node)
+  pub refused_in : (s at : Site V) (call : Call) (why : Fault) → s ≡ at → WhyNotDoneAt o Owner at call why → IsRefusedAt o s why
+  refused_in s at call why here not = subst (λ (y : Site V). IsRefusedAt o y why) (sym here) (call, not)
 
   -- the children up to the one that was passed last, none of which is the node
   pub record Passed (parent node : Known V) (before : Option (Known V)) : Type 0 where
@@ -178,23 +136,22 @@ module _ {V : Type 0} (o : DeskNow V) where
   unlink_refused parent node before why passed (inr not) = passed_refused parent node before why passed not
 
   -- a pointer came into `up` of a node, or none
-  pub comes_up : (node : Known V) (of up : Option (Known V)) (n : ℕ) → of ≡ Some node
-      → StoredWeaklyAt o of (weak_cell_at o of n) up → ComesUp o node up
-  comes_up node of up n there is = subst (λ (y : Option (Known V)). StoredWeaklyAt o y (weak_cell_at o y n) up) there is
+  pub comes_up : (node : Known V) (at : Site V) (up : Option (Known V)) → at ≡ member_site node 0 → Stored o Weak at up
+      → ComesUp o node up
+  comes_up node at up there is = subst (λ (y : Site V). Stored o Weak y up) there is
 
-  pub up_refused : (node : Known V) (of : Option (Known V)) (n : ℕ) (call : Call) (why : Fault) → of ≡ Some node
-      → WhyNotDoneAt o o.shape.weak_cells of n call why → IsUpRefused o node why
-  up_refused node of n call why there not =
-      (call, subst (λ (y : Option (Known V)). WhyNotDoneAt o o.shape.weak_cells y n call why) there not)
+  pub up_refused : (node : Known V) (at : Site V) (call : Call) (why : Fault) → at ≡ member_site node 0
+      → WhyNotDoneAt o Weak at call why → IsUpRefused o node why
+  up_refused node at call why there not = (call, subst (λ (y : Site V). WhyNotDoneAt o Weak y call why) there not)
 
-  pub leaves : {A : Type 0} (node parent : Known V) (up of : Option (Known V)) (n : ℕ) (r : Result A Fault) → HasParent o node up
+  pub leaves : {A : Type 0} (node parent : Known V) (up : Option (Known V)) (at : Site V) (r : Result A Fault) → HasParent o node up
       → up ≡ Some parent → LeavesChildren o parent node ⊎ IsNoChild o parent node → Comes o (next_of node) None
-      → of ≡ Some node → OnOk r (StoredWeaklyAt o of (weak_cell_at o of n) None) → OnOk r (Detaches o node)
-  leaves node parent up of n (Err why) has some out next there is = tt
-  leaves node parent up of n (Ok done) has some out next there is = inl (record {
+      → at ≡ member_site node 0 → OnOk r (Stored o Weak at None) → OnOk r (Detaches o node)
+  leaves node parent up at (Err why) has some out next there is = tt
+  leaves node parent up at (Ok done) has some out next there is = inl (record {
     parent = parent;
     has = subst (HasParent o node) some has;
     out = out;
     next = next;
-    up = comes_up node of None n there is;
+    up = comes_up node at None there is;
   })

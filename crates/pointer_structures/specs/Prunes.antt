@@ -8,7 +8,7 @@ use Rattle.pointers.specs.ListChanges.{IsListRefused}
 use Rattle.pointers.specs.ListRemovals.{IsSifted, Sifted, next_if, outs}
 use Rattle.pointers.specs.Lists.{IsMemberRefused, Leads}
 use Rattle.pointers.specs.SiteCalls.{Loaded}
-use Rattle.pointers.specs.Sites.{Site, up_site}
+use Rattle.pointers.specs.Sites.{Site, member_site}
 use Rattle.pointers.specs.declared.fault.Fault.{Fault}
 use Rattle.pointers.specs.declared.fault.Fault.TheVariants.{Busy}
 use Rattle.pointers.specs.declared.fault.call.Call.TheVariants.{Expired}
@@ -17,7 +17,7 @@ use Rattle.pointers.specs.declared.known.Known.{Known}
 module _ {V : Type 0} (o : DeskNow V) where
   -- a copy of a node's weak pointer was that
   abbrev pub Watched : Known V → Option (Known V) → Type 0
-  Watched node w = Loaded o Weak (up_site node) w
+  Watched node w = Loaded o Weak (member_site node 0) w
 
   -- one look told whether the subject had an owner
   abbrev pub IsAlive : Known V → Bool → Type 0

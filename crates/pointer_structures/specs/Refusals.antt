@@ -1,11 +1,12 @@
 -- Why a call on a structure was not done (own).
 use Rattle.std.specs.Prelude.{◌⊎◌, Some}
+use Rattle.control_word.specs.declared.model.handle.Kind.TheVariants.{Weak}
 use Rattle.control_block.specs.Desks.{DeskNow}
-use Rattle.pointers.specs.Cells.{WhyNotDoneAt}
 use Rattle.pointers.specs.Faults.{WhyNoMore}
 use Rattle.pointers.specs.ListChanges.{IsListRefused, IsRefusedAt}
 use Rattle.pointers.specs.Lists.{next_of}
-use Rattle.pointers.specs.Sites.{Site}
+use Rattle.pointers.specs.Places.{WhyNotDoneAt}
+use Rattle.pointers.specs.Sites.{Site, member_site}
 use Rattle.pointers.specs.declared.fault.Fault.{Fault}
 use Rattle.pointers.specs.declared.fault.call.Call.{Call}
 use Rattle.pointers.specs.declared.fault.call.Call.TheVariants.{Downgrade, Share}
@@ -22,7 +23,7 @@ module _ {V : Type 0} (o : DeskNow V) where
 
   -- a call on the node's `up` was refused
   abbrev pub IsUpRefused : Known V → Fault → Type 0
-  IsUpRefused node why = (call : Call) × WhyNotDoneAt o o.shape.weak_cells (Some node) 0 call why
+  IsUpRefused node why = (call : Call) × WhyNotDoneAt o Weak (member_site node 0) call why
 
   -- there was no weak pointer to the node's object
   abbrev pub WhyNotWatched : Known V → Fault → Type 0

@@ -2,13 +2,12 @@
 -- is back to its parent.
 use Rattle.std.specs.Prelude.{◌≡◌, ◌⊎◌, All, List, Option, None, Some}
 use Rattle.control_block.specs.Desks.{DeskNow}
-use Rattle.atomic_cells.specs.declared.sites.SharedMember.TheVariants.{First}
 use Rattle.pointers.specs.Known.{AreOfOne, owned}
 use Rattle.pointers.specs.ListChanges.{Comes, IsPlaceOf, IsRefusedAt, Passes, Swaps}
 use Rattle.pointers.specs.ListRemovals.{IsOther}
 use Rattle.pointers.specs.Lists.{Leads, next_of}
 use Rattle.pointers.specs.SiteCalls.{Locked, WhyNotLocked}
-use Rattle.pointers.specs.Sites.{Site, member_site, up_site}
+use Rattle.pointers.specs.Sites.{Site, member_site}
 use Rattle.pointers.specs.declared.fault.Fault.{Fault}
 use Rattle.pointers.specs.declared.known.Known.{Known}
 use Rattle.pointer_structures.specs.Refusals.{IsChainRefused, IsUpRefused, WhyNotWatched}
@@ -18,11 +17,11 @@ use Rattle.pointer_structures.specs.Watches.{ComesUp}
 module _ {V : Type 0} where
   -- the place of a node's first child
   abbrev pub first_of : Known V → Site V
-  first_of c = member_site c First
+  first_of c = member_site c 0
 
   -- an owner of what the node's `up` is of, or none
   abbrev pub HasParent : DeskNow V → Known V → Option (Known V) → Type 0
-  HasParent o node parent = Locked o (up_site node) parent
+  HasParent o node parent = Locked o (member_site node 0) parent
 
   -- by one step what the node's `next` owned is in the place, which held this child
   abbrev pub Unlinks : DeskNow V → Site V → Known V → Known V → Type 0
@@ -64,7 +63,7 @@ module _ {V : Type 0} where
   -- refused
   abbrev pub WhyNotDetached : DeskNow V → Known V → Fault → Type 0
   WhyNotDetached o node why =
-      WhyNotLocked o (up_site node) why
+      WhyNotLocked o (member_site node 0) why
       ⊎ IsUpRefused o node why
       ⊎ ((parent : Known V) × HasParent o node (Some parent) × IsChildRefused o parent node why)
 

@@ -6,7 +6,7 @@ use Rattle.pointers.specs.Known.{AreOfOne}
 use Rattle.pointers.specs.ListChanges as list
 use Rattle.pointers.specs.Lists.{IsMemberRefused}
 use Rattle.pointers.specs.SiteCalls.{Stored}
-use Rattle.pointers.specs.Sites.{Site, up_site}
+use Rattle.pointers.specs.Sites.{Site, member_site}
 use Rattle.pointers.specs.declared.fault.Fault.{Fault}
 use Rattle.pointers.specs.declared.known.Known.{Known}
 use Rattle.pointer_structures.specs.Refusals.{WhyNotWatched}
@@ -14,7 +14,7 @@ use Rattle.pointer_structures.specs.Refusals.{WhyNotWatched}
 module _ {V : Type 0} (o : DeskNow V) where
   -- that pointer, or an empty one, came into the node's `up`
   abbrev pub ComesUp : Known V → Option (Known V) → Type 0
-  ComesUp node up = Stored o Weak (up_site node) up
+  ComesUp node up = Stored o Weak (member_site node 0) up
 
   -- a new node with this value that watches the subject came in front of the observers
   pub record Watches (s : Site V) (subject : Known V) (x : V) : Type 0 where

@@ -36,8 +36,7 @@ impl<'p, 't, D: Domain> Drop for Observers<'p, 't, D> {
 impl<'p, 't, D: Domain> Observers<'p, 't, D> {
     /// The observers whose first node a place owns.
     pub fn at(place: Member<'p, 't, D>) -> Observers<'p, 't, D>
-        ensures of { result.of ≡ place.entry.of }
-        ensures place { (result.which ≡ place.entry.which) × (result.number ≡ place.entry.number) }
+        ensures { result ≡ place.entry }
     {
         Observers {
             list: place.weak_list(),

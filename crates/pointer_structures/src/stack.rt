@@ -40,8 +40,7 @@ impl<'p, 't, D: Domain> Drop for Stack<'p, 't, D> {
 impl<'p, 't, D: Domain> Stack<'p, 't, D> {
     /// The stack whose top a place owns.
     pub fn at(top: Member<'p, 't, D>) -> Stack<'p, 't, D>
-        ensures of { result.of ≡ top.entry.of }
-        ensures place { (result.which ≡ top.entry.which) × (result.number ≡ top.entry.number) }
+        ensures { result ≡ top.entry }
     {
         Stack { place: top }
     }

@@ -163,11 +163,11 @@ const NOWHERE: [Row; 14] = [
     (Look(1, UseCount), Number(2)),
 ];
 
-const FIRST: Call = Call::CompareExchange(Spot::First);
+const FIRST: Call = Call::CompareExchange(Spot::Owner(0));
 
-const NEXT: Call = Call::CompareExchange(Spot::Next);
+const NEXT: Call = Call::CompareExchange(Spot::Owner(1));
 
-const UP: Call = Call::CompareExchange(Spot::Up);
+const UP: Call = Call::CompareExchange(Spot::WeakMember(0));
 
 #[test]
 fn a_pointer_to_nowhere_compares_no_members(rt: HostRuntime) {

@@ -46,7 +46,7 @@ const CROWD: [Row; 27] = [
     ),
     (
         Load(Cell::First(0), 20),
-        Not(Fault::Crowded(Call::Load(Spot::First))),
+        Not(Fault::Crowded(Call::Load(Spot::Owner(0)))),
     ),
     (Make(Enabled, 2, 20), Not(Fault::Crowded(Call::Make))),
     (Make(Null, 3, 20), Not(Fault::Crowded(Call::Make))),

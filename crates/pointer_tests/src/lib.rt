@@ -9,6 +9,10 @@ mod compares;
 mod crowds;
 #[cfg(test)]
 mod drops;
+pub mod handed_out;
+#[cfg(test)]
+mod hands;
+pub mod held;
 #[cfg(test)]
 mod keeping;
 #[cfg(test)]
@@ -17,6 +21,8 @@ mod looks;
 mod members;
 #[cfg(test)]
 mod memory;
+#[cfg(test)]
+mod numbers;
 #[cfg(test)]
 mod owners;
 pub mod places;

@@ -33,36 +33,36 @@ impl<R: Threads + Wait + Sync> Program<u64, R> for Owners {
         desk: &Desk<D>,
     ) -> Result<(), Fault> {
         let a = desk.make([1, 2, 0, 0], 1)?;
-        row(1, !desk.holds(CELL, &a)?)?;
+        row(1, !desk.holds(CELL, Some(&a))?)?;
         a.share()?.store(CELL)?;
-        row(2, desk.holds(CELL, &a)?)?;
+        row(2, desk.holds(CELL, Some(&a))?)?;
         if let Some(copy) = desk.load(rt, CELL)? {
-            row(3, desk.holds(CELL, &copy)?)?;
+            row(3, desk.holds(CELL, Some(&copy))?)?;
         }
-        row(4, desk.holds(CELL, &a)?)?;
+        row(4, desk.holds(CELL, Some(&a))?)?;
         let elsewhere = a.alias(second_field(a.place()))?;
-        row(5, !desk.holds(CELL, &elsewhere)?)?;
+        row(5, !desk.holds(CELL, Some(&elsewhere))?)?;
         let other = desk.make([1, 2, 0, 0], 2)?;
-        row(6, !desk.holds(CELL, &other)?)?;
+        row(6, !desk.holds(CELL, Some(&other))?)?;
         elsewhere.store(CELL)?;
-        row(7, !desk.holds(CELL, &a)?)?;
+        row(7, !desk.holds(CELL, Some(&a))?)?;
         desk.clear(CELL)?;
-        row(8, !desk.holds(CELL, &a)?)
+        row(8, !desk.holds(CELL, Some(&a))?)
     }
 }
 
 /// The members of an object.
 fn members<D: Domain<Value = u64>>(desk: &Desk<D>, whole: &Shared<D>) -> Result<(), Fault> {
     let part = desk.make([2; 4], 2)?;
-    row(1, !whole.first().holds(&part)?)?;
+    row(1, !whole.first().holds(Some(&part))?)?;
     whole.first().store(Some(part.share()?))?;
-    row(2, whole.first().holds(&part)?)?;
-    row(3, !whole.next().holds(&part)?)?;
-    row(4, !whole.first().holds(whole)?)?;
+    row(2, whole.first().holds(Some(&part))?)?;
+    row(3, !whole.next().holds(Some(&part))?)?;
+    row(4, !whole.first().holds(Some(whole))?)?;
     let weak = part.downgrade()?;
-    row(5, !whole.up().holds(&weak)?)?;
+    row(5, !whole.up().holds(Some(&weak))?)?;
     whole.up().store(Some(weak.share()?))?;
-    row(6, whole.up().holds(&weak)?)
+    row(6, whole.up().holds(Some(&weak))?)
 }
 
 /// Those, a free weak cell, and why there is no answer.
@@ -78,19 +78,19 @@ impl<R: Threads + Wait + Sync> Program<u64, R> for Places {
         let whole = desk.make([1; 4], 1)?;
         members(desk, &whole)?;
         let weak = whole.downgrade()?;
-        row(7, !desk.holds_weak(WATCHED, &weak)?)?;
+        row(7, !desk.holds_weak(WATCHED, Some(&weak))?)?;
         weak.share()?.store(WATCHED)?;
-        row(8, desk.holds_weak(WATCHED, &weak)?)?;
+        row(8, desk.holds_weak(WATCHED, Some(&weak))?)?;
         desk.clear_weak(WATCHED)?;
         let none = Fault::Cell(Call::Holds(Spot::Shared(2)));
-        row(9, desk.holds(SharedCell(2), &whole) == Err(none))?;
+        row(9, desk.holds(SharedCell(2), Some(&whole)) == Err(none))?;
         let none = Fault::Cell(Call::Holds(Spot::Weak(2)));
-        row(10, desk.holds_weak(WeakCell(2), &weak) == Err(none))?;
+        row(10, desk.holds_weak(WeakCell(2), Some(&weak)) == Err(none))?;
         let nowhere = whole.alias(None)?;
-        let null = Fault::Refused(Call::Holds(Spot::First), Refusal::Null);
-        row(11, nowhere.first().holds(&whole) == Err(null))?;
+        let null = Fault::Refused(Call::Holds(Spot::Owner(0)), Refusal::Null);
+        row(11, nowhere.first().holds(Some(&whole)) == Err(null))?;
         let busy = Fault::Busy(Call::Holds(Spot::Shared(0)));
-        let within = whole.visit(rt, |_| desk.holds(CELL, &whole))?;
+        let within = whole.visit(rt, |_| desk.holds(CELL, Some(&whole)))?;
         row(12, within == Err(busy))
     }
 }
@@ -154,10 +154,23 @@ impl<R: Threads + Wait + Sync> Program<u64, R> for Waits {
             Some(part) => row(2, part.read()? == 2)?,
             None => row(2, false)?,
         }
-        desk.wait_while(rt, CELL, &whole)?;
-        whole.first().wait_while(rt, &whole)?;
+        desk.wait_while(rt, CELL, Some(&whole))?;
+        whole.first().wait_while(rt, Some(&whole))?;
         let none = Fault::Cell(Call::Holds(Spot::Shared(2)));
-        row(3, desk.wait_while(rt, SharedCell(2), &whole) == Err(none))
+        row(
+            3,
+            desk.wait_while(rt, SharedCell(2), Some(&whole)) == Err(none),
+        )?;
+        row(4, desk.holds(CELL, None)?)?;
+        whole.share()?.store(CELL)?;
+        row(5, !desk.holds(CELL, None)?)?;
+        desk.wait_while(rt, CELL, None)?;
+        row(6, desk.holds_weak(WATCHED, None)?)?;
+        whole.downgrade()?.store(WATCHED)?;
+        desk.wait_while_weak(rt, WATCHED, None)?;
+        row(7, !desk.holds_weak(WATCHED, None)?)?;
+        desk.clear_weak(WATCHED)?;
+        desk.clear(CELL)
     }
 }
 

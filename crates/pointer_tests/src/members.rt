@@ -98,20 +98,20 @@ const NOWHERE: [Row; 8] = [
     (Come(0, Nowhere, 1), Done),
     (
         Load(Cell::Next(1), 2),
-        Not(Fault::Refused(Call::Load(Spot::Next), Refusal::Null)),
+        Not(Fault::Refused(Call::Load(Spot::Owner(1)), Refusal::Null)),
     ),
     (
         Clear(Cell::Up(1)),
-        Not(Fault::Refused(Call::Clear(Spot::Up), Refusal::Null)),
+        Not(Fault::Refused(Call::Clear(Spot::WeakMember(0)), Refusal::Null)),
     ),
     (
         Come(1, Parent, 2),
-        Not(Fault::Refused(Call::Load(Spot::Up), Refusal::Null)),
+        Not(Fault::Refused(Call::Load(Spot::WeakMember(0)), Refusal::Null)),
     ),
     (Make(Object, 7, 2), Done),
     (
         Store(2, Cell::First(1)),
-        Not(Fault::Refused(Call::Store(Spot::First), Refusal::Null)),
+        Not(Fault::Refused(Call::Store(Spot::Owner(0)), Refusal::Null)),
     ),
     (Ends, Number(7)),
 ];

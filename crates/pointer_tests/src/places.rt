@@ -1,7 +1,6 @@
 //! What callers of cells prove with no proof file.
 ghost use Rattle.std.specs.Prelude.{◌≡◌, IfOk, OnOk, Some, false};
 ghost use Rattle.control_word.specs.declared.model.handle.Kind.TheVariants.{Owner};
-ghost use Rattle.atomic_cells.specs.declared.sites.SharedMember.TheVariants.{First};
 ghost use Rattle.pointers.specs.SiteCalls.{Compared, Exchanged, Stored};
 ghost use Rattle.pointers.specs.Sites.{free_site, member_site};
 
@@ -10,9 +9,20 @@ use std::sync::Wait;
 
 /// A child is hung under its parent.
 pub fn hangs<'t, D: Domain>(parent: &Shared<'t, D>, child: Shared<'t, D>) -> Result<(), Fault>
-    ensures { OnOk result (Stored D.opened Owner (member_site parent.now First) (Some child.entry)) }
+    ensures { OnOk result (Stored D.opened Owner (member_site parent.now 0) (Some child.entry)) }
 {
     parent.first().store(Some(child))
+}
+
+/// A part goes into the place of its number.
+pub fn takes<'t, D: Domain>(
+    whole: &Shared<'t, D>,
+    number: u8,
+    part: Shared<'t, D>,
+) -> Result<(), Fault>
+    ensures { OnOk result (Stored D.opened Owner (member_site whole.now number) (Some part.entry)) }
+{
+    whole.owner(number).store(Some(part))
 }
 
 /// What was first goes, and another comes.

@@ -19,21 +19,40 @@ impl<R: Threads + Wait + Sync> Program<u64, R> for Idle {
     }
 }
 
-/// Blocks, shared cells, weak cells, allowance; workers, pointers; and why no program is run so.
-const ROWS: [([u32; 4], (usize, u32), &str); 9] = [
-    ([0, 0, 0, 9], (1, 4), "blocks 0, at least 1"),
-    ([65_536, 0, 0, 9], (1, 4), "blocks 65536, at most 65535"),
-    ([1, 300, 0, 9], (1, 4), "shared_cells 300, at most 256"),
-    ([1, 200, 57, 9], (1, 4), "weak_cells 57, at most 56"),
-    ([1, 0, 0, 0], (1, 4), "allowance 0, at least 1"),
+/// Blocks, shared cells, weak cells, allowance; members for owners and weak ones; workers, pointers; and why no program
+/// is run so.
+const ROWS: [([u32; 4], (u32, u32), (usize, u32), &str); 16] = [
+    ([0, 0, 0, 9], (2, 1), (1, 4), "blocks 0, at least 1"),
+    (
+        [65_536, 0, 0, 9],
+        (2, 1),
+        (1, 4),
+        "blocks 65536, at most 65535",
+    ),
+    ([1, 0, 0, 9], (1, 1), (1, 4), "owners 1, at least 2"),
+    ([1, 0, 0, 9], (9, 0), (1, 4), "owners 9, at most 8"),
+    ([1, 0, 0, 9], (2, 0), (1, 4), "weaks 0, at least 1"),
+    ([1, 0, 0, 9], (2, 8), (1, 4), "weaks 8, at most 7"),
+    ([1, 0, 0, 9], (8, 2), (1, 4), "weaks 2, at most 1"),
+    (
+        [1, 300, 0, 9],
+        (2, 1),
+        (1, 4),
+        "shared_cells 300, at most 256",
+    ),
+    ([1, 200, 57, 9], (2, 1), (1, 4), "weak_cells 57, at most 56"),
+    ([1, 0, 0, 0], (2, 1), (1, 4), "allowance 0, at least 1"),
     (
         [1, 0, 0, 4_194_305],
+        (2, 1),
         (1, 4),
         "allowance 4194305, at most 4194304",
     ),
-    ([1, 0, 0, 6], (1, 4), "allowance 6, at least 7"),
-    ([1, 0, 0, 18], (3, 4), "allowance 18, at least 19"),
-    ([65_535, 256, 0, 7], (1, 4), ""),
+    ([1, 0, 0, 6], (2, 1), (1, 4), "allowance 6, at least 7"),
+    ([1, 0, 0, 18], (2, 1), (3, 4), "allowance 18, at least 19"),
+    ([65_535, 256, 0, 7], (2, 1), (1, 4), ""),
+    ([1, 0, 0, 7], (8, 1), (1, 4), ""),
+    ([1, 0, 0, 7], (2, 7), (1, 4), ""),
 ];
 
 /// Why the program is not run, or nothing where it is.
@@ -41,11 +60,14 @@ fn why_not<R: Threads + Wait + Sync>(
     rt: &R,
     alloc: Global,
     shape: [u32; 4],
+    (owners, weaks): (u32, u32),
     team: (usize, u32),
 ) -> Result<String, Fault> {
     let [blocks, shared_cells, weak_cells, allowance] = shape;
     let shape = Shape {
         blocks,
+        owners,
+        weaks,
         shared_cells,
         weak_cells,
         allowance,
@@ -63,8 +85,8 @@ mod tests {
 
     #[test]
     fn a_number_that_does_not_fit_is_told(rt: HostRuntime) {
-        for (shape, team, wanted) in &ROWS {
-            match why_not(&rt, rt.alloc(), *shape, *team) {
+        for (shape, members, team, wanted) in &ROWS {
+            match why_not(&rt, rt.alloc(), *shape, *members, *team) {
                 Ok(why) => assert_eq!(rt; why.as_str(), *wanted),
                 Err(why) => panic!(rt; "{why}"),
             }

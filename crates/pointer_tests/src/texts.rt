@@ -4,7 +4,7 @@ use pointers::{Call, Fault, Refusal, Spot};
 use std::alloc::Global;
 
 /// Faults, and their texts.
-const ROWS: [(Fault, &str); 13] = [
+const ROWS: [(Fault, &str); 15] = [
     (Fault::Busy(Call::Read), "read: busy, within a visit"),
     (
         Fault::Crowded(Call::Share),
@@ -18,17 +18,25 @@ const ROWS: [(Fault, &str); 13] = [
         Fault::Cell(Call::Store(Spot::Weak(7))),
         "store of weak cell 7: no such cell",
     ),
+    (
+        Fault::Member(Call::Load(Spot::Owner(9))),
+        "load of owner 9: no such member",
+    ),
+    (
+        Fault::Member(Call::Exchange(Spot::WeakMember(2))),
+        "exchange of weak 2: no such member",
+    ),
     (Fault::Place(Call::Alias), "alias: no such place"),
     (
-        Fault::Refused(Call::Exchange(Spot::First), Refusal::Null),
+        Fault::Refused(Call::Exchange(Spot::Owner(0)), Refusal::Null),
         "exchange of member first: null",
     ),
     (
-        Fault::Refused(Call::Clear(Spot::Next), Refusal::Outside),
+        Fault::Refused(Call::Clear(Spot::Owner(1)), Refusal::Outside),
         "clear of member next: outside",
     ),
     (
-        Fault::Refused(Call::CompareExchange(Spot::Up), Refusal::Limit),
+        Fault::Refused(Call::CompareExchange(Spot::WeakMember(0)), Refusal::Limit),
         "compare_exchange of member up: limit",
     ),
     (Fault::Refused(Call::Make, Refusal::Full), "make: full"),

@@ -85,11 +85,11 @@ const PLACES: [Row; 19] = [
     (Take(FREE, 3), Not(Fault::Busy(Call::Exchange(SHARED)))),
     (
         Load(Cell::First(0), 3),
-        Not(Fault::Busy(Call::Load(Spot::First))),
+        Not(Fault::Busy(Call::Load(Spot::Owner(0)))),
     ),
     (
         Exchange(9, Cell::Next(0)),
-        Not(Fault::Busy(Call::Exchange(Spot::Next))),
+        Not(Fault::Busy(Call::Exchange(Spot::Owner(1)))),
     ),
     (Load(WATCHED, 13), Not(Fault::Busy(Call::Load(WEAK)))),
     (Lock(WATCHED, 3), Not(Fault::Busy(Call::Load(WEAK)))),
@@ -98,7 +98,7 @@ const PLACES: [Row; 19] = [
     (Take(WATCHED, 13), Not(Fault::Busy(Call::Exchange(WEAK)))),
     (
         Take(Cell::Up(0), 13),
-        Not(Fault::Busy(Call::Exchange(Spot::Up))),
+        Not(Fault::Busy(Call::Exchange(Spot::WeakMember(0)))),
     ),
     (Store(10, WATCHED), Not(Fault::Busy(Call::Store(WEAK)))),
     (Drop(10), Nothing),

@@ -1,5 +1,5 @@
 -- What the records of calls say of a desk's history: it goes on.
-use Rattle.std.proofs.Common.{◌≡◌, ℕ, ◌+◌, ◌-◌, Bool, ◌⊎◌, List, Some, None, Ok, Err, Option}
+use Rattle.std.proofs.Common.{◌≡◌, ℕ, ◌+◌, ◌-◌, Bool, false, ◌⊎◌, List, Some, None, Ok, Err, Option}
 use Rattle.std.proofs.Common.{Result, sym, refl, ap, subst, inl, inr}
 use Rattle.pointers.proofs.Prelude
 use Prelude.{allowance_of, BadWeak, Block, counting, DeskNow, Drops, Ending, Event, Goes, Gone}
@@ -9,6 +9,7 @@ use Rattle.control_block.specs.Own.{KeepsLatest}
 use Rattle.shared_handle.specs.Calls.{Makes, SharesOwner, SharesWeakly, weak_place}
 use Rattle.control_word.specs.declared.refusal.Refusal.TheVariants.{Outside}
 use Rattle.shared_handle.specs.Endings.{IsLeft}
+use Rattle.shared_handle.specs.Locks.{IsLockBy}
 use Rattle.shared_handle.specs.declared.endings.Left.TheVariants.{Empty, Last, Others}
 use Rattle.pointers.proofs.Later.{by_count, by_event, by_none, goes_by}
 use Rattle.pointers.specs.Known.{IsAtAllowance}
@@ -54,6 +55,14 @@ module _ {V : Type 0} where
       → (h.block ≡ b) × (h.place ≡ p)
   upgraded d None p h e is = absurd is
   upgraded d (Some b) p h e is = (is.1, is.2)
+
+  pub by_lock : (d : DeskNow V) (b : Option Block) (p : Option Place) (got : Bool) (e : DeskNow V) → IsLockBy d b p got e → Later d e
+  by_lock d None p got e is = absurd is
+  by_lock d (Some b) p got e is = by_event d _ e is.0
+
+  pub locked_none : (d : DeskNow V) (b : Option Block) (p : Option Place) (e : DeskNow V) → IsLockBy d b p false e → FindsNoOwner d b p e
+  locked_none d None p e is = absurd is
+  locked_none d (Some b) p e is = is
 
   pub by_make : (d : DeskNow V) (enabled null : Bool) (fields : List ℕ) (x : V) (b : Option Block) (p : Option Place) (e : DeskNow V)
       → Makes d enabled null fields x b p e → Later d e

@@ -32,7 +32,7 @@ use Rattle.pointers.specs.Cells.{
   IsWeakSite,
   LoadedAt,
   OwnsBlock,
-  StoredAt,
+  StoredTold,
   StoredWeaklyAt,
   block_by,
   place_by,
@@ -63,12 +63,22 @@ module _ {V : Type 0} where
   open_shared o d p hs cs (shared.Free n) of w is has = subst (λ (k : Shape). n < k.shared_cells) (sym w.opened.same.1) is
   open_shared o d p hs cs (shared.Of b m) None w is has = absurd is
   open_shared o d p hs cs (shared.Of b m) (Some c) w is has = owner_of d c.handle b is (has_beside o d p hs cs has.0 c w has.1)
+  open_shared o d p hs cs (shared.More b n) None w is has = absurd is
+  open_shared o d p hs cs (shared.More b n) (Some c) w is has = (
+    owner_of d c.handle b is.0 (has_beside o d p hs cs has.0 c w has.1),
+    subst (λ (k : Shape). n + 2 < k.owners) (sym w.opened.same.1) is.1,
+  )
 
   pub open_weak : (o d : DeskNow V) (p : Pile V) (hs : List Held) (cs : List (Option (Known V))) (s : WeakSite) (of : Option (Known V))
       → IsWholeBeside o d p hs cs → IsWeakSite o s of → IsClaimed cs of → IsOpenWeakly d s
   open_weak o d p hs cs (weak.Free n) of w is has = subst (λ (k : Shape). n < k.weak_cells) (sym w.opened.same.1) is
   open_weak o d p hs cs (weak.Up b) None w is has = absurd is
   open_weak o d p hs cs (weak.Up b) (Some c) w is has = owner_of d c.handle b is (has_beside o d p hs cs has.0 c w has.1)
+  open_weak o d p hs cs (weak.More b n) None w is has = absurd is
+  open_weak o d p hs cs (weak.More b n) (Some c) w is has = (
+    owner_of d c.handle b is.0 (has_beside o d p hs cs has.0 c w has.1),
+    subst (λ (k : Shape). n + 1 < k.weaks) (sym w.opened.same.1) is.1,
+  )
 
   -- it is the same cell at any time
   pub shared_alike : (o d : DeskNow V) (s : SharedSite) (of : Option (Known V)) → Stays o of d → IsSharedSite o s of
@@ -77,6 +87,9 @@ module _ {V : Type 0} where
   shared_alike o d (shared.Of b m) None stays is = absurd is
   shared_alike o d (shared.Of b m) (Some c) stays is =
       ap (λ (n : ℕ). cell.Member n (number_of_member m)) (object_of (desk_at o c) d c.handle b is stays.object)
+  shared_alike o d (shared.More b m) None stays is = absurd is
+  shared_alike o d (shared.More b m) (Some c) stays is =
+      ap (λ (n : ℕ). cell.Member n (3 + m)) (object_of (desk_at o c) d c.handle b is.0 stays.object)
 
   pub weak_alike : (o d : DeskNow V) (s : WeakSite) (of : Option (Known V)) → Stays o of d → IsWeakSite o s of
       → weak_cell d s ≡ weak_cell_of o of s
@@ -85,6 +98,10 @@ module _ {V : Type 0} where
   weak_alike o d (weak.Up b) None stays is = absurd is
   weak_alike o d (weak.Up b) (Some c) stays is =
       ap (λ (n : ℕ). cell.Member n 2) (object_of (desk_at o c) d c.handle b is stays.object)
+  weak_alike o d (weak.More b m) None stays is = absurd is
+  weak_alike o d (weak.More b m) (Some c) stays is =
+      let same = object_of (desk_at o c) d c.handle b is.0 stays.object in
+      λ i. cell.Member (same i) ((stays.goes.same.1 i).owners + 1 + m)
 
   -- what arrived, by what is known of it
   pub block_arrived : (h : Held) (e : DeskNow V) (got : Option (Known V)) → Arrives h e got → block_of h ≡ block_by got
@@ -145,23 +162,24 @@ module _ {V : Type 0} where
 
   pub stored : (o d e : DeskNow V) (of : Option (Known V)) (x y : Cell) (h : Held) (new : Option (Known V)) (left : Left V) (gone : Gone)
       → Stays o of d → Stays o new d → y ≡ x → IsHandleOf new h → Stores d y (block_of h) (place_of h) left e → gone ≡ gone_of left
-      → StoredAt o of x new gone
-  stored o d e of x y h new left gone stays pointer same given s told =
-      record {
-        before = d;
-        after = e;
-        left = left;
-        member = stays;
-        pointer = pointer;
-        stores = record {
-          block = s.block;
-          place = s.place;
-          between = s.between;
-          exchanges = exchanges_by d s.between x y Owner h new s.block s.place same given s.exchanges;
-          leaves = s.leaves;
-        };
-        told = told;
-      }
+      → StoredTold o of x new gone
+  stored o d e of x y h new left gone stays pointer same given s told = (
+    record {
+      before = d;
+      after = e;
+      left = left;
+      member = stays;
+      pointer = pointer;
+      stores = record {
+        block = s.block;
+        place = s.place;
+        between = s.between;
+        exchanges = exchanges_by d s.between x y Owner h new s.block s.place same given s.exchanges;
+        leaves = s.leaves;
+      };
+    },
+    told,
+  )
 
   pub stored_weakly : (o d e : DeskNow V) (of : Option (Known V)) (x y : Cell) (h : Held) (new : Option (Known V)) (left : Left V)
       → Stays o of d → Stays o new d → y ≡ x → IsHandleOf new h → StoresWeakly d y (block_of h) (place_of h) left e → StoredWeaklyAt o of x new

@@ -3,14 +3,14 @@ use Rattle.std.proofs.Common.{◌≡◌, ℕ, ◌+◌, ◌≤◌, ◌⊎◌, Lis
 use Rattle.std.proofs.Common.{Some, None, Option, vec_capacity, sym, refl, ap, ◌∙◌, subst, inl, inr}
 use Rattle.pointers.proofs.Prelude
 use Prelude.{AllLive, bag_of, Bears, bears_after, bears_kept, Belongs, Block, block_of, Carries}
-use Prelude.{counting, DeskNow, domain_of, DomainNow, endings_of, Has, Held, holds_each}
+use Prelude.{allowance_of, counting, DeskNow, domain_of, DomainNow, endings_of, Event, Goes, Has, Held, holds_each}
 use Prelude.{holds_in_order, holds_less, holds_more, IsHeldByDesk, IsWhole, IsWholeBeside, Keeps}
 use Prelude.{KeepsElsewhere, Known, known_now, Later, Lives, living, NumberedHandle, Owner, Pile}
-use Prelude.{Standing, Weak, with_handle, with_held, without_held}
+use Prelude.{IsLegal, opening_of, Shape, Standing, Weak, with_handle, with_held, without_held}
 use Rattle.control_block.specs.declared.handles.Held.TheVariants as held
 use Rattle.control_block.specs.Desks.{IsSameDesk, KeepsEndings}
 use Rattle.control_block.specs.Own.{KeepsHeld}
-use Rattle.pointers.proofs.Later.{by_count, goes_then, legal_on, lives_on, lives_still}
+use Rattle.pointers.proofs.Later.{by_count, goes_by, goes_then, legal_on, lives_on, lives_still}
 use Rattle.pointers.proofs.Living.{held_of, lived, one_less, one_more, same_some, stands_behind}
 use Rattle.pointers.proofs.Swaps.{holds_swapped}
 use Rattle.pointers.proofs.Wholes.{came}
@@ -138,6 +138,24 @@ module _ {V : Type 0} where
             (holds_each e c.handle (hs ++ living cs) holds (has_behind c.handle hs (living cs) (held_of cs i c at)));
       }
 
+  -- the same by its own events
+  pub leaves_by : {own : List (Event V)} (o d e : DeskNow V) (p q : Pile V) (h : Held) (hs : List Held) (cs : List (Option (Known V)))
+      → IsWholeBeside o d p (h ∷ hs) cs → Goes d own e → allowance_of e ≡ allowance_of d → KeepsHeld d e → Bears (domain_of o) e q
+      → bag_of e ≡ without_held h (bag_of d) → e.held + 1 ≡ d.held → IsWholeBeside o e q hs cs
+  leaves_by {own} o d e p q h hs cs w goes allowance still bears bag held =
+      let on = goes_by d own e goes in let holds = holds_less d e h (hs ++ living cs) w.holds bag held in
+      record {
+        opened = goes_then o d e w.opened on;
+        legal = subst (λ (k : Shape). IsLegal (opening_of k) e.seen) w.opened.same.1
+            (goes.legal (subst (λ (k : Shape). IsLegal (opening_of k) d.seen) (sym w.opened.same.1) w.legal));
+        allowance = allowance ∙ w.allowance;
+        bears = bears;
+        holds = holds;
+        lives = λ i c at.
+            lives_still o c d e (w.lives i c at) on still
+            (holds_each e c.handle (hs ++ living cs) holds (has_behind c.handle hs (living cs) (held_of cs i c at)));
+      }
+
   -- what ends is on the pile
   pub bears_on : (o d e : DeskNow V) (p : Pile V) (hs : List Held) (cs : List (Option (Known V))) → IsWholeBeside o d p hs cs → Keeps d e
       → Bears (domain_of o) e p
@@ -160,6 +178,7 @@ module _ {V : Type 0} where
       (comes o d c p p h hs cs w stands (by_count d (d.held + 1))
       (bears_kept (domain_of o) d c p w.bears refl refl (λ b x ends. record {
         ends = record { phase = ends.phase; kept = ends.kept };
+        shape = refl;
         members = λ m. refl;
       }) refl)
       (sym (empty_bag h (bag_of d) none)) refl)

@@ -4,14 +4,14 @@ use Rattle.std.specs.Prelude.{IfErr, IfOk, IfSome, IsFalse, IsSomeAnd, IsTrue, O
 use Rattle.std.specs.Prelude.{List, [], ◌∷◌, ◌++◌, Option, None, Some, is_some, Result, Ok, Err}
 use Rattle.pointers.proofs.Prelude.{DeskNow, Fault, Known, Owner}
 use Rattle.pointers.proofs.Walks.{walks_on}
-use Rattle.pointers.specs.Cells.{shared_cell_at}
 use Rattle.pointers.specs.Compares.{ComparedAt}
 use Rattle.pointers.specs.Faults.{WhyNoMore}
 use Rattle.pointers.specs.ListChanges.{Appends, Comes, Follows, Heads, IsLast, IsListRefused, IsNode}
 use Rattle.pointers.specs.ListChanges.{IsNodeRefused, IsPlaceOf, IsRefusedAt, Passes, Pops, Swaps}
 use Rattle.pointers.specs.ListChanges.{Tells, WhyNotPushed}
 use Rattle.pointers.specs.Lists.{IsBrokenOff, Leads, Walks, WhyNotLed, behind, next_of}
-use Rattle.pointers.specs.Sites.{Site}
+use Rattle.pointers.specs.Places.{cell_at}
+use Rattle.pointers.specs.Sites.{Site, owner_of}
 use Rattle.pointers.specs.Lists.{somes}
 use Rattle.pointers.specs.Objects.{MakesPlain}
 use Rattle.pointers.specs.declared.fault.call.Call.TheVariants.{Share}
@@ -166,21 +166,21 @@ module _ {V E : Type 0} (o : DeskNow V) (Copied : Known V → Option E → Type 
 module _ {V : Type 0} (o : DeskNow V) where
   -- what a compare says of a swap
   pub swaps_of : (s : Site V) (weak : Bool) (hoped new hoped' new' : Option (Known V)) (r : Result Bool Fault)
-      → IfOk r (λ (b : Bool). ComparedAt o s.of (shared_cell_at o s.of s.which s.number) Owner weak hoped new b hoped' new')
+      → IfOk r (λ (b : Bool). ComparedAt o (owner_of s) (cell_at o Owner s) Owner weak hoped new b hoped' new')
       → IfOk r (λ (b : Bool). IsTrue b → Swaps o s hoped new)
   swaps_of s weak hoped new hoped' new' (Ok true) is = λ did. (weak, is.0)
   swaps_of s weak hoped new hoped' new' (Ok false) is = λ did. absurd (cc did)
   swaps_of s weak hoped new hoped' new' (Err why) is = tt
 
   pub stays_of : (s : Site V) (weak : Bool) (hoped new hoped' new' : Option (Known V)) (r : Result Bool Fault)
-      → IfOk r (λ (b : Bool). ComparedAt o s.of (shared_cell_at o s.of s.which s.number) Owner weak hoped new b hoped' new')
+      → IfOk r (λ (b : Bool). ComparedAt o (owner_of s) (cell_at o Owner s) Owner weak hoped new b hoped' new')
       → IfOk r (λ (b : Bool). IsFalse b → new' ≡ new)
   stays_of s weak hoped new hoped' new' (Ok true) is = λ did. absurd (cc did)
   stays_of s weak hoped new hoped' new' (Ok false) is = λ did. is.1
   stays_of s weak hoped new hoped' new' (Err why) is = tt
 
   pub told_by : (s : Site V) (weak : Bool) (hoped new hoped' new' : Option (Known V)) (r : Result Bool Fault)
-      → IfOk r (λ (b : Bool). ComparedAt o s.of (shared_cell_at o s.of s.which s.number) Owner weak hoped new b hoped' new')
+      → IfOk r (λ (b : Bool). ComparedAt o (owner_of s) (cell_at o Owner s) Owner weak hoped new b hoped' new')
       → IfOk r (λ (b : Bool). IsFalse b → Tells o s hoped')
   told_by s weak hoped new hoped' new' (Ok true) is = λ did. absurd (cc did)
   told_by s weak hoped new hoped' new' (Ok false) is = λ did. inr (weak, hoped, new, is.0)

@@ -15,10 +15,12 @@ use Rattle.pointers.specs.Objects.{CameBy, Makes, MakesNull}
 module _ {V : Type 0} where
   -- the object in a block that was made by the newest event
   made_here : (k : Shape) (d : ℕ) (h : List (Entry V)) (b : Block) (enabled null : Bool) (fields : List ℕ) (x : V)
-      → let s = leads (opening_of k) (entry d (Make b enabled null fields x) ∷ h) in s.object (s.latest b.0) ≡ new_object b.0 enabled null fields
+      → let s = leads (opening_of k) (entry d (Make b enabled null fields x) ∷ h) in s.object (s.latest b.0)
+      ≡ new_object (leads (opening_of k) h).owners b.0 enabled null fields
   made_here k d h b enabled null fields x =
       let s = leads (opening_of k) h in
-      put_same s.object (suc s.made) (new_object b.0 enabled null fields) ((leads (opening_of k) (entry d (Make b enabled null fields x) ∷ h)).latest b.0)
+      put_same s.object (suc s.made) (new_object s.owners b.0 enabled null fields)
+      ((leads (opening_of k) (entry d (Make b enabled null fields x) ∷ h)).latest b.0)
       (put_same s.latest b.0 (suc s.made) b.0 refl)
 
   fields_made : (o d e : DeskNow V) (b : Block) (enabled null : Bool) (fields : List ℕ) (x : V) → GoesOn o e

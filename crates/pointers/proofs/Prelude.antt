@@ -56,7 +56,6 @@ pub use Rattle.pointers.specs.Known.{KeepsObject, known_now, Later, Lives, livin
 pub use Rattle.pointers.specs.Known.{pointed, Since}
 pub use Rattle.pointers.specs.Leading.{AreTeams, Led, led_by, Stay}
 pub use Rattle.pointers.specs.Lists.{WhyEnded}
-pub use Rattle.pointers.specs.Sites.{site}
 pub use Rattle.pointers.specs.Objects.{IsField}
 pub use Rattle.pointers.specs.Pools.{cells_from}
 pub use Rattle.pointers.specs.Programs.{Answer, EachWorked, faults_from, IsOpened, Lends}

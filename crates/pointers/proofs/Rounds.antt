@@ -3,10 +3,9 @@ use Rattle.std.proofs.Common.{◌≡◌, ℕ, List, [], ◌∷◌, Some, Option,
 use Rattle.pointers.proofs.Prelude.{bag_of, Block, ClearMember, DeskNow, Ending, handle, handle_in}
 use Rattle.pointers.proofs.Prelude.{Has, Kind, Later, latest_of, Left, Owner, Place, Weak}
 use Rattle.control_block.specs.Clearing.{TakesOut}
-use Rattle.shared_handle.specs.Endings.{IsClearing}
+use Rattle.control_word.specs.State.{kind_of_member}
+use Rattle.shared_handle.specs.Endings.{ClearsOf, IsClearing}
 use Rattle.shared_handle.specs.Piles.{AreRounds, IsRound, Past}
-use Rattle.shared_handle.specs.declared.endings.Member.{Member}
-use Rattle.shared_handle.specs.declared.endings.Member.TheVariants.{First, Next, Up}
 use Rattle.shared_handle.specs.declared.pile.Round.{Round}
 use Rattle.shared_handle.specs.declared.pile.Round.TheVariants.{Cleared, Ended, Settled}
 use Rattle.pointers.proofs.Calls.{by_left, by_weak_leave}
@@ -21,16 +20,17 @@ module _ {V : Type 0} where
       later_then d m e (handle_on d x m (λ s n y has. has_cleared (latest_of d b) i (handle_in m k c p) s n y has) takes.event)
       (by_event d x m takes.event) left
 
-  clearing : (d : DeskNow V) (x : Ending V) (m : Member) (left : Left V) (e : DeskNow V) → IsClearing d x m left e → Later d e
-  clearing d x First left e is =
-      let c = is.0 in cleared d c.between e x.block.0 0 Owner c.block c.place c.takes (by_left c.between c.block c.place left e c.leaves)
-  clearing d x Next left e is =
-      let c = is.0 in cleared d c.between e x.block.0 1 Owner c.block c.place c.takes (by_left c.between c.block c.place left e c.leaves)
-  clearing d x Up left e c = cleared d c.between e x.block.0 2 Weak c.block c.place c.takes (by_weak_leave c.between c.block c.place c.vacant e c.leaves)
+  of_kind : (k : Kind) (d : DeskNow V) (x : Ending V) (m : ℕ) (left : Left V) (e : DeskNow V) → ClearsOf k d x m left e → Later d e
+  of_kind Owner d x m left e is =
+      let c = is.0 in cleared d c.between e x.block.0 m Owner c.block c.place c.takes (by_left c.between c.block c.place left e c.leaves)
+  of_kind Weak d x m left e c = cleared d c.between e x.block.0 m Weak c.block c.place c.takes (by_weak_leave c.between c.block c.place c.vacant e c.leaves)
+
+  pub clearing : (d : DeskNow V) (x : Ending V) (left : Left V) (e : DeskNow V) → IsClearing d x left e → Later d e
+  clearing d x left e is = of_kind (kind_of_member d.shape.owners x.cleared) d x x.cleared left e is
 
   round : (d : DeskNow V) (ys : List (Ending V)) (r : Round V) (e : DeskNow V) (zs : List (Ending V)) → IsRound d ys r e zs → Later d e
   round d ys Settled e zs is = subst (Later d) (sym is.2) (by_none d)
-  round d ys (Cleared m gone) e zs is = clearing d is.top m is.left e is.clears
+  round d ys (Cleared m gone) e zs is = clearing d is.top is.left e is.clears
   round d ys (Ended v) e zs is = by_event d _ e is.finish.event
 
   bag_kept : (d : DeskNow V) (ys : List (Ending V)) (r : Round V) (e : DeskNow V) (zs : List (Ending V)) → IsRound d ys r e zs → bag_of e ≡ bag_of d

@@ -88,6 +88,12 @@ module _ {V : Type 0} where
     pub object : object o b ≡ object o a
     pub fields : fields o b ≡ fields o a
 
+  -- a copy of a pointer that may be empty: of the same object, and it points where this function tells
+  abbrev pub IsCopyOf : DeskNow V → (Known V → Option Place) → Option (Known V) → Option (Known V) → Type 0
+  IsCopyOf o place None None = Unit {0}
+  IsCopyOf o place (Some a) (Some b) = AreOfOne o a b × (pointed b ≡ place a)
+  IsCopyOf o place _ _ = ⊥
+
   -- since the handle came, and while the desk held it, the desk did this: it was one desk, and became the other
   pub record Since (o : DeskNow V) (c : Known V) (Does : DeskNow V → DeskNow V → Type 0) : Type 0 where
     pub before : DeskNow V

@@ -1,3 +1,6 @@
+pub mod Alone
+pub mod Counts
+pub mod HandCalls
 pub mod Known
 pub mod Claims
 pub mod Whole
@@ -7,6 +10,7 @@ pub mod Beside
 pub mod Cells
 pub mod Compares
 pub mod Values
+pub mod Ends
 pub mod Faults
 pub mod Shares
 pub mod Programs
@@ -14,6 +18,7 @@ pub mod Teams
 pub mod Staffs
 pub mod Leading
 pub mod Sites
+pub mod Places
 pub mod SiteCalls
 pub mod Lists
 pub mod ListChanges

@@ -2,13 +2,13 @@
 use Rattle.std.specs.Prelude.{◌≡◌, ◌⊎◌, Bool, List, [], ◌∷◌, Option, None, Some}
 use Rattle.control_word.specs.declared.model.handle.Kind.TheVariants.{Owner}
 use Rattle.control_block.specs.Desks.{DeskNow}
-use Rattle.pointers.specs.Cells.{WhyNotDoneAt, shared_cell_at}
 use Rattle.pointers.specs.SiteCalls.{Stored}
 use Rattle.pointers.specs.Compares.{Finds, Shows}
 use Rattle.pointers.specs.Faults.{WhyNoMore, WhyNotMade}
 use Rattle.pointers.specs.Known.{AreOfOne, pointed}
 use Rattle.pointers.specs.Lists.{Leads, behind, next_of}
-use Rattle.pointers.specs.Sites.{Site}
+use Rattle.pointers.specs.Places.{WhyNotDoneAt, cell_at}
+use Rattle.pointers.specs.Sites.{Site, owner_of}
 use Rattle.pointers.specs.Objects.{MakesPlain}
 use Rattle.pointers.specs.declared.fault.Fault.{Fault}
 use Rattle.pointers.specs.declared.fault.call.Call.{Call}
@@ -19,7 +19,7 @@ module _ {V : Type 0} where
   -- by one step, what the place held was this pointer, or an empty one, and is that one since
   abbrev pub Swaps : DeskNow V → Site V → Option (Known V) → Option (Known V) → Type 0
   Swaps o s hoped new =
-      (weak : Bool) × Finds o s.of (shared_cell_at o s.of s.which s.number) Owner weak hoped new None
+      (weak : Bool) × Finds o (owner_of s) (cell_at o Owner s) Owner weak hoped new None
 
   -- that pointer, or an empty one, came into the place, whatever it held
   abbrev pub Comes : DeskNow V → Site V → Option (Known V) → Type 0
@@ -47,7 +47,7 @@ module _ {V : Type 0} where
 
   -- the place held that, as a load told, or a compare that differed
   abbrev pub Tells : DeskNow V → Site V → Option (Known V) → Type 0
-  Tells o s got = Shows o s.of (shared_cell_at o s.of s.which s.number) got
+  Tells o s got = Shows o (owner_of s) (cell_at o Owner s) got
 
   -- a place of the list: its own, or the one behind a node to which a walk came
   abbrev pub IsPlaceOf : DeskNow V → Site V → Site V → Type 0
@@ -60,7 +60,7 @@ module _ {V : Type 0} where
 
   -- why a call on a place was refused
   abbrev pub IsRefusedAt : DeskNow V → Site V → Fault → Type 0
-  IsRefusedAt o s why = (call : Call) × WhyNotDoneAt o o.shape.shared_cells s.of s.number call why
+  IsRefusedAt o s why = (call : Call) × WhyNotDoneAt o Owner s call why
 
 module _ {V : Type 0} (o : DeskNow V) (Refused : Known V → Fault → Type 0) where
   -- why a call on a node was refused: on its element, or one for an owner more of it

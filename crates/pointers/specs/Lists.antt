@@ -4,8 +4,8 @@ use Rattle.std.specs.Fn.{CalledAt, Mut}
 use denote.Ref.{Bor}
 use Rattle.control_word.specs.declared.model.handle.Kind.TheVariants.{Owner}
 use Rattle.control_block.specs.Desks.{DeskNow}
-use Rattle.atomic_cells.specs.declared.sites.SharedMember.TheVariants.{Next}
-use Rattle.pointers.specs.Cells.{WhyNotDoneAt}
+use Rattle.pointers.specs.Faults.{WhyNoMore}
+use Rattle.pointers.specs.Places.{WhyNoMember}
 use Rattle.pointers.specs.SiteCalls.{Loaded, WhyNotDone}
 use Rattle.pointers.specs.Sites.{Site, member_site}
 use Rattle.pointers.specs.declared.fault.Fault.{Fault}
@@ -16,7 +16,7 @@ use Rattle.pointers.specs.declared.known.Known.{Known}
 module _ {V : Type 0} where
   -- the place behind a node
   abbrev pub next_of : Known V → Site V
-  next_of c = member_site c Next
+  next_of c = member_site c 1
 
   -- the same, or this one where there is no node
   abbrev pub behind : Option (Known V) → Site V → Site V
@@ -33,7 +33,7 @@ module _ {V : Type 0} where
 
   -- why a call on a member of a node was refused
   abbrev pub IsMemberRefused : DeskNow V → Known V → Fault → Type 0
-  IsMemberRefused o c why = (call : Call) × WhyNotDoneAt o 0 (Some c) 0 call why
+  IsMemberRefused o c why = (call : Call) × (WhyNoMember c call why ⊎ WhyNoMore o (Some c) call why)
 
 -- how many elements there are
 abbrev pub somes : {E : Type 0} → List (Option E) → ℕ

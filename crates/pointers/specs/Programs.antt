@@ -16,7 +16,7 @@ use Rattle.pointers.specs.declared.program.team.Team.{Team}
 abbrev pub no_desk : {V : Type 0} → DeskNow V
 no_desk = record {
   domain = record { words = 0; slots = 0; views_name = 0; atom = 0; block = 0; offset = 0; slot_names = [] };
-  shape = record { blocks = 0; shared_cells = 0; weak_cells = 0; allowance = 0 };
+  shape = record { blocks = 0; owners = 0; weaks = 0; shared_cells = 0; weak_cells = 0; allowance = 0 };
   name = 0;
   seen = [];
   held = 0;

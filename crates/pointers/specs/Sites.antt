@@ -1,31 +1,30 @@
 -- Cells, as calls on them see them ([util.smartptr.atomic.shared], [util.smartptr.atomic.weak]).
 use Rattle.std.specs.Prelude.{ℕ, Option, None, Some}
-use Rattle.atomic_cells.specs.declared.sites.SharedMember.{SharedMember}
-use Rattle.atomic_cells.specs.declared.sites.SharedMember.TheVariants.{First}
+use denote.Ref.{Bor}
+use Rattle.pointers.specs.Claims.{ClaimNow}
+use Rattle.pointers.specs.declared.cells.location.Location.{Location}
+use Rattle.pointers.specs.declared.cells.location.Location.TheVariants.{Free, Member}
 use Rattle.pointers.specs.declared.known.Known.{Known}
 
--- a cell: a member of what the owner is of, or a free one by its number. Of the members, `which` tells the two for
--- owners apart
-pub record Site (V : Type 0) : Type 0 where
-  pub of : Option (Known V)
-  pub which : SharedMember
-  pub number : ℕ
+-- a cell: a free one, by its number, or a member of what the owner is of, by its number among those of its kind
+abbrev pub Site : Type 0 → Type 0
+Site V = Location (Known V)
 
 module _ {V : Type 0} where
-  abbrev pub site : Option (Known V) → SharedMember → ℕ → Site V
-  site of which number = record { of = of; which = which; number = number }
+  -- the same of a claim that is borrowed
+  abbrev pub site_by : Location (Bor (ClaimNow V)) → Site V
+  site_by (Free n) = Free n
+  site_by (Member c n) = Member c.now.known n
 
-  -- a cell for weak pointers, of which there is one among the members
-  abbrev pub weak_site : Option (Known V) → ℕ → Site V
-  weak_site of number = site of First number
+  -- the owner whose object's member it is
+  abbrev pub owner_of : Site V → Option (Known V)
+  owner_of (Free n) = None
+  owner_of (Member c n) = Some c
 
   -- a free cell
   abbrev pub free_site : ℕ → Site V
-  free_site number = site None First number
+  free_site n = Free n
 
-  -- a member for owners, and the one for a weak pointer
-  abbrev pub member_site : Known V → SharedMember → Site V
-  member_site c which = site (Some c) which 0
-
-  abbrev pub up_site : Known V → Site V
-  up_site c = site (Some c) First 0
+  -- a member, of those for owners or of the weak ones
+  abbrev pub member_site : Known V → ℕ → Site V
+  member_site c n = Member c n

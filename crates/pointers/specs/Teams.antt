@@ -5,7 +5,14 @@ use Rattle.control_word.specs.declared.shape.Shape.{Shape}
 use Rattle.pointers.specs.declared.program.not_run.NotRun.{NotRun}
 use Rattle.pointers.specs.declared.program.not_run.NotRun.TheVariants.{Large, Memory, Small}
 use Rattle.pointers.specs.declared.program.not_run.Number.{Number}
-use Rattle.pointers.specs.declared.program.not_run.Number.TheVariants.{Allowance, Blocks, SharedCells, WeakCells}
+use Rattle.pointers.specs.declared.program.not_run.Number.TheVariants.{
+  Allowance,
+  Blocks,
+  Owners,
+  SharedCells,
+  WeakCells,
+  Weaks,
+}
 use Rattle.pointers.specs.declared.program.team.Team.{Team}
 
 -- so many handles: for each worker its pointers and two more, and one for the first desk
@@ -19,6 +26,8 @@ pub record Fits (shape : Shape) (t : Team) : Type 0 where
 
 abbrev pub number_of : Shape → Number → ℕ
 number_of s Blocks = s.blocks
+number_of s Owners = s.owners
+number_of s Weaks = s.weaks
 number_of s SharedCells = s.shared_cells
 number_of s WeakCells = s.weak_cells
 number_of s Allowance = s.allowance
@@ -26,12 +35,16 @@ number_of s Allowance = s.allowance
 -- what a number must be at least
 abbrev pub least_of : Team → Number → ℕ
 least_of t Blocks = 1
+least_of t Owners = 2
+least_of t Weaks = 1
 least_of t Allowance = handles_of t
 least_of t _ = 0
 
 -- and may be at most
 abbrev pub most_of : Shape → Number → ℕ
 most_of s Blocks = 65535
+most_of s Owners = 8
+most_of s Weaks = 9 - s.owners
 most_of s SharedCells = 256
 most_of s WeakCells = 256 - s.shared_cells
 most_of s Allowance = 4194304

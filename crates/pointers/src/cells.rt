@@ -6,11 +6,13 @@ pub mod cached_value;
 mod compares;
 mod compares_weak;
 pub mod link;
+pub mod location;
 pub mod member;
 pub mod pool;
 pub mod up;
 mod updates;
 mod waits;
+mod weak_waits;
 
 /// A free cell of the domain for owners, by its number from 0, in C++ `atomic<shared_ptr>`
 /// ([util.smartptr.atomic.shared]).

@@ -3,6 +3,7 @@ use crate::domain::Domain;
 use crate::known::Known;
 use ghost_map::GhostMap;
 
+mod members;
 pub(crate) mod shared_claim;
 pub(crate) mod weak_claim;
 

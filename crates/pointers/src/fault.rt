@@ -19,6 +19,8 @@ pub enum Fault {
     Crowded(Call),
     /// There is no such cell.
     Cell(Call),
+    /// The domain's objects have no such member.
+    Member(Call),
     /// The place is none of a block's fields.
     Place(Call),
     /// The domain refused it.
@@ -62,6 +64,7 @@ impl fmt::Display for Fault {
             Fault::Busy(call) => write!(f, "{call}: busy, within a visit"),
             Fault::Crowded(call) => write!(f, "{call}: crowded, no pointer is left to the desk"),
             Fault::Cell(call) => write!(f, "{call}: no such cell"),
+            Fault::Member(call) => write!(f, "{call}: no such member"),
             Fault::Place(call) => write!(f, "{call}: no such place"),
             Fault::Refused(call, why) => write!(f, "{call}: {why}"),
             Fault::Memory => f.write_str("no memory"),

@@ -6,6 +6,7 @@ ghost use Rattle.control_word.specs.declared.model.handle.Kind.TheVariants as ki
 ghost use Rattle.shared_handle.specs.Calls as calls;
 ghost use Rattle.shared_handle.specs.Visits.{IsVisit};
 ghost use Rattle.pointers.specs.Faults.{WhyNoMore, WhyNoThis, WhyNot, WhyNotVisited};
+ghost use Rattle.pointers.specs.HandCalls.{CameAsCopy, CameAsWeak};
 ghost use Rattle.pointers.specs.Known.{AreOfOne, Since, owned, pointed};
 ghost use Rattle.pointers.specs.Objects.{IsField, WhyNoField, number_of_block};
 ghost use Rattle.pointers.specs.Values.{IsCopied};
@@ -21,6 +22,8 @@ use std::marker::Model;
 use std::sync::Wait;
 
 pub(crate) mod cells;
+mod ends;
+pub mod optional;
 
 /// An owner of an object, in C++ `shared_ptr`, in Rust `Arc`.
 pub struct Shared<'t, D: Domain> {
@@ -63,6 +66,7 @@ impl<'t, D: Domain> Shared<'t, D> {
     pub fn share(&self) -> Result<Shared<'t, D>, Fault>
         ensures one { IfOk result (AreOfOne D.opened self.now) }
         ensures place { IfOk result (λ r. pointed r ≡ pointed self.now) }
+        ensures came { IfOk result (CameAsCopy D.opened self.now) }
         ensures fault { IfErr result (WhyNoMore D.opened (Some self.now) Call.Share) }
     {
         let desk = self.desk;
@@ -78,6 +82,7 @@ impl<'t, D: Domain> Shared<'t, D> {
     pub fn alias(&self, place: Option<Place>) -> Result<Shared<'t, D>, Fault>
         ensures one { IfOk result (AreOfOne D.opened self.now) }
         ensures place { IfOk result (λ r. pointed r ≡ place) }
+        ensures came { IfOk result (CameAsCopy D.opened self.now) }
         ensures fault { IfErr result (λ why. WhyNoMore D.opened (Some self.now) Call.Alias why
             ⊎ ((why ≡ Fault.Place Call.Alias) × (calls.pointed place ≢ place))) }
     {
@@ -99,6 +104,7 @@ impl<'t, D: Domain> Shared<'t, D> {
     pub fn downgrade(&self) -> Result<Weak<'t, D>, Fault>
         ensures one { IfOk result (AreOfOne D.opened self.now) }
         ensures place { IfOk result (λ r. pointed r ≡ calls.weak_place (owned self.now) (pointed self.now)) }
+        ensures came { IfOk result (CameAsWeak D.opened self.now) }
         ensures fault { IfErr result (WhyNoMore D.opened (Some self.now) Call.Downgrade) }
     {
         let desk = self.desk;

@@ -1,9 +1,10 @@
 //! Weak pointers.
-ghost use Rattle.std.specs.Prelude.{◌≡◌, ◌↔◌, IfErr, IfNone, IfOk, IfSome, IsTrue, Some};
+ghost use Rattle.std.specs.Prelude.{◌≡◌, ◌↔◌, IfErr, IfNone, IfOk, IfSome, IsTrue, None, Some};
 ghost use Rattle.control_block.specs.Desks.{Belongs};
 ghost use Rattle.control_word.specs.declared.model.handle.Kind.TheVariants as kind;
 ghost use Rattle.shared_handle.specs.Calls as calls;
 ghost use Rattle.pointers.specs.Faults.{WhyNoMore, WhyNoOwner, WhyNot};
+ghost use Rattle.pointers.specs.HandCalls.{CameAsWeak, CameByLock};
 ghost use Rattle.pointers.specs.Known.{AreOfOne, Since, owned, pointed};
 ghost use Rattle.pointers.specs.Objects.{FindsNoOwner};
 
@@ -12,6 +13,7 @@ use crate::desk::Desk;
 use crate::domain::Domain;
 use crate::fault::Fault;
 use crate::fault::call::Call;
+use crate::shared::cells::pointer;
 use crate::shared::{Shared, comes_before};
 use std::marker::Model;
 use std::sync::Wait;
@@ -59,6 +61,7 @@ impl<'t, D: Domain> Weak<'t, D> {
     pub fn share(&self) -> Result<Weak<'t, D>, Fault>
         ensures one { IfOk result (AreOfOne D.opened self.now) }
         ensures place { IfOk result (λ r. pointed r ≡ calls.weak_place (owned self.now) (pointed self.now)) }
+        ensures came { IfOk result (CameAsWeak D.opened self.now) }
         ensures fault { IfErr result (WhyNoMore D.opened (Some self.now) Call.Share) }
     {
         let desk = self.desk;
@@ -73,14 +76,46 @@ impl<'t, D: Domain> Weak<'t, D> {
     pub fn lock<R: Wait>(&self, rt: &R) -> Result<Option<Shared<'t, D>>, Fault>
         ensures one { IfOk result (λ r. IfSome r (AreOfOne D.opened self.now)) }
         ensures place { IfOk result (λ r. IfSome r (λ p. pointed p ≡ pointed self.now)) }
+        ensures came { IfOk result (λ r. IfSome r (CameByLock D.opened self.now)) }
         ensures none { IfOk result (λ r. IfNone r (Since D.opened self.now
             (λ d e. FindsNoOwner d (owned self.now) (pointed self.now) e))) }
         ensures fault { IfErr result (WhyNoMore D.opened (Some self.now) Call.Lock) }
     {
         let desk = self.desk;
-        match desk.open(Call::Lock)?.lock(rt, desk.domain, &self.weak) {
+        let mut context = desk.open(Call::Lock)?;
+        match context.lock_once(desk.domain, &self.weak) {
+            Some(Some(owner)) => return Ok(Some(Shared { desk, owner })),
+            Some(None) => return Ok(None),
+            None => {}
+        }
+        match context.lock(rt, desk.domain, &self.weak) {
             Ok(Some(owner)) => Ok(Some(Shared { desk, owner })),
             Ok(None) => Ok(None),
+            Err(why) => Err(Fault::of(Call::Lock, why)),
+        }
+    }
+
+    /// The same, with a pointer beside it: where that is an owner of the object, it finds one.
+    #[inline(always)]
+    pub fn lock_beside<R: Wait>(
+        &self,
+        rt: &R,
+        owner: &Shared<'t, D>,
+    ) -> Result<Option<Shared<'t, D>>, Fault>
+        ensures found { (owned owner.now ≡ None → ⊥) → owned owner.now ≡ owned self.now
+            → IfOk result (λ r. IfNone r ⊥) }
+        ensures one { IfOk result (λ r. IfSome r (AreOfOne D.opened self.now)) }
+        ensures place { IfOk result (λ r. IfSome r (λ p. pointed p ≡ pointed self.now)) }
+        ensures came { IfOk result (λ r. IfSome r (CameByLock D.opened self.now)) }
+        ensures none { IfOk result (λ r. IfNone r (Since D.opened self.now
+            (λ d e. FindsNoOwner d (owned self.now) (pointed self.now) e))) }
+        ensures fault { IfErr result (WhyNoMore D.opened (Some self.now) Call.Lock) }
+    {
+        let desk = self.desk;
+        let mut context = desk.open(Call::Lock)?;
+        context.look(&owner.owner);
+        match context.lock(rt, desk.domain, &self.weak) {
+            Ok(owner) => Ok(pointer(desk, owner)),
             Err(why) => Err(Fault::of(Call::Lock, why)),
         }
     }
@@ -91,6 +126,7 @@ impl<'t, D: Domain> Weak<'t, D> {
     pub fn upgrade<R: Wait>(&self, rt: &R) -> Result<Shared<'t, D>, Fault>
         ensures one { IfOk result (AreOfOne D.opened self.now) }
         ensures place { IfOk result (λ r. pointed r ≡ pointed self.now) }
+        ensures came { IfOk result (CameByLock D.opened self.now) }
         ensures fault { IfErr result (WhyNot Call.Upgrade (WhyNoOwner D.opened self.now)) }
     {
         let desk = self.desk;

@@ -1,10 +1,15 @@
 -- Why a call on a map was not done (own).
-use Rattle.std.specs.Prelude.{◌≡◌, ◌⊎◌, Option, None, Some}
+use Rattle.std.specs.Prelude.{◌≡◌, ◌⊎◌}
+use Rattle.control_word.specs.declared.model.handle.Kind.TheVariants.{Owner}
 use Rattle.control_word.specs.declared.refusal.Refusal.TheVariants as refusal
+use Rattle.control_block.specs.Desks.{DeskNow}
+use Rattle.pointers.specs.Faults.{WhyNotMade}
+use Rattle.pointers.specs.Places.{WhyNotDoneAt}
+use Rattle.pointers.specs.Sites.{Site}
 use Rattle.pointers.specs.declared.fault.Fault.{Fault}
 use Rattle.pointers.specs.declared.fault.Fault.TheVariants.{Busy, Cell, Crowded, Memory, Refused}
+use Rattle.pointers.specs.declared.fault.call.Call.{Call}
 use Rattle.pointers.specs.declared.fault.call.Call.TheVariants.{Make}
-use Rattle.pointers.specs.declared.known.Known.{Known}
 
 -- the desk is at work, or has as many pointers as it may, or the cell has an object that no map put there
 abbrev pub WhyNotFound : Fault → Type 0
@@ -24,7 +29,6 @@ WhyNotOpened (Cell call) = Unit {0}
 WhyNotOpened Memory = Unit {0}
 WhyNotOpened why = WhyNotPut why
 
--- why there is no object in a place: a free cell, or a member of what an owner is of
-abbrev pub WhyNoNode : {V : Type 0} → Option (Known V) → Fault → Type 0
-WhyNoNode None why = WhyNotOpened why
-WhyNoNode (Some e) why = WhyNotPut why
+-- why there is no object in a place: none was made, or a call on the place was refused
+abbrev pub WhyNoNode : {V : Type 0} → DeskNow V → Site V → Fault → Type 0
+WhyNoNode o s why = WhyNotMade why ⊎ ((call : Call) × WhyNotDoneAt o Owner s call why)

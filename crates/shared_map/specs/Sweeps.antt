@@ -3,7 +3,6 @@
 use Rattle.std.specs.Prelude.{◌≡◌, ◌⊎◌, ◌+◌, ◌++◌, ℕ, Bool, false, true, min}
 use Rattle.std.specs.Prelude.{List, [], ◌∷◌, Option, None, Some, Result, Ok, Err}
 use Rattle.control_word.specs.declared.model.handle.Kind.TheVariants.{Owner, Weak}
-use Rattle.atomic_cells.specs.declared.sites.SharedMember.TheVariants.{First}
 use Rattle.control_block.specs.Desks.{DeskNow}
 use Rattle.shared_handle.specs.Calls.{IsExpiry}
 use Rattle.pointers.specs.Known.{Since, owned, pointed}
@@ -15,7 +14,7 @@ use Rattle.pointers.specs.declared.fault.Fault.{Fault}
 use Rattle.pointers.specs.declared.known.Known.{Known}
 use Rattle.shared_map.specs.Refusals.{WhyNotFound}
 use Rattle.pointers.specs.SiteCalls.{Compared, Loaded}
-use Rattle.pointers.specs.Sites.{member_site, up_site}
+use Rattle.pointers.specs.Sites.{member_site}
 
 -- at how many entries something came out
 abbrev pub outs : List Bool → ℕ
@@ -25,21 +24,21 @@ outs (out ∷ rest) = number_if out + outs rest
 module _ {V : Type 0} (o : DeskNow V) where
   -- a copy of an entry's owner was that
   abbrev pub HasOwner : Known V → Option (Known V) → Type 0
-  HasOwner e c = Loaded o Owner (member_site e First) c
+  HasOwner e c = Loaded o Owner (member_site e 0) c
 
   -- a copy of its weak pointer was that
   abbrev pub HasWeak : Known V → Option (Known V) → Type 0
-  HasWeak e w = Loaded o Weak (up_site e) w
+  HasWeak e w = Loaded o Weak (member_site e 0) w
 
   -- one compare took the owner out, where the entry had it still: whether it had
   abbrev pub TakesOwner : Known V → Known V → Bool → Type 0
   TakesOwner e c out = (after : Option (Known V))
-      × Compared o Owner (member_site e First) false (Some c) None out after None
+      × Compared o Owner (member_site e 0) false (Some c) None out after None
 
   -- the same of the weak pointer
   abbrev pub TakesWeak : Known V → Option (Known V) → Bool → Type 0
   TakesWeak e w out = (after : Option (Known V))
-      × Compared o Weak (up_site e) false w None out after None
+      × Compared o Weak (member_site e 0) false w None out after None
 
   -- one look told whether the weak pointer's object has ended
   abbrev pub IsExpired : Option (Known V) → Bool → Type 0

@@ -2,7 +2,6 @@
 ghost use Rattle.std.specs.Prelude.{IfErr, IfOk, None, Option, Some, false};
 ghost use Rattle.control_word.specs.declared.model.handle.Kind.TheVariants as kind;
 ghost use Rattle.control_word.specs.declared.model.handle.Kind.TheVariants.{Owner};
-ghost use Rattle.atomic_cells.specs.declared.sites.SharedMember.TheVariants.{First};
 ghost use Rattle.pointers.specs.Lists.{Leads, next_of};
 ghost use Rattle.pointers.specs.Objects.{IsField};
 ghost use Rattle.pointers.specs.declared.known.Known.{Known};
@@ -11,7 +10,7 @@ ghost use Rattle.shared_map.specs.Refusals.{WhyNotFound};
 ghost use Rattle.shared_map.specs.Sweeps.{IsExpired, Prunes, TakesWeak};
 ghost use Rattle.pointers.specs.Cells.{IsOwnerOf};
 ghost use Rattle.pointers.specs.SiteCalls.{Compared, Exchanged, Loaded};
-ghost use Rattle.pointers.specs.Sites.{member_site, up_site};
+ghost use Rattle.pointers.specs.Sites.{member_site};
 
 use pointers::{Domain, Fault, Shared, Weak};
 use std::sync::Wait;
@@ -72,7 +71,7 @@ pub(crate) fn get<'t, D: Domain, R: Wait>(
     entry: &Shared<'t, D>,
 ) -> Result<Option<Shared<'t, D>>, Fault>
     ensures done { IfOk result
-        (Loaded D.opened Owner (member_site entry.now First)) }
+        (Loaded D.opened Owner (member_site entry.now 0)) }
     ensures refused { IfErr result WhyNotFound }
 {
     entry.first().load(rt)
@@ -85,7 +84,7 @@ pub(crate) fn exchange<'t, D: Domain>(
     new: Option<Shared<'t, D>>,
 ) -> Result<Option<Shared<'t, D>>, Fault>
     ensures done { IfOk result
-        (Exchanged D.opened Owner (member_site entry.now First) new.entry) }
+        (Exchanged D.opened Owner (member_site entry.now 0) new.entry) }
     ensures refused { IfErr result WhyNotFound }
 {
     entry.first().exchange(new)
@@ -114,7 +113,7 @@ pub(crate) fn get_weak<'t, D: Domain, R: Wait>(
     entry: &Shared<'t, D>,
 ) -> Result<Option<Weak<'t, D>>, Fault>
     ensures done { IfOk result
-        (Loaded D.opened kind.Weak (up_site entry.now)) }
+        (Loaded D.opened kind.Weak (member_site entry.now 0)) }
     ensures refused { IfErr result WhyNotFound }
 {
     entry.up().load(rt)
@@ -127,7 +126,7 @@ pub(crate) fn exchange_weak<'t, D: Domain>(
     new: Option<Weak<'t, D>>,
 ) -> Result<Option<Weak<'t, D>>, Fault>
     ensures done { IfOk result
-        (Exchanged D.opened kind.Weak (up_site entry.now) new.entry) }
+        (Exchanged D.opened kind.Weak (member_site entry.now 0) new.entry) }
     ensures refused { IfErr result WhyNotFound }
 {
     entry.up().exchange(new)
@@ -165,7 +164,7 @@ pub(crate) fn take<'t, D: Domain, R: Wait>(
     held: Shared<'t, D>,
 ) -> Result<bool, Fault>
     ensures done { IfOk result (λ b. (after : Option (Known D.Value))
-        × Compared D.opened Owner (member_site entry.now First) false (Some held.entry) None b after None) }
+        × Compared D.opened Owner (member_site entry.now 0) false (Some held.entry) None b after None) }
     ensures refused { IfErr result WhyNotFound }
 {
     let mut held = Some(held);

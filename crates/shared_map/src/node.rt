@@ -18,7 +18,7 @@ pub(crate) fn node_in<'t, D: Domain, R: Wait>(
 where
     D::Value: Default,
     ensures loaded { IfOk result (λ r. Loaded D.opened Owner place.now (Some r)) }
-    ensures refused { IfErr result (WhyNoNode place.now.of) }
+    ensures refused { IfErr result (WhyNoNode D.opened place.now) }
 {
     for _ in rt.forever() {
         if let Some(node) = place.load(rt)? {

@@ -99,7 +99,7 @@ impl<R: Threads + Wait> Program<u64, R> for Refused {
         let mut map = SharedMap::open(rt, desk, self.alloc, SharedCell(1), 0)?;
         row(3, map.buckets() == 1 && desk.load(rt, MAP)?.is_none())?;
         let why = busy.visit(rt, |_| map.get(rt, 1).err())?;
-        row(4, why == Some(Fault::Busy(Call::Load(Spot::Next))))
+        row(4, why == Some(Fault::Busy(Call::Load(Spot::Owner(1)))))
     }
 }
 

@@ -47,8 +47,8 @@ impl<'p, 't, D: Domain> Cached<'p, 't, D> {
     /// else a copy of what is there, by a load. None where that is empty. At a fault what was found last stays.
     #[inline(always)]
     pub fn get<R: Wait>(&mut self, rt: &R) -> Result<Option<&Shared<'t, D>>, Fault>
-        ensures found { IfOk result (λ r. Found D.opened self.old.place (seen_by (λ x. x.now) r)) }
-        ensures refused { IfErr result (WhyNotFound D.opened self.old.place) }
+        ensures found { IfOk result (λ r. Found D.opened Owner self.old.place (seen_by (λ x. x.now) r)) }
+        ensures refused { IfErr result (WhyNotFound D.opened Owner self.old.place) }
     {
         self.look(rt)?;
         Ok(self.found())
@@ -57,10 +57,10 @@ impl<'p, 't, D: Domain> Cached<'p, 't, D> {
     /// The same, for a caller that reads it by `found`.
     #[inline(always)]
     pub fn look<R: Wait>(&mut self, rt: &R) -> Result<(), Fault>
-        ensures found { OnOk result (Found D.opened self.old.place self.new.found) }
+        ensures found { OnOk result (Found D.opened Owner self.old.place self.new.found) }
         ensures stays { IfErr result (λ _. self.new.found ≡ self.old.found) }
         ensures place { self.new.place ≡ self.old.place }
-        ensures refused { IfErr result (WhyNotFound D.opened self.old.place) }
+        ensures refused { IfErr result (WhyNotFound D.opened Owner self.old.place) }
     {
         if self.holds_still()? {
             return Ok(());
@@ -81,11 +81,11 @@ impl<'p, 't, D: Domain> Cached<'p, 't, D> {
     #[inline(always)]
     fn holds_still(&self) -> Result<bool, Fault>
         ensures found { IfOk result (λ same. same ≡ true → (c : Known D.Value) × (self.now.found ≡ Some c)
-            × LookedFor D.opened Owner self.now.place c true) }
+            × LookedFor D.opened Owner self.now.place (Some c) true) }
         ensures refused { IfErr result (WhyNotLooked D.opened Owner self.now.place Holds) }
     {
         match &self.found {
-            Some(found) => self.place.holds(found),
+            Some(found) => self.place.holds_this(found),
             None => Ok(false),
         }
     }

@@ -85,7 +85,7 @@ where
     #[inline(always)]
     pub fn get<R: Wait>(&mut self, rt: &R) -> Result<Option<&D::Value>, Fault>
         ensures found { IfOk result (λ r. (c : Option (Known D.Value))
-            × Found D.opened self.old.place c
+            × Found D.opened Owner self.old.place c
             × ∥ IsValueOf D.opened D.Value.is_clone c (seen_by (λ x. x.now) r) ∥₁) }
         ensures refused { IfErr result (WhyNoValue D.opened self.old.place) }
     {
@@ -96,7 +96,7 @@ where
     /// The same, for a caller that reads it by `value`.
     #[inline(always)]
     pub fn look<R: Wait>(&mut self, rt: &R) -> Result<(), Fault>
-        ensures found { OnOk result (Found D.opened self.old.place (seen_by (λ k. k.owner) self.new.kept)) }
+        ensures found { OnOk result (Found D.opened Owner self.old.place (seen_by (λ k. k.owner) self.new.kept)) }
         ensures stays { IfErr result (λ _. self.new.kept ≡ self.old.kept) }
         ensures place { self.new.place ≡ self.old.place }
         ensures refused { IfErr result (WhyNoValue D.opened self.old.place) }
@@ -137,11 +137,11 @@ where
     fn holds_still(&self) -> Result<bool, Fault>
         ensures found { IfOk result (λ same. same ≡ true → (c : Known D.Value)
             × (seen_by (λ k. k.owner) self.now.kept ≡ Some c)
-            × LookedFor D.opened Owner self.now.place c true) }
+            × LookedFor D.opened Owner self.now.place (Some c) true) }
         ensures refused { IfErr result (WhyNotLooked D.opened Owner self.now.place Holds) }
     {
         match &self.kept {
-            Some(kept) => self.place.holds(&kept.owner),
+            Some(kept) => self.place.holds_this(&kept.owner),
             None => Ok(false),
         }
     }

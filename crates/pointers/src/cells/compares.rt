@@ -24,7 +24,11 @@ use std::sync::Wait;
 impl<'d, D: Domain> Desk<'d, D> {
     /// An empty owner, for a compare.
     #[inline(always)]
-    fn empty_owner(&self, call: Call, of: Option<&SharedClaim<D>>) -> Result<Shared<'_, D>, Fault>
+    pub(crate) fn empty_owner(
+        &self,
+        call: Call,
+        of: Option<&SharedClaim<D>>,
+    ) -> Result<Shared<'_, D>, Fault>
         ensures empty { IfOk result (λ r. IsEmptyHandle r.handle) }
         ensures refused { IfErr result (WhyNoMore D.opened (known_by of.entry) call) }
     {

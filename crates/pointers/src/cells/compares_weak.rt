@@ -23,7 +23,11 @@ use std::sync::Wait;
 impl<'d, D: Domain> Desk<'d, D> {
     /// An empty weak pointer, for a compare.
     #[inline(always)]
-    fn empty_weak(&self, call: Call, of: Option<&SharedClaim<D>>) -> Result<Weak<'_, D>, Fault>
+    pub(crate) fn empty_weak(
+        &self,
+        call: Call,
+        of: Option<&SharedClaim<D>>,
+    ) -> Result<Weak<'_, D>, Fault>
         ensures empty { IfOk result (λ r. IsEmptyHandle r.handle) }
         ensures refused { IfErr result (WhyNoMore D.opened (known_by of.entry) call) }
     {

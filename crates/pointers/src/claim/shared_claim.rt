@@ -1,28 +1,20 @@
 //! Owners, each with what is known of it.
-ghost use Rattle.std.specs.Prelude.{◌≡◌, ◌++◌, ◌∷◌, [], slice_get, slice_set, IfOk, None, Some};
+ghost use Rattle.std.specs.Prelude.{◌≡◌, ◌++◌, ◌∷◌, [], slice_get, slice_set, None, Some};
 ghost use Rattle.control_block.specs.declared.handles.Held.TheVariants as held;
-ghost use Rattle.atomic_cells.specs.Sites.{IsMember};
-ghost use Rattle.atomic_cells.specs.declared.at.At.{At};
-ghost use Rattle.atomic_cells.specs.declared.sites.SharedSite.{SharedSite};
-ghost use Rattle.atomic_cells.specs.declared.sites.SharedSite.TheVariants as site;
-ghost use Rattle.atomic_cells.specs.declared.sites.WeakSite.{WeakSite};
-ghost use Rattle.atomic_cells.specs.declared.sites.WeakSite.TheVariants as weak_site;
-ghost use Rattle.pointers.specs.Cells.{IsSharedSite, IsWeakSite, block_or};
 ghost use Rattle.pointers.specs.Known.{known_now, owned, pointed};
 
 use crate::claim::Claims;
 use crate::domain::Domain;
 use crate::known::{Known, OwnerCame};
-use atomic_cells::{SharedAt, SharedMember, WeakAt};
 use control_block::desk::Desk;
 use control_block::handles;
-use control_word::{Block, Place, Refusal};
+use control_word::{Block, Place};
 use ghost_map::{Ghost, GhostEntry};
 use std::marker::Model;
 
 /// An owner that a desk gave out.
 pub(crate) struct SharedClaim<D: Domain> {
-    handle: handles::Shared,
+    pub(super) handle: handles::Shared,
     entry: GhostEntry<D, Known<D::Value>>,
 }
 
@@ -130,30 +122,5 @@ impl<D: Domain> SharedClaim<D> {
         let SharedClaim { handle, entry } = self;
         claims.remove(entry);
         handle
-    }
-}
-
-impl<D: Domain> SharedClaim<D> {
-    /// A member of the object that it owns and points into: `Null` where its place is null, and `Outside` where that
-    /// isn't in the object that it owns.
-    #[inline(always)]
-    pub(crate) fn member(&self, which: SharedMember) -> Result<SharedAt<'_>, Refusal>
-        ensures site { IfOk result (λ at. IsSharedSite D.opened at.site (Some self.now.known)) }
-        ensures there { IfOk result (λ at. at.site ≡ site.Of (block_or (owned self.now.known)) which) }
-        ensures which { IsMember (λ b (at : At SharedSite). at.site ≡ site.Of b which) (owned self.now.known)
-            (pointed self.now.known) result }
-    {
-        SharedAt::member(&self.handle, which)
-    }
-
-    /// The same of its weak member.
-    #[inline(always)]
-    pub(crate) fn up(&self) -> Result<WeakAt<'_>, Refusal>
-        ensures site { IfOk result (λ at. IsWeakSite D.opened at.site (Some self.now.known)) }
-        ensures there { IfOk result (λ at. at.site ≡ weak_site.Up (block_or (owned self.now.known))) }
-        ensures which { IsMember (λ b (at : At WeakSite). at.site ≡ weak_site.Up b) (owned self.now.known)
-            (pointed self.now.known) result }
-    {
-        WeakAt::member(&self.handle)
     }
 }

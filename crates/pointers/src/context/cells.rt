@@ -1,12 +1,13 @@
 //! Calls on cells of owners.
-ghost use Rattle.std.specs.Prelude.{◌≡◌, ◌↔◌, IfErr, IfOk, IsErr, None};
+ghost use Rattle.std.specs.Prelude.{◌≡◌, ◌↔◌, IfErr, IfOk, IfSome, IsErr, None};
 ghost use Rattle.control_word.specs.declared.model.handle.Kind.TheVariants.{Owner};
 ghost use Rattle.control_block.specs.Desks.{Belongs};
 ghost use Rattle.pointers.specs.Beside.{seen_by};
 ghost use Rattle.pointers.specs.Faults.{Was};
+ghost use Rattle.pointers.specs.HandCalls.{ExchangesNow, LoadsNow, StoresNow};
 ghost use Rattle.pointers.specs.Known.{IsAtAllowance};
 ghost use Rattle.pointers.specs.Claims.{known_by};
-ghost use Rattle.pointers.specs.Cells.{ExchangedAt, IsSharedSite, LoadedAt, LookedForAt, StoredAt, shared_cell_of};
+ghost use Rattle.pointers.specs.Cells.{ExchangedAt, IsSharedSite, LoadedAt, LookedForAt, StoredTold, shared_cell_of};
 
 use crate::claim::shared_claim::SharedClaim;
 use crate::context::Context;
@@ -33,6 +34,9 @@ impl<D: Domain> Context<D> {
         ensures loaded { IfOk result (λ r. LoadedAt D.opened (known_by of.entry)
             (shared_cell_of D.opened (known_by of.entry) at.entry.site) Owner
             (seen_by (λ x. x.known) r)) }
+        ensures exact { IfOk result (λ r. LoadsNow self.old.desk
+            (shared_cell_of D.opened (known_by of.entry) at.entry.site) (seen_by (λ x. x.known) r) self.new.desk) }
+        ensures unchanged { IfErr result (λ _. self.new.desk ≡ self.old.desk) }
         ensures limit { IsErr result ↔ IsAtAllowance self.old.desk }
         ensures refused { IfErr result
             (λ why. (why ≡ Refusal.Limit) × Was D.opened (known_by of.entry) IsAtAllowance) }
@@ -41,6 +45,35 @@ impl<D: Domain> Context<D> {
         look_at(of, &mut self.claims);
         let found = at.load(rt, domain, &mut self.desk)?;
         Ok(arrived(
+            domain,
+            &mut self.desk,
+            &mut self.pile,
+            &mut self.claims,
+            found,
+        ))
+    }
+
+    /// A load's first try, which waits for nobody. It answers nothing where others were quicker, and where the desk is
+    /// at its allowance.
+    #[inline(always)]
+    pub(crate) fn load_once(
+        &mut self,
+        domain: &domain::Domain<D::Value>,
+        at: SharedAt<'_>,
+        of: Option<&SharedClaim<D>>,
+    ) -> Option<Option<SharedClaim<D>>>
+        requires domain { Belongs D.opened domain.now }
+        requires cell { IsSharedSite D.opened at.site (known_by of) }
+        ensures { IfSome result (λ r. LoadedAt D.opened (known_by of.entry)
+            (shared_cell_of D.opened (known_by of.entry) at.entry.site) Owner
+            (seen_by (λ x. x.known) r)) }
+    {
+        self.desk.assert_invariant();
+        look_at(of, &mut self.claims);
+        let Some(found) = at.load_once(domain, &mut self.desk) else {
+            return None;
+        };
+        Some(arrived(
             domain,
             &mut self.desk,
             &mut self.pile,
@@ -83,6 +116,10 @@ impl<D: Domain> Context<D> {
         ensures exchanged { IfOk result (λ r. ExchangedAt D.opened (known_by of.entry)
             (shared_cell_of D.opened (known_by of.entry) at.entry.site) Owner
             (seen_by (λ x. x.known) new) (seen_by (λ x. x.known) r)) }
+        ensures exact { IfOk result (λ r. ExchangesNow self.old.desk
+            (shared_cell_of D.opened (known_by of.entry) at.entry.site)
+            (seen_by (λ x. x.known) new) (seen_by (λ x. x.known) r) self.new.desk) }
+        ensures unchanged { IfErr result (λ _. self.new.desk ≡ self.old.desk) }
         ensures limit { IsErr result ↔ ((new ≡ None) × IsAtAllowance self.old.desk) }
         ensures refused { IfErr result
             (λ why. (why ≡ Refusal.Limit) × Was D.opened (known_by of.entry) IsAtAllowance) }
@@ -112,9 +149,12 @@ impl<D: Domain> Context<D> {
     ) -> Result<Gone, Refusal>
         requires domain { Belongs D.opened domain.now }
         requires cell { IsSharedSite D.opened at.site (known_by of) }
-        ensures stored { IfOk result (λ gone. StoredAt D.opened (known_by of.entry)
+        ensures stored { IfOk result (λ gone. StoredTold D.opened (known_by of.entry)
             (shared_cell_of D.opened (known_by of.entry) at.entry.site)
             (seen_by (λ x. x.known) new) gone) }
+        ensures exact { IfOk result (λ _. StoresNow self.old.desk
+            (shared_cell_of D.opened (known_by of.entry) at.entry.site) (seen_by (λ x. x.known) new) self.new.desk) }
+        ensures unchanged { IfErr result (λ _. self.new.desk ≡ self.old.desk) }
         ensures limit { IsErr result ↔ ((new ≡ None) × IsAtAllowance self.old.desk) }
         ensures refused { IfErr result
             (λ why. (why ≡ Refusal.Limit) × Was D.opened (known_by of.entry) IsAtAllowance) }

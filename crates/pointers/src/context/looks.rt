@@ -1,9 +1,11 @@
 //! What handles tell.
-ghost use Rattle.std.specs.Prelude.{IfErr, IfOk};
+ghost use Rattle.std.specs.Prelude.{◌≡◌, IfErr, IfOk, None};
 ghost use Rattle.control_word.specs.declared.model.handle.Kind.TheVariants.{Owner, Weak};
 ghost use Rattle.control_block.specs.Desks.{Belongs};
+ghost use Rattle.control_block.specs.HandleLists.{IsHeldByDesk};
 ghost use Rattle.shared_handle.specs.Calls.{IsExpiry, IsUseCount};
-ghost use Rattle.pointers.specs.Known.{Since, owned, pointed};
+ghost use Rattle.shared_handle.specs.Locks.{HasOwner};
+ghost use Rattle.pointers.specs.Known.{Lives, Since, owned, pointed};
 ghost use Rattle.pointers.specs.Objects.{IsField, WhyNoField};
 
 use crate::claim::shared_claim::SharedClaim;
@@ -15,6 +17,17 @@ use control_word::Refusal;
 use shared_handle::{expired, read, use_count, use_count_weak};
 
 impl<D: Domain> Context<D> {
+    /// The owner is the desk's, and lives.
+    #[inline(always)]
+    pub(crate) fn look(&mut self, of: &SharedClaim<D>)
+        ensures same { self.new ≡ self.old }
+        ensures lives { Lives D.opened of.now.known self.old.desk }
+        ensures holds { IsHeldByDesk self.old.desk of.now.known.handle }
+        ensures owns { (owned of.now.known ≡ None → ⊥) → HasOwner self.old.desk (owned of.now.known) }
+    {
+        of.look(&mut self.claims);
+    }
+
     /// How many owners share an owner's object.
     #[inline(always)]
     pub(crate) fn use_count(
@@ -23,8 +36,10 @@ impl<D: Domain> Context<D> {
         of: &SharedClaim<D>,
     ) -> u32
         requires { Belongs D.opened domain.now }
-        ensures { Since D.opened of.now.known
+        ensures since { Since D.opened of.now.known
             (λ d e. IsUseCount d Owner (owned of.now.known) (pointed of.now.known) result e) }
+        ensures exact { IsUseCount self.old.desk Owner (owned of.now.known) (pointed of.now.known) result
+            self.new.desk }
     {
         let of = of.look(&mut self.claims);
         use_count(domain, &mut self.desk, of)
@@ -49,8 +64,9 @@ impl<D: Domain> Context<D> {
     #[inline(always)]
     pub(crate) fn expired(&mut self, domain: &domain::Domain<D::Value>, of: &WeakClaim<D>) -> bool
         requires { Belongs D.opened domain.now }
-        ensures { Since D.opened of.now.known
+        ensures since { Since D.opened of.now.known
             (λ d e. IsExpiry d (owned of.now.known) (pointed of.now.known) result e) }
+        ensures exact { IsExpiry self.old.desk (owned of.now.known) (pointed of.now.known) result self.new.desk }
     {
         let of = of.look(&mut self.claims);
         expired(domain, &mut self.desk, of)

@@ -1,6 +1,7 @@
 //! Owners of new objects.
 ghost use Rattle.std.specs.Prelude.{◌≡◌, ◌⊎◌, IfErr, IfOk};
 ghost use Rattle.control_block.specs.Desks.{Belongs};
+ghost use Rattle.pointers.specs.HandCalls.{MakesNow, NotMadeNow, Restocks};
 ghost use Rattle.pointers.specs.Objects.{Makes, MakesNull};
 
 use crate::claim::shared_claim::SharedClaim;
@@ -24,6 +25,9 @@ impl<D: Domain> Context<D> {
         ensures refused { IfErr result (λ r. (r.why ≡ Refusal.Limit) ⊎ (r.why ≡ Refusal.Full)) }
         ensures back { IfErr result (λ r. r.back ≡ value) }
         ensures made { IfOk result (λ r. Makes D.opened enabled fields value r.known) }
+        ensures exact { IfOk result (λ r. MakesNow self.old.desk enabled fields value r.known self.new.desk) }
+        ensures unchanged { IfErr result (λ _. Restocks self.old.desk self.new.desk) }
+        ensures why { IfErr result (λ r. NotMadeNow self.new.desk r.why) }
     {
         self.restock(domain);
         self.desk.assert_invariant();

@@ -5,6 +5,7 @@ ghost use Rattle.control_block.specs.declared.handles.Held.TheVariants as held;
 ghost use Rattle.pointers.specs.Claims.{known_by};
 ghost use Rattle.pointers.specs.Beside.{Arrives, IsClaimed, IsEmptyHandle, IsHandleOf, IsWholeBeside, Stays, seen_by};
 ghost use Rattle.pointers.specs.Known.{IsAtAllowance};
+ghost use Rattle.pointers.specs.HandCalls.{IsButCount};
 ghost use Rattle.pointers.specs.Whole.{IsWhole};
 
 use crate::claim::Claims;
@@ -53,6 +54,7 @@ pub(crate) fn arrived<D: Domain>(
     requires hand { IsWholeBeside D.opened desk.old pile.old (held.Owner handle ∷ []) claims.old.entries }
     ensures whole { IsWhole D.opened desk.new pile.new claims.new.entries }
     ensures came { Arrives (held.Owner handle) desk.old (seen_by (λ x. x.known) result) }
+    ensures count { IsButCount desk.old desk.new }
 {
     if is_empty(&handle) {
         let _gone = drop_shared(domain, desk, pile, handle);
@@ -75,6 +77,7 @@ pub(crate) fn given<D: Domain>(
     ensures hand { IfOk result (λ h. IsWholeBeside D.opened desk.new pile.now (held.Owner h ∷ []) claims.new.entries) }
     ensures handle { IfOk result (λ h. IsHandleOf (seen_by (λ x. x.known) new) (held.Owner h)) }
     ensures stays { IfOk result (λ h. Stays D.opened (seen_by (λ x. x.known) new) desk.new) }
+    ensures count { IfOk result (λ _. IsButCount desk.old desk.new) }
     ensures limit { IsErr result ↔ ((new ≡ None) × IsAtAllowance desk.old) }
     ensures refused { IfErr result (λ why. (why ≡ Refusal.Limit)
         × (desk.new ≡ desk.old) × (claims.new.entries ≡ claims.old.entries)) }

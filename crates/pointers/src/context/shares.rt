@@ -3,6 +3,7 @@ ghost use Rattle.std.specs.Prelude.{◌≡◌, ◌↔◌, IfErr, IfOk, IsErr, So
 ghost use Rattle.control_block.specs.Desks.{Belongs};
 ghost use Rattle.shared_handle.specs.Calls as calls;
 ghost use Rattle.pointers.specs.Faults.{Was, WhyNoThis};
+ghost use Rattle.pointers.specs.HandCalls.{CameAsCopy, SharesNow};
 ghost use Rattle.pointers.specs.Known.{AreOfOne, IsAtAllowance, owned, pointed};
 
 use crate::claim::shared_claim::SharedClaim;
@@ -23,6 +24,9 @@ impl<D: Domain> Context<D> {
         requires { Belongs D.opened domain.now }
         ensures one { IfOk result (λ r. AreOfOne D.opened of.now.known r.known) }
         ensures place { IfOk result (λ r. pointed r.known ≡ pointed of.now.known) }
+        ensures came { IfOk result (λ r. CameAsCopy D.opened of.now.known r.known) }
+        ensures exact { IfOk result (λ r. SharesNow self.old.desk of.now.known r.known self.new.desk) }
+        ensures unchanged { IfErr result (λ _. self.new.desk ≡ self.old.desk) }
         ensures limit { IsErr result ↔ IsAtAllowance self.old.desk }
         ensures refused { IfErr result
             (λ why. (why ≡ Refusal.Limit) × Was D.opened (Some of.now.known) IsAtAllowance) }
@@ -44,6 +48,7 @@ impl<D: Domain> Context<D> {
         requires { Belongs D.opened domain.now }
         ensures one { IfOk result (λ r. AreOfOne D.opened of.now.known r.known) }
         ensures place { IfOk result (λ r. pointed r.known ≡ calls.pointed place) }
+        ensures came { IfOk result (λ r. CameAsCopy D.opened of.now.known r.known) }
         ensures limit { IsErr result ↔ IsAtAllowance self.old.desk }
         ensures refused { IfErr result
             (λ why. (why ≡ Refusal.Limit) × Was D.opened (Some of.now.known) IsAtAllowance) }

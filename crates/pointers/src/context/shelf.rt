@@ -1,6 +1,8 @@
 //! Vacant blocks between the desk and the domain's shelf.
 ghost use Rattle.std.specs.Prelude.{◌≡◌, ◌+◌, ◌≤◌, length, min};
 ghost use Rattle.control_block.specs.Desks.{Belongs, stock_of};
+ghost use Rattle.control_block.specs.Shelf.{Unshelved};
+ghost use Rattle.pointers.specs.HandCalls.{Restocks};
 ghost use Rattle.pointers.specs.Blocks.{Fills, ShelvesAll, SinceOpened};
 
 use crate::context::Context;
@@ -18,6 +20,12 @@ impl<D: Domain> Context<D> {
     #[inline(always)]
     pub(crate) fn held(&self) -> u32 {
         self.desk.held()
+    }
+
+    /// How many it may have.
+    #[inline(always)]
+    pub(crate) fn allowance(&self) -> u32 {
+        self.desk.allowance()
     }
 
     /// Vacant blocks go to the shelf: how many did.
@@ -41,7 +49,8 @@ impl<D: Domain> Context<D> {
     /// The reserve is filled from the shelf: how many blocks came.
     pub(crate) fn fill(&mut self, domain: &domain::Domain<D::Value>) -> u32
         requires { Belongs D.opened domain.now }
-        ensures { SinceOpened D.opened (Fills result) }
+        ensures since { SinceOpened D.opened (Fills result) }
+        ensures exact { Unshelved result self.old.desk self.new.desk }
     {
         let count = RESERVE.saturating_sub(self.desk.stock());
         self.desk.unshelve(domain, count)
@@ -73,6 +82,7 @@ impl<D: Domain> Context<D> {
     #[inline(always)]
     pub(crate) fn restock(&mut self, domain: &domain::Domain<D::Value>)
         requires { Belongs D.opened domain.now }
+        ensures { Restocks self.old.desk self.new.desk }
     {
         if self.desk.stock() == 0 {
             self.take_batch(domain);
@@ -83,6 +93,7 @@ impl<D: Domain> Context<D> {
     #[inline(never)]
     fn take_batch(&mut self, domain: &domain::Domain<D::Value>)
         requires { Belongs D.opened domain.now }
+        ensures { Restocks self.old.desk self.new.desk }
     {
         self.fill(domain);
     }

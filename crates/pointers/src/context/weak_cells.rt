@@ -1,5 +1,5 @@
 //! Calls on cells of weak handles.
-ghost use Rattle.std.specs.Prelude.{◌≡◌, ◌↔◌, IfErr, IfOk, IsErr, None, OnOk};
+ghost use Rattle.std.specs.Prelude.{◌≡◌, ◌↔◌, IfErr, IfOk, IfSome, IsErr, None, OnOk};
 ghost use Rattle.control_word.specs.declared.model.handle.Kind.TheVariants.{Weak};
 ghost use Rattle.control_block.specs.Desks.{Belongs};
 ghost use Rattle.pointers.specs.Beside.{seen_by};
@@ -42,6 +42,29 @@ impl<D: Domain> Context<D> {
         look_at(of, &mut self.claims);
         let found = at.load(rt, domain, &mut self.desk)?;
         Ok(arrived_weak(domain, &mut self.desk, &self.pile, &mut self.claims, found))
+    }
+
+    /// A load's first try, which waits for nobody. It answers nothing where others were quicker, and where the desk is
+    /// at its allowance.
+    #[inline(always)]
+    pub(crate) fn load_weak_once(
+        &mut self,
+        domain: &domain::Domain<D::Value>,
+        at: WeakAt<'_>,
+        of: Option<&SharedClaim<D>>,
+    ) -> Option<Option<WeakClaim<D>>>
+        requires domain { Belongs D.opened domain.now }
+        requires cell { IsWeakSite D.opened at.site (known_by of) }
+        ensures { IfSome result (λ r. LoadedAt D.opened (known_by of.entry)
+            (weak_cell_of D.opened (known_by of.entry) at.entry.site) Weak
+            (seen_by (λ x. x.known) r)) }
+    {
+        self.desk.assert_invariant();
+        look_at(of, &mut self.claims);
+        let Some(found) = at.load_once(domain, &mut self.desk) else {
+            return None;
+        };
+        Some(arrived_weak(domain, &mut self.desk, &self.pile, &mut self.claims, found))
     }
 
     /// Whether the cell holds an equivalent of the weak handle.

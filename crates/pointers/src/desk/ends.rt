@@ -4,21 +4,23 @@ use crate::claim::weak_claim::WeakClaim;
 use crate::desk::blocks::ROUNDS;
 use crate::desk::{Desk, Late};
 use crate::domain::Domain;
-use shared_handle::Gone;
 
 impl<'d, D: Domain> Desk<'d, D> {
     /// An owner lets go.
     #[inline(always)]
     pub(crate) fn let_go(&self, owner: SharedClaim<D>) {
-        let gone = match self.context.try_borrow_mut() {
-            Ok(mut context) => context.leave(self.domain, owner),
-            Err(_) => {
-                self.put_off(Late::Shared(owner));
-                return;
+        match self.context.try_borrow_mut() {
+            Ok(mut context) => {
+                let Some((value, is_more)) = context.leave_to_end(self.domain, owner) else {
+                    return;
+                };
+                drop(context);
+                drop(value);
+                if is_more {
+                    self.end_some();
+                }
             }
-        };
-        if let Gone::Last = gone {
-            self.end_some();
+            Err(_) => self.put_off(Late::Shared(owner)),
         }
     }
 

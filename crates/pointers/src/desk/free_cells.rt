@@ -1,12 +1,14 @@
 //! Free cells of the domain.
 ghost use Rattle.std.specs.Prelude.{◌≡◌, false, IfErr, IfOk, None, OnOk};
 ghost use Rattle.control_word.specs.declared.model.handle.Kind.TheVariants as kind;
+ghost use Rattle.pointers.specs.Beside.{seen_by};
 ghost use Rattle.pointers.specs.SiteCalls.{Exchanged, IsUpdated, Loaded, Locked, LookedFor, Stored, WhyNotDone};
-ghost use Rattle.pointers.specs.SiteCalls.{WhyNotLocked, WhyNotLooked, WhyNotUpdated};
+ghost use Rattle.pointers.specs.SiteCalls.{WhyNotLocked, WhyNotLookedFor, WhyNotUpdated};
 ghost use Rattle.pointers.specs.Sites.{free_site};
 
 use crate::cells::cached::Cached;
 use crate::cells::cached_value::CachedValue;
+use crate::cells::location::Location;
 use crate::cells::member::Member;
 use crate::cells::up::Up;
 use crate::cells::{SharedCell, WeakCell};
@@ -16,7 +18,6 @@ use crate::fault::Fault;
 use crate::fault::call::Call;
 use crate::shared::Shared;
 use crate::weak::Weak;
-use atomic_cells::SharedMember;
 use std::sync::Wait;
 
 impl<'d, D: Domain> Desk<'d, D> {
@@ -27,9 +28,7 @@ impl<'d, D: Domain> Desk<'d, D> {
     {
         Member {
             desk: self,
-            of: None,
-            which: SharedMember::First,
-            number: cell.0,
+            location: Location::Free(cell.0),
         }
     }
 
@@ -40,8 +39,7 @@ impl<'d, D: Domain> Desk<'d, D> {
     {
         Up {
             desk: self,
-            of: None,
-            number: cell.0,
+            location: Location::Free(cell.0),
         }
     }
 
@@ -63,21 +61,34 @@ impl<'d, D: Domain> Desk<'d, D> {
         self.weak_cell(cell).load(rt)
     }
 
-    /// Whether the cell holds what this pointer is, in C++ `load() == p` by the rule of `compare_exchange`: the same
-    /// place, and the same object. It is one look, which changes nothing and waits for nobody.
+    /// Whether the cell holds what this pointer is, or is empty where that is `None`, in C++ `load() == p` by the rule
+    /// of `compare_exchange`: the same place, and the same object. It is one look, which changes nothing and waits for
+    /// nobody. An empty pointer takes room meanwhile.
     #[inline(always)]
-    pub fn holds<'t>(&'t self, cell: SharedCell, mine: &Shared<'t, D>) -> Result<bool, Fault>
-        ensures told { IfOk result (LookedFor D.opened kind.Owner (free_site cell.0) mine.now) }
-        ensures refused { IfErr result (WhyNotLooked D.opened kind.Owner (free_site cell.0) Call.Holds) }
+    pub fn holds<'t>(
+        &'t self,
+        cell: SharedCell,
+        mine: Option<&Shared<'t, D>>,
+    ) -> Result<bool, Fault>
+        ensures told { IfOk result (LookedFor D.opened kind.Owner (free_site cell.0)
+            (seen_by (λ x. x.now) mine.entry)) }
+        ensures refused { IfErr result (WhyNotLookedFor D.opened kind.Owner (free_site cell.0)
+            (seen_by (λ x. x.now) mine.entry)) }
     {
         self.cell(cell).holds(mine)
     }
 
     /// The same of a weak pointer.
     #[inline(always)]
-    pub fn holds_weak<'t>(&'t self, cell: WeakCell, mine: &Weak<'t, D>) -> Result<bool, Fault>
-        ensures told { IfOk result (LookedFor D.opened kind.Weak (free_site cell.0) mine.now) }
-        ensures refused { IfErr result (WhyNotLooked D.opened kind.Weak (free_site cell.0) Call.Holds) }
+    pub fn holds_weak<'t>(
+        &'t self,
+        cell: WeakCell,
+        mine: Option<&Weak<'t, D>>,
+    ) -> Result<bool, Fault>
+        ensures told { IfOk result (LookedFor D.opened kind.Weak (free_site cell.0)
+            (seen_by (λ x. x.now) mine.entry)) }
+        ensures refused { IfErr result (WhyNotLookedFor D.opened kind.Weak (free_site cell.0)
+            (seen_by (λ x. x.now) mine.entry)) }
     {
         self.weak_cell(cell).holds(mine)
     }
@@ -122,19 +133,37 @@ impl<'d, D: Domain> Desk<'d, D> {
         self.cell(cell).update(rt, f)
     }
 
-    /// Returns once a look tells that the cell no longer holds what this pointer is, in C++ `wait(p)` (waits). Nobody
-    /// has to notify, and nothing is promised of when.
+    /// Returns once a look tells that the cell no longer holds what this pointer is, or is no longer empty where that
+    /// is `None`, in C++ `wait(p)` (waits). Nobody has to notify, and nothing is promised of when.
     #[inline(always)]
     pub fn wait_while<'t, R: Wait>(
         &'t self,
         rt: &R,
         cell: SharedCell,
-        mine: &Shared<'t, D>,
+        mine: Option<&Shared<'t, D>>,
     ) -> Result<(), Fault>
-        ensures changed { OnOk result (LookedFor D.opened kind.Owner (free_site cell.0) mine.now false) }
-        ensures refused { IfErr result (WhyNotLooked D.opened kind.Owner (free_site cell.0) Call.Holds) }
+        ensures changed { OnOk result (LookedFor D.opened kind.Owner (free_site cell.0)
+            (seen_by (λ x. x.now) mine.entry) false) }
+        ensures refused { IfErr result (WhyNotLookedFor D.opened kind.Owner (free_site cell.0)
+            (seen_by (λ x. x.now) mine.entry)) }
     {
         self.cell(cell).wait_while(rt, mine)
+    }
+
+    /// The same of a weak pointer.
+    #[inline(always)]
+    pub fn wait_while_weak<'t, R: Wait>(
+        &'t self,
+        rt: &R,
+        cell: WeakCell,
+        mine: Option<&Weak<'t, D>>,
+    ) -> Result<(), Fault>
+        ensures changed { OnOk result (LookedFor D.opened kind.Weak (free_site cell.0)
+            (seen_by (λ x. x.now) mine.entry) false) }
+        ensures refused { IfErr result (WhyNotLookedFor D.opened kind.Weak (free_site cell.0)
+            (seen_by (λ x. x.now) mine.entry)) }
+    {
+        self.weak_cell(cell).wait_while(rt, mine)
     }
 
     /// An owner of what a weak cell holds, in C++ `load().lock()` (waits). None where that is empty or expired.

@@ -9,12 +9,10 @@ pub enum Spot {
     Shared(u32),
     /// A free cell for weak pointers.
     Weak(u32),
-    /// The member `first` of an object.
-    First,
-    /// The member `next`.
-    Next,
-    /// The member `up`.
-    Up,
+    /// A member of an object for owners, by its number: `first` is 0, and `next` is 1.
+    Owner(u8),
+    /// A weak member, by its number: `up` is 0.
+    WeakMember(u8),
 }
 
 impl fmt::Display for Spot {
@@ -22,9 +20,11 @@ impl fmt::Display for Spot {
         match self {
             Spot::Shared(number) => write!(f, "shared cell {number}"),
             Spot::Weak(number) => write!(f, "weak cell {number}"),
-            Spot::First => f.write_str("member first"),
-            Spot::Next => f.write_str("member next"),
-            Spot::Up => f.write_str("member up"),
+            Spot::Owner(0) => f.write_str("member first"),
+            Spot::Owner(1) => f.write_str("member next"),
+            Spot::Owner(number) => write!(f, "owner {number}"),
+            Spot::WeakMember(0) => f.write_str("member up"),
+            Spot::WeakMember(number) => write!(f, "weak {number}"),
         }
     }
 }
@@ -42,8 +42,10 @@ pub enum Call {
     Upgrade,
     Read,
     UseCount,
+    End,
     Expired,
     Visit,
+    Hold,
     Load(Spot),
     Holds(Spot),
     Store(Spot),
@@ -70,8 +72,10 @@ impl Call {
             Call::Upgrade => "upgrade",
             Call::Read => "read",
             Call::UseCount => "use_count",
+            Call::End => "end",
             Call::Expired => "expired",
             Call::Visit => "visit",
+            Call::Hold => "hold",
             Call::Load(_) => "load",
             Call::Holds(_) => "holds",
             Call::Store(_) => "store",

@@ -41,16 +41,15 @@ pub trait Element<N>: Drop + Sized {
 impl<'t, D: Domain> Element<Shared<'t, D>> for Shared<'t, D> {
     ghost use Rattle.std.specs.Prelude.{◌≡◌, Some};
     ghost use Rattle.control_word.specs.declared.model.handle.Kind.TheVariants.{Owner};
-    ghost use Rattle.atomic_cells.specs.declared.sites.SharedMember.TheVariants.{First};
     ghost use Rattle.shared_handle.specs.declared.pile.Gone.{Gone};
     ghost use Rattle.pointers.specs.Lists.{IsMemberRefused};
     ghost use Rattle.pointers.specs.Known.{owned};
     ghost use Rattle.pointers.specs.SiteCalls.{Loaded, Stored};
     ghost use Rattle.pointers.specs.Sites.{member_site};
 
-    ghost goes_in = { λ n e. Stored D.opened Owner (member_site n First) (Some e) };
+    ghost goes_in = { λ n e. Stored D.opened Owner (member_site n 0) (Some e) };
 
-    ghost copied = { λ n e. Loaded D.opened Owner (member_site n First) e };
+    ghost copied = { λ n e. Loaded D.opened Owner (member_site n 0) e };
 
     ghost refused = { λ n why. IsMemberRefused D.opened n why };
 
@@ -75,11 +74,11 @@ impl<'t, D: Domain> Element<Shared<'t, D>> for Weak<'t, D> {
     ghost use Rattle.pointers.specs.Lists.{IsMemberRefused};
     ghost use Rattle.pointers.specs.Known.{owned};
     ghost use Rattle.pointers.specs.SiteCalls.{Loaded, Stored};
-    ghost use Rattle.pointers.specs.Sites.{up_site};
+    ghost use Rattle.pointers.specs.Sites.{member_site};
 
-    ghost goes_in = { λ n e. Stored D.opened kind.Weak (up_site n) (Some e) };
+    ghost goes_in = { λ n e. Stored D.opened kind.Weak (member_site n 0) (Some e) };
 
-    ghost copied = { λ n e. Loaded D.opened kind.Weak (up_site n) e };
+    ghost copied = { λ n e. Loaded D.opened kind.Weak (member_site n 0) e };
 
     ghost refused = { λ n why. IsMemberRefused D.opened n why };
 

@@ -6,6 +6,8 @@ use std::fmt;
 #[derive(Clone, Copy, PartialEq, Eq, Debug, Drop)]
 pub enum Number {
     Blocks,
+    Owners,
+    Weaks,
     SharedCells,
     WeakCells,
     Allowance,
@@ -15,6 +17,8 @@ impl fmt::Display for Number {
     fn fmt<W: fmt::Write>(&self, f: &mut fmt::Formatter<W>) -> fmt::Result {
         f.write_str(match self {
             Number::Blocks => "blocks",
+            Number::Owners => "owners",
+            Number::Weaks => "weaks",
             Number::SharedCells => "shared_cells",
             Number::WeakCells => "weak_cells",
             Number::Allowance => "allowance",

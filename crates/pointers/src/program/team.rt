@@ -4,7 +4,7 @@ ghost use Rattle.pointers.specs.Teams.{Fits, IsMisfit, handles_of};
 
 use crate::program::not_run::{Limit, NotRun, Number};
 use control_word::Shape;
-use control_word::shape::{MOST_ALLOWANCE, MOST_BLOCKS, MOST_FREE_CELLS};
+use control_word::shape::{MOST_ALLOWANCE, MOST_BLOCKS, MOST_FREE_CELLS, MOST_MEMBERS};
 
 /// Handles that a desk may have above its team's pointers: an empty one on its way into a place, and what a compare
 /// copies before that which lay there leaves. Pointers that a program has beyond its team's take this room.
@@ -20,13 +20,17 @@ pub struct Team {
 
 impl Team {
     /// The shape of a domain with room for the team: with so many blocks for objects, and so many free cells.
+    /// An object has two members for owners and a weak one.
     pub fn shape(&self, blocks: u32, shared_cells: u32, weak_cells: u32) -> Shape
         ensures blocks { result.blocks ≡ blocks }
+        ensures members { (result.owners ≡ 2) × (result.weaks ≡ 1) }
         ensures cells { (result.shared_cells ≡ shared_cells) × (result.weak_cells ≡ weak_cells) }
         ensures room { handles_of self.now < 2 ^ 32 → result.allowance ≡ handles_of self.now }
     {
         Shape {
             blocks,
+            owners: 2,
+            weaks: 1,
             shared_cells,
             weak_cells,
             allowance: u32::try_from(self.handles()).unwrap_or(u32::MAX),
@@ -57,12 +61,25 @@ impl Team {
         ensures fits { IfNone result (Fits shape.now self.now) }
         ensures misfit { IfSome result (IsMisfit shape.now self.now) }
     {
+        let members = MOST_MEMBERS.saturating_sub(shape.owners);
         let cells = MOST_FREE_CELLS.saturating_sub(shape.shared_cells);
         if shape.blocks < 1 {
             return Some(small(Number::Blocks, shape.blocks, 1));
         }
         if shape.blocks > MOST_BLOCKS {
             return Some(large(Number::Blocks, shape.blocks, MOST_BLOCKS));
+        }
+        if shape.owners < 2 {
+            return Some(small(Number::Owners, shape.owners, 2));
+        }
+        if shape.owners >= MOST_MEMBERS {
+            return Some(large(Number::Owners, shape.owners, MOST_MEMBERS - 1));
+        }
+        if shape.weaks < 1 {
+            return Some(small(Number::Weaks, shape.weaks, 1));
+        }
+        if shape.weaks > members {
+            return Some(large(Number::Weaks, shape.weaks, members));
         }
         if shape.shared_cells > MOST_FREE_CELLS {
             return Some(large(Number::SharedCells, shape.shared_cells, MOST_FREE_CELLS));

@@ -3,10 +3,11 @@ ghost use Rattle.std.specs.Prelude.{◌≡◌, IfErr, IfOk, None, OnOk, Option, 
 ghost use Rattle.control_word.specs.declared.model.handle.Kind.TheVariants.{Owner};
 ghost use Rattle.pointers.specs.Beside.{seen_by};
 ghost use Rattle.pointers.specs.SiteCalls.{Exchanged, Locked, Stored, WhyNotDone, WhyNotLocked};
-ghost use Rattle.pointers.specs.Sites.{free_site, up_site};
+ghost use Rattle.pointers.specs.Sites.{free_site, member_site};
 
 use crate::cells::SharedCell;
 use crate::cells::link::Link;
+use crate::cells::location::Location;
 use crate::cells::member::Member;
 use crate::cells::up::Up;
 use crate::claim::shared_claim::SharedClaim;
@@ -15,7 +16,6 @@ use crate::domain::Domain;
 use crate::fault::Fault;
 use crate::fault::call::{Call, Spot};
 use crate::shared::Shared;
-use atomic_cells::SharedMember;
 use std::sync::Wait;
 
 /// The pointer of a claim, if there is one.
@@ -73,78 +73,83 @@ impl<'t, D: Domain> Shared<'t, D> {
         desk.cell(cell).exchange(Some(self))
     }
 
-    /// One of the object's members that hold owners.
+    /// The object's member for an owner of that number, from 0 on: `first` is 0, `next` 1, and how many there are the
+    /// domain's shape says.
     #[inline(always)]
-    pub(crate) fn member(&self, which: SharedMember) -> Member<'_, 't, D>
-        ensures of { result.of ≡ Some self.now }
-        ensures which { result.which ≡ which }
+    pub fn owner(&self, number: u8) -> Member<'_, 't, D>
+        ensures { result ≡ member_site self.now number }
     {
         Member {
             desk: self.desk,
-            of: Some(&self.owner),
-            which,
-            number: 0,
+            location: Location::Member(&self.owner, number),
+        }
+    }
+
+    /// The object's weak member of that number, from 0 on: `up` is 0.
+    #[inline(always)]
+    pub fn weak(&self, number: u8) -> Up<'_, 't, D>
+        ensures { result ≡ member_site self.now number }
+    {
+        Up {
+            desk: self.desk,
+            location: Location::Member(&self.owner, number),
         }
     }
 
     /// The object's member that owns its first child.
     #[inline(always)]
     pub fn first(&self) -> Member<'_, 't, D>
-        ensures of { result.of ≡ Some self.now }
-        ensures which { result.which ≡ SharedMember.First }
+        ensures { result ≡ member_site self.now 0 }
     {
-        self.member(SharedMember::First)
+        self.owner(0)
     }
 
     /// The object's member that owns its next sibling.
     #[inline(always)]
     pub fn next(&self) -> Member<'_, 't, D>
-        ensures of { result.of ≡ Some self.now }
-        ensures which { result.which ≡ SharedMember.Next }
+        ensures { result ≡ member_site self.now 1 }
     {
-        self.member(SharedMember::Next)
+        self.owner(1)
     }
 
     /// The object's weak member.
     #[inline(always)]
     pub fn up(&self) -> Up<'_, 't, D>
-        ensures of { result.of ≡ Some self.now }
+        ensures { result ≡ member_site self.now 0 }
     {
-        Up {
-            desk: self.desk,
-            of: Some(&self.owner),
-            number: 0,
-        }
+        self.weak(0)
     }
 
     /// An owner of what its weak member is of (waits). None where that is empty or expired.
     #[inline(always)]
     pub fn parent<R: Wait>(&self, rt: &R) -> Result<Option<Shared<'t, D>>, Fault>
-        ensures parent { IfOk result (Locked D.opened (up_site self.now)) }
-        ensures refused { IfErr result (WhyNotLocked D.opened (up_site self.now)) }
+        ensures parent { IfOk result (Locked D.opened (member_site self.now 0)) }
+        ensures refused { IfErr result (WhyNotLocked D.opened (member_site self.now 0)) }
     {
         self.up().lock(rt)
+    }
+
+    /// A member for an owner, by its number, which keeps the object.
+    #[inline(always)]
+    pub fn into_member(self, number: u8) -> Link<'t, D>
+        ensures { (result.of ≡ self.entry) × (result.number ≡ number) }
+    {
+        Link { of: self, number }
     }
 
     /// The member `first`, which keeps the object.
     #[inline(always)]
     pub fn into_first(self) -> Link<'t, D>
-        ensures { (result.of ≡ self.entry) × (result.which ≡ SharedMember.First) }
+        ensures { (result.of ≡ self.entry) × (result.number ≡ 0) }
     {
-        Link {
-            of: self,
-            which: SharedMember::First,
-        }
+        self.into_member(0)
     }
 
     /// The member `next`, which keeps the object.
     #[inline(always)]
     pub fn into_next(self) -> Link<'t, D>
-        ensures { (result.of ≡ self.entry) × (result.which ≡ SharedMember.Next) }
+        ensures { (result.of ≡ self.entry) × (result.number ≡ 1) }
     {
-        Link {
-            of: self,
-            which: SharedMember::Next,
-        }
+        self.into_member(1)
     }
 }

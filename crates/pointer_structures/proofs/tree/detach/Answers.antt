@@ -33,10 +33,10 @@ returns-in_err-put_next-clause-fault g c =
 
 pub returns-then-branch-clause-detached : goal.returns-then-branch-clause-detached
 returns-then-branch-clause-detached g c =
-    leaves g.D.Domain.opened c.args.node.now c.in-Some.parent c.in_ok-parent.field-0 _ _ c.clear.result c.in_ok-parent.ensures.parent
-    c.in-Some.is (c.in_ok-goes_out.ensures.out c.if-branch.true) c.in_ok-put_next.ensures.comes c.up.ensures.of c.clear.ensures.cleared
+    leaves g.D.Domain.opened c.args.node.now c.in-Some.parent c.in_ok-parent.field-0 _ c.clear.result c.in_ok-parent.ensures.parent
+    c.in-Some.is (c.in_ok-goes_out.ensures.out c.if-branch.true) c.in_ok-put_next.ensures.comes c.up.ensures c.clear.ensures.cleared
 
 pub returns-then-branch-clause-fault : goal.returns-then-branch-clause-fault
 returns-then-branch-clause-fault g c =
-    errs_map _ _ c.clear.result (λ why not. inr (inl (up_refused g.D.Domain.opened c.args.node.now _ _ _ why c.up.ensures.of not)))
+    errs_map _ _ c.clear.result (λ why not. inr (inl (up_refused g.D.Domain.opened c.args.node.now _ _ why c.up.ensures not)))
     c.clear.ensures.refused

@@ -3,6 +3,8 @@ use Rattle.pointers.proofs.Prelude.{bag_of, block_of, Owner}
 use Rattle.control_block.specs.declared.handles.Held.TheVariants as held
 use Rattle.pointers.proofs.Calls.{by_share}
 use Rattle.pointers.proofs.Handles.{bag_by, more_kept, of_one, owner_held, passed_on, was}
+use Rattle.pointers.proofs.HandCalls.{shares_now}
+use Rattle.pointers.proofs.Handles.{since}
 use Rattle.pointers.proofs.context.Context.alias.Goals as goal
 
 pub alias-requires-clause-holds : goal.alias-requires-clause-holds
@@ -35,3 +37,10 @@ returns-in_err-handle-clause-refused g c =
       says.refused.0,
       was o d c.self.inside.pile c.self.inside.claims.entries c.args.of.now.at c.args.of.now.known c.self.invariant c.look-of.ensures.has (says.limit.0 refl),
     )
+
+pub returns-clause-came : goal.returns-clause-came
+returns-clause-came g c =
+    let o = g.D.Domain.opened in let d = c.self.inside.desk in let e = c.alias.new.desk in let says = c.in_ok-handle.ensures in
+    since o d e c.self.inside.pile c.self.inside.claims.entries c.args.of.now.at c.args.of.now.known c.self.invariant c.look-of.ensures.has
+    (shares_now d d e c.args.of.now.known c.register.result.known c.look-of.result.now c.in_ok-handle.handle _ c.look-of.ensures.handle says.event
+    says.handle.1 c.register.ensures.known refl)

@@ -3,6 +3,9 @@ use Rattle.pointers.proofs.Prelude.{bag_of, block_of}
 use Rattle.control_block.specs.declared.handles.Held.TheVariants as held
 use Rattle.pointers.proofs.Calls.{by_weak_share, weak_bag}
 use Rattle.pointers.proofs.Handles.{more_kept, of_one, owner_held, passed_on, was}
+use Rattle.pointers.proofs.HandCalls.{shares_weakly_now}
+use Rattle.pointers.specs.Whole.{ContextNow}
+use Rattle.pointers.proofs.Handles.{since}
 use Rattle.pointers.proofs.context.Context.downgrade.Goals as goal
 
 pub downgrade-requires-clause-holds : goal.downgrade-requires-clause-holds
@@ -36,3 +39,16 @@ returns-in_err-handle-clause-refused g c =
       says.refused.0,
       was o d c.self.inside.pile c.self.inside.claims.entries c.args.of.now.at c.args.of.now.known c.self.invariant c.look-of.ensures.has (says.limit.0 refl),
     )
+
+pub returns-clause-exact : goal.returns-clause-exact
+returns-clause-exact g c =
+    shares_weakly_now c.args.self.now.desk c.self.inside.desk c.downgrade.new.desk c.args.of.now.known c.register.result.known (held.Owner c.look-of.result.now)
+    (held.Weak c.in_ok-handle.handle) c.look-of.ensures.handle c.in_ok-handle.ensures.event c.register.ensures.known
+    (ap (λ (x : ContextNow g.row.D-Value.Denot). x.desk) c.self.view_is)
+
+pub returns-clause-came : goal.returns-clause-came
+returns-clause-came g c =
+    let o = g.D.Domain.opened in let d = c.self.inside.desk in let e = c.downgrade.new.desk in
+    since o d e c.self.inside.pile c.self.inside.claims.entries c.args.of.now.at c.args.of.now.known c.self.invariant c.look-of.ensures.has
+    (shares_weakly_now d d e c.args.of.now.known c.register.result.known (held.Owner c.look-of.result.now) (held.Weak c.in_ok-handle.handle)
+    c.look-of.ensures.handle c.in_ok-handle.ensures.event c.register.ensures.known refl)

@@ -1,5 +1,7 @@
 use Rattle.std.proofs.Common.{sym, subst}
 use Rattle.pointers.proofs.Prelude.{block_of, Held, IsExpiry, place_of}
+use Rattle.pointers.specs.Known.{owned, pointed}
+use Rattle.pointers.specs.Whole.{ContextNow}
 use Rattle.pointers.proofs.Calls.{by_expiry}
 use Rattle.pointers.proofs.Handles.{alike, bears_by, weak_held, since}
 use Rattle.pointers.proofs.context.Context.expired.Goals as goal
@@ -18,9 +20,15 @@ invariant_of-self g c =
     (bears_by o d e p cs c.self.invariant says.keeps)
     says.bag says.held c.look-of.ensures.claims
 
-pub returns : goal.returns
-returns g c =
+pub returns-clause-since : goal.returns-clause-since
+returns-clause-since g c =
     let o = g.D.Domain.opened in let d = c.self.inside.desk in let e = c.expired.new.desk in let of = c.look-of.result.now in
     let is = sym c.look-of.ensures.handle in
     since o d e c.self.inside.pile c.self.inside.claims.entries c.args.of.now.at c.args.of.now.known c.self.invariant c.look-of.ensures.has
     (subst (λ (h : Held). IsExpiry d (block_of h) (place_of h) c.expired.result e) is c.expired.ensures.expired)
+
+pub returns-clause-exact : goal.returns-clause-exact
+returns-clause-exact g c =
+    let d = c.self.inside.desk in let e = c.expired.new.desk in
+    subst (λ (x : ContextNow g.row.D-Value.Denot). IsExpiry x.desk (owned c.args.of.now.known) (pointed c.args.of.now.known) c.expired.result e) c.self.view_is
+    (subst (λ (h : Held). IsExpiry d (block_of h) (place_of h) c.expired.result e) (sym c.look-of.ensures.handle) c.expired.ensures.expired)

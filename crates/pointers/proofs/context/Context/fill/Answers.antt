@@ -12,8 +12,8 @@ invariant_of-self g c =
     alike o d e p p cs cs c.self.invariant (by_passing d e passes.goes passes.latest passes.same.allowance)
     (bears_kept (domain_of o) d e p c.self.invariant.bears passes.same.domain passes.same.shape passes.endings passes.count) passes.bag passes.held refl
 
-pub returns : goal.returns
-returns g c =
+pub returns-clause-since : goal.returns-clause-since
+returns-clause-since g c =
     let o = g.D.Domain.opened in let d = c.self.inside.desk in let e = c.unshelve.new.self in let says = c.unshelve.ensures in
     let is : c.saturating_sub-count.result ≡ 2 - length (stock_of d) = (let a = c.saturating_sub-count.ensures in let b = c.stock.ensures in
     omega (arith, a, b)) in

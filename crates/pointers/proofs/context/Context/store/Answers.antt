@@ -1,9 +1,11 @@
-use Rattle.std.proofs.Common.{◌∷◌, [], List, Option, sym, refl, subst}
+use Rattle.std.proofs.Common.{◌∷◌, [], List, Option, sym, refl, ap, subst}
 use Rattle.pointers.proofs.Prelude.{IsWhole, Known}
 use Rattle.control_block.specs.declared.handles.Held.TheVariants as held
 use Rattle.shared_handle.proofs.Piles.{carries_left, left_elsewhere, room_piled}
 use Rattle.atomic_cells.proofs.Endings.{stored_ends}
 use Rattle.pointers.proofs.Calls.{by_left}
+use Rattle.pointers.proofs.HandCalls.{stores_exactly}
+use Rattle.pointers.specs.Whole.{ContextNow}
 use Rattle.pointers.proofs.CellCalls.{open_shared, shared_alike, stays, stored}
 use Rattle.pointers.proofs.Handles.{passed_on, was_at}
 use Rattle.pointers.proofs.InHand.{bears_more, carries_here, in_hand, leaves_then, whole_again}
@@ -57,3 +59,12 @@ returns-in_err-handle-clause-refused g c =
     let o = g.D.Domain.opened in let d = c.self.inside.desk in let says = c.in_err-handle.ensures in
     let was = was_at o d c.self.inside.pile c.self.inside.claims.entries _ c.self.invariant c.look_at.ensures.has (says.limit.0 refl).1 in
     passed_on _ _ c.in_err-handle.field-0.0 c.from_residual.ensures.1 (says.refused.0, was)
+
+pub returns-clause-exact : goal.returns-clause-exact
+returns-clause-exact g c =
+    let o = g.D.Domain.opened in let d = c.given.new.desk in let p = c.self.inside.pile in let cs = c.given.new.claims.entries in
+    let h = held.Owner c.in_ok-handle.handle in let w = c.in_ok-handle.ensures.hand in let t = c.store-left in
+    stores_exactly c.args.self.now.desk c.self.inside.desk d t.new.desk _ _ h _ t.result
+    (shared_alike o d c.args.at.site _ (stays o d p (h ∷ []) cs _ w c.look_at-2.ensures.has) c.requires.cell)
+    c.in_ok-handle.ensures.handle t.ensures.stored c.in_ok-handle.ensures.count
+    (ap (λ (x : ContextNow g.row.D-Value.Denot). x.desk) c.self.view_is)

@@ -1,8 +1,12 @@
 use Rattle.std.proofs.Common.{Ok, Err, sym, ap, ◌∙◌}
 use Rattle.pointers.proofs.Prelude.{block_of}
 use Rattle.control_block.specs.declared.handles.Held.TheVariants as held
+use Rattle.pointers.specs.Whole.{ContextNow}
+use Rattle.pointers.proofs.HandCalls.{locks_now, locks_not, owner_by}
 use Rattle.pointers.proofs.Calls.{by_upgrade, upgraded}
 use Rattle.pointers.proofs.Handles.{alike, bears_by, more_kept, no_owner, of_one, weak_held}
+use Rattle.std.proofs.Common.{refl}
+use Rattle.pointers.proofs.Handles.{since}
 use Rattle.pointers.proofs.context.Context.upgrade.Goals as goal
 
 pub upgrade-requires-clause-holds : goal.upgrade-requires-clause-holds
@@ -42,3 +46,26 @@ returns-in-Err-clause-refused g c =
     let o = g.D.Domain.opened in let d = c.self.inside.desk in let e = c.upgrade.new.desk in let cs = c.self.inside.claims.entries in
     no_owner o d e c.self.inside.pile cs c.args.of.now.at c.args.of.now.known (held.Weak c.look-of.result.now) c.in-Err.why c.self.invariant
     c.look-of.ensures.has c.look-of.ensures.handle c.in-Err.ensures.upgrade
+
+pub returns-in-Ok-clause-exact : goal.returns-in-Ok-clause-exact
+returns-in-Ok-clause-exact g c =
+    locks_now c.args.self.now.desk c.self.inside.desk c.upgrade.new.desk c.args.of.now.known c.register.result.known c.look-of.result.now c.in-Ok.handle
+    c.look-of.ensures.handle
+    c.in-Ok.ensures.upgrade c.register.ensures.known (ap (λ (x : ContextNow g.row.D-Value.Denot). x.desk) c.self.view_is)
+
+pub returns-in-Err-clause-not : goal.returns-in-Err-clause-not
+returns-in-Err-clause-not g c =
+    locks_not c.args.self.now.desk c.self.inside.desk c.upgrade.new.desk c.args.of.now.known c.look-of.result.now c.in-Err.why c.look-of.ensures.handle
+    c.in-Err.ensures.upgrade (ap (λ (x : ContextNow g.row.D-Value.Denot). x.desk) c.self.view_is)
+
+pub returns-in-Err-clause-owned : goal.returns-in-Err-clause-owned
+returns-in-Err-clause-owned g c = λ has.
+    c.in-Err.ensures.owned (owner_by c.args.self.now.desk c.self.inside.desk c.args.of.now.known c.look-of.result.now c.look-of.ensures.handle
+    (ap (λ (x : ContextNow g.row.D-Value.Denot). x.desk) c.self.view_is) has)
+
+pub returns-in-Ok-clause-came : goal.returns-in-Ok-clause-came
+returns-in-Ok-clause-came g c =
+    let o = g.D.Domain.opened in let d = c.self.inside.desk in let e = c.upgrade.new.desk in
+    since o d e c.self.inside.pile c.self.inside.claims.entries c.args.of.now.at c.args.of.now.known c.self.invariant c.look-of.ensures.has
+    (locks_now d d e c.args.of.now.known c.register.result.known c.look-of.result.now c.in-Ok.handle c.look-of.ensures.handle c.in-Ok.ensures.upgrade
+    c.register.ensures.known refl)

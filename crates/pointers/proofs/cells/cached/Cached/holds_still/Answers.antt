@@ -1,6 +1,7 @@
+use Rattle.pointers.proofs.Prelude.{Owner}
 use Rattle.pointers.proofs.Finding.{told_still}
 use Rattle.pointers.proofs.cells.cached.Cached.holds_still.Goals as goal
 
 pub returns-in-Some-clause-found : goal.returns-in-Some-clause-found
 returns-in-Some-clause-found g c =
-    told_still g.D.Domain.opened _ _ c.in-Some.found c.args.self.now.found c.holds.result c.in-Some.is c.holds.ensures.told
+    told_still g.D.Domain.opened _ _ Owner c.in-Some.found c.args.self.now.found c.holds_this.result c.in-Some.is c.holds_this.ensures.told

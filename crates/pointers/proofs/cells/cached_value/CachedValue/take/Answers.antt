@@ -7,5 +7,5 @@ returns-in_err-value-clause-refused g c =
     let from = c.from_residual-in_err-value.ensures in
     let same : c.from_residual-in_err-value.result ≡ Err c.in_err-value.field-0.0 = search (from, rules) in
     fault_as _ _ _ same
-    (why_not_copied g.D.Domain.opened _ _ _ _ _ c.in_ok-owner.field-0 c.in-Some.owner c.in_err-value.field-0.0
+    (why_not_copied g.D.Domain.opened _ c.in_ok-owner.field-0 c.in-Some.owner c.in_err-value.field-0.0
     c.in_ok-owner.ensures.loaded c.in-Some.is c.in_err-value.ensures.fault)

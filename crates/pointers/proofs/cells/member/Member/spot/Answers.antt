@@ -1,6 +1,6 @@
 use Rattle.std.proofs.Common.{◌≡◌, subst}
 use Rattle.control_word.specs.declared.model.handle.Kind.TheVariants.{Owner}
-use Rattle.pointers.specs.SiteCalls.{spot_of}
+use Rattle.pointers.specs.Places.{spot_of}
 use Rattle.pointers.specs.Sites.{Site}
 use Rattle.pointers.proofs.cells.member.Member.spot.Goals as goal
 

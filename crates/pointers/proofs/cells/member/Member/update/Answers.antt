@@ -1,6 +1,7 @@
 use Rattle.std.proofs.Common.{of_calls, rules, ◌≡◌, Err, inl, inr, subst}
 use Rattle.control_word.specs.declared.model.handle.Kind.TheVariants.{Owner}
-use Rattle.pointers.specs.SiteCalls.{cell_at}
+use Rattle.pointers.specs.Places.{cell_at}
+use Rattle.pointers.specs.Sites.{owner_of}
 use Rattle.pointers.specs.Compares.{Shows}
 use Rattle.pointers.proofs.Values.{fault_as, shows_by}
 use Rattle.pointers.proofs.cells.member.Member.update.Goals as goal
@@ -16,7 +17,7 @@ returns-in_err-old-clause-refused g c =
     let not = c.in_err-old.ensures.refused in
     fault_as _ _ _ same (inr (inl (record {
       found = not.0;
-      shows = subst (Shows o s.of (cell_at o Owner s)) not.1 c.loop.invariant.1;
+      shows = subst (Shows o (owner_of s) (cell_at o Owner s)) not.1 c.loop.invariant.1;
       refused = not.2;
     })))
 

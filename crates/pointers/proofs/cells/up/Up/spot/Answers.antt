@@ -1,6 +1,6 @@
 use Rattle.std.proofs.Common.{◌≡◌, subst}
 use Rattle.control_word.specs.declared.model.handle.Kind.TheVariants.{Weak}
-use Rattle.pointers.specs.SiteCalls.{spot_of}
+use Rattle.pointers.specs.Places.{spot_of}
 use Rattle.pointers.specs.Sites.{Site}
 use Rattle.pointers.proofs.cells.up.Up.spot.Goals as goal
 

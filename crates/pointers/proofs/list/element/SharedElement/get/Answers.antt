@@ -1,0 +1,13 @@
+use Rattle.std.proofs.Common.{IfErr, subst}
+use Rattle.control_word.specs.declared.model.handle.Kind.TheVariants.{Owner}
+use Rattle.pointers.specs.SiteCalls.{WhyNotDone}
+use Rattle.pointers.specs.Sites.{Site}
+use Rattle.pointers.specs.declared.fault.call.Call.TheVariants.{Load}
+use Rattle.pointers.proofs.Places.{owner_refused}
+use Rattle.pointers.proofs.Handles.{errs_map}
+use Rattle.pointers.proofs.list.element.SharedElement.get.Goals as goal
+
+pub returns-clause-refused : goal.returns-clause-refused
+returns-clause-refused g c =
+    errs_map _ _ c.load.result (owner_refused g.D.Domain.opened c.args.node.now Load)
+    (subst (λ (s : Site g.row.D-Value.Denot). IfErr c.load.result (WhyNotDone g.D.Domain.opened Owner s Load)) c.first.ensures c.load.ensures.refused)
