@@ -1,7 +1,10 @@
 -- The lines of a text that is cut at its first line feed.
 use Rattle.std.proofs.Common.{◌≡◌, ℕ, Bool, true, false, cond, filter, List, [], ◌∷◌, ◌++◌, refl, sym, ap, ◌∙◌}
 use Rattle.std.proofs.Common.{append_assoc}
+use Rattle.std.proofs.Common.{◌<◌, ◌≢◌, Contains, arith, inl, inr, subst}
 use Rattle.std.proofs.lemmas.List.{append-nil}
+use Rattle.std.proofs.lemmas.List.Elements.{Contains-append_cases, Contains-append_left, Contains-append_right}
+use Rattle.std.proofs.lemmas.List.Elements.{Contains-push, Contains-push_cases}
 use Rattle.text_lines.specs.Lines.{HasNoFeed, IsLineCut, ended}
 use Rattle.script_orders.specs.Sorting.{lines_after, lines_in}
 
@@ -74,3 +77,41 @@ pub put_all : (test : List ℕ → Bool) (bytes before all : List ℕ) → HasNo
 put_all test bytes before all clean h =
     sym (append-nil before)
     ∙ ap (λ (ls : List (List ℕ)). before ++ ended (filter test ls)) (sym (lines_none bytes clean)) ∙ h
+
+-- ---- whether a line is among them
+
+has_lines : (bytes line rest wanted : List ℕ) → IsLineCut bytes line rest → Contains (line ∷ lines_in rest) wanted
+    → Contains (lines_in bytes) wanted
+has_lines bytes line rest wanted cut h =
+    subst (λ (ls : List (List ℕ)). Contains ls wanted) (sym (lines_cut bytes line rest cut)) h
+
+pub line_before : (bytes line rest wanted : List ℕ) → IsLineCut bytes line rest → Contains (lines_in rest) wanted
+    → Contains (lines_in bytes) wanted
+line_before bytes line rest wanted cut h =
+    has_lines bytes line rest wanted cut (Contains-append_right (line ∷ []) (lines_in rest) wanted h)
+
+pub first_line : (bytes line rest wanted : List ℕ) → IsLineCut bytes line rest → line ≡ wanted
+    → Contains (lines_in bytes) wanted
+first_line bytes line rest wanted cut same =
+    has_lines bytes line rest wanted cut
+    (Contains-append_left (line ∷ []) (lines_in rest) wanted
+    (subst (λ (l : List ℕ). Contains (line ∷ []) l) same (Contains-push [] line)))
+
+none_there : (wanted : List ℕ) → Contains {X = List ℕ} [] wanted → ⊥
+none_there wanted h = let lt : h.0 < 0 = h.1 in omega (arith, lt)
+
+pub later_line : (bytes line rest wanted : List ℕ) → IsLineCut bytes line rest → line ≢ wanted
+    → Contains (lines_in bytes) wanted → Contains (lines_in rest) wanted
+later_line bytes line rest wanted cut other h =
+    elim (Contains-append_cases (line ∷ []) (lines_in rest) wanted
+    (subst (λ (ls : List (List ℕ)). Contains ls wanted) (lines_cut bytes line rest cut) h)) [
+      | inl one ↦ elim (Contains-push_cases [] line wanted one) [
+        | inl none ↦ absurd (none_there wanted none)
+        | inr same ↦ absurd (other same)
+      ]
+      | inr later ↦ later
+    ]
+
+pub line_nowhere : (bytes wanted : List ℕ) → HasNoFeed bytes → Contains (lines_in bytes) wanted → ⊥
+line_nowhere bytes wanted clean h =
+    none_there wanted (subst (λ (ls : List (List ℕ)). Contains ls wanted) (lines_none bytes clean) h)

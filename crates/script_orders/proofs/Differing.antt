@@ -3,7 +3,7 @@ use Rattle.std.proofs.Common.{◌≡◌, ℕ, ◌<◌, List, [], ◌∷◌, ◌+
 use Rattle.std.specs.Prelude.{codes}
 use Rattle.std.specs.List.{flat_map}
 use Rattle.std.proofs.lemmas.Grind.{flat_map-append}
-use Rattle.script_orders.specs.Differences.{AreDifferences, IsDifferLine, differ_text, spaced}
+use Rattle.script_orders.specs.Differences.{AreDifferences, IsDifferLine, spaced}
 use Rattle.script_orders.specs.declared.differences.Difference.{Difference}
 
 -- one more

@@ -1,4 +1,6 @@
+pub mod Coverage
 pub mod Differences
 pub mod Found
 pub mod Orders
+pub mod Outcomes
 pub mod Sorting

@@ -1,38 +1,14 @@
--- Outcomes of scripts, and what is told of them. All of it is own.
-use Rattle.std.specs.Prelude.{◌≡◌, ◌≢◌, ◌⊎◌, ℕ, suc, ◌++◌, All, Contains, List, [], ◌∷◌, length, map, codes}
+-- What is told of a script's orders. All of it is own.
+use Rattle.std.specs.Prelude.{◌≡◌, ℕ, suc, ◌++◌, Bool, true, cond, Contains, List, [], ◌∷◌, length, codes}
 use Rattle.std.specs.Prelude.{decimal, Option, Some, None, Result, Ok, Err}
 use Rattle.script_text.specs.declared.fault.Fault.{Fault}
 use Rattle.script_text.specs.Grammar.{Refuses}
-use Rattle.script_stepper.specs.Runs.{IsRunText, IsScriptRun}
 use Rattle.script_orders.specs.declared.orders.Answer.{Answer}
 use Rattle.script_orders.specs.declared.orders.Answer.TheVariants.{Told, Found, TooMany}
 use Rattle.script_orders.specs.Differences.{IsDifferLine}
-use Rattle.script_orders.specs.Sorting.{by_threads, lines_in}
-
--- the text is an outcome of the script: what its run with this list of turns tells, sorted by threads
-pub record IsOutcome (script list text : List ℕ) : Type 0 where
-  pub run : List ℕ
-  pub runs : IsScriptRun IsRunText script list run
-  pub sorted : text ≡ by_threads run
-
--- the text of an outcome, and a list of turns that gives it
-abbrev pub Outcome : Type 0
-Outcome = List ℕ × List ℕ
-
-abbrev pub AreOutcomes : List ℕ → List Outcome → Type 0
-AreOutcomes script outcomes = All (λ (o : Outcome). IsOutcome script o.1 o.0) outcomes
-
--- no text stands twice
-abbrev pub AllDiffer : List (List ℕ) → Type 0
-AllDiffer [] = Unit {0}
-AllDiffer (text ∷ texts) = All (λ other. text ≢ other) texts × AllDiffer texts
-
--- the outcome was there by its text, or comes behind the others
-abbrev pub IsAdded : Outcome → List Outcome → List Outcome → Type 0
-IsAdded o old new = (new ≡ old) ⊎ (new ≡ old ++ o ∷ [])
-
-abbrev pub texts_of : List Outcome → List (List ℕ)
-texts_of outcomes = map (λ (o : Outcome). o.0) outcomes
+use Rattle.script_orders.specs.Coverage.{IsComplete}
+pub use Rattle.script_orders.specs.Outcomes.{AllDiffer, AreOutcomes, BeginsAlone, IsAdded, IsOutcome, Outcome, texts_of}
+use Rattle.script_orders.specs.Sorting.{lines_in}
 
 -- a list behind a word
 abbrev pub list_after : List ℕ → List ℕ
@@ -69,13 +45,26 @@ pub record TellsAll (outcomes : List Outcome) (states : ℕ) (text : List ℕ) :
   pub closes : Closes outcomes states closing
   pub says : text ≡ told_from 1 outcomes ++ closing
 
--- the text tells outcomes of the script, each once
+-- what the last line says: that none is missing, or that they were found by a search whose completeness is tested
+abbrev pub coverage_line : Bool → List ℕ
+coverage_line is_complete = cond is_complete (codes "complete\n") (codes "searched\n")
+
+-- the text tells these outcomes of the script, and whether none is missing; where it says so, none is
+pub record TellsOutcomes (script : List ℕ) (outcomes : List Outcome) (states : ℕ) (text : List ℕ) : Type 0 where
+  pub told : List ℕ
+  pub tells : TellsAll outcomes states told
+  pub is_complete : Bool
+  pub none_missing : is_complete ≡ true → IsComplete script outcomes
+  pub says : text ≡ told ++ coverage_line is_complete
+
+-- the text tells outcomes of the script, each once, and first that of the run that goes by itself
 pub record IsOrdersText (script text : List ℕ) : Type 0 where
   pub outcomes : List Outcome
   pub each : AreOutcomes script outcomes
+  pub first : BeginsAlone outcomes
   pub once : AllDiffer (texts_of outcomes)
   pub states : ℕ
-  pub tells : TellsAll outcomes states text
+  pub tells : TellsOutcomes script outcomes states text
 
 -- the run with this list of turns tells the line
 pub record TellsLine (script line list : List ℕ) : Type 0 where
@@ -83,18 +72,34 @@ pub record TellsLine (script line list : List ℕ) : Type 0 where
   pub is : IsOutcome script list outcome
   pub tells : Contains (lines_in outcome) line
 
+-- a list of turns, or `turns` where there are none
+abbrev pub found_list : List ℕ → List ℕ
+found_list [] = codes "turns"
+found_list (b ∷ bs) = b ∷ bs
+
 -- the text is such a list
 pub record IsFoundText (script line text : List ℕ) : Type 0 where
   pub list : List ℕ
   pub tells : TellsLine script line list
-  pub says : text ≡ list ++ 10 ∷ []
+  pub says : text ≡ found_list list ++ 10 ∷ []
+
+-- none of these outcomes tells the line
+abbrev pub NoneTells : List Outcome → List ℕ → Type 0
+NoneTells outcomes line = (text : List ℕ) → Contains (texts_of outcomes) text → Contains (lines_in text) line → ⊥
+
+-- the text tells that no outcome was found which tells the line, and whether none is missing; where it says so, no list
+-- of turns tells it
+pub record IsNeverText (script line text : List ℕ) : Type 0 where
+  pub is_complete : Bool
+  pub none : is_complete ≡ true → (list : List ℕ) → TellsLine script line list → ⊥
+  pub says : text ≡ codes "never\n" ++ coverage_line is_complete
 
 -- what is told where all outcomes are asked for, or those that tell a line
 abbrev pub IsAnswerText : Option (List ℕ) → Answer → List ℕ → List ℕ → Type 0
 IsAnswerText None Told script text = IsOrdersText script text
 IsAnswerText None Found script text = ⊥
 IsAnswerText None TooMany script text = text ≡ []
-IsAnswerText (Some line) Told script text = text ≡ codes "never\n"
+IsAnswerText (Some line) Told script text = IsNeverText script line text
 IsAnswerText (Some line) Found script text = IsFoundText script line text
 IsAnswerText (Some line) TooMany script text = text ≡ []
 

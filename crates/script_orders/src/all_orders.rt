@@ -4,13 +4,13 @@ ghost use Rattle.std.specs.Prelude.{◌≡◌, None, IfErr, IfOk, IfSome, OnOk};
 ghost use Rattle.script_text.specs.declared.fault.Fault.TheVariants.{Memory};
 ghost use Rattle.script_text.specs.Grammar.{Refuses};
 ghost use Rattle.script_orders.specs.Found.{outcomes_in};
-ghost use Rattle.script_orders.specs.Orders.{AllDiffer, AreOutcomes, texts_of};
+ghost use Rattle.script_orders.specs.Orders.{AllDiffer, AreOutcomes, BeginsAlone, texts_of};
 
 use crate::lists::next_list;
 use crate::outcomes::{Outcomes, outcome_text};
 use crate::search::Search;
 use control_word::Refusal;
-use script_text::{Fault, parse};
+use script_text::{Fault, Script, parse};
 use std::alloc::Global;
 
 /// The outcomes of all orders of a script, and how many states its threads come to.
@@ -18,6 +18,22 @@ use std::alloc::Global;
 pub struct AllOutcomes {
     pub outcomes: Outcomes,
     pub states: usize,
+}
+
+/// The outcome of the run that goes by itself. It has the least list, which is empty.
+fn first_outcome(alloc: Global, script: &[u8]) -> Result<Outcomes, Fault>
+    ensures each { IfOk result
+        (λ outcomes. AreOutcomes script.now (outcomes_in outcomes.found.entries)) }
+    ensures first { IfOk result (λ outcomes. BeginsAlone (outcomes_in outcomes.found.entries)) }
+    ensures refused { IfErr result (λ fault. Refuses fault script.now) }
+{
+    let list = Vec::new(alloc);
+    let told = outcome_text(alloc, script, list.as_slice())?;
+    let Some(text) = told else { unreachable!() };
+    match Outcomes::of(alloc, text, list) {
+        Ok(outcomes) => Ok(outcomes),
+        Err(_) => Err(Fault::Memory),
+    }
 }
 
 /// Adds the outcome of these turns.
@@ -29,6 +45,8 @@ fn add_outcome(
 ) -> Result<(), Fault>
     ensures each { OnOk result (AreOutcomes script.now (outcomes_in outcomes.old.found.entries)
         → AreOutcomes script.now (outcomes_in outcomes.new.found.entries)) }
+    ensures first { OnOk result (BeginsAlone (outcomes_in outcomes.old.found.entries)
+        → BeginsAlone (outcomes_in outcomes.new.found.entries)) }
     ensures refused { IfErr result (λ fault. Refuses fault script.now) }
 {
     let told = outcome_text(alloc, script, list.as_slice())?;
@@ -61,7 +79,7 @@ fn none_found(why: Refusal) -> Result<Option<AllOutcomes>, Fault>
     }
 }
 
-/// The outcomes that a search finds. The run that goes by itself has the least list, which is empty.
+/// The outcomes that a search finds, that of the run that goes by itself first.
 fn searched(
     alloc: Global,
     script: &[u8],
@@ -70,12 +88,13 @@ fn searched(
 ) -> Result<Option<AllOutcomes>, Fault>
     ensures each { IfOk result (λ found. IfSome found
         (λ all. AreOutcomes script.now (outcomes_in all.outcomes.found.entries))) }
+    ensures first { IfOk result (λ found. IfSome found
+        (λ all. BeginsAlone (outcomes_in all.outcomes.found.entries))) }
     ensures once { IfOk result (λ found. IfSome found
         (λ all. AllDiffer (texts_of (outcomes_in all.outcomes.found.entries)))) }
     ensures refused { IfErr result (λ fault. Refuses fault script.now) }
 {
-    let mut outcomes = Outcomes::new(alloc);
-    add_outcome(alloc, &mut outcomes, script, Vec::new(alloc))?;
+    let mut outcomes = first_outcome(alloc, script)?;
     for _ in 0..most {
         match next_list(alloc, search) {
             Ok(Some(list)) => add_outcome(alloc, &mut outcomes, script, list)?,
@@ -86,8 +105,31 @@ fn searched(
     Ok(Some(found(outcomes, search.states())))
 }
 
+/// The outcomes of all orders of a script, which was read so.
+pub(crate) fn outcomes_of(
+    alloc: Global,
+    script: &[u8],
+    parsed: &Script,
+    most: u32,
+) -> Result<Option<AllOutcomes>, Fault>
+    ensures each { IfOk result (λ found. IfSome found
+        (λ all. AreOutcomes script.now (outcomes_in all.outcomes.found.entries))) }
+    ensures first { IfOk result (λ found. IfSome found
+        (λ all. BeginsAlone (outcomes_in all.outcomes.found.entries))) }
+    ensures once { IfOk result (λ found. IfSome found
+        (λ all. AllDiffer (texts_of (outcomes_in all.outcomes.found.entries)))) }
+    ensures none { IfOk result (λ found. most ≡ 0 → found ≡ None) }
+    ensures refused { IfErr result (λ fault. Refuses fault script.now) }
+{
+    match Search::new(alloc, parsed, most) {
+        Ok(mut search) => searched(alloc, script, most, &mut search),
+        Err(why) => none_found(why),
+    }
+}
+
 /// Runs a script in every order of its threads' acts. Answers each outcome once, in the order of their least lists of
-/// turns, each with that list; or none, where there are more than `most` states (own).
+/// turns, each with that list; or none, where there are more than `most` states, as there are of 0 (own). The first is
+/// that of the run that goes by itself, whose list is empty.
 ///
 /// An outcome is what [`script_stepper::step_text`] writes with its list, but all lines of thread 1 first, then those
 /// of thread 2 and so on. Refused, in this order: by 1 where a growth was refused, by 10 just where a line of the
@@ -95,13 +137,13 @@ fn searched(
 pub fn all_outcomes(alloc: Global, script: &[u8], most: u32) -> Result<Option<AllOutcomes>, Fault>
     ensures each { IfOk result (λ found. IfSome found
         (λ all. AreOutcomes script.now (outcomes_in all.outcomes.found.entries))) }
+    ensures first { IfOk result (λ found. IfSome found
+        (λ all. BeginsAlone (outcomes_in all.outcomes.found.entries))) }
     ensures once { IfOk result (λ found. IfSome found
         (λ all. AllDiffer (texts_of (outcomes_in all.outcomes.found.entries)))) }
+    ensures none { IfOk result (λ found. most ≡ 0 → found ≡ None) }
     ensures refused { IfErr result (λ fault. Refuses fault script.now) }
 {
     let parsed = parse(alloc, script)?;
-    match Search::new(alloc, &parsed, most) {
-        Ok(mut search) => searched(alloc, script, most, &mut search),
-        Err(why) => none_found(why),
-    }
+    outcomes_of(alloc, script, &parsed, most)
 }

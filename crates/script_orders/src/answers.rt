@@ -1,23 +1,19 @@
 //! Answers on a script's orders, each with the text that tells it.
 
-ghost use Rattle.std.specs.Prelude.{◌≡◌, ◌++◌, ◌∷◌, [], Some, None, IfErr, IfOk, IfSome, IsTrue};
-ghost use Rattle.std.specs.Prelude.{codes};
+ghost use Rattle.std.specs.Prelude.{◌≡◌, ◌++◌, ℕ, List, [], None, IfErr, IfOk};
 ghost use Rattle.script_text.specs.declared.fault.Fault.TheVariants.{Memory};
-ghost use Rattle.script_text.specs.Grammar.{Refuses};
-ghost use Rattle.script_orders.specs.declared.orders.Answer.TheVariants.{Told, Found, TooMany};
+ghost use Rattle.script_text.specs.Grammar.{ReadsAs, Refuses};
+ghost use Rattle.script_orders.specs.declared.orders.Answer.TheVariants.{Told, TooMany};
 ghost use Rattle.script_orders.specs.Found.{outcomes_in};
-ghost use Rattle.script_orders.specs.Orders.{IsAnswerText, TellsAll, TellsLine};
+ghost use Rattle.script_orders.specs.Orders.{IsAnswerText, TellsAll, TellsOutcomes, coverage_line};
 
-use crate::all_orders::{AllOutcomes, all_outcomes};
-use crate::lists::next_list;
+use crate::all_orders::{AllOutcomes, outcomes_of};
+use crate::coverage::{FoundOutcomes, is_complete};
 use crate::orders::Answer;
-use crate::outcomes::outcome_text;
 use crate::report::all_text;
-use crate::search::Search;
-use crate::threads::has_line;
 use control_word::Refusal;
-use script_text::{Fault, parse};
-use std::alloc::Global;
+use script_text::{Fault, Script, parse};
+use std::alloc::{AllocError, Global};
 
 /// An answer, and the text that tells it.
 #[derive(Drop)]
@@ -27,7 +23,7 @@ pub(crate) struct Reply {
 }
 
 /// What comes of a search that was given up.
-fn given_up(alloc: Global, why: Refusal) -> Result<Reply, Fault>
+pub(crate) fn given_up(alloc: Global, why: Refusal) -> Result<Reply, Fault>
     ensures answer { IfOk result (λ reply. reply.answer ≡ TooMany) }
     ensures text { IfOk result (λ reply. reply.text.items ≡ []) }
     ensures refused { IfErr result (λ fault. fault ≡ Memory) }
@@ -41,14 +37,43 @@ fn given_up(alloc: Global, why: Refusal) -> Result<Reply, Fault>
     }
 }
 
-/// What is told of all outcomes.
-fn told(alloc: Global, all: &AllOutcomes) -> Result<Reply, Fault>
-    ensures answer { IfOk result (λ reply. reply.answer ≡ Told) }
-    ensures text { IfOk result
-        (λ reply. TellsAll (outcomes_in all.now.outcomes.found.entries) all.now.states reply.text.items) }
-    ensures refused { IfErr result (λ fault. fault ≡ Memory) }
+/// What the last line says.
+pub(crate) fn coverage_line(is_complete: bool) -> &'static [u8]
+    ensures { result.now ≡ coverage_line is_complete }
 {
-    match all_text(alloc, &all.outcomes, all.states) {
+    if is_complete {
+        b"complete\n"
+    } else {
+        b"searched\n"
+    }
+}
+
+/// The text of all outcomes, which says whether none is missing.
+fn text_of(alloc: Global, all: &AllOutcomes, is_complete: bool) -> Result<Vec<u8>, AllocError>
+    ensures { IfOk result (λ text. (told : List ℕ)
+        × TellsAll (outcomes_in all.now.outcomes.found.entries) all.now.states told
+        × (text.items ≡ told ++ coverage_line is_complete)) }
+{
+    let mut text = all_text(alloc, &all.outcomes, all.states)?;
+    text.extend_from_slice(coverage_line(is_complete))?;
+    Ok(text)
+}
+
+/// What is told of all outcomes.
+fn told(alloc: Global, script: &[u8], parsed: &Script, all: &AllOutcomes) -> Result<Reply, Fault>
+    requires { ReadsAs script.now parsed.now }
+    ensures answer { IfOk result (λ reply. reply.answer ≡ Told) }
+    ensures text { IfOk result (λ reply. TellsOutcomes script.now
+        (outcomes_in all.now.outcomes.found.entries) all.now.states reply.text.items) }
+    ensures refused { IfErr result (λ fault. Refuses fault script.now) }
+{
+    let found = FoundOutcomes {
+        bytes: script,
+        script: parsed,
+        outcomes: &all.outcomes,
+    };
+    let is_all = is_complete(alloc, &found)?;
+    match text_of(alloc, all, is_all) {
         Ok(text) => Ok(Reply {
             answer: Answer::Told,
             text,
@@ -60,129 +85,13 @@ fn told(alloc: Global, all: &AllOutcomes) -> Result<Reply, Fault>
 /// What is told of the outcomes of all orders.
 pub(crate) fn every_outcome(alloc: Global, script: &[u8], most: u32) -> Result<Reply, Fault>
     ensures is { IfOk result (λ reply. IsAnswerText None reply.answer script.now reply.text.items) }
-    ensures refused { IfErr result (λ fault. Refuses fault script.now) }
-{
-    let found = all_outcomes(alloc, script, most)?;
-    match found {
-        Some(all) => told(alloc, &all),
-        None => given_up(alloc, Refusal::Limit),
-    }
-}
-
-/// Whether a run with these turns tells a line.
-fn tells_line(alloc: Global, script: &[u8], line: &[u8], list: &[u8]) -> Result<bool, Fault>
-    ensures tells { IfOk result (λ tells. IsTrue tells → TellsLine script.now line.now list.now) }
-    ensures refused { IfErr result (λ fault. Refuses fault script.now) }
-{
-    match outcome_text(alloc, script, list)? {
-        Some(text) => Ok(has_line(text.as_slice(), line)),
-        None => Ok(false),
-    }
-}
-
-/// The turns by which a line is told.
-fn found(list: Vec<u8>) -> Result<Reply, Fault>
-    ensures answer { IfOk result (λ reply. reply.answer ≡ Found) }
-    ensures text { IfOk result (λ reply. reply.text.items ≡ list.items ++ 10 ∷ []) }
-    ensures refused { IfErr result (λ fault. fault ≡ Memory) }
-{
-    let mut text = list;
-    match text.push(b'\n') {
-        Ok(()) => Ok(Reply {
-            answer: Answer::Found,
-            text,
-        }),
-        Err(_) => Err(Fault::Memory),
-    }
-}
-
-/// The line is told in no outcome.
-fn never(alloc: Global) -> Result<Reply, Fault>
-    ensures answer { IfOk result (λ reply. reply.answer ≡ Told) }
-    ensures text { IfOk result (λ reply. reply.text.items ≡ codes "never\n") }
-    ensures refused { IfErr result (λ fault. fault ≡ Memory) }
-{
-    match Vec::from_slice(alloc, b"never\n") {
-        Ok(text) => Ok(Reply {
-            answer: Answer::Told,
-            text,
-        }),
-        Err(_) => Err(Fault::Memory),
-    }
-}
-
-/// A run with these turns, where it tells a line; else none.
-fn try_list(
-    alloc: Global,
-    script: &[u8],
-    line: &[u8],
-    list: Vec<u8>,
-) -> Result<Option<Reply>, Fault>
-    ensures is { IfOk result (λ tried. IfSome tried
-        (λ reply. IsAnswerText (Some line.now) reply.answer script.now reply.text.items)) }
-    ensures refused { IfErr result (λ fault. Refuses fault script.now) }
-{
-    if tells_line(alloc, script, line, list.as_slice())? {
-        let reply = found(list)?;
-        return Ok(Some(reply));
-    }
-    Ok(None)
-}
-
-/// What comes of the next list of turns: an answer, or none where it doesn't tell the line.
-fn try_next(
-    alloc: Global,
-    script: &[u8],
-    line: &[u8],
-    search: &mut Search,
-) -> Result<Option<Reply>, Fault>
-    ensures is { IfOk result (λ tried. IfSome tried
-        (λ reply. IsAnswerText (Some line.now) reply.answer script.now reply.text.items)) }
-    ensures refused { IfErr result (λ fault. Refuses fault script.now) }
-{
-    match next_list(alloc, search) {
-        Ok(Some(list)) => try_list(alloc, script, line, list),
-        Ok(None) => {
-            let reply = never(alloc)?;
-            Ok(Some(reply))
-        }
-        Err(why) => {
-            let reply = given_up(alloc, why)?;
-            Ok(Some(reply))
-        }
-    }
-}
-
-/// The least turns by which a line is told, of those that a search finds.
-fn turns_found(
-    alloc: Global,
-    script: &[u8],
-    line: &[u8],
-    most: u32,
-    search: &mut Search,
-) -> Result<Reply, Fault>
-    ensures is { IfOk result (λ reply. IsAnswerText (Some line.now) reply.answer script.now reply.text.items) }
-    ensures refused { IfErr result (λ fault. Refuses fault script.now) }
-{
-    if let Some(reply) = try_list(alloc, script, line, Vec::new(alloc))? {
-        return Ok(reply);
-    }
-    for _ in 0..most {
-        if let Some(reply) = try_next(alloc, script, line, search)? {
-            return Ok(reply);
-        }
-    }
-    never(alloc)
-}
-
-/// The least turns by which a line is told.
-pub(crate) fn turns_to(alloc: Global, script: &[u8], line: &[u8], most: u32) -> Result<Reply, Fault>
-    ensures is { IfOk result (λ reply. IsAnswerText (Some line.now) reply.answer script.now reply.text.items) }
+    ensures none { IfOk result (λ reply. most ≡ 0 → reply.answer ≡ TooMany) }
     ensures refused { IfErr result (λ fault. Refuses fault script.now) }
 {
     let parsed = parse(alloc, script)?;
-    match Search::new(alloc, &parsed, most) {
-        Ok(mut search) => turns_found(alloc, script, line, most, &mut search),
-        Err(why) => given_up(alloc, why),
+    let found = outcomes_of(alloc, script, &parsed, most)?;
+    match found {
+        Some(all) => told(alloc, script, &parsed, &all),
+        None => given_up(alloc, Refusal::Limit),
     }
 }

@@ -3,7 +3,9 @@
 
 mod all_orders;
 mod answers;
+mod coverage;
 mod differences;
+mod finding;
 mod lists;
 mod machine;
 mod orders;

@@ -3,9 +3,11 @@
 ghost use Rattle.std.specs.Prelude.{IfErr, IfOk, option_copied, false, ◌≡◌};
 ghost use Rattle.script_text.specs.Grammar.{Refuses};
 ghost use Rattle.script_stepper.specs.Runs.{Delivers, is_output};
+ghost use Rattle.script_orders.specs.declared.orders.Answer.TheVariants.{TooMany};
 ghost use Rattle.script_orders.specs.Orders.{IsAnswerText, TellsOrders};
 
-use crate::answers::{Reply, every_outcome, turns_to};
+use crate::answers::{Reply, every_outcome};
+use crate::finding::turns_to;
 use script_stepper::{Sink, write_text};
 use script_text::Fault;
 use std::alloc::Global;
@@ -38,6 +40,7 @@ pub enum Answer {
 fn reply_to(alloc: Global, query: Query<'_>) -> Result<Reply, Fault>
     ensures is { IfOk result (λ reply.
         IsAnswerText (option_copied query.entry.line) reply.answer query.entry.script.now reply.text.items) }
+    ensures none { IfOk result (λ reply. query.entry.most ≡ 0 → reply.answer ≡ TooMany) }
     ensures refused { IfErr result (λ fault. Refuses fault query.entry.script.now) }
 {
     match query.line {
@@ -57,9 +60,10 @@ fn reply_to(alloc: Global, query: Query<'_>) -> Result<Reply, Fault>
 /// Where a line is asked for, only the list of the first order is written in which it is told, and the answer is
 /// `Found`; or `never`, where there is none.
 ///
-/// Where there are more states than are to be seen, nothing is written, and the answer is `TooMany`. Refused, in this
-/// order: by 1 where a growth was refused, by 10 just where a line of the script is faulty, with nothing written; by 12
-/// just where the writer has failed, which then took a beginning of the text. The writer hasn't failed before.
+/// Where there are more states than are to be seen, as there are where that is 0, nothing is written, and the answer is
+/// `TooMany`. Refused, in this order: by 1 where a growth was refused, by 10 just where a line of the script is faulty,
+/// with nothing written; by 12 just where the writer has failed, which then took a beginning of the text. The writer
+/// hasn't failed before.
 pub fn orders_text<S: Sink>(
     alloc: Global,
     query: Query<'_>,
@@ -68,6 +72,7 @@ pub fn orders_text<S: Sink>(
     requires { S.has_failed writer.old ≡ false }
     ensures holds { Delivers (TellsOrders (option_copied query.entry.line) result query.entry.script.now) result
         (S.taken writer.old) (S.taken writer.new) }
+    ensures none { IfOk result (λ answer. query.entry.most ≡ 0 → answer ≡ TooMany) }
     ensures failed { S.has_failed writer.new ≡ is_output result }
 {
     let reply = reply_to(alloc, query)?;

@@ -1,6 +1,6 @@
 //! The outcomes of a script.
 
-ghost use Rattle.std.specs.Prelude.{◌≡◌, [], IfErr, IfOk, IfSome, OnOk};
+ghost use Rattle.std.specs.Prelude.{◌≡◌, ◌≢◌, ◌∷◌, [], None, IfErr, IfOk, IfSome, OnOk};
 ghost use Rattle.script_stepper.specs.Runs.{IsRunText, IsScriptRun};
 ghost use Rattle.script_text.specs.Grammar.{Refuses};
 ghost use Rattle.script_orders.specs.Found.{outcomes_in};
@@ -12,22 +12,26 @@ use script_stepper::{Output, step_text};
 use script_text::Fault;
 use std::alloc::{AllocError, Global};
 
-/// The text of a script's run with a list of turns; none where the list is faulty.
+/// The text of a script's run with a list of turns; none where the list is faulty, which an empty one isn't.
 fn run_text(alloc: Global, script: &[u8], list: &[u8]) -> Result<Option<Vec<u8>>, Fault>
     ensures runs { IfOk result (λ told. IfSome told
         (λ text. IsScriptRun IsRunText script.now list.now text.items)) }
+    ensures alone { IfOk result (λ told. list.now ≡ [] → told ≢ None) }
     ensures refused { IfErr result (λ fault. Refuses fault script.now) }
 {
     let mut output = Output::new(Vec::new(alloc));
     match step_text(alloc, script, list, &mut output) {
         Ok(()) => Ok(Some(output.into_inner())),
-        Err(Fault::BadTurn { .. }) => Ok(None),
-        Err(Fault::Syntax { line, cause }) => Err(Fault::Syntax { line, cause }),
-        Err(Fault::Memory | Fault::Output | Fault::Input) => Err(Fault::Memory),
+        Err(fault) => match fault {
+            Fault::BadTurn { .. } => Ok(None),
+            Fault::Syntax { line, cause } => Err(Fault::Syntax { line, cause }),
+            Fault::Memory | Fault::Output | Fault::Input => Err(Fault::Memory),
+        },
     }
 }
 
-/// What a run of a script with a list of turns tells, sorted by threads; none where the list is faulty.
+/// What a run of a script with a list of turns tells, sorted by threads; none where the list is faulty, which an empty
+/// one isn't.
 pub(crate) fn outcome_text(
     alloc: Global,
     script: &[u8],
@@ -35,6 +39,7 @@ pub(crate) fn outcome_text(
 ) -> Result<Option<Vec<u8>>, Fault>
     ensures is { IfOk result (λ told. IfSome told
         (λ text. IsOutcome script.now list.now text.items)) }
+    ensures alone { IfOk result (λ told. list.now ≡ [] → told ≢ None) }
     ensures refused { IfErr result (λ fault. Refuses fault script.now) }
 {
     let Some(text) = run_text(alloc, script, list)? else {
@@ -53,12 +58,14 @@ pub struct Outcomes {
 }
 
 impl Outcomes {
-    pub fn new(alloc: Global) -> Outcomes
-        ensures { outcomes_in result.found.entries ≡ [] }
+    /// This outcome alone.
+    pub fn of(alloc: Global, text: Vec<u8>, list: Vec<u8>) -> Result<Outcomes, AllocError>
+        ensures { IfOk result (λ outcomes.
+            outcomes_in outcomes.found.entries ≡ (text.items, list.items) ∷ []) }
     {
-        Outcomes {
-            found: IndexMap::new(alloc),
-        }
+        let mut found = IndexMap::new(alloc);
+        let _ = found.insert(text, list)?;
+        Ok(Outcomes { found })
     }
 
     /// No text stands twice.

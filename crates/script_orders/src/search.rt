@@ -1,5 +1,7 @@
 //! The search through the states of all orders.
 
+ghost use Rattle.std.specs.Prelude.{◌≤◌, IfOk};
+
 use crate::machine::plan::Plan;
 use crate::states::States;
 use control_word::Refusal;
@@ -26,12 +28,17 @@ pub(crate) struct Search {
 }
 
 impl Search {
-    /// A search that sees so many states at most.
-    pub fn new(alloc: Global, script: &Script, most: u32) -> Result<Search, Refusal> {
+    /// A search that sees so many states at most, of which there is one at least.
+    pub fn new(alloc: Global, script: &Script, most: u32) -> Result<Search, Refusal>
+        ensures some { IfOk result (λ search. 1 ≤ most) }
+    {
         let plan = Plan::of(alloc, script)?;
         let mut states = States::new(alloc)?;
         let key = states.first(alloc, &plan)?;
         let (state, _) = states.visit(key)?;
+        if most == 0 {
+            return Err(Refusal::Limit);
+        }
         let mut way = Vec::new(alloc);
         way.push(Stop { state, next: 0 })?;
         Ok(Search {

@@ -1,6 +1,7 @@
 //! A run's text, sorted by threads.
 
-ghost use Rattle.std.specs.Prelude.{◌≡◌, ◌∷◌, ◌++◌, [], IfOk, Contains, IsTrue, OnOk, cond, filter, string_bytes};
+ghost use Rattle.std.specs.Prelude.{◌≡◌, ◌∷◌, ◌++◌, [], IfOk, Contains, IsFalse, IsTrue, OnOk, cond, filter};
+ghost use Rattle.std.specs.Prelude.{string_bytes};
 ghost use Rattle.text_lines.specs.Lines.{ended};
 ghost use Rattle.text_lines.specs.Numbers.{is_digit};
 ghost use Rattle.script_orders.specs.Sorting.{begins_with, by_threads, is_closing, lines_in};
@@ -102,7 +103,8 @@ pub(crate) fn by_threads(alloc: Global, text: &[u8]) -> Result<Vec<u8>, AllocErr
 
 /// Whether a text has this line.
 pub(crate) fn has_line(text: &[u8], line: &[u8]) -> bool
-    ensures { IsTrue result → Contains (lines_in text.now) line.now }
+    ensures has { IsTrue result → Contains (lines_in text.now) line.now }
+    ensures none { IsFalse result → Contains (lines_in text.now) line.now → ⊥ }
 {
     let mut rest = text;
     while let Some((first, after)) = split_line(rest) {

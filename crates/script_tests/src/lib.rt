@@ -12,6 +12,8 @@ mod machine;
 #[cfg(test)]
 mod memory;
 #[cfg(test)]
+mod orders;
+#[cfg(test)]
 mod same;
 #[cfg(test)]
 mod texts;

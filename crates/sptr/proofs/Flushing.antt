@@ -13,7 +13,7 @@ use Rattle.leak_report.specs.Left.{IsLeftText}
 use Rattle.leak_report.proofs.ReportLemmas.{forgotten as left_forgotten}
 use Rattle.script_orders.specs.declared.orders.Answer.{Answer}
 use Rattle.script_orders.specs.declared.orders.Answer.TheVariants as orders
-use Rattle.orders_page.specs.OutcomePages.{TellsPage}
+use Rattle.sptr.specs.OutcomePages.{TellsPage}
 use Rattle.script_orders.specs.Orders.{TellsOrders}
 use Rattle.script_picture.proofs.Pictures.{forgotten as picture_forgotten}
 use Rattle.script_picture.specs.Pictures.{IsPictureText}

@@ -9,4 +9,5 @@ pub mod PlainTurns
 pub mod Plainly
 pub mod Programs
 pub mod Reporting
+pub mod ShownOutcomes
 pub mod Walks

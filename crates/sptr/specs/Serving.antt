@@ -24,9 +24,9 @@ use Rattle.script_text.specs.Canonical.{canonical}
 use Rattle.sptr.specs.CommandLine.{AsksFor, faults_of, names_list, names_text, turns_given}
 use Rattle.script_picture.specs.Pictures.{IsPictureText}
 use Rattle.script_picture.specs.declared.part.Part.{Part}
-use Rattle.orders_page.specs.OutcomePages.{TellsPage}
 use Rattle.script_orders.specs.Orders.{TellsOrders}
 use Rattle.sptr.specs.Lines.{limit_line, ok_line, picture_line}
+use Rattle.sptr.specs.OutcomePages.{TellsPage}
 use Rattle.sptr.specs.Outcomes.{FindsAsAsked, exit_status, is_found, line_found, orders_answer}
 use Rattle.sptr.specs.Sources.{OfBytes, OfList, known_unless}
 use Rattle.sptr.specs.declared.answers.Outcome.{Outcome}

@@ -1,14 +1,17 @@
 //! What the command `orders` answers.
 
 ghost use Rattle.std.specs.Prelude.{◌≡◌, ℕ, Bool, Option, false, option_copied};
-ghost use Rattle.orders_page.specs.OutcomePages.{TellsPage};
 ghost use Rattle.script_orders.specs.Orders.{TellsOrders};
 ghost use Rattle.script_stepper.specs.Runs.{Delivers, is_output};
+ghost use Rattle.sptr.specs.OutcomePages.{TellsPage};
 ghost use Rattle.sptr.specs.Outcomes.{FindsAsAsked, orders_answer, orders_outcome};
 ghost use Rattle.sptr.specs.declared.command.Asked.TheVariants.{Orders};
 
+mod page;
+mod parts;
+
 use crate::answers::{Outcome, flushed};
-use orders_page::page_text;
+use crate::orders::page::page_text;
 use script_orders::{Answer, Query, orders_text};
 use script_stepper::Output;
 use script_text::Fault;

@@ -5,12 +5,15 @@ use std::alloc::{AllocError, Global};
 use std::process::Abort;
 use std::test::Fail;
 use step_core::{Actor, Call, Kind, Name, Program, World};
+use step_table::limits::{SCRIPT_OWNERS, SCRIPT_WEAKS};
 
 const COUNT: Call = Call::Count { name: Name(0) };
 
 fn shape(blocks: u32, allowance: u32) -> Shape {
     Shape {
         blocks,
+        owners: SCRIPT_OWNERS,
+        weaks: SCRIPT_WEAKS,
         shared_cells: 0,
         weak_cells: 0,
         allowance,
@@ -112,9 +115,34 @@ fn shapes_have_limits(rt: HostRuntime) {
     for (blocks, weak_cells, allowance, taken) in SHAPES {
         let shape = Shape {
             blocks,
+            owners: SCRIPT_OWNERS,
+            weaks: SCRIPT_WEAKS,
             shared_cells: 128,
             weak_cells,
             allowance,
+        };
+        let told = is_taken(alloc, shape, program(alloc, 3, 1, 1, COUNT));
+        same(&rt, (shape, told), (shape, Some(taken)));
+    }
+}
+
+/// Owner and weak members of a world's objects, and whether it is taken: scripts have two owners and a weak one.
+const MEMBERS: [(u32, u32, bool); 5] = [
+    (2, 1, true),
+    (3, 1, false),
+    (2, 2, false),
+    (1, 1, false),
+    (2, 0, false),
+];
+
+#[test]
+fn objects_have_three_members(rt: HostRuntime) {
+    let alloc = rt.alloc();
+    for (owners, weaks, taken) in MEMBERS {
+        let shape = Shape {
+            owners,
+            weaks,
+            ..shape(5, 120)
         };
         let told = is_taken(alloc, shape, program(alloc, 3, 1, 1, COUNT));
         same(&rt, (shape, told), (shape, Some(taken)));

@@ -6,6 +6,7 @@ use control_word::{Block, Refusal, Shape};
 use std::alloc::{AllocError, Global};
 use std::test::Fail;
 use step_core::{Actor, Answer, Call, Kind, Name, Program, RunRefusal, Said, Turned, World};
+use step_table::limits::{SCRIPT_OWNERS, SCRIPT_WEAKS};
 
 const A: Name = Name(0);
 
@@ -75,6 +76,8 @@ impl Pair {
         let actors = vec![in alloc; first, second]?;
         let shape = Shape {
             blocks: 4,
+            owners: SCRIPT_OWNERS,
+            weaks: SCRIPT_WEAKS,
             shared_cells: 0,
             weak_cells: 0,
             allowance: 80,

@@ -10,6 +10,7 @@ use step_core::{
     Act, Actor, Call, CellName, Kind, Name, PendingCall, Program, RunRefusal, Stage, Stepped,
     Turned, World,
 };
+use step_table::limits::{SCRIPT_OWNERS, SCRIPT_WEAKS};
 
 const A: Name = Name(0);
 
@@ -88,6 +89,8 @@ impl Pair {
         let actors = vec![in alloc; actor(alloc, first)?, actor(alloc, second)?]?;
         let shape = Shape {
             blocks: 4,
+            owners: SCRIPT_OWNERS,
+            weaks: SCRIPT_WEAKS,
             shared_cells: 1,
             weak_cells: 1,
             allowance: 80,

@@ -4,6 +4,7 @@ use crate::same::same;
 use control_word::{Block, Shape};
 use std::test::Fail;
 use step_core::{Answer, Call, Ended, Name, Said, Stepped, Turned};
+use step_table::limits::{SCRIPT_OWNERS, SCRIPT_WEAKS};
 use step_table::memory::extent::Extent;
 use step_table::memory::table::Table;
 
@@ -62,6 +63,8 @@ fn a_turn_ends_what_steps_began(rt: HostRuntime) -> Result<(), Fail> {
 fn a_shelved_block_is_taken_once(rt: HostRuntime) -> Result<(), Fail> {
     let shape = Shape {
         blocks: 4,
+        owners: SCRIPT_OWNERS,
+        weaks: SCRIPT_WEAKS,
         shared_cells: 0,
         weak_cells: 0,
         allowance: 80,

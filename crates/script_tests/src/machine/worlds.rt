@@ -5,6 +5,7 @@ use control_word::{Refusal, Shape};
 use std::alloc::{AllocError, Global};
 use std::test::Fail;
 use step_core::{Actor, Call, Kind, Program, RunRefusal, Stepped, Turned, World};
+use step_table::limits::{SCRIPT_OWNERS, SCRIPT_WEAKS};
 
 /// A world with an actor.
 #[derive(Drop)]
@@ -22,6 +23,8 @@ impl TestWorld {
         };
         let shape = Shape {
             blocks,
+            owners: SCRIPT_OWNERS,
+            weaks: SCRIPT_WEAKS,
             shared_cells: 0,
             weak_cells: 0,
             allowance: 40,

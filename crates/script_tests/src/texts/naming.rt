@@ -5,6 +5,7 @@ use control_word::{Refusal, Shape};
 use std::alloc::{AllocError, Global};
 use std::process::Abort;
 use step_core::{Actor, Call, CellName, Field, Kind, Name, Program, World};
+use step_table::limits::{SCRIPT_OWNERS, SCRIPT_WEAKS};
 
 const A: Name = Name(0);
 
@@ -24,6 +25,8 @@ fn before(first: Name, second: Name) -> Call {
 fn refusal(alloc: Global, call: Call) -> Result<Option<Refusal>, AllocError> {
     let shape = Shape {
         blocks: 1,
+        owners: SCRIPT_OWNERS,
+        weaks: SCRIPT_WEAKS,
         shared_cells: 1,
         weak_cells: 1,
         allowance: 40,
