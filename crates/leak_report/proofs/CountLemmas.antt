@@ -1,5 +1,5 @@
 -- Where no desk has a handle, the handles that cells hold on a block are just those that are counted.
-use Rattle.std.proofs.Common.{◌≡◌, ℕ, suc, ◌+◌, ◌-◌, ◌<◌, Bool, true, false, cond, ◌&&◌, ◌≢◌, List}
+use Rattle.std.proofs.Common.{◌≡◌, ℕ, zero, suc, ◌+◌, ◌-◌, ◌<◌, ◌≤◌, Bool, true, false, cond, ◌&&◌, ◌≢◌, List}
 use Rattle.std.proofs.Common.{[], ◌∷◌, ◌++◌, map, length, nat_lt, ◌==◌, Some, None, Option, refl}
 use Rattle.std.proofs.Common.{sym, ap, ◌∙◌, subst, ⊎_elim, arith, eq-eqb, ne_eqb}
 use Rattle.leak_report.proofs.Prelude.{all_held, AllCounted, cases_eq, cond-false, cond-true, flat_map}
@@ -18,8 +18,9 @@ use Rattle.control_word.proofs.history.Formation.{formed}
 use Rattle.control_word.proofs.history.Legal.{sound}
 use Rattle.control_word.proofs.history.Making.{empty_counts}
 use Rattle.control_word.proofs.history.Soundness.{Formed, IsBusy, Sound}
-use Rattle.control_word.proofs.lists.Tallies.{tally_cons}
+use Rattle.control_word.proofs.lists.Tallies.{tally_cons, tally_upto_empty}
 use Rattle.control_word.proofs.words.Funds.{cell_busy, counted_busy, member_busy}
+use Rattle.step_table.proofs.tables.Members.{three_members}
 use Rattle.leak_report.specs.Holders.{AreCounted, held_by, held_by_members, holding, holdings_in}
 use Rattle.leak_report.specs.Holders.{holds_owner, member}
 use Rattle.leak_report.proofs.HitLemmas.{all_kinds, hits, hits_append, hits_sum, is_of, kind_by, of_kind}
@@ -50,7 +51,21 @@ one_cell k b s c h kind home = go h.object home
         one_by (of_kind k) (holding s.shared c (record { 0 = blocks_of s o })) h (same_kind k h.kind) (blocks_of s o == b) kind
         ∙ ap (λ (t : Bool). length (cond (same_kind k h.kind && t) (h ∷ []) [])) (at o refl)
 
-module _ (z : Opening) (s : State) (fine : Sound z s) (form : Formed s) where
+-- the lists behind the third are empty
+first_three : (k : Kind) (o n : ℕ) (f : ℕ → List NumberedHandle) → 3 ≤ n → ((i : ℕ) → 3 ≤ i → tally k o (f i) ≡ 0)
+    → tally k o (upto n f) ≡ tally k o (upto 3 f)
+first_three k o zero f le none = absurd (omega (arith, le))
+first_three k o (suc n) f le none =
+    ⊎_elim (λ (e : n ≡ 2). ap (λ (i : ℕ). tally k o (upto (suc i) f)) e)
+    (λ (ne : n ≢ 2).
+    let more : 3 ≤ n = omega (arith, le, ne) in
+    let rest = first_three k o n f more none in
+    let last = none n more in
+    omega (arith, tally_append k o (f n) (upto n f), rest, last))
+    (cases_eq n 2)
+
+-- the objects have three members, of which two are owners
+module _ (z : Opening) (s : State) (fine : Sound z s) (form : Formed s) (three : (s.members ≡ 3) × (s.owners ≡ 2)) where
   made_some : (o : ℕ) → IsBusy s o → o ≢ 0
   made_some o busy e = let n = fine.unmade_free 0 fine.none in let t = ap (weak_number s) e in omega (arith, busy, n, t)
 
@@ -72,14 +87,15 @@ module _ (z : Opening) (s : State) (fine : Sound z s) (form : Formed s) where
       (kind_by k (nat_lt n s.shared) ∙ ap (same_kind k) (sym (form.frees n lt).1))
       (at_home b (s.cell n).object (λ o e. cell_busy z s fine n o lt e))
 
-  member_cell : (k : Kind) (b a m : ℕ) → m < 3 → is_of k (holds_owner s.shared (member a m)) ≡ same_kind k (kind_of_member m)
+  member_cell : (k : Kind) (b a m : ℕ) → m < 3 → is_of k (holds_owner s.shared (member a m)) ≡ same_kind k (kind_of_member 2 m)
       → hits k b (holdings_in s (member a m)) ≡ tally k (s.latest b) ((s.object (s.latest a)).member m ∷ [])
   member_cell k b a m lt kind =
       let i = s.latest a in
       let h = (s.object i).member m in
       let l = fine.latest_made a in
-      one_cell k b s (member a m) h (kind ∙ ap (same_kind k) (sym (form.members i m lt).1))
-      (at_home b h.object (λ o e. member_busy z s fine i m o (omega (arith, l)) lt e))
+      one_cell k b s (member a m) h (kind ∙ ap (λ (n : ℕ). same_kind k (kind_of_member n m)) (sym three.1)
+      ∙ ap (same_kind k) (sym (form.members i m).1))
+      (at_home b h.object (λ o e. member_busy z s fine i m o (omega (arith, l)) (omega (arith, lt)) e))
 
   -- what is counted in the members of an object
   abbrev in_members : Kind → ℕ → ℕ → ℕ
@@ -89,15 +105,16 @@ module _ (z : Opening) (s : State) (fine : Sound z s) (form : Formed s) where
   idle_members : (k : Kind) (o i : ℕ) → weak_number s i ≡ 0 → in_members k o i ≡ 0
   idle_members k o i none =
       let c : common (s.object i).phase ≡ 0 = omega (arith, none) in
-      let p = fine.cleared i 0 (omega arith) c in
-      let q = fine.cleared i 1 (omega arith) c in
-      let r = fine.cleared i 2 (omega arith) c in
-      ap (λ (h : NumberedHandle). tally k o (h ∷ (s.object i).member 1 ∷ (s.object i).member 2 ∷ [])) p
-      ∙ empty_counts k Owner o ((s.object i).member 1 ∷ (s.object i).member 2 ∷ [])
-      ∙ ap (λ (h : NumberedHandle). tally k o (h ∷ (s.object i).member 2 ∷ [])) q
-      ∙ empty_counts k Owner o ((s.object i).member 2 ∷ [])
-      ∙ ap (λ (h : NumberedHandle). tally k o (h ∷ [])) r
-      ∙ empty_counts k Weak o []
+      tally_upto_empty k o 9 (λ m. (s.object i).member m ∷ [])
+      (λ m lt. ap (λ (h : NumberedHandle). tally k o (h ∷ [])) (fine.cleared i m lt c)
+      ∙ empty_counts k (kind_of_member s.owners m) o [])
+
+  -- of an object that is there only the first three count
+  few_members : (k : Kind) (o i : ℕ) → in_members k o i ≡ tally k o (upto 3 (λ m. (s.object i).member m ∷ []))
+  few_members k o i =
+      first_three k o 9 (λ m. (s.object i).member m ∷ []) (omega arith)
+      (λ m le. ap (λ (h : NumberedHandle). tally k o (h ∷ [])) (fine.unused i m (let n = three.0 in omega (arith, le, n)))
+      ∙ empty_counts k (kind_of_member s.owners m) o [])
 
   abbrev counts_of : ℕ → Counts
   counts_of b = record { owners = count s (s.latest b); weaks = weak s (s.latest b) }
@@ -126,9 +143,10 @@ module _ (z : Opening) (s : State) (fine : Sound z s) (form : Formed s) where
       let e0 = member_cell k b a 0 (omega arith) (kind_by k true) in
       let e1 = member_cell k b a 1 (omega arith) (kind_by k true) in
       let e2 = member_cell k b a 2 (omega arith) (kind_by k false) in
-      let u = tally_cons k (s.latest b) x (y ∷ w ∷ []) in
-      let v = tally_cons k (s.latest b) y (w ∷ []) in
-      omega (arith, c, p, q, r, t, e0, e1, e2, u, v))
+      let u = tally_cons k (s.latest b) w (y ∷ x ∷ []) in
+      let v = tally_cons k (s.latest b) y (x ∷ []) in
+      let all = few_members k (s.latest b) i in
+      omega (arith, c, p, q, r, t, e0, e1, e2, u, v, all))
       (cases_eq n 0)
 
   -- an object with something in its members is the latest in just one block
@@ -218,4 +236,5 @@ pub counted : (v : GhostState) → TableInvariant v → (model_state v).hands �
     → AllCounted v.extent.shape.blocks (model_state v) (all_held (model_state v) v.extent.shape.blocks)
 counted v kept none =
     let z = opening v.extent in
-    all_counted z (model_state v) (sound z v.history kept.stands.legal) (formed z v.history kept.stands.legal) none
+    all_counted z (model_state v) (sound z v.history kept.stands.legal) (formed z v.history kept.stands.legal)
+    (three_members v) none

@@ -17,6 +17,7 @@ pub use Rattle.owner_graph.specs.Owners.{IsAmong}
 pub use Rattle.owner_graph.specs.Rows.{held_in, held_on, row_at}
 pub use Rattle.owner_graph.specs.Ties.{is_tie}
 pub use Rattle.owner_graph.specs.declared.findings.Findings.{Findings}
+pub use Rattle.owner_graph.specs.Drawing.{color_text, style_text, tie_text}
 pub use Rattle.owner_graph.specs.declared.holding.Holding.{Holding}
 pub use Rattle.owner_graph.proofs.Appends.{join, nil_right}
 pub use Rattle.script_stepper.specs.Lines.{totals_text}

@@ -1,16 +1,12 @@
 -- What is left as a graph for Graphviz, line by line, each without its line feed. All of it is own.
-use Rattle.std.specs.Prelude.{ℕ, Bool, cond, List, [], ◌∷◌, ◌++◌, ◌==◌}
+use Rattle.std.specs.Prelude.{ℕ, cond, List, [], ◌∷◌, ◌++◌, ◌==◌}
 use Rattle.std.specs.Prelude.{slice_index, Some, None, codes, decimal, Option}
-use Rattle.leak_report.specs.Prelude.{AbstractState, Findings, flat_map, from, held_in, Holding}
-use Rattle.leak_report.specs.Prelude.{is_tie, marked, member_text, State, state_in}
-use Rattle.std.specs.List.{list_any}
+use Rattle.leak_report.specs.Prelude.{AbstractState, color_text, Findings, flat_map, from, has_tie}
+use Rattle.leak_report.specs.Prelude.{Holding, is_tie, marked, member_text, State, state_in}
+use Rattle.leak_report.specs.Prelude.{style_text, tie_text}
 use Rattle.step_core.specs.Totals.{fields_of}
 use Rattle.leak_report.specs.Cells.{free_cell_text}
 use Rattle.leak_report.specs.Findings.{held_at}
-
--- the color of a block: whether it is kept, and else whether something ties its knot
-abbrev pub color_text : Bool → Bool → List ℕ
-color_text is_kept is_tied = cond is_kept (codes "white") (cond is_tied (codes "orange") (codes "lightgrey"))
 
 abbrev pub fields_text : List ℕ → List ℕ
 fields_text fields = decimal (slice_index fields 0) ++ codes " " ++ decimal (slice_index fields 1) ++ codes " "
@@ -26,10 +22,7 @@ abbrev pub node_if : ℕ → List ℕ → Option (List ℕ) → List (List ℕ)
 node_if block color None = []
 node_if block color (Some fields) = node_text block fields color ∷ []
 
--- a handle in the block ties its knot
-abbrev pub has_tie : Findings → List Holding → ℕ → Bool
-has_tie f hs block = list_any (is_tie f.kept.items f.knots.items) (held_in hs block)
-
+-- the color of a block
 abbrev pub color_at : Findings → List Holding → ℕ → List ℕ
 color_at f hs block = color_text (marked f.kept.items block) (has_tie f hs block)
 
@@ -40,14 +33,6 @@ node_lines s f hs block = node_if block (color_at f hs block) (fields_of s block
 -- of all blocks, in order
 abbrev pub all_nodes : State → Findings → List Holding → ℕ → List (List ℕ)
 all_nodes s f hs blocks = flat_map (node_lines s f hs) (from 1 blocks)
-
--- an owner is a full line, a bold one where it cuts its knot, and a weak handle a dashed one
-abbrev pub style_text : Bool → Bool → List ℕ
-style_text is_owner is_cut = cond is_owner (cond is_cut (codes "bold") (codes "solid")) (codes "dashed")
-
--- what ties a knot is red
-abbrev pub tie_text : Bool → List ℕ
-tie_text is_tie = cond is_tie (codes ", color=red") []
 
 -- a free cell, and the line of the handle in it
 abbrev pub box_text : ℕ → ℕ → List ℕ

@@ -2,6 +2,7 @@
 pub use Rattle.std.specs.List.{flat_map}
 pub use Rattle.control_word.specs.State.{State}
 pub use Rattle.control_word.specs.declared.packed.counts.Counts.{Counts}
+pub use Rattle.owner_graph.specs.Drawing.{color_text, has_tie, style_text, tie_text}
 pub use Rattle.owner_graph.specs.Fed.{marked}
 pub use Rattle.owner_graph.specs.Findings.{AreFindings}
 pub use Rattle.owner_graph.specs.Labels.{at}

@@ -2,10 +2,11 @@
 ghost use Rattle.std.specs.Prelude.{◌≡◌, ◌≤◌, ◌++◌, map, IfOk, OnOk};
 ghost use Rattle.leak_report.specs.Prelude.{abstraction, AreFindings, IsAtEnd, state_in};
 ghost use Rattle.leak_report.specs.Colors.{AreColored, colored, in_color};
-ghost use Rattle.leak_report.specs.Graph.{color_at, color_text};
+ghost use Rattle.leak_report.specs.Graph.{color_at};
 
 use crate::found::{Found, find};
 use control_word::Block;
+use owner_graph::drawing::color_word;
 use script_stepper::End;
 use std::alloc::{AllocError, Global};
 use step_core::World;
@@ -17,19 +18,6 @@ use step_core::World;
 pub struct Colored {
     pub block: u16,
     pub color: &'static str,
-}
-
-/// The color of a block: whether it is kept, and else whether a handle in it ties its knot.
-fn color_word(is_kept: bool, is_tied: bool) -> &'static str
-    ensures { result.now ≡ color_text is_kept is_tied }
-{
-    if is_kept {
-        "white"
-    } else if is_tied {
-        "orange"
-    } else {
-        "lightgrey"
-    }
 }
 
 /// The color of a block, by what was found.

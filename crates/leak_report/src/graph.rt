@@ -5,7 +5,7 @@ ghost use Rattle.leak_report.specs.Prelude.{state_in};
 ghost use Rattle.leak_report.specs.Findings.{held_at};
 ghost use Rattle.leak_report.specs.Graph.{all_nodes, box_text, edge_by, edge_lines, fields_text};
 ghost use Rattle.leak_report.specs.Graph.{free_lines, free_text, head_lines, member_lines};
-ghost use Rattle.leak_report.specs.Graph.{node_lines, node_text, style_text, tie_text};
+ghost use Rattle.leak_report.specs.Graph.{node_lines, node_text};
 ghost use Rattle.leak_report.specs.Left.{IsCountedAt, TellsOf};
 
 use crate::color::color_of;
@@ -13,6 +13,7 @@ use crate::found::{Found, leaks};
 use crate::lines::{member_word, put_free};
 use crate::listing::Report;
 use control_word::Block;
+use owner_graph::drawing::{style_word, tie_word};
 use owner_graph::{Findings, Holding};
 use script_stepper::End;
 use std::alloc::{AllocError, Global};
@@ -76,26 +77,6 @@ fn put_blocks(
         put_block(world, before + 1, found, text)?;
     }
     Ok(())
-}
-
-/// How the line of a handle is drawn.
-fn style_word(is_owner: bool, is_cut: bool) -> &'static str
-    ensures { result.now ≡ style_text is_owner is_cut }
-{
-    if !is_owner {
-        "dashed"
-    } else if is_cut {
-        "bold"
-    } else {
-        "solid"
-    }
-}
-
-/// The color of a handle's line, where it ties a knot.
-fn tie_word(is_tie: bool) -> &'static str
-    ensures { result.now ≡ tie_text is_tie }
-{
-    if is_tie { ", color=red" } else { "" }
 }
 
 /// Adds the box of a free cell.

@@ -1,4 +1,5 @@
 pub mod Circles
+pub mod Drawing
 pub mod Edges
 pub mod Ends
 pub mod Fed

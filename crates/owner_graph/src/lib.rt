@@ -5,6 +5,7 @@
 mod certificates;
 mod circles;
 mod directed_graph;
+pub mod drawing;
 mod edges;
 mod ends;
 mod findings;

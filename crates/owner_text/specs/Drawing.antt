@@ -1,7 +1,7 @@
 -- A graph of owners for Graphviz, line by line, each without its line feed. All of it is own.
 use Rattle.std.specs.Prelude.{ℕ, Bool, cond, ◌||◌, List, [], ◌∷◌, ◌++◌, ◌==◌, codes, decimal}
-use Rattle.owner_text.specs.Prelude.{Findings, flat_map, held_in, Holding, is_tie, list_any}
-use Rattle.owner_text.specs.Prelude.{marked}
+use Rattle.owner_text.specs.Prelude.{color_text, Findings, flat_map, has_tie, Holding, is_tie}
+use Rattle.owner_text.specs.Prelude.{marked, style_text, tie_text}
 use Rattle.std.specs.Char.{encode_utf8}
 use Rattle.owner_text.specs.Drafts.{Draft, is_object}
 use Rattle.owner_text.specs.Labels.{label_text}
@@ -14,11 +14,10 @@ quoted_byte b = cond (b == 34 || b == 92) (codes "\\") [] ++ encode_utf8 b
 abbrev pub quoted : List ℕ → List ℕ
 quoted label = flat_map quoted_byte label
 
--- the color of an object: kept, or leaked in a knot, or else leaked, or ended
-abbrev pub color_text : Bool → Bool → Bool → List ℕ
-color_text is_kept stays is_tied =
-    cond is_kept (codes "white") (cond stays (cond is_tied (codes "orange") (codes "lightgrey"))
-    (codes "white, fontcolor=grey"))
+-- the color of an object: one that has ended is told in grey
+abbrev pub object_color : Bool → Bool → Bool → List ℕ
+object_color is_kept stays is_tied =
+    cond (is_kept || stays) (color_text is_kept is_tied) (codes "white, fontcolor=grey")
 
 abbrev pub node_text : ℕ → List ℕ → List ℕ → List ℕ
 node_text number label color =
@@ -26,26 +25,13 @@ node_text number label color =
     ++ codes "\", fillcolor="
     ++ color ++ codes "];"
 
--- an owner in the object ties its knot
-abbrev pub has_tie : Draft → Findings → ℕ → Bool
-has_tie d f number = list_any (is_tie f.kept.items f.knots.items) (held_in d.handles number)
-
 -- an object, where there is one
 abbrev pub node_lines : Draft → Findings → ℕ → List (List ℕ)
 node_lines d f number =
     cond (is_object d.objects number)
     (node_text number (object_label d number)
-    (color_text (marked f.kept.items number) (marked f.index.stays.items number)
-    (has_tie d f number)) ∷ []) []
-
--- an owner is a full line, a bold one where it cuts its knot, and a weak handle a dashed one
-abbrev pub style_text : Bool → Bool → List ℕ
-style_text is_owner is_cut =
-    cond is_owner (cond is_cut (codes "bold") (codes "solid")) (codes "dashed")
-
--- what ties a knot is red
-abbrev pub tie_color : Bool → List ℕ
-tie_color is_tie = cond is_tie (codes ", color=red") []
+    (object_color (marked f.kept.items number) (marked f.index.stays.items number)
+    (has_tie f d.handles number)) ∷ []) []
 
 abbrev pub box_text : ℕ → List ℕ → List ℕ
 box_text slot label =
@@ -72,7 +58,7 @@ edge_lines d f h =
     cond (h.from == 0) (root_lines h.slot h.to (label_text d.labels h.label))
     (edge_text h.from h.to (label_text d.labels h.label)
     (style_text h.is_owner (marked f.cuts.items h.slot))
-    (tie_color (is_tie f.kept.items f.knots.items h)) ∷ [])
+    (tie_text (is_tie f.kept.items f.knots.items h)) ∷ [])
 
 -- how the drawing begins
 abbrev pub head_lines : List (List ℕ)

@@ -1,6 +1,7 @@
 -- The words of elsewhere that this crate's definitions and clauses cite, passed on from one place. Declares nothing.
-pub use Rattle.std.specs.List.{flat_map, list_all, list_any}
+pub use Rattle.std.specs.List.{flat_map, list_all}
 pub use Rattle.std.specs.Str.{bytes_eq}
+pub use Rattle.owner_graph.specs.Drawing.{color_text, has_tie, style_text, tie_text}
 pub use Rattle.owner_graph.specs.Fed.{marked}
 pub use Rattle.owner_graph.specs.Findings.{AreFindings, pairs_at}
 pub use Rattle.owner_graph.specs.Labels.{at}

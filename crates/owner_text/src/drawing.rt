@@ -1,17 +1,17 @@
 //! A graph of owners for Graphviz.
 
 ghost use Rattle.std.specs.Prelude.{◌≡◌, ℕ, [], ◌∷◌, ◌++◌, IfOk, OnOk, string_bytes};
-ghost use Rattle.owner_text.specs.Prelude.{AddsLines, AreFindings, ended, flat_map, held_in};
-ghost use Rattle.owner_text.specs.Prelude.{row_at};
+ghost use Rattle.owner_text.specs.Prelude.{AddsLines, AreFindings, color_text, ended, flat_map};
+ghost use Rattle.owner_text.specs.Prelude.{has_tie, held_in, row_at, style_text, tie_text};
 ghost use Rattle.owner_text.specs.Drafts.{draft_of};
-ghost use Rattle.owner_text.specs.Drawing.{box_text, color_text, edge_lines, edge_text};
-ghost use Rattle.owner_text.specs.Drawing.{graph_lines, has_tie, head_lines, node_lines};
-ghost use Rattle.owner_text.specs.Drawing.{node_text, quoted, quoted_byte, root_edge_text};
-ghost use Rattle.owner_text.specs.Drawing.{root_lines, style_text, tie_color};
+ghost use Rattle.owner_text.specs.Drawing.{box_text, edge_lines, edge_text, graph_lines};
+ghost use Rattle.owner_text.specs.Drawing.{head_lines, node_lines, node_text, object_color};
+ghost use Rattle.owner_text.specs.Drawing.{quoted, quoted_byte, root_edge_text, root_lines};
 ghost use Rattle.owner_text.specs.Lines.{lines_to, vertices_of};
 
 use crate::draft::{Draft, is_object};
 use crate::listing::label_of;
+use owner_graph::drawing::{color_word, style_word, tie_word};
 use owner_graph::{Findings, Holding};
 use std::alloc::{AllocError, Global};
 use std::fmt::Write;
@@ -38,17 +38,13 @@ fn put_quoted(text: &mut String, label: &str) -> Result<(), AllocError>
 }
 
 /// The color of an object.
-fn color_word(is_kept: bool, stays: bool, is_tied: bool) -> &'static str
-    ensures { result.now ≡ color_text is_kept stays is_tied }
+fn object_color(is_kept: bool, stays: bool, is_tied: bool) -> &'static str
+    ensures { result.now ≡ object_color is_kept stays is_tied }
 {
-    if is_kept {
-        "white"
-    } else if !stays {
-        "white, fontcolor=grey"
-    } else if is_tied {
-        "orange"
+    if is_kept || stays {
+        color_word(is_kept, is_tied)
     } else {
-        "lightgrey"
+        "white, fontcolor=grey"
     }
 }
 
@@ -78,7 +74,7 @@ fn put_object(
         return Ok(());
     }
     let is_tied = found.has_tie(number);
-    let color = color_word(found.is_kept(number), found.stays(number), is_tied);
+    let color = object_color(found.is_kept(number), found.stays(number), is_tied);
     put_node(text, number, label_of(draft, number), color)?;
     Ok(())
 }
@@ -98,26 +94,6 @@ fn put_objects(
         put_object(text, draft, found, before + 1)?;
     }
     Ok(())
-}
-
-/// How the line of a handle is drawn.
-fn style_word(is_owner: bool, is_cut: bool) -> &'static str
-    ensures { result.now ≡ style_text is_owner is_cut }
-{
-    if !is_owner {
-        "dashed"
-    } else if is_cut {
-        "bold"
-    } else {
-        "solid"
-    }
-}
-
-/// The color of a handle's line, where it ties a knot.
-fn tie_word(is_tie: bool) -> &'static str
-    ensures { result.now ≡ tie_color is_tie }
-{
-    if is_tie { ", color=red" } else { "" }
 }
 
 /// Adds something that is no object.

@@ -85,7 +85,7 @@ fn by_turns(
 }
 
 /// The steps of a run.
-fn steps_of(alloc: Global, world: &mut World, turns: &[u8]) -> Result<Trace, AllocError>
+fn trace_of(alloc: Global, world: &mut World, turns: &[u8]) -> Result<Trace, AllocError>
     requires threads { All (IsThread world.old) turns.now }
     ensures run { IfOk result (λ trace. IsStepRun turns.now world.old trace.steps.items world.new) }
     ensures extent { IsAsLarge world.old world.new }
@@ -117,7 +117,7 @@ fn by_steps(
         threads,
         blocks,
     } = start_of(alloc, script)?;
-    let Ok(trace) = steps_of(alloc, &mut world, turns) else {
+    let Ok(trace) = trace_of(alloc, &mut world, turns) else {
         return Err(Fault::Memory);
     };
     match stepped_rows(alloc, script, &trace, order) {

@@ -1,6 +1,6 @@
 -- Acts that take something into the hand, as a worker does them.
 use Rattle.std.proofs.Common.{◌≡◌, ℕ, ◌+◌, ◌<◌, Bool, true, false, [], Some, None, Option}
-use Rattle.std.proofs.Common.{option_map, sym, refl, ◌∙◌, subst, inl, inr, arith}
+use Rattle.std.proofs.Common.{option_map, sym, refl, ◌∙◌, inl, inr, arith}
 use Rattle.script_runner.proofs.Prelude
 use Prelude.{Act, ActResult, Acts, aliased, Answer, as_owner, BadWeak, Done, Field}
 use Prelude.{field_0, Form, Found, Full, Got, Handle, idle, inside, IsActed, IsEmptied, IsHand}

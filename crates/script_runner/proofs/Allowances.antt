@@ -3,13 +3,15 @@
 use Rattle.std.proofs.Common.{◌≡◌, ℕ, ◌+◌, ◌-◌, Bool, true, false, List, [], ◌∷◌, ◌++◌, Some, None}
 use Rattle.std.proofs.Common.{Option, sym, refl, ap, ◌∙◌, subst, inl, inr}
 use Rattle.script_runner.proofs.Prelude
-use Prelude.{Act, ActResult, Acts, AddsEvent, after, allowance_of, AreRounds, Block, ByCompare}
+use Prelude.{Act, ActResult, Acts, AddsEvent, after, allowance_of, AreRounds, Block, ByCompare, ClearsOf}
 use Prelude.{ByDiffering, CellName, Cleared, Compare, Compared, DeskNow, Done, Entry, entry, Event}
-use Prelude.{field_0, First, Form, idle, IsClearing, IsCompared, IsDealt, IsLeft, IsQuiet, IsRound}
-use Prelude.{Join, KeepsDesks, leads, LeavesWeakly, Left, Member, Next, NoneBy, Opening}
+use Prelude.{field_0, Form, idle, IsCompared, IsDealt, IsLeft, IsQuiet, IsRound}
+use Prelude.{Join, KeepsDesks, Kind, leads, LeavesWeakly, Left, NoneBy, Opening}
 use Prelude.{opening_of, Past, Place, Reply, Round, same_kept, Settled, shown_slots, Slots, Split}
-use Prelude.{State, state_before_event, Swap, TableNow, Up}
+use Prelude.{State, state_before_event, Swap, TableNow}
+use Rattle.control_word.specs.State.{kind_of_member}
 use Rattle.control_word.specs.declared.model.event.Cell.TheVariants as cell
+use Rattle.control_word.specs.declared.model.handle.Kind.TheVariants as kind
 use Rattle.script_runner.proofs.Tallying.{act_counts}
 use Rattle.shared_handle.specs.declared.endings.Ending.{Ending}
 use Rattle.shared_handle.specs.declared.endings.Left as out
@@ -80,21 +82,18 @@ module _ {V : Type 0} where
   stays_left_weakly d (Some b) p vacant e leaves = stays_added d _ e leaves tt
 
   -- a member that is emptied
-  stays_cleared : (d : DeskNow V) (x : Ending V) (m : Member) (y : out.Left V) (e : DeskNow V) → IsClearing d x m y e → Stays d e
-  stays_cleared d x First y e clears =
+  stays_cleared : (k : Kind) (d : DeskNow V) (x : Ending V) (m : ℕ) (y : out.Left V) (e : DeskNow V) → ClearsOf k d x m y e → Stays d e
+  stays_cleared kind.Owner d x m y e clears =
       let c = clears.0 in
       stay_both d c.between e (stays_added d _ c.between c.takes.event tt) (stays_left c.between c.block c.place y e c.leaves)
-  stays_cleared d x Next y e clears =
-      let c = clears.0 in
-      stay_both d c.between e (stays_added d _ c.between c.takes.event tt) (stays_left c.between c.block c.place y e c.leaves)
-  stays_cleared d x Up y e c =
+  stays_cleared kind.Weak d x m y e c =
       stay_both d c.between e (stays_added d _ c.between c.takes.event tt) (stays_left_weakly c.between c.block c.place c.vacant e c.leaves)
 
   -- a round of what is left to end, and some in a row
   pub stays_round : (d : DeskNow V) (xs : List (Ending V)) (round : Round V) (e : DeskNow V) (ys : List (Ending V)) → IsRound d xs round e ys
       → Stays d e
   stays_round d xs Settled e ys is = stays_counting d e d.held is.2
-  stays_round d xs (Cleared m gone) e ys is = stays_cleared d is.top m is.left e is.clears
+  stays_round d xs (Cleared m gone) e ys is = stays_cleared (kind_of_member d.shape.owners is.top.cleared) d is.top is.top.cleared is.left e is.clears
   stays_round d xs (Ended v) e ys is = stays_added d _ e is.finish.event tt
 
   pub stays_rounds : (d : DeskNow V) (xs : List (Ending V)) (rs : List (Past V)) (e : DeskNow V) (ys : List (Ending V))

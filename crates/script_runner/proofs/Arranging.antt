@@ -2,7 +2,7 @@
 use Rattle.std.proofs.Common.{◌≡◌, ℕ, zero, suc, ◌<◌, ◌≤◌, Bool, false, ◌≢◌, ◌⊎◌, List, [], ◌∷◌}
 use Rattle.std.proofs.Common.{length, slice_get, slice_set, Some, None, Option, sym, refl, ap, ◌∙◌}
 use Rattle.std.proofs.Common.{subst, inl, inr, arith, length-set}
-use Rattle.script_runner.proofs.Prelude.{allowance_of, HasNoObject, HasTextCells, IsArranged}
+use Rattle.script_runner.proofs.Prelude.{allowance_of, HasNoObject, HasScriptMembers, HasTextCells, IsArranged}
 use Rattle.script_runner.proofs.Prelude.{IsInHand, IsName, KeepsKinds, KeepsLimits, Kind, kind_in}
 use Rattle.script_runner.proofs.Prelude.{length-map, SetsKind, slice_get_within, slot_kinds}
 use Rattle.script_runner.proofs.Prelude.{Stance, TableNow}
@@ -50,6 +50,9 @@ module _ (ks : List Kind) (x : Stance) (hand : ℕ) (taken : Bool) (t u : TableN
   cells_kept : HasTextCells u.desk.shape
   cells_kept = subst HasTextCells (sym same.0) is.cells
 
+  members_kept : HasScriptMembers u.desk.shape
+  members_kept = subst HasScriptMembers (sym same.0) is.members
+
   few_kept : (y : Stance) → y.names ≡ x.names → y.names ≤ length ks
   few_kept y names = subst (λ n. n ≤ length ks) (sym names) is.few
 
@@ -75,6 +78,7 @@ module _ (ks : List Kind) (x : Stance) (hand : ℕ) (taken : Bool) (t u : TableN
               ∙ is.rest i lt (let l = many_kept t.slots u.slots kinds in omega (arith, le, l));
           room = room_kept (many_kept t.slots u.slots kinds);
           cells = cells_kept;
+          members = members_kept;
         }
 
     -- the hand has another kind, or is vacant
@@ -97,6 +101,7 @@ module _ (ks : List Kind) (x : Stance) (hand : ℕ) (taken : Bool) (t u : TableN
               ∙ is.rest i lt (let l = many_same hand k t.slots u.slots kinds in omega (arith, le, l)));
           room = room_kept (many_same hand k t.slots u.slots kinds);
           cells = cells_kept;
+          members = members_kept;
         }
 
     -- the slot behind the names has another, with nothing else changed
@@ -124,6 +129,7 @@ module _ (ks : List Kind) (x : Stance) (hand : ℕ) (taken : Bool) (t u : TableN
               ∙ (mids i (λ at. omega (arith, at, lt)) ∙ is.rest i lt (omega (arith, le, l))));
           room = room_kept l;
           cells = cells_kept;
+          members = members_kept;
         }
 
   clears : (i : ℕ) → suc i ≡ x.names → ((j : ℕ) → i ≢ j → slice_get u.slots j ≡ slice_get t.slots j)
@@ -148,4 +154,5 @@ module _ (ks : List Kind) (x : Stance) (hand : ℕ) (taken : Bool) (t u : TableN
         rest = λ j lt le. ap (λ l. slice_get l j) kinds ∙ is.rest j lt (let l = many_kept t.slots u.slots kinds in omega (arith, le, l));
         room = room_kept (many_kept t.slots u.slots kinds);
         cells = cells_kept;
+        members = members_kept;
       }

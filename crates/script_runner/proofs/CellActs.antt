@@ -3,7 +3,7 @@ use Rattle.std.proofs.Common.{◌≡◌, ℕ, ◌+◌, ◌-◌, ◌<◌, Bool, t
 use Rattle.std.proofs.Common.{inr, arith}
 use Rattle.script_runner.proofs.Prelude
 use Prelude.{ActResult, CellName, ComparesSlots, Copies, ExchangesSlot}
-use Prelude.{FitsSlots, HasKind, IsActed, IsBelow, IsCompared, IsDealt, IsHand, IsOfName}
+use Prelude.{FitsSlots, HasKind, IsActed, IsCompared, IsDealt, IsHand, IsOfName}
 use Prelude.{IsPassedOver, IsReachable, IsSeated, IsVacant, KeepsKinds, Kind, kind_at}
 use Prelude.{LoadsIntoSlot, MovesSlot, NamesCell, nothing, Refusal, SetsKind, slot_kinds, Standing}
 use Prelude.{TableNow, TakesKind, TellsSlotHeld, WhyNoCell}

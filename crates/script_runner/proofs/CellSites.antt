@@ -1,15 +1,15 @@
 -- Cells that are open to a desk, and handles by what cells see of them.
-use Rattle.std.proofs.Common.{◌≡◌, ℕ, ◌+◌, ◌<◌, List, nat_lt, slice_get, Some, Ok, Err, Option}
-use Rattle.std.proofs.Common.{sym, refl, ap, ◌∙◌, subst, inl, inr, arith, le-ltb, lt-ltb}
+use Rattle.std.proofs.Common.{◌≡◌, ℕ, zero, suc, ◌+◌, ◌<◌, ◌≤◌, List, nat_lt, Option}
+use Rattle.std.proofs.Common.{sym, refl, ◌∙◌, subst, arith, le-ltb, lt-ltb}
 use Rattle.script_runner.proofs.TablePrelude
 use TablePrelude.{Block, block_of_held, cond-false, cond-true, DeskNow, FitsSlots, Held}
 use TablePrelude.{HoldsHandle, IsCellAtSite, IsHeldByDesk, IsInReach, IsOpenAt, Kind, kind_of_held}
 use TablePrelude.{NumberedHandle, Owner, Place, place_of_held, Slot, Weak, with_handle, with_held}
 use TablePrelude.{without_handle, without_held}
-use Rattle.control_word.specs.State.{kind_of_free}
+use Rattle.control_word.specs.Layout.{IsWithinLimits}
+use Rattle.control_word.specs.State.{kind_of_free, kind_of_member}
 use Rattle.control_word.specs.declared.model.handle.Kind.TheVariants as kind
 use Rattle.control_word.specs.declared.site.Site.{Site}
-use Rattle.control_word.specs.declared.site.Site.TheVariants as site
 use Rattle.step_threads.specs.Programs.{kind_at}
 use Rattle.step_threads.specs.declared.programs.call.CellName.{CellName}
 use Rattle.step_threads.specs.declared.programs.call.CellName.TheVariants as cell
@@ -46,23 +46,30 @@ few_kind m n lt = sym (cond-true (nat_lt n m) kind.Owner kind.Weak (lt-ltb n m l
 past_kind : (m n : ℕ) → kind.Weak ≡ kind_of_free m (m + n)
 past_kind m n = sym (cond-false (nat_lt (m + n) m) kind.Owner kind.Weak (le-ltb (m + n) m (omega arith)))
 
+-- and of a script's member, whatever further ones there are
+pub member_kind : (n m : ℕ) → 2 ≤ n → m < 3 → kind_of_member 2 m ≡ kind_of_member n m
+member_kind n zero some low = sym (cond-false (nat_lt n 0) kind.Weak kind.Owner (le-ltb n 0 (omega arith)))
+member_kind n (suc zero) some low = sym (cond-false (nat_lt n 1) kind.Weak kind.Owner (le-ltb n 1 (omega (arith, some))))
+member_kind n (suc (suc zero)) some low = refl
+member_kind n (suc (suc (suc m))) some low = let no : ⊥ = omega (arith, low) in absurd no
+
 module _ {V : Type 0} where
   pub held_parts : (d : DeskNow V) (h : Held) → IsHeldByDesk d h → HoldsHandle d (kind_of_held h) (block_of_held h) (place_of_held h)
   held_parts d (Owner h) holds = holds
   held_parts d (Weak w) holds = holds
 
   -- a cell is open to a desk that has just the handles in the slots
-  pub is_open : (d : DeskNow V) (ss : List Slot) (c : CellName) (s : Site) → FitsSlots d ss → IsInReach d.shape ss c → IsCellAtSite d.shape ss c s
-      → IsOpenAt d s (kind_at c)
-  is_open d ss (cell.Shared n) s fits reach is =
+  pub is_open : (d : DeskNow V) (ss : List Slot) (c : CellName) (s : Site) → IsWithinLimits d.shape → FitsSlots d ss → IsInReach d.shape ss c
+      → IsCellAtSite d.shape ss c s → IsOpenAt d s (kind_at c)
+  is_open d ss (cell.Shared n) s limits fits reach is =
       subst (λ (x : Site). IsOpenAt d x kind.Owner) (sym is.1) (omega arith, few_kind d.shape.shared_cells n is.0)
-  is_open d ss (cell.Weak n) s fits reach is =
+  is_open d ss (cell.Weak n) s limits fits reach is =
       subst (λ (x : Site). IsOpenAt d x kind.Weak) (sym is.1) (omega arith, past_kind d.shape.shared_cells n)
-  is_open d ss (cell.Member k m) s fits reach is =
+  is_open d ss (cell.Member k m) s limits fits reach is =
       let owns = is.1 in
       subst (λ (x : Site). IsOpenAt d x (kind_at (cell.Member k m))) (sym is.2) (
-        reach.1,
-        refl,
+        (let owners = limits.members.0 in let weaks = limits.members.1 in let low = reach.1 in omega (arith, owners, weaks, low)),
+        member_kind d.shape.owners m limits.members.0 reach.1,
         (
           owns.owner.place,
           subst (λ (b : Option Block). HoldsHandle d kind.Owner b owns.owner.place) owns.into.owns

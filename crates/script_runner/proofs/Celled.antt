@@ -1,5 +1,5 @@
 -- Calls of a table on cells, as acts of a thread.
-use Rattle.std.proofs.Common.{◌≡◌, ℕ, zero, suc, ◌+◌, ◌<◌, ◌≤◌, Bool, true, cond, [], ◌∷◌, ◌++◌}
+use Rattle.std.proofs.Common.{◌≡◌, ℕ, ◌+◌, ◌<◌, ◌≤◌, Bool, true, cond, [], ◌∷◌, ◌++◌}
 use Rattle.std.proofs.Common.{nat_lt, ◌==◌, slice_get, slice_set, Some, None, Option, sym, refl}
 use Rattle.std.proofs.Common.{ap, ◌∙◌, subst, inr, arith, le-ltb, lt-ltb, eq-eqb}
 use Rattle.script_runner.proofs.Prelude
@@ -13,12 +13,15 @@ use Prelude.{State, state_of, TableNow, Where}
 use Rattle.control_block.proofs.CellWords.{shared_led}
 use Rattle.control_block.specs.CellCalls.{cell_of_site as desk_cell}
 use Rattle.control_word.specs.declared.site.Site.TheVariants as site
-use Rattle.control_word.specs.State.{kind_of_free}
+use Rattle.control_word.proofs.history.Kept.{owners_led}
+use Rattle.control_word.specs.Layout.{IsWithinLimits}
+use Rattle.control_word.specs.State.{kind_of_free, kind_of_member}
 use Rattle.control_word.specs.declared.model.event.Cell.TheVariants as named
 use Rattle.control_word.specs.declared.model.event.Event.TheVariants as event
 use Rattle.control_word.specs.declared.model.handle.Kind.TheVariants as kind
 use Rattle.script_runner.specs.Cells.{OwnsInto}
 use Rattle.script_runner.proofs.Calling as law
+use Rattle.script_runner.proofs.CellSites.{member_kind}
 use Rattle.script_runner.proofs.Putting.{slice_get-set_same}
 use Rattle.script_runner.proofs.Seating as seating
 use Rattle.script_runner.specs.Calls as calls
@@ -72,10 +75,10 @@ module _ {V : Type 0} where
     pub kinds : (v : Event V) (e : DeskNow V) (adds : AddsEvent t.desk v e)
         → kind_there (calls.state_before_event V adds) (cell_of_name (calls.state_before_event V adds) l c) ≡ kind_at c
 
-  module _ (m : ℕ) (t : TableNow V) (fits : FitsSlots t.desk t.slots) where
-    of_member : (k : ℕ) (n : ℕ) (name : Name) → name.0 ≡ k → k < m → (at : Site) (b : Block) → OwnsInto t.slots k b → at ≡ site.Member b n
+  module _ (m : ℕ) (t : TableNow V) (fits : FitsSlots t.desk t.slots) (limits : IsWithinLimits t.desk.shape) where
+    of_member : (k : ℕ) (n : ℕ) (name : Name) → name.0 ≡ k → n < 3 → k < m → (at : Site) (b : Block) → OwnsInto t.slots k b → at ≡ site.Member b n
         → IsFound t (shown_slots m t.slots) (cell.Member name n) at
-    of_member k n name is lt at b owns place =
+    of_member k n name is low lt at b owns place =
         let h = Owner owns.owner in
         let has = seating.has_pointer m k t h b fits lt owns.at owns.into.owns in
         let q : owns.owner.place ≡ Some owns.into.place = owns.into.points.0 in
@@ -88,7 +91,8 @@ module _ {V : Type 0} where
           there = ap is_full inside_is;
           named = λ v e adds. ap (λ (x : Block). named.Member ((calls.state_before_event V adds).latest x.0) n) block
               ∙ (ap (λ o. named.Member o n) (law.held_latest t.desk e v adds kind.Owner owns.owner.place b.0 has.has) ∙ ap (desk_cell t.desk) (sym place));
-          kinds = λ v e adds. refl;
+          kinds = λ v e adds. ap (λ z. kind_of_member z n) (owners_led (opening_of t.desk.shape) (adds.between ++ t.desk.seen))
+              ∙ sym (member_kind t.desk.shape.owners n limits.members.0 low);
         }
 
     pub is_found : (c : CellName) (at : Site) → IsIn t.desk.shape c → IsOfName m c → IsCellAtSite t.desk.shape t.slots c at
@@ -108,7 +112,7 @@ module _ {V : Type 0} where
           kinds = λ v e adds. (λ i. kind_of_free (shared_led (opening_of t.desk.shape) (adds.between ++ t.desk.seen) i)
               (shared_led (opening_of t.desk.shape) (adds.between ++ t.desk.seen) i + n)) ∙ sym (past_kind t.desk.shape.shared_cells n);
         }
-    is_found (cell.Member name n) at lt of is = of_member name.0 n name refl of at is.0 is.1 is.2
+    is_found (cell.Member name n) at lt of is = of_member name.0 n name refl lt of at is.0 is.1 is.2
 
 module _ {V : Type 0} (worth : Form → V) (m hand : ℕ) (taken : Bool) (t u : TableNow V) (c : CellName) where
   -- what the cell holds came into the hand
@@ -152,5 +156,5 @@ module _ {V : Type 0} (worth : Form → V) (m hand : ℕ) (taken : Bool) (t u : 
 module _ {V : Type 0} where
   pub loads : LoadsIn V
   loads worth m hand taken t u c is then in_shape of l =
-      loads_in worth m hand taken t u c is then l.site (is_found m t is.fits c l.site in_shape of l.is)
+      loads_in worth m hand taken t u c is then l.site (is_found m t is.fits is.stands.limits c l.site in_shape of l.is)
       (seating.came_in _ t hand u is.vacant l.loads)

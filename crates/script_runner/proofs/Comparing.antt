@@ -220,7 +220,7 @@ module _ {V : Type 0} (worth : Form → V) (m k hand other : ℕ) (t u : TableNo
 module _ {V : Type 0} where
   pub compares_swap : ComparesIn V
   compares_swap worth m k hand other t u c weak is two lt none in_shape of x =
-      let found = is_found m t is.fits c x.site in_shape of x.is in (
+      let found = is_found m t is.fits is.stands.limits c x.site in_shape of x.is in (
         busy worth m k hand other t u c weak is two lt none x found,
         record {
           between = between worth m k hand other t u c weak is two lt none x found;

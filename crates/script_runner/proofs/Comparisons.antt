@@ -1,5 +1,5 @@
 -- Where what an act left to end may do so, and how a comparison leaves the slots arranged.
-use Rattle.std.proofs.Common.{◌≡◌, ℕ, zero, suc, ◌+◌, ◌-◌, ◌<◌, Bool, true, false, ◌≢◌, List, []}
+use Rattle.std.proofs.Common.{◌≡◌, ℕ, zero, suc, ◌+◌, ◌-◌, ◌<◌, Bool, true, false, ◌≢◌, ◌⊎◌, List, []}
 use Rattle.std.proofs.Common.{◌∷◌, length, drop, slice_get, slice_set, Some, None, Option, sym}
 use Rattle.std.proofs.Common.{refl, ap, ◌∙◌, subst, inl, inr, arith}
 use Rattle.script_runner.proofs.Prelude
@@ -35,8 +35,11 @@ hand_vacant hand t fits stands ends vacant =
 
 -- something is left to end
 pub must_settle : (hand : ℕ) (t : TableNow ℕ) (r : Ended) → IsTop t r → MaySettle hand t → IsVacant t.slots hand
-must_settle hand t r top (inl none) = absurd (some_last top.0 top.1 (sym none ∙ top.2))
-must_settle hand t r top (inr vacant) = vacant
+must_settle hand t r top may = go may.room
+  where
+    go : (t.endings ≡ []) ⊎ IsVacant t.slots hand → IsVacant t.slots hand
+    go (inl none) = absurd (some_last top.0 top.1 (sym none ∙ top.2))
+    go (inr vacant) = vacant
 
 pub seated : (ks : List Kind) (x : Stance) (hand : ℕ) (taken : Bool) (t : TableNow ℕ) → IsArranged ks x hand taken t → FitsSlots t.desk t.slots
     → Standing t.desk → IsSeated (hand + 1) hand t
@@ -49,14 +52,14 @@ begun_none b xs ys e begun = subst (λ c. Begun xs c ys) e begun
 pub may_settle : (ks : List Kind) (x : Stance) (hand : ℕ) (taken : Bool) (t u : TableNow ℕ) (is : IsArranged ks x hand taken t) → KeepsLimits t u
     → (a : Act) (w : ActResult) → IsAlone taken a → Suits ks x a → Changes hand taken a t w.taken u → IsArranged ks (stance_after ks x a) hand w.taken u
     → t.endings ≡ [] → IsDealt hand t taken a w u → MaySettle hand u
-may_settle ks x hand taken t u is same a w alone suits changes after none dealt = go w.taken refl
+may_settle ks x hand taken t u is same a w alone suits changes after none dealt = record { room = go w.taken refl; members = after.members }
   where
     ends : IsTaker a → IsDealt hand t taken a w u → u.endings ≡ t.endings
     ends takes (inl acted) =
         begun_none _ t.endings u.endings (endless (thread_slots hand t) taken a takes acted.reply) acted.acts.ends
     ends takes (inr passed) = passed.endings
 
-    go : (b : Bool) → w.taken ≡ b → MaySettle hand u
+    go : (b : Bool) → w.taken ≡ b → (u.endings ≡ []) ⊎ IsVacant u.slots hand
     go true e = inl (ends (handling.taker ks x hand taken t u is same a w.taken alone suits changes e) dealt ∙ none)
     go false e = inr (handling.vacant_hand u.slots hand (stance_after ks x a).hand w.taken after.in_hand e)
 

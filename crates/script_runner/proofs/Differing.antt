@@ -246,7 +246,7 @@ module _ {V : Type 0} (worth : Form → V) (m k hand other : ℕ) (t after u : T
 module _ {V : Type 0} where
   pub compares_differ : DiffersIn V
   compares_differ worth m k hand other t after u c weak is two lt none in_shape of x v =
-      let found = is_found m t is.fits c x.site in_shape of x.is in (
+      let found = is_found m t is.fits is.stands.limits c x.site in_shape of x.is in (
         busy worth m k hand other t after u c weak is two lt none x v found,
         record {
           between = between worth m k hand other t after u c weak is two lt none x v found;

@@ -10,7 +10,7 @@ use Rattle.script_runner.proofs.Filling.{fits_more}
 
 module _ {V : Type 0} where
   keeps_endings : (d : DeskNow V) → KeepsEndings d (counting (d.held + 1) d)
-  keeps_endings d b x ends = record { ends = record { phase = ends.phase; kept = ends.kept }; members = λ m. refl }
+  keeps_endings d b x ends = record { ends = record { phase = ends.phase; kept = ends.kept }; shape = refl; members = λ m. refl }
 
   pub bears_counted : (domain : DomainNow) (d e : DeskNow V) (p : Pile V) → Bears domain d p → e ≡ counting (d.held + 1) d → Bears domain e p
   bears_counted domain d e p w is =

@@ -1,10 +1,10 @@
 -- The kinds of what a worker's slots have, where one of them becomes empty or vacant.
-use Rattle.std.proofs.Common.{◌≡◌, ℕ, zero, suc, ◌+◌, ◌<◌, ◌≤◌, false, List, [], ◌∷◌, length}
+use Rattle.std.proofs.Common.{◌≡◌, ℕ, zero, suc, ◌+◌, ◌<◌, false, List, [], ◌∷◌, length}
 use Rattle.std.proofs.Common.{is_some, slice_get, slice_set, Some, None, Option, sym, refl, ap}
-use Rattle.std.proofs.Common.{◌∙◌, subst, inl, inr, arith}
+use Rattle.std.proofs.Common.{◌∙◌, subst, arith}
 use Rattle.script_runner.proofs.Prelude
 use Prelude.{Block, block_of_held, EmptiesSlot, EmptiesSlotWeakly, Gone, HasKind}
-use Prelude.{HasNoObject, Held, is_full, IsSeated, KeepsKinds, Kind, kind_in, kind_of_held}
+use Prelude.{HasNoObject, Held, is_full, KeepsKinds, Kind, kind_in, kind_of_held}
 use Prelude.{SetsKind, slot_kinds, slot_pointer, TableNow, thread_slots}
 use Rattle.control_word.specs.declared.model.handle.Kind.TheVariants as kind
 use Rattle.script_runner.specs.SlotCalls as calls

@@ -163,13 +163,14 @@ module _ {V : Type 0} (worth : Form → V) (m i hand : ℕ) (taken : Bool) (t u 
 module _ {V : Type 0} where
   pub holds : HoldsIn V
   holds worth m i hand taken t u c same is lt in_shape of x =
-      holds_in worth m i hand taken t u c is lt same x (is_found m t is.fits c x.site in_shape of x.is)
+      holds_in worth m i hand taken t u c is lt same x (is_found m t is.fits is.stands.limits c x.site in_shape of x.is)
 
   pub exchanges : ExchangesIn V
   exchanges worth m i hand taken t u c is then lt in_shape of x =
-      exchanges_in worth m i hand taken t u c is then (let e = is.last in omega (arith, e, lt)) x (is_found m t is.fits c x.swaps.site in_shape of x.swaps.is)
+      exchanges_in worth m i hand taken t u c is then (let e = is.last in omega (arith, e, lt)) x
+      (is_found m t is.fits is.stands.limits c x.swaps.site in_shape of x.swaps.is)
 
   pub offers : OffersIn V
   offers worth m i hand taken t u c is lt in_shape of there h at same copied =
-      offers_in worth m i hand taken t u c lt h at same there.0 (is_found m t is.fits c there.0 in_shape of there.1)
+      offers_in worth m i hand taken t u c lt h at same there.0 (is_found m t is.fits is.stands.limits c there.0 in_shape of there.1)
       (copies_taken worth m i hand taken t u is lt copied)

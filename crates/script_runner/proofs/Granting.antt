@@ -1,7 +1,7 @@
 -- What an act takes into the hand, of which kind it is, and why it takes nothing.
-use Rattle.std.proofs.Common.{◌≡◌, ℕ, zero, suc, ◌+◌, ◌<◌, true, false, ◌≢◌, ◌⊎◌, List, [], ◌∷◌}
-use Rattle.std.proofs.Common.{length, slice_get, slice_set, Some, None, Err, Option, sym, refl, ap}
-use Rattle.std.proofs.Common.{◌∙◌, subst, inl, inr, arith, length-set, set-set}
+use Rattle.std.proofs.Common.{◌≡◌, ℕ, zero, suc, ◌+◌, ◌<◌, true, false, ◌≢◌, List, [], ◌∷◌}
+use Rattle.std.proofs.Common.{length, slice_get, slice_set, Some, None, Option, sym, refl, ap}
+use Rattle.std.proofs.Common.{◌∙◌, subst, arith, length-set, set-set}
 use Rattle.script_runner.proofs.Prelude
 use Prelude.{ActResult, aliased, BadWeak, Comes, DeskNow, Field, fits_at, Form, Full, HasKind, Held}
 use Prelude.{IsActed, IsBelow, IsCopy, IsHand, IsOwner, IsPointer, IsWeak, KeepsKinds, Kind}

@@ -1,7 +1,7 @@
 -- Acts that only tell something, as a worker does them.
-use Rattle.std.proofs.Common.{◌≡◌, ℕ, ◌+◌, ◌<◌, Bool, true, false, ◌⊎◌, Some, None, Ok}
-use Rattle.std.proofs.Common.{Err, Option, sym, refl, ap, ◌∙◌, subst}
-use Rattle.script_runner.proofs.Prelude.{Act, ActResult, Answer, AreInOrder, cond-true}
+use Rattle.std.proofs.Common.{◌≡◌, ℕ, ◌+◌, ◌<◌, Bool, true, false, Some, None, Ok}
+use Rattle.std.proofs.Common.{Err, Option, sym, refl, ap, subst}
+use Rattle.script_runner.proofs.Prelude.{Act, Answer, AreInOrder, cond-true}
 use Rattle.script_runner.proofs.Prelude.{field_0, Got, idle, inside, is_full, IsActed}
 use Rattle.script_runner.proofs.Prelude.{IsAway, IsSeated, Kind, MarksAct, outside}
 use Rattle.script_runner.proofs.Prelude.{Place, place_in, PointAlike, Refusal, Reply, row, Shared}

@@ -2,39 +2,40 @@
 use Rattle.std.proofs.Common.{◌≡◌, ℕ, ◌*◌, ◌/◌, ◌≤◌, ◌⊎◌, ◌↔◌, List, [], ◌∷◌, IfErr, Ok, Err}
 use Rattle.std.proofs.Common.{Result, sym, ap, subst, inl, inr, arith}
 use Rattle.script_runner.proofs.Prelude.{All-from_recursion, AllByRecursion, AllZip, Assignment}
-use Rattle.script_runner.proofs.Prelude.{HasAssignment, HasTextCells, IsFitting, Refusal, Shape}
+use Rattle.script_runner.proofs.Prelude.{HasAssignment, HasScriptMembers, HasTextCells, IsFitting, Refusal, Shape}
 use Rattle.script_runner.proofs.Prelude.{shape_for, Share, TableId, TableNow, Worker}
 use Rattle.control_word.specs.declared.refusal.Refusal.TheVariants as refusal
 use Rattle.script_runner.specs.Parting.{IsNew}
 use Rattle.script_runner.specs.Staffs.{HasShares, IsLent, MeetsNeeds}
 use Rattle.script_runner.proofs.Assigning.{Needs}
 
--- a table that is lent in a domain with the cells that texts name fits
-fits : (shape : Shape) (share : Share) (t : TableNow ℕ) → share.slots ≡ 36 → 36 ≤ share.allowance → HasTextCells shape → IsLent shape share t
-    → IsFitting t
-fits shape share t slots enough cells lent =
+-- a table that is lent fits, in a domain with the cells that texts name and objects with a script's members
+fits : (shape : Shape) (share : Share) (t : TableNow ℕ) → share.slots ≡ 36 → 36 ≤ share.allowance → HasTextCells shape → HasScriptMembers shape
+    → IsLent shape share t → IsFitting t
+fits shape share t slots enough cells members lent =
     record {
       new = subst (λ (n : ℕ). IsNew n t) slots lent.new;
       room = let has = lent.allowance in omega (arith, has, enough);
       cells = subst HasTextCells (sym lent.of) cells;
+      members = subst HasScriptMembers (sym lent.of) members;
     }
 
 module _ {G : Type 0} where
   need : (book : TableId) (shape : Shape) (share : Share) (rs : List Assignment) (ws : List (Worker G)) → share.slots ≡ 36 → 36 ≤ share.allowance
-      → HasTextCells shape → AllZip (HasAssignment book) rs ws
+      → HasTextCells shape → HasScriptMembers shape → AllZip (HasAssignment book) rs ws
       → AllByRecursion (λ (w : Worker G). (t : TableNow ℕ) → IsLent shape share t → Needs w t) ws
-  need book shape share [] [] slots enough cells has = tt
-  need book shape share (r ∷ rs) (w ∷ ws) slots enough cells has =
-      (λ t lent. (fits shape share t slots enough cells lent, has.0.taken), need book shape share rs ws slots enough cells has.1)
-  need book shape share [] (w ∷ ws) slots enough cells has = absurd has
-  need book shape share (r ∷ rs) [] slots enough cells has = absurd has
+  need book shape share [] [] slots enough cells members has = tt
+  need book shape share (r ∷ rs) (w ∷ ws) slots enough cells members has =
+      (λ t lent. (fits shape share t slots enough cells members lent, has.0.taken), need book shape share rs ws slots enough cells members has.1)
+  need book shape share [] (w ∷ ws) slots enough cells members has = absurd has
+  need book shape share (r ∷ rs) [] slots enough cells members has = absurd has
 
   -- so each worker that has an assignment has what it needs
   pub all_need : (book : TableId) (shape : Shape) (share : Share) (rs : List Assignment) (ws : List (Worker G)) → share.slots ≡ 36
-      → 36 ≤ share.allowance → HasTextCells shape → AllZip (HasAssignment book) rs ws → MeetsNeeds Needs shape share ws
-  all_need book shape share rs ws slots enough cells has =
+      → 36 ≤ share.allowance → HasTextCells shape → HasScriptMembers shape → AllZip (HasAssignment book) rs ws → MeetsNeeds Needs shape share ws
+  all_need book shape share rs ws slots enough cells members has =
       All-from_recursion (λ (w : Worker G). (t : TableNow ℕ) → IsLent shape share t → Needs w t) ws
-      (need book shape share rs ws slots enough cells has)
+      (need book shape share rs ws slots enough cells members has)
 
 -- a script's domain has an allowance and blocks for each of its threads
 pub has_shares : (shape : Shape) (share : Share) (blocks threads n : ℕ)

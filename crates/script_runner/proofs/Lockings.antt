@@ -1,5 +1,5 @@
 -- Locks and makes of a table, as acts of a thread.
-use Rattle.std.proofs.Common.{◌≡◌, ℕ, ◌<◌, Bool, true, false, cond, ◌⊎◌, is_some, slice_set, Some}
+use Rattle.std.proofs.Common.{◌≡◌, ℕ, ◌<◌, Bool, true, false, cond, is_some, slice_set, Some}
 use Rattle.std.proofs.Common.{None, Ok, Err, Option, option_map, sym, refl, ap, ◌∙◌, subst, inl}
 use Rattle.std.proofs.Common.{inr, arith}
 use Rattle.script_runner.proofs.Prelude

@@ -3,7 +3,7 @@ use Rattle.std.proofs.Common.{◌≡◌, ℕ, zero, suc, ◌+◌, ◌<◌, ◌�
 use Rattle.std.proofs.Common.{replicate, slice_get, slice_set, Some, None, Option, sym, refl, ap}
 use Rattle.std.proofs.Common.{◌∙◌, subst, inl, inr, arith, length-set}
 use Rattle.script_runner.proofs.Prelude
-use Prelude.{allowance_of, AllVacant, as_slot, DeskNow, FitsSlots, HasBegun, HasKind, HasTextCells}
+use Prelude.{allowance_of, AllVacant, as_slot, DeskNow, FitsSlots, HasBegun, HasKind, HasScriptMembers, HasTextCells}
 use Prelude.{IsBelow, IsEmptied, IsFitting, IsName, IsQuiet, IsVacant, Kind, kind_in, length-map}
 use Prelude.{plain, SetsKind, shown_slots, slice_get_within, slot_by, slot_kinds, TableNow}
 use Rattle.control_word.specs.declared.model.handle.Kind.TheVariants as kind
@@ -162,6 +162,7 @@ has_begun ks t u few fits is =
         rest = λ i lt le. vacant_kind u.slots i (is.vacant i (omega (arith, lt)) (omega (arith, le, long)));
         room = omega (arith, most, allows, long);
         cells = subst HasTextCells (sym is.unmoved.0.shape) fits.cells;
+        members = subst HasScriptMembers (sym is.unmoved.0.shape) fits.members;
       };
       slots = shown_plain (length ks + 1 + 1) u.slots (omega (arith, few, long)) (λ i s lt e. shown_all i s lt e)
           ∙ ap (λ n. replicate n plain) (let n : length ks + 1 + 1 ≡ length ks + 2 = omega arith in n);

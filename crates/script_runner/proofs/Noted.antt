@@ -2,7 +2,7 @@
 use Rattle.std.proofs.Common.{◌≡◌, ℕ, ◌+◌, Bool, true, false, ◌⊎◌, List, [], ◌++◌, length, None}
 use Rattle.std.proofs.Common.{vec_capacity, Option, sym, refl, ap, ◌∙◌, subst, inl, inr}
 use Rattle.std.proofs.Common.{append_assoc, append-nil, arith, length-append}
-use Rattle.script_runner.proofs.Prelude.{Answer, Ended, HasNoted, IsHandOfTable, IsPartlySettled}
+use Rattle.script_runner.proofs.Prelude.{Answer, Ended, HasNoted, HasScriptMembers, IsHandOfTable, IsPartlySettled}
 use Rattle.script_runner.proofs.Prelude.{IsRound, IsRoundTold, IsTooMuch, Log, Notes, Round, Said}
 use Rattle.script_runner.proofs.Prelude.{Settles, SettlesPartly, ShareNow, TableNow, told_in}
 use Rattle.script_runner.proofs.Prelude.{told_line, Vec}
@@ -104,12 +104,12 @@ module _ (hand k : ℕ) (t : TableNow ℕ) (w : Log) where
   }
 
   -- a round
-  pub round_noted : (u : TableNow ℕ) (x : Log) → IsHandOfTable hand t false → u.slots ≡ t.slots → (round : Round ℕ)
+  pub round_noted : (u : TableNow ℕ) (x : Log) → HasScriptMembers t.desk.shape → IsHandOfTable hand t false → u.slots ≡ t.slots → (round : Round ℕ)
       → IsRound t.desk t.endings round u.desk u.endings → (e : Option Ended) → IsRoundTold u round e
       → Notes w x 0 (told_line (line_of k None e)) → SettlesPartly hand k t w u x
-  round_noted u x seated slots round is e told notes = record {
+  round_noted u x script seated slots round is e told notes = record {
     lines = told_line (line_of k None e);
-    goes = λ log. settles.round_on hand k t u w.taken seated slots round is e told log (log ++ told_line (line_of k None e)) refl;
+    goes = λ log. settles.round_on hand k t u w.taken script seated slots round is e told log (log ++ told_line (line_of k None e)) refl;
     notes = notes;
   }
 

@@ -53,7 +53,7 @@ hands_by b d x y e = ap (λ q. (cond {A = Hands} q x y).1) e
 module _ (hand : ℕ) (t u : TableNow ℕ) (c : CellName) (of : IsOfName hand c) (third : IsThird c) where
   there_is : IsSeated (hand + 1) hand t → (at : Site) → IsCellAtSite t.desk.shape t.slots c at → is_there (thread_slots hand t) c ≡ true
   there_is is at cell =
-      (is_found (hand + 1) t is.fits c at (in_shape t.desk.shape t.slots c at cell third) (named_below hand c of) cell).there
+      (is_found (hand + 1) t is.fits is.stands.limits c at (in_shape t.desk.shape t.slots c at cell third) (named_below hand c of) cell).there
 
   pub offered : (i : ℕ) (h : Held) → IsHand (hand + 1) hand t → i < hand → NamesCell t c → IsAt t i h → kind_of_held h ≡ kind_at c
       → calls.Copies t i hand u → IsActed hand t false (act.Offer i c) took u

@@ -61,7 +61,7 @@ pub use Rattle.script_runner.specs.Handles.{EmptiesSlot, EmptiesSlotWeakly}
 pub use Rattle.script_runner.specs.Pairs.{AreInOrder, PointAlike}
 pub use Rattle.script_runner.specs.Parting.{AbsorbsAll, IsPartedInto}
 pub use Rattle.script_runner.specs.Parts.{block_of_held, kind_of_held, place_of_held}
-pub use Rattle.script_runner.specs.Tables.{AllVacant, FitsSlots, IsAt, TableNow}
+pub use Rattle.script_runner.specs.Tables.{AllVacant, FitsSlots, HasScriptMembers, IsAt, TableNow}
 pub use Rattle.script_runner.specs.declared.table.ends.Remains.{Remains}
 pub use Rattle.script_runner.specs.declared.table.staff.Share.{Share}
 pub use Rattle.ownership_ledger.specs.Now.{ShareNow}
@@ -71,10 +71,8 @@ pub use Rattle.script_text.specs.Drafts.{ScriptView}
 pub use Rattle.script_text.specs.Grammar.{ended, ReadsAs}
 pub use Rattle.script_text.specs.Scripts.{HasTextCells, part_in, program_in}
 pub use Rattle.shared_handle.specs.Calls.{counting, LeavesWeakly}
-pub use Rattle.shared_handle.specs.Endings.{IsClearing, IsGone, IsLeft, WhyNotThis, with_clear}
+pub use Rattle.shared_handle.specs.Endings.{ClearsOf, IsClearing, IsGone, IsLeft, WhyNotThis, with_clear}
 pub use Rattle.shared_handle.specs.Piles.{AllEnd, AreRounds, IsRound, Past, piled}
-pub use Rattle.shared_handle.specs.declared.endings.Member.{Member}
-pub use Rattle.shared_handle.specs.declared.endings.Member.TheVariants.{First, Next, Up}
 pub use Rattle.shared_handle.specs.declared.pile.Gone.{Gone}
 pub use Rattle.shared_handle.specs.declared.pile.Round.{Round}
 pub use Rattle.shared_handle.specs.declared.pile.Round.TheVariants.{Cleared, Settled}
@@ -124,7 +122,7 @@ pub use Rattle.script_runner.specs.Deals.{field_0, GoesOnWith, IsActed, IsCompar
 pub use Rattle.script_runner.specs.Deals.{IsEmptied, IsHandOfTable, IsOnward, IsPartlySettled}
 pub use Rattle.script_runner.specs.Deals.{IsPassedOver, IsRoundTold, IsSettledBy, IsThird, IsTop}
 pub use Rattle.script_runner.specs.Deals.{statement_says, thread_slots}
-pub use Rattle.script_runner.specs.EndCalls.{IsAtStage, IsFour, Piled, remains_ended, RoundSays}
+pub use Rattle.script_runner.specs.EndCalls.{IsFour, Piled, remains_ended, RoundSays}
 pub use Rattle.script_runner.specs.EndCalls.{TakesThread}
 pub use Rattle.script_runner.specs.Goings.{task}
 pub use Rattle.script_runner.specs.Handling.{Changes, comparison_tasks, IsAlone, MayGoOn}

@@ -1,7 +1,6 @@
 -- What is in a slot of a kind, and how calls change the kinds of what slots have.
-use Rattle.std.proofs.Common.{◌≡◌, ℕ, zero, suc, ◌<◌, ◌≤◌, List, [], ◌∷◌, length, slice_get}
-use Rattle.std.proofs.Common.{slice_set, Some, None, option_map, sym, refl, ap, ◌∙◌, subst, inl}
-use Rattle.std.proofs.Common.{inr, arith}
+use Rattle.std.proofs.Common.{◌≡◌, ℕ, zero, suc, ◌<◌, List, [], ◌∷◌, length, slice_get}
+use Rattle.std.proofs.Common.{slice_set, Some, None, option_map, sym, refl, ap, ◌∙◌, subst}
 use Rattle.script_runner.proofs.Prelude.{Comes, DeskNow, HasKind, Held, IsBelow, IsHandleAt, IsOwnerAt}
 use Rattle.script_runner.proofs.Prelude.{IsVacant, IsWeakAt, KeepsKinds, Kind, kind_in, kind_of_held}
 use Rattle.script_runner.proofs.Prelude.{Owner, SetsKind, slice_get_within, slot_kinds, TableNow, Weak}

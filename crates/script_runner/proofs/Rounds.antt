@@ -3,20 +3,20 @@ use Rattle.std.proofs.Common.{◌≡◌, ℕ, ◌+◌, ◌-◌, ◌<◌, Bool, t
 use Rattle.std.proofs.Common.{length, slice_set, Some, None, Option, sym, refl, ap, ◌∙◌, subst}
 use Rattle.std.proofs.Common.{append-nil, arith}
 use Rattle.script_runner.proofs.Prelude
-use Prelude.{AddsEvent, AllEnd, Block, Cleared, counting, DeskNow, Ending, Event, First, Form}
-use Prelude.{frame_settled, FrameView, Gone, handle_in, IsAtStage, IsClearing, IsEnding, IsGone}
-use Prelude.{IsHand, IsLeft, IsMakeEvent, IsRound, Kind, latest_of, Leave, LeavesWeakly, Member}
-use Prelude.{Next, object_in, on_latest, Piled, piled, Place, plain, remains, Round, RoundSays}
+use Prelude.{AddsEvent, AllEnd, Block, Cleared, counting, ClearsOf, DeskNow, Ending, Event, Form}
+use Prelude.{frame_settled, FrameView, Gone, handle_in, HasScriptMembers, IsEnding, IsGone}
+use Prelude.{IsHand, IsLeft, IsMakeEvent, IsRound, Kind, latest_of, Leave, LeavesWeakly}
+use Prelude.{object_in, on_latest, Piled, piled, Place, plain, remains, Round, RoundSays}
 use Prelude.{Said, Settled, shown_slots, slot_of, slot_value, Slots, staged, TableNow, TakesThread}
-use Prelude.{Task, TellsThread, told_line, Up, with_clear, with_end}
+use Prelude.{Task, TellsThread, told_line, with_clear, with_end}
 use Rattle.control_word.specs.declared.model.event.Event.TheVariants as event
 use Rattle.control_word.specs.declared.model.handle.Kind.TheVariants as kind
 use Rattle.script_runner.proofs.Calling as law
 use Rattle.script_runner.proofs.Ending as ending
 use Rattle.script_runner.proofs.Leavings.{remains_kept}
 use Rattle.script_runner.proofs.Seating.{hand_is, quietly, shown_at, shown_many}
-use Rattle.script_runner.proofs.Stages.{last_same, some_last, stage_of, ends_last, next_stage}
-use Rattle.script_runner.proofs.Stages.{block_of, IsStarting, clearing_starts, all_clear}
+use Rattle.script_runner.proofs.Stages.{all_clear, clearing_starts, ends_last, IsStarting}
+use Rattle.script_runner.proofs.Stages.{last_same, next_low, some_last}
 use Rattle.script_runner.proofs.Takings.{stayed}
 use Rattle.script_runner.specs.Calls as calls
 use Rattle.script_runner.specs.EndCalls.{RoundsIn}
@@ -164,39 +164,37 @@ module _ {V : Type 0} (worth : Form → V) (m i k : ℕ) (t u : TableNow V) (is 
         (λ l has. law.gone_weakly worth between.name between u.desk l (Leave (hand_of l)) (hand_of l) vacant c p refl has left) log)
 
   member_gone : (f : Ending) (fs : List Ending) (top : pile.Ending V) → f.block ≡ top.block → f.statement ≡ k → IsEnding t.desk top.block.0 top.value
-      → (q : Member) → f.stage ≡ stage_of q → (y : Left V) → IsClearing t.desk top q y u.desk
+      → f.stage ≡ top.cleared → top.cleared < 3 → (q : Kind) (y : Left V) → ClearsOf q t.desk top top.cleared y u.desk
       → (log : List Said)
       → TakesThread worth t.desk (frame_at (f ∷ fs)) log u.desk (frame_at (with_left y (staged f ∷ fs))) (log ++ left_lines y u.desk)
-  member_gone f fs top block statement ends First stage y c =
-      shared_gone f fs top block statement ends 0 stage (omega arith) c.0.block c.0.place c.0.between c.0.takes.event y c.0.leaves
-  member_gone f fs top block statement ends Next stage y c =
-      shared_gone f fs top block statement ends 1 stage (omega arith) c.0.block c.0.place c.0.between c.0.takes.event y c.0.leaves
-  member_gone f fs top block statement ends Up stage y c =
-      weak_gone f fs top block statement ends 2 stage (omega arith) c.block c.place c.between c.takes.event c.vacant c.leaves y c.told
+  member_gone f fs top block statement ends stage low kind.Owner y c =
+      shared_gone f fs top block statement ends top.cleared stage low c.0.block c.0.place c.0.between c.0.takes.event y c.0.leaves
+  member_gone f fs top block statement ends stage low kind.Weak y c =
+      weak_gone f fs top block statement ends top.cleared stage low c.block c.place c.between c.takes.event c.vacant c.leaves y c.told
 
   -- what lies on the pile then
-  piled_then : (below : List (pile.Ending V)) (top : pile.Ending V) (q : Member) (f : Ending) (fs : List Ending) (y : Left V)
-      → f.block ≡ top.block → f.statement ≡ k → IsAtStage (with_clear q top) (f.stage + 1) → Piled k below fs → IsStarting y
-      → Piled k (piled (below ++ with_clear q top ∷ []) y) (with_left y (staged f ∷ fs))
-  piled_then below top q f fs left.Empty block statement at rest starts = (below, with_clear q top, refl, block_of q top block, statement, at, rest)
-  piled_then below top q f fs left.Others block statement at rest starts = (below, with_clear q top, refl, block_of q top block, statement, at, rest)
-  piled_then below top q f fs (left.Last x) block statement at rest starts =
-      (below ++ with_clear q top ∷ [], x, refl, refl, refl, starts, (below, with_clear q top, refl, block_of q top block, statement, at, rest))
+  piled_then : (below : List (pile.Ending V)) (top : pile.Ending V) (f : Ending) (fs : List Ending) (y : Left V)
+      → f.block ≡ top.block → f.statement ≡ k → (with_clear top).cleared ≡ (staged f).stage → Piled k below fs → IsStarting y
+      → Piled k (piled (below ++ with_clear top ∷ []) y) (with_left y (staged f ∷ fs))
+  piled_then below top f fs left.Empty block statement at rest starts = (below, with_clear top, refl, block, statement, at, rest)
+  piled_then below top f fs left.Others block statement at rest starts = (below, with_clear top, refl, block, statement, at, rest)
+  piled_then below top f fs (left.Last x) block statement at rest starts =
+      (below ++ with_clear top ∷ [], x, refl, refl, refl, starts, (below, with_clear top, refl, block, statement, at, rest))
 
-  round_says : (q : Member) (gone : Gone) (c : ClearsTop t.desk t.endings q gone u.desk u.endings)
+  round_says : (q : ℕ) (gone : Gone) (c : ClearsTop t.desk t.endings q gone u.desk u.endings)
       → RoundSays k u.desk u.endings (Cleared q gone) (left_lines c.left u.desk)
   round_says q gone c =
       subst (λ g. RoundSays k u.desk u.endings (Cleared q g) (left_lines c.left u.desk)) (sym c.told) (go c.left c.are)
     where
-      go : (y : Left V) → u.endings ≡ piled (c.below ++ with_clear q c.top ∷ []) y
+      go : (y : Left V) → u.endings ≡ piled (c.below ++ with_clear c.top ∷ []) y
           → RoundSays k u.desk u.endings (Cleared q (gone_of y)) (left_lines y u.desk)
       go left.Empty are = refl
       go left.Others are = refl
-      go (left.Last x) are = (c.below ++ with_clear q c.top ∷ [], x, are, refl)
+      go (left.Last x) are = (c.below ++ with_clear c.top ∷ [], x, are, refl)
 
-  goes_by_round : AllEnd t.desk t.endings → (round : Round V) → IsRound t.desk t.endings round u.desk u.endings
+  goes_by_round : HasScriptMembers t.desk.shape → AllEnd t.desk t.endings → (round : Round V) → IsRound t.desk t.endings round u.desk u.endings
       → (es : List Ending) → Piled k t.endings es → ByRound worth m k t u round es taken todo
-  goes_by_round all Settled r es p =
+  goes_by_round script all Settled r es p =
       record {
         endings = es;
         piled = subst (λ xs. Piled k xs es) (r.0 ∙ sym r.1) p;
@@ -206,30 +204,30 @@ module _ {V : Type 0} (worth : Form → V) (m i k : ℕ) (t u : TableNow V) (is 
             (λ log part n tells. subst (λ ss. TellsThread worth part n u.desk (frame_settled (shown_slots m ss) taken es todo) log) (sym same)
             (ending.by_quiet worth t.desk u.desk (stayed t.desk u.desk r.2) (frame_at es) log part n tells)) log;
       }
-  goes_by_round all (Cleared q gone) c [] p = absurd (some_last c.below c.top (sym p ∙ c.were))
-  goes_by_round all (Cleared q gone) c (f ∷ fs) p =
+  goes_by_round script all (Cleared q gone) c [] p = absurd (some_last c.below c.top (sym p ∙ c.were))
+  goes_by_round script all (Cleared q gone) c (f ∷ fs) p =
       let parts = last_same c.below p.0 c.top p.1 (sym c.were ∙ p.2) in
       let block : f.block ≡ c.top.block = p.3 ∙ sym (ap (λ (x : pile.Ending V). x.block) parts.1) in
-      let at : IsAtStage c.top f.stage = subst (λ x. IsAtStage x f.stage) (sym parts.1) p.5 in
+      let at : c.top.cleared ≡ f.stage = ap (λ (x : pile.Ending V). x.cleared) parts.1 ∙ p.5 in
       let rest : Piled k c.below fs = subst (λ xs. Piled k xs fs) (sym parts.0) p.6 in
-      let ends = (ends_last t.desk c.below c.top (subst (λ xs. AllEnd t.desk xs) c.were all)).ends in
-      let next = next_stage c.top q f.stage c.next at in
+      let top = ends_last t.desk c.below c.top (subst (λ xs. AllEnd t.desk xs) c.were all) in
       record {
         endings = with_left c.left (staged f ∷ fs);
         piled = subst (λ xs. Piled k xs (with_left c.left (staged f ∷ fs))) (sym c.are)
-            (piled_then c.below c.top q f fs c.left block p.4 next.1 rest (clearing_starts t.desk u.desk c.top q c.left c.clears));
+            (piled_then c.below c.top f fs c.left block p.4 (ap (λ (n : ℕ). n + 1) at) rest
+            (clearing_starts t.desk u.desk c.top c.left c.clears));
         lines = left_lines c.left u.desk;
         says = round_says q gone c;
         takes = λ log. subst (λ ss. TakesThread worth t.desk (frame_at (f ∷ fs)) log u.desk
             (frame_settled (shown_slots m ss) taken (with_left c.left (staged f ∷ fs)) todo) (log ++ left_lines c.left u.desk)) (sym same)
-            (member_gone f fs c.top block p.4 ends q next.0 c.left c.clears log);
+            (member_gone f fs c.top block p.4 top.ends (sym at) (next_low t.desk c.top q script top c.next) _ c.left c.clears log);
       }
-  goes_by_round all (Ended v) c [] p = absurd (some_last u.endings c.top (sym p ∙ c.were))
-  goes_by_round all (Ended v) c (f ∷ fs) p =
+  goes_by_round script all (Ended v) c [] p = absurd (some_last u.endings c.top (sym p ∙ c.were))
+  goes_by_round script all (Ended v) c (f ∷ fs) p =
       let parts = last_same u.endings p.0 c.top p.1 (sym c.were ∙ p.2) in
       let block : f.block ≡ c.top.block = p.3 ∙ sym (ap (λ (x : pile.Ending V). x.block) parts.1) in
-      let at : IsAtStage c.top f.stage = subst (λ x. IsAtStage x f.stage) (sym parts.1) p.5 in
-      let ends = (ends_last t.desk u.endings c.top (subst (λ xs. AllEnd t.desk xs) c.were all)).ends in
+      let at : c.top.cleared ≡ f.stage = ap (λ (x : pile.Ending V). x.cleared) parts.1 ∙ p.5 in
+      let top = ends_last t.desk u.endings c.top (subst (λ xs. AllEnd t.desk xs) c.were all) in
       record {
         endings = fs;
         piled = subst (λ xs. Piled k xs fs) (sym parts.0) p.6;
@@ -237,27 +235,27 @@ module _ {V : Type 0} (worth : Form → V) (m i k : ℕ) (t u : TableNow V) (is 
         says = refl;
         takes = λ log. silent_lines t.desk u.desk (frame_at (f ∷ fs)) _
             (λ log part n tells. subst (λ ss. TellsThread worth part n u.desk (frame_settled (shown_slots m ss) taken fs todo) log) (sym same)
-            (ending.finishes worth slots taken todo free few t.desk u.desk c.top.block.0 c.finish.vacant v c.finish.event c.top.value ends f fs
-            (ap (λ (b : Block). b.0) block) (all_clear c.top f.stage at c.finish.clear) log part n tells)) log;
+            (ending.finishes worth slots taken todo free few t.desk u.desk c.top.block.0 c.finish.vacant v c.finish.event c.top.value top.ends f fs
+            (ap (λ (b : Block). b.0) block) (all_clear t.desk c.top f.stage script top at c.finish.clear) log part n tells)) log;
       }
 
 module _ {V : Type 0} where
   pub rounds : RoundsIn V
   unfolding goes_by_round
-  rounds worth m hand k t u is same all Settled r es p =
+  rounds worth m hand k t u is same script all Settled r es p =
       let g : (taken : Bool) (todo : List Task) → ByRound worth m k t u Settled es taken todo =
-      λ taken todo. goes_by_round worth m hand k t u is same taken todo all Settled r es p in
+      λ taken todo. goes_by_round worth m hand k t u is same taken todo script all Settled r es p in
       let y = g false [] in
       record { endings = y.endings; piled = y.piled; lines = y.lines; says = y.says; takes = λ taken todo log. (g taken todo).takes log }
-  rounds worth m hand k t u is same all (Cleared q gone) r [] p = absurd (some_last r.below r.top (sym p ∙ r.were))
-  rounds worth m hand k t u is same all (Cleared q gone) r (f ∷ fs) p =
+  rounds worth m hand k t u is same script all (Cleared q gone) r [] p = absurd (some_last r.below r.top (sym p ∙ r.were))
+  rounds worth m hand k t u is same script all (Cleared q gone) r (f ∷ fs) p =
       let g : (taken : Bool) (todo : List Task) → ByRound worth m k t u (Cleared q gone) (f ∷ fs) taken todo =
-      λ taken todo. goes_by_round worth m hand k t u is same taken todo all (Cleared q gone) r (f ∷ fs) p in
+      λ taken todo. goes_by_round worth m hand k t u is same taken todo script all (Cleared q gone) r (f ∷ fs) p in
       let y = g false [] in
       record { endings = y.endings; piled = y.piled; lines = y.lines; says = y.says; takes = λ taken todo log. (g taken todo).takes log }
-  rounds worth m hand k t u is same all (Ended v) r [] p = absurd (some_last u.endings r.top (sym p ∙ r.were))
-  rounds worth m hand k t u is same all (Ended v) r (f ∷ fs) p =
+  rounds worth m hand k t u is same script all (Ended v) r [] p = absurd (some_last u.endings r.top (sym p ∙ r.were))
+  rounds worth m hand k t u is same script all (Ended v) r (f ∷ fs) p =
       let g : (taken : Bool) (todo : List Task) → ByRound worth m k t u (Ended v) (f ∷ fs) taken todo =
-      λ taken todo. goes_by_round worth m hand k t u is same taken todo all (Ended v) r (f ∷ fs) p in
+      λ taken todo. goes_by_round worth m hand k t u is same taken todo script all (Ended v) r (f ∷ fs) p in
       let y = g false [] in
       record { endings = y.endings; piled = y.piled; lines = y.lines; says = y.says; takes = λ taken todo log. (g taken todo).takes log }

@@ -2,7 +2,7 @@
 use Rattle.std.proofs.Common.{◌≡◌, ℕ, ◌+◌, Bool, false, List, [], ◌++◌, length, Some, None, Option}
 use Rattle.std.proofs.Common.{sym, refl, ap, ◌∙◌, subst}
 use Rattle.script_runner.proofs.Prelude
-use Prelude.{AllBare, Cleared, field_0, first_frame, frame_settled, GoesOnWith, IsHand}
+use Prelude.{AllBare, Cleared, field_0, first_frame, frame_settled, GoesOnWith, HasScriptMembers, IsHand}
 use Prelude.{IsHandOfTable, IsOnward, IsPartlySettled, IsQuiet, IsRound, IsRoundTold, IsSettledBy}
 use Prelude.{no_slots, object_in, Part, remains, Round, RoundSays, Said, Settled, TableNow}
 use Prelude.{TakesThread, Task, tasks_from, TellsThread, thread_slots, told_line}
@@ -36,12 +36,13 @@ round_line k u (Cleared m gone.Last) (Some r) lines says is =
     ap (λ (x : pile.Ending ℕ). remains (object_in u.desk x.block.0)) same ∙ sym top.3 in
     says.3 ∙ ap (λ q. told_line (record { statement = k; answer = None; ended = Some q })) what
 
-module _ (hand k : ℕ) (t u : TableNow ℕ) (taken : Bool) (s : IsHandOfTable hand t false) (same : u.slots ≡ t.slots) where
+module _ (hand k : ℕ) (t u : TableNow ℕ) (taken : Bool) (script : HasScriptMembers t.desk.shape)
+    (s : IsHandOfTable hand t false) (same : u.slots ≡ t.slots) where
   pub round_on : (round : Round ℕ) → IsRound t.desk t.endings round u.desk u.endings → (e : Option ended.Ended) → IsRoundTold u round e
       → (log lines : List Said) → lines ≡ log ++ told_line (record { statement = k; answer = None; ended = e })
       → IsPartlySettled hand k taken t log u lines
   round_on round r e is log lines more es p =
-      let x = rounds field_0 (hand + 1) hand k t u (in_seat hand t s) same s.ends round r es p in (
+      let x = rounds field_0 (hand + 1) hand k t u (in_seat hand t s) same script s.ends round r es p in (
         x.endings,
         x.piled,
         λ todo. subst (λ l. TakesThread field_0 t.desk (frame_settled (thread_slots hand t) taken es todo) log u.desk

@@ -19,7 +19,7 @@ use Rattle.step_threads.specs.declared.programs.call.CellName.TheVariants as cel
 
 -- a shape with just the cells that texts name
 abbrev pub text_shape : Shape
-text_shape = record { blocks = 1; shared_cells = 128; weak_cells = 128; allowance = 1 }
+text_shape = record { blocks = 1; owners = 2; weaks = 1; shared_cells = 128; weak_cells = 128; allowance = 1 }
 
 -- a name of any kind is one of the names
 found_below : (ks : List Kind) (i : ℕ) → IsTrue (is_some (slice_get ks i)) → i < length ks

@@ -33,7 +33,9 @@ module _ (hand other : ℕ) (t v u : TableNow ℕ) (c : CellName) (of : IsOfName
   l = thread_slots hand t
 
   found : IsFound t l c x.swaps.site
-  found = is_found (hand + 1) t is.fits c x.swaps.site (in_shape t.desk.shape t.slots c x.swaps.site x.swaps.is third) (named_below hand c of) x.swaps.is
+  found =
+      is_found (hand + 1) t is.fits is.stands.limits c x.swaps.site (in_shape t.desk.shape t.slots c x.swaps.site x.swaps.is third)
+      (named_below hand c of) x.swaps.is
 
   many : length l ≡ hand + 1
   many = seating.shown_many (hand + 1) t.slots is.many

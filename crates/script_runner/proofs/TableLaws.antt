@@ -1,5 +1,5 @@
 -- Which calls of a table are which acts of a thread: the laws as they are stated.
-use Rattle.std.proofs.Common.{◌≡◌, ℕ, slice_set, sym, refl, ap, subst, inl, inr, arith}
+use Rattle.std.proofs.Common.{◌≡◌, ℕ, slice_set, sym, refl, ap, inl, inr, arith}
 use Rattle.script_runner.proofs.Prelude.{IsHand, IsSeated, other, plain, shown_slots, slot_pointer}
 use Rattle.script_runner.proofs.Prelude.{TableNow}
 use Rattle.script_runner.proofs.Giving as giving

@@ -4,7 +4,7 @@ use Rattle.std.proofs.Common.{◌∙◌, subst, inl, inr, arith}
 use Rattle.script_runner.proofs.Prelude
 use Prelude.{Acts, aliased, as_slot, Block, copies, copy, DeskNow, Done, Field, Form}
 use Prelude.{Handle, Held, IsAt, IsCopy, IsHand, IsOwner, IsQuiet, IsWeak, latest_of, on_latest}
-use Prelude.{Owner, owner_slot, Place, place_in, Plain, Refusal, Shared, shown_slots, slot_by}
+use Prelude.{Owner, owner_slot, Place, place_in, Plain, Shared, shown_slots, slot_by}
 use Prelude.{slot_pointer, slot_value, state_of, TableNow, Weak}
 use Rattle.control_block.specs.Handles.{IsProper}
 use Rattle.control_block.specs.declared.handles.Weak as weak_handle

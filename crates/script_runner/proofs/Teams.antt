@@ -3,14 +3,16 @@ use Rattle.std.proofs.Common.{◌≡◌, ℕ, suc, ◌-◌, ◌<◌, Bool, true,
 use Rattle.std.proofs.Common.{Option, sym, refl, ap, ◌∙◌, subst, arith}
 use Rattle.script_runner.proofs.Prelude
 use Prelude.{AbsorbsAll, AddsEvent, ahead, AllAbove, AllBare, AllMarked, AllPlay, AreRising}
-use Prelude.{AreRounds, Block, Cleared, counting, desk_names, DeskNow, Event, First, Form}
-use Prelude.{FrameView, Gone, Held, IsClearing, IsLeft, IsLegal, IsPartedInto, IsQuiet, IsRound}
-use Prelude.{leads, LeavesSlot, LeavesWeakly, LetsGo, Marked, Member, Next, opening_of, Over}
+use Prelude.{AreRounds, Block, Cleared, ClearsOf, counting, desk_names, DeskNow, Event, Form}
+use Prelude.{FrameView, Gone, Held, IsClearing, IsLeft, IsLegal, IsPartedInto, IsQuiet, IsRound, Kind}
+use Prelude.{leads, LeavesSlot, LeavesWeakly, LetsGo, Marked, opening_of, Over}
 use Prelude.{Owner, Part, Past, Place, put_same, Round, Said, Settled, Shape, state_of, TableNow}
-use Prelude.{TellsThread, Up, Weak}
+use Prelude.{TellsThread, Weak}
 use Rattle.control_block.proofs.Own.{goes_by_call, goes_by_join, goes_by_none, goes_in_turn}
 use Rattle.control_block.specs.Own as own
+use Rattle.control_word.specs.State.{kind_of_member}
 use Rattle.control_word.specs.declared.model.event.Event.TheVariants as event
+use Rattle.control_word.specs.declared.model.handle.Kind.TheVariants as kind
 use Rattle.script_runner.specs.Parting.{LeaveSlots, WindsUp}
 use Rattle.script_runner.specs.Tables as table
 use Rattle.script_runner.proofs.Ending.{by_quiet}
@@ -67,17 +69,18 @@ module _ {V : Type 0} where
   slots_on d e xs ys (s ∷ ss) leaves =
       turn d leaves.0 e (slots_on d leaves.0 xs leaves.1 ss leaves.2) (slot_on leaves.0 e leaves.1 ys s leaves.3)
 
-  clearing_on : (d e : DeskNow V) (x : pile.Ending V) (q : Member) (y : Left V) → IsClearing d x q y e → GoesOn d e
-  clearing_on d e x First y c =
+  clears_on : (k : Kind) (d e : DeskNow V) (x : pile.Ending V) (m : ℕ) (y : Left V) → ClearsOf k d x m y e → GoesOn d e
+  clears_on kind.Owner d e x m y c =
       turn d c.0.between e (by_call d c.0.between _ c.0.takes.event) (left_on c.0.between e c.0.block c.0.place y c.0.leaves)
-  clearing_on d e x Next y c =
-      turn d c.0.between e (by_call d c.0.between _ c.0.takes.event) (left_on c.0.between e c.0.block c.0.place y c.0.leaves)
-  clearing_on d e x Up y c =
+  clears_on kind.Weak d e x m y c =
       turn d c.between e (by_call d c.between _ c.takes.event) (weak_on c.between e c.block c.place c.vacant c.leaves)
+
+  clearing_on : (d e : DeskNow V) (x : pile.Ending V) (y : Left V) → IsClearing d x y e → GoesOn d e
+  clearing_on d e x y c = clears_on (kind_of_member d.shape.owners x.cleared) d e x x.cleared y c
 
   round_on : (d e : DeskNow V) (ys zs : List (pile.Ending V)) (r : Round V) → IsRound d ys r e zs → GoesOn d e
   round_on d e ys zs Settled r = stay d e r.2
-  round_on d e ys zs (Cleared q gone) c = clearing_on d e c.top q c.left c.clears
+  round_on d e ys zs (Cleared q gone) c = clearing_on d e c.top c.left c.clears
   round_on d e ys zs (Ended v) c = by_call d e _ c.finish.event
 
   rounds_on : (d e : DeskNow V) (ys zs : List (pile.Ending V)) (rs : List (Past V)) → AreRounds d ys rs e zs → GoesOn d e

@@ -1,11 +1,11 @@
 -- Cells that aren't there, as acts of a thread.
-use Rattle.std.proofs.Common.{◌≡◌, ℕ, zero, suc, ◌<◌, Bool, true, false, cond, ◌&&◌, slice_set}
-use Rattle.std.proofs.Common.{Some, None, Option, option_map, sym, refl, ap, ◌∙◌, subst, inl, inr}
+use Rattle.std.proofs.Common.{◌≡◌, ℕ, Bool, true, false, cond, ◌&&◌, slice_set}
+use Rattle.std.proofs.Common.{Some, None, Option, option_map, sym, refl, ap, ◌∙◌, subst, inl}
 use Rattle.script_runner.proofs.Prelude
 use Prelude.{CellName, copy, Event, fitting, Form, Hands, is_full, is_of, is_there}
-use Prelude.{IsAway, IsLoadEvent, IsOfName, IsSameEvent, IsSeated, IsSwapEvent, kind_at, may_go}
-use Prelude.{Name, outside, place_in, plain, pointer_of, Refusal, refusal, RefusesCell}
-use Prelude.{Shared, shown_slots, slot_value, Slots, state_of, TableNow, unless, Where}
+use Prelude.{IsLoadEvent, IsOfName, IsSameEvent, IsSeated, IsSwapEvent, kind_at, may_go}
+use Prelude.{outside, place_in, plain, pointer_of, Refusal, refusal, RefusesCell}
+use Prelude.{shown_slots, slot_value, Slots, state_of, TableNow, unless, Where}
 use Rattle.script_runner.specs.Cells as cells
 use Rattle.script_runner.proofs.Looking.{is_away, outside_as}
 use Rattle.script_runner.proofs.Takings.{stayed}

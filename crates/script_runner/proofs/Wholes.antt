@@ -85,26 +85,25 @@ module _ {V : Type 0} where
       }
 
   -- a split without handles: the new table, and what is left of the old one
-  pub split_new : (named domain : DomainNow) (d e new : DeskNow V) (a k : ℕ) (hs : List Held) (ss rs : List Slot) (p q : Pile V)
+  pub split_new : (named domain : DomainNow) (d e new : DeskNow V) (a k : ℕ) (ss rs : List Slot) (p q : Pile V)
       → IsWhole named domain d ss p
-      → SplitsOff d a k hs e new → hs ≡ [] → AllVacant rs → ((x : DeskNow V) → Belongs x domain → endings_of x ≡ 0 → Bears domain x q)
+      → SplitsOff d a k [] e new → AllVacant rs → ((x : DeskNow V) → Belongs x domain → endings_of x ≡ 0 → Bears domain x q)
       → IsWhole named domain new rs q
-  split_new named domain d e new a k hs ss rs p q w parts none all bears =
+  split_new named domain d e new a k ss rs p q w parts all bears =
       let at = w.bears.carries.belongs in
       record {
         home = w.home;
         bears = bears new (record { table = parts.beside.0 ∙ at.table; shape = parts.beside.1 ∙ at.shape }) parts.count.1;
-        fits = fits_vacant new rs all (parts.bag.0 ∙ ap listed none) (parts.held.0 ∙ ap length none);
+        fits = fits_vacant new rs all parts.bag.0 parts.held.0;
       }
 
-  pub split_old : (named domain : DomainNow) (d e new : DeskNow V) (a k : ℕ) (hs : List Held) (ss : List Slot) (p : Pile V) → IsWhole named domain d ss p
-      → SplitsOff d a k hs e new → hs ≡ [] → IsWhole named domain e ss p
-  split_old named domain d e new a k hs ss p w parts none =
+  pub split_old : (named domain : DomainNow) (d e new : DeskNow V) (a k : ℕ) (ss : List Slot) (p : Pile V) → IsWhole named domain d ss p
+      → SplitsOff d a k [] e new → IsWhole named domain e ss p
+  split_old named domain d e new a k ss p w parts =
       record {
         home = w.home;
         bears = bears_kept domain d e p w.bears parts.event.same.0 parts.event.same.1 parts.endings parts.count.0;
-        fits = fits_still d e ss w.fits (parts.bag.1 ∙ ap (λ (l : List Held). without_all (listed l) (bag_of d)) none)
-            (let h = parts.held.1 in let z : length hs ≡ 0 = ap length none in omega arith);
+        fits = fits_still d e ss w.fits parts.bag.1 (let h = parts.held.1 in omega arith);
       }
 
   pub same_whole : (named domain : DomainNow) (d e : DeskNow V) (ss : List Slot) (p : Pile V) → IsWhole named domain d ss p → e ≡ d

@@ -1,15 +1,14 @@
 -- How a thread goes on while objects end that its table was left to end, one on top of the other. All of it is own.
-use Rattle.std.specs.Prelude.{length, ◌≡◌, ℕ, zero, suc, Bool, true, false, List, [], ◌∷◌, ◌++◌}
+use Rattle.std.specs.Prelude.{length, ◌≡◌, ℕ, Bool, List, [], ◌∷◌, ◌++◌}
 use Rattle.std.specs.Prelude.{Some, None}
 use Rattle.control_block.specs.Desks.{IsEnding, DeskNow, object_in}
 use Rattle.control_block.specs.Standing.{Standing}
 use Rattle.script_runner.specs.Ends.{IsMadeAs}
-use Rattle.script_runner.specs.Tables.{TableNow}
+use Rattle.script_runner.specs.Tables.{HasScriptMembers, TableNow}
 use Rattle.script_runner.specs.declared.table.ends.Remains.TheVariants as table
 use Rattle.script_runner.specs.declared.table.ends.Remains.{Remains}
 use Rattle.script_runner.specs.Logs.{TellsThread}
 use Rattle.script_runner.specs.Seats.{IsHand, shown_slots}
-use Rattle.shared_handle.specs.Endings.{IsAllClear, IsUncleared}
 use Rattle.shared_handle.specs.Piles.{AllEnd, IsRound}
 use Rattle.shared_handle.specs.declared.endings.Ending as pile
 use Rattle.shared_handle.specs.declared.pile.Gone.TheVariants as gone
@@ -35,19 +34,12 @@ IsFour table.Null = Unit {0}
 IsFour (table.Fields fields) = length fields ≡ 4
 
 module _ {V : Type 0} where
-  -- so many of the members of an object that ends are cleared, in their order
-  abbrev pub IsAtStage : pile.Ending V → ℕ → Type 0
-  IsAtStage x zero = IsUncleared x
-  IsAtStage x (suc zero) = (x.first ≡ true) × (x.next ≡ false) × (x.up ≡ false)
-  IsAtStage x (suc (suc zero)) = (x.first ≡ true) × (x.next ≡ true) × (x.up ≡ false)
-  IsAtStage x (suc (suc (suc zero))) = IsAllClear x
-  IsAtStage x _ = ⊥
-
-  -- what a table was left to end by statement k, as a thread has it: the last one first
+  -- what a table was left to end by statement k, as a thread has it: the last one first, each with as many members
+  -- cleared
   abbrev pub Piled : ℕ → List (pile.Ending V) → List Ending → Type 0
   Piled k xs [] = xs ≡ []
   Piled k xs (e ∷ es) = (below : List (pile.Ending V)) × (top : pile.Ending V) × (xs ≡ below ++ top ∷ [])
-      × (e.block ≡ top.block) × (e.statement ≡ k) × IsAtStage top e.stage × Piled k below es
+      × (e.block ≡ top.block) × (e.statement ≡ k) × (top.cleared ≡ e.stage) × Piled k below es
 
   -- what a desk does takes its thread from one act to another, and adds lines
   abbrev pub TakesThread : (Form → V) → DeskNow V → FrameView → List Said → DeskNow V → FrameView
@@ -78,7 +70,7 @@ module _ (V : Type 0) where
   abbrev pub RoundsIn : Type 0
   RoundsIn =
       (worth : Form → V) (m hand k : ℕ) (t u : TableNow V) → IsHand m hand t → u.slots ≡ t.slots
-      → AllEnd t.desk t.endings
+      → HasScriptMembers t.desk.shape → AllEnd t.desk t.endings
       → (round : Round V) → IsRound t.desk t.endings round u.desk u.endings
       → (es : List Ending) → Piled k t.endings es
       → GoesByRound worth m k t u round es

@@ -5,7 +5,7 @@ use Rattle.std.specs.Prelude.{Some, None}
 use Rattle.control_word.specs.declared.model.handle.Kind.{Kind}
 use Rattle.control_word.specs.declared.model.handle.Kind.TheVariants.{Owner, Weak}
 use Rattle.script_runner.specs.Tables as table
-use Rattle.script_runner.specs.Tables.{TableNow}
+use Rattle.script_runner.specs.Tables.{HasScriptMembers, TableNow}
 use Rattle.script_runner.specs.Asked.{AsksBelow, HasAsked}
 use Rattle.script_runner.specs.CellCalls.{IsOfName}
 use Rattle.script_runner.specs.Goings.{task}
@@ -113,9 +113,10 @@ pub record MayGoOn (ks : List Kind) (hand : ℕ) (taken : Bool) (t : TableNow �
   pub suits : AllSuit ks stance todo
   pub settled : t.endings ≡ []
 
--- nothing is left to end, or what comes out of a member can come into the hand
-abbrev pub MaySettle : ℕ → TableNow ℕ → Type 0
-MaySettle hand t = (t.endings ≡ []) ⊎ IsVacant t.slots hand
+-- nothing is left to end, or what comes out of a member can come into the hand; and objects have a script's members
+pub record MaySettle (hand : ℕ) (t : TableNow ℕ) : Type 0 where
+  pub room : (t.endings ≡ []) ⊎ IsVacant t.slots hand
+  pub members : HasScriptMembers t.desk.shape
 
 -- the tasks of a comparison of statement k, with those after it
 abbrev pub comparison_tasks : ℕ → ℕ → CellName → Bool → List Task → List Task

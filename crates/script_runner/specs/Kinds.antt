@@ -7,7 +7,7 @@ use Rattle.control_word.specs.declared.model.handle.Kind.{Kind}
 use Rattle.control_word.specs.declared.model.handle.Kind.TheVariants.{Owner, Weak}
 use Rattle.script_runner.specs.Parts.{kind_of_held}
 use Rattle.script_runner.specs.Tables as table
-use Rattle.script_runner.specs.Tables.{TableNow}
+use Rattle.script_runner.specs.Tables.{HasScriptMembers, TableNow}
 use Rattle.script_runner.specs.Goings.{task}
 use Rattle.script_runner.specs.TableCalls.{null_form}
 use Rattle.script_runner.specs.Teams.{HasNoObject}
@@ -162,7 +162,8 @@ IsInHand ss hand (Some k) true = HasKind ss hand k
 -- The slots of a table are those of a worker's thread: each name has a handle of its kind, and no object where it is
 -- cleared; behind the names one slot is vacant unless something is to be dropped, the next one is the hand, and all
 -- others are vacant, two at least. The desk's allowance has room for a handle in each slot, so that there is room for
--- one more and for what a member held of an object that ends; and the domain has the cells that texts name
+-- one more and for what a member held of an object that ends; and the domain has the cells that texts name, and objects
+-- with a script's members
 pub record IsArranged (ks : List Kind) (x : Stance) (hand : ℕ) (taken : Bool) (t : TableNow ℕ) : Type 0 where
   pub last : hand ≡ length ks + 1
   pub few : x.names ≤ length ks
@@ -175,3 +176,4 @@ pub record IsArranged (ks : List Kind) (x : Stance) (hand : ℕ) (taken : Bool) 
   pub rest : (i : ℕ) → hand < i → i < length t.slots → IsVacant t.slots i
   pub room : length t.slots ≤ allowance_of t.desk
   pub cells : HasTextCells t.desk.shape
+  pub members : HasScriptMembers t.desk.shape

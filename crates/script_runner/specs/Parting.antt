@@ -14,15 +14,15 @@ abbrev pub IsRefusedPart : Refusal → Type 0
 IsRefusedPart why = (why ≡ Limit) ⊎ ((why ≡ Full) ⊎ (why ≡ Memory))
 
 module _ {V : Type 0} where
-  -- why a desk gives no part of allowance a, with k blocks and n handles: each refusal just where none before it comes
-  pub record WhyNoPart (d : DeskNow V) (a k n : ℕ) (why : Refusal) : Type 0 where
-    pub limit : why ≡ Limit ↔ IsTooMuch d a n
-    pub full : why ≡ Full ↔ ((IsTooMuch d a n → ⊥) × (length (stock_of d) < k))
+  -- why a desk gives no part of allowance a, with k blocks and no handle: each refusal just where none before it comes
+  pub record WhyNoPart (d : DeskNow V) (a k : ℕ) (why : Refusal) : Type 0 where
+    pub limit : why ≡ Limit ↔ IsTooMuch d a 0
+    pub full : why ≡ Full ↔ ((IsTooMuch d a 0 → ⊥) × (length (stock_of d) < k))
     pub named : (why ≡ Limit) ⊎ ((why ≡ Full) ⊎ (why ≡ Memory))
 
   -- why a team is smaller: there was no memory for all, or the desk gave no such part
   abbrev pub WhyFewer : DeskNow V → ℕ → ℕ → Refusal → Type 0
-  WhyFewer d a k why = (why ≡ Memory) ⊎ WhyNoPart d a k 0 why
+  WhyFewer d a k why = (why ≡ Memory) ⊎ WhyNoPart d a k why
 
   -- the handles left their slots, the last one first, and what ended for them went onto the pile
   abbrev pub LeaveSlots : DeskNow V → List (Ending V) → List Slot → DeskNow V → List (Ending V) → Type 0

@@ -3,13 +3,12 @@ use Rattle.std.specs.Prelude.{◌≡◌, ℕ, ◌*◌, ◌<◌, ◌≤◌, All, 
 use Rattle.control_word.specs.declared.refusal.Refusal.{Refusal}
 use Rattle.control_word.specs.declared.refusal.Refusal.TheVariants.{Memory}
 use Rattle.control_word.specs.declared.shape.Shape.{Shape}
-use Rattle.control_block.specs.Census.{CensusNow}
 use Rattle.control_block.specs.Desks.{Belongs, IsFirstDesk, DeskNow, DomainNow}
 use Rattle.control_block.specs.Desks.{allowance_of, bag_of, endings_of, stock_of}
 use Rattle.control_block.specs.Own.{IsSole}
 use Rattle.control_block.specs.Parting.{free_of}
 use Rattle.script_runner.specs.Parting.{AbsorbsAll, IsNew, IsPartedInto, IsRefusedPart, WindsUp}
-use Rattle.script_runner.specs.Programs.{CanClose, IsClosed}
+use Rattle.script_runner.specs.Programs.{CanClose}
 use Rattle.script_runner.specs.Tables.{TableNow}
 use Rattle.script_runner.specs.declared.table.staff.Share.{Share}
 

@@ -3,6 +3,7 @@ use Rattle.std.specs.Prelude.{◌≡◌, ℕ, cond, List, [], ◌∷◌, slice_g
 use Rattle.control_word.specs.Handles.{has_object}
 use Rattle.control_word.specs.Views.{total}
 use Rattle.control_word.specs.declared.model.handle.NumberedHandle.{NumberedHandle}
+use Rattle.control_word.specs.declared.shape.Shape.{Shape}
 use Rattle.control_block.specs.Desks.{DeskNow, DomainNow, bag_of}
 use Rattle.control_block.specs.Parting.{as_listed}
 use Rattle.control_block.specs.declared.handles.Held.{Held}
@@ -29,11 +30,15 @@ abbrev pub AllVacant : List Slot → Type 0
 AllVacant [] = Unit {0}
 AllVacant (s ∷ ss) = (s ≡ None) × AllVacant ss
 
+-- an object of a domain of this shape has the members that one of a script has: two owners and a weak one
+abbrev pub HasScriptMembers : Shape → Type 0
+HasScriptMembers shape = (shape.owners ≡ 2) × (shape.weaks ≡ 1)
+
 -- the domain that a brand names before one is picked for it
 abbrev pub no_domain : DomainNow
 no_domain = record {
   id = record { words = 0; slots = 0; views_name = 0; atom = 0; block = 0; offset = 0; slot_names = [] };
-  shape = record { blocks = 0; shared_cells = 0; weak_cells = 0; allowance = 0 };
+  shape = record { blocks = 0; owners = 0; weaks = 0; shared_cells = 0; weak_cells = 0; allowance = 0 };
 }
 
 -- the desk, the slots, and the objects that are left to end with it, the last one on top

@@ -22,7 +22,9 @@ use std::alloc::Global;
 use std::sync::Wait;
 use std::thread::Threads;
 use step_core::Said;
-use step_table::limits::{SCRIPT_SHARED_CELLS, SCRIPT_WEAK_CELLS, WORKER_ALLOWANCE};
+use step_table::limits::{
+    SCRIPT_OWNERS, SCRIPT_SHARED_CELLS, SCRIPT_WEAK_CELLS, SCRIPT_WEAKS, WORKER_ALLOWANCE,
+};
 
 /// The shape of a script's domain: each thread has the same number of blocks and the same allowance.
 fn shape_of(blocks: u32, threads: u32) -> Shape
@@ -35,6 +37,8 @@ fn shape_of(blocks: u32, threads: u32) -> Shape
 {
     Shape {
         blocks: blocks / threads * threads,
+        owners: SCRIPT_OWNERS,
+        weaks: SCRIPT_WEAKS,
         shared_cells: SCRIPT_SHARED_CELLS,
         weak_cells: SCRIPT_WEAK_CELLS,
         allowance: 65_536 * threads,

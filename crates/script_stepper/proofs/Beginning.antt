@@ -1,5 +1,5 @@
 -- A script's world is within the limits.
-use Rattle.std.proofs.Common.{◌≡◌, ℕ, ◌+◌, ◌*◌, ◌/◌, ◌%◌, ◌<◌, ◌≤◌, List, length, All, ap, ◌∙◌}
+use Rattle.std.proofs.Common.{◌≡◌, ℕ, ◌+◌, ◌*◌, ◌/◌, ◌%◌, ◌<◌, ◌≤◌, List, length, All, refl, ap, ◌∙◌}
 use Rattle.std.proofs.Common.{div-add-mod', arith}
 use Rattle.script_stepper.proofs.Prelude.{CanBegin, IsWithinLimits, length-map, Part, program_in}
 use Rattle.script_stepper.proofs.Prelude.{script_shape, ScriptView, Shape, shape_for}
@@ -16,6 +16,7 @@ shape_fits blocks threads least most some many =
     record {
       some_block = omega (arith, whole, rest, least, many);
       blocks = omega (arith, whole, most);
+      members = (omega arith, omega arith, omega arith);
       cells = omega arith;
       some_handle = omega arith;
       allowance = omega arith;
@@ -30,6 +31,7 @@ can_begin script parts limits is program cells =
     let many : length script.threads ≤ 64 = omega (arith, size, program.actors) in
     record {
       limits = limits;
+      members = (refl, refl);
       program = program;
       enough = omega (arith, size, many);
       cells = cells (script_shape script) (omega arith, omega arith);

@@ -14,11 +14,13 @@ use Rattle.step_table.specs.GhostStates.{Nothing}
 use Rattle.step_threads.specs.declared.said.Said.{Said}
 use Rattle.step_threads.specs.Interleavings.{Interleaves}
 
--- each of the threads has the same number of blocks, as many as there are for all
+-- each of the threads has the same number of blocks, as many as there are for all; an object has three members
 abbrev pub shape_for : ℕ → ℕ → Shape
 shape_for blocks threads =
     record {
       blocks = blocks / threads * threads;
+      owners = 2;
+      weaks = 1;
       shared_cells = 128;
       weak_cells = 128;
       allowance = 1048576;

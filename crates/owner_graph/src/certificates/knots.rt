@@ -84,7 +84,7 @@ fn add_within(handle: Holding, labels: &[usize], steps: &mut Vec<Holding>) -> Re
 }
 
 /// The steps by which vertices of one label are to be reached from 0, and back.
-fn steps_of(
+fn inner_steps(
     alloc: Global,
     vertices: u32,
     handles: &[Holding],
@@ -157,7 +157,7 @@ pub(crate) fn are_knots(
     if !are_ranked(handles, ranks) || !are_low(vertices, labels) {
         return Ok(false);
     }
-    let steps = steps_of(alloc, vertices, handles, labels)?;
+    let steps = inner_steps(alloc, vertices, handles, labels)?;
     let down = lead_down(alloc, vertices, steps.as_slice())?;
     if !down {
         return Ok(false);

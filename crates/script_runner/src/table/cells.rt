@@ -74,6 +74,7 @@ fn find<V: Drop>(
     ensures open { IfOk result (λ at. IsOpenAt desk.now at.site at.kind) }
     ensures refused { IfErr result (WhyNoCell slots.now.items cell) }
 {
+    domain.assert_invariant();
     match site_of(domain, slots, cell) {
         Ok(site) => Ok(CellAt {
             site,

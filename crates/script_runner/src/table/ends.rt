@@ -29,7 +29,7 @@ impl<'d, V: Drop, H: Home> WorkerTable<'d, V, H> {
     }
 
     /// One round of ends (own): of the object that was last left to end, the first member that isn't clear is emptied,
-    /// and what ends for it is left to end above it; or, with all three clear, the object ends, and its value comes
+    /// and what ends for it is left to end above it; or, with all of them clear, the object ends, and its value comes
     /// out. `Settled` just where nothing is left.
     #[tactic(auto, using(shared_handle::proofs::Piles::bears_after))]
     pub(crate) fn round(&mut self) -> Round<V>

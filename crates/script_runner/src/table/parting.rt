@@ -8,6 +8,7 @@ ghost use Rattle.script_runner.specs.Tables.{FitsSlots, on_pile};
 
 use crate::table::parting::parts::{Part, part_of};
 use crate::table::slots::assignments::let_go;
+use crate::table::staff::Share;
 use crate::table::{Home, WorkerTable};
 use control_block::desk::Desk;
 use control_block::domain::Domain;
@@ -50,25 +51,16 @@ impl<'d, V: Drop, H: Home> WorkerTable<'d, V, H> {
     pub(crate) fn recruit(
         &mut self,
         alloc: Global,
-        slots: usize,
-        allowance: u32,
-        blocks: u32,
+        share: Share,
     ) -> Result<WorkerTable<'d, V, H>, Refusal>
-        ensures parts { IfOk result (λ t. SplitsOff self.old.desk allowance blocks [] self.new.desk t.desk) }
-        ensures new { IfOk result (λ t. IsNew slots t) }
+        ensures parts { IfOk result
+            (λ t. SplitsOff self.old.desk share.allowance share.blocks [] self.new.desk t.desk) }
+        ensures new { IfOk result (IsNew share.slots) }
         ensures rest { (self.new.slots ≡ self.old.slots) × (self.new.endings ≡ self.old.endings) }
         ensures refused { IfErr result
-            (λ why. WhyNoPart self.old.desk allowance blocks 0 why × (self.new ≡ self.old)) }
+            (λ why. WhyNoPart self.old.desk share.allowance share.blocks why × (self.new ≡ self.old)) }
     {
-        match part_of(
-            self.domain,
-            &mut self.desk,
-            alloc,
-            slots,
-            allowance,
-            blocks,
-            &[],
-        ) {
+        match part_of(self.domain, &mut self.desk, alloc, share) {
             Ok(part) => {
                 let Part { desk, slots, pile } = part;
                 Ok(WorkerTable {

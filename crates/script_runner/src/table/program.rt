@@ -33,7 +33,7 @@ impl<'d, V: Drop, H: Home> WorkerTable<'d, V, H> {
         ensures fewer { IfSome result (WhyFewer self.new.desk share.allowance share.blocks) }
     {
         while tables.len() < workers {
-            match self.recruit(alloc, share.slots, share.allowance, share.blocks) {
+            match self.recruit(alloc, share) {
                 Ok(table) => tables.push_reserved(table),
                 Err(why) => return Some(why),
             }

@@ -27,7 +27,9 @@ use control_word::{Refusal, Shape};
 use script_text::{Fault, Script, parse};
 use std::alloc::{AllocError, Global};
 use step_core::World;
-use step_table::limits::{SCRIPT_ALLOWANCE, SCRIPT_SHARED_CELLS, SCRIPT_WEAK_CELLS};
+use step_table::limits::{
+    SCRIPT_ALLOWANCE, SCRIPT_OWNERS, SCRIPT_SHARED_CELLS, SCRIPT_WEAK_CELLS, SCRIPT_WEAKS,
+};
 
 /// How a run takes the numbers of its list.
 #[derive(Clone, Copy)]
@@ -49,6 +51,8 @@ fn shape_of(blocks: u32, threads: u32) -> Shape
 {
     Shape {
         blocks: blocks / threads * threads,
+        owners: SCRIPT_OWNERS,
+        weaks: SCRIPT_WEAKS,
         shared_cells: SCRIPT_SHARED_CELLS,
         weak_cells: SCRIPT_WEAK_CELLS,
         allowance: SCRIPT_ALLOWANCE,

@@ -1,7 +1,6 @@
 use Rattle.std.proofs.Common.{Bool, List, ap, ◌∙◌}
 use Rattle.std.specs.List.{list_any}
-use Rattle.leak_report.proofs.Prelude.{color_at, Holding, is_tie, marked}
-use Rattle.leak_report.specs.Graph.{color_text}
+use Rattle.leak_report.proofs.Prelude.{color_at, color_text, Holding, is_tie, marked}
 use Rattle.leak_report.proofs.color.color_of.Goals as goal
 
 pub returns : goal.returns

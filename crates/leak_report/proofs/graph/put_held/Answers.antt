@@ -1,6 +1,6 @@
 use Rattle.std.proofs.Common.{ℕ, List, ◌++◌, string_bytes, ap, ◌∙◌}
-use Rattle.leak_report.proofs.Prelude.{ended, marked}
-use Rattle.leak_report.specs.Graph.{edge_by, style_text, tie_text}
+use Rattle.leak_report.proofs.Prelude.{ended, marked, style_text, tie_text}
+use Rattle.leak_report.specs.Graph.{edge_by}
 use Rattle.leak_report.proofs.graph.put_held.Goals as goal
 
 pub returns : goal.returns

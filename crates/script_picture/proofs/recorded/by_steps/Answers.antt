@@ -10,6 +10,6 @@ stepped_rows-requires c =
     subst (λ (n : ℕ). All (λ (x : TraceStep). NamesActor n x.actor) c.in-Ok.trace.steps.items)
     c.in_ok-world.ensures.threads
     (steps_named c.args.turns.now c.in_ok-world.field-0.world c.in-Ok.trace.steps.items
-    c.steps_of.new.world c.in-Ok.ensures.run.scheduled
+    c.trace_of.new.world c.in-Ok.ensures.run.scheduled
     (subst (λ (n : ℕ). All (NamesActor n) c.args.turns.now) (sym c.in_ok-world.ensures.threads)
     c.requires))

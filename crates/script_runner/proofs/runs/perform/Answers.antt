@@ -1,5 +1,5 @@
 use Rattle.std.proofs.Common.{◌≡◌, ℕ, ◌/◌, length, sym, refl, ap, ◌∙◌, subst, arith}
-use Rattle.script_runner.proofs.Prelude.{asked_by_all, HasAssignment, HasTextCells}
+use Rattle.script_runner.proofs.Prelude.{asked_by_all, HasAssignment, HasScriptMembers, HasTextCells}
 use Rattle.script_runner.proofs.Prelude.{IsAssignmentFor, length-map, part_in, program_in, Share}
 use Rattle.control_word.specs.Layout.{IsWithinLimits}
 use Rattle.script_runner.proofs.Assigning.{all_ready, same_many}
@@ -10,7 +10,8 @@ use Rattle.script_runner.proofs.runs.perform.Goals as goal
 pub run_workers_open-worked-requires-clause-needs : goal.run_workers_open-worked-requires-clause-needs
 run_workers_open-worked-requires-clause-needs g c κs within =
     all_need {G = g.row.G.Denot} c.args.book.now.id c.shape_of-shape.result _ c.args.assignments.items c.assign.new.workers.items refl (omega arith)
-    (subst HasTextCells (sym c.shape_of-shape.ensures.shape) (omega arith, omega arith)) c.assign.ensures.each
+    (subst HasTextCells (sym c.shape_of-shape.ensures.shape) (omega arith, omega arith))
+    (subst HasScriptMembers (sym c.shape_of-shape.ensures.shape) (refl, refl)) c.assign.ensures.each
 
 pub collect-requires-clause-shares : goal.collect-requires-clause-shares
 collect-requires-clause-shares g c =

@@ -1,13 +1,13 @@
 //! Parts of a desk for further tables.
 ghost use Rattle.std.specs.Prelude.{◌≡◌, ◌≤◌, [], length, vec_capacity, IfErr, IfOk, OnOk};
 ghost use Rattle.control_block.specs.Desks.{Belongs, DeskNow, endings_of, stock_of};
-ghost use Rattle.control_block.specs.Parting.{HoldsAll, IsTooMuch, SplitsOff};
-ghost use Rattle.control_block.specs.SlotLists.{handles_in};
+ghost use Rattle.control_block.specs.Parting.{IsTooMuch, SplitsOff};
 ghost use Rattle.shared_handle.specs.Piles.{Bears};
 ghost use Rattle.script_runner.specs.Parting.{WhyNoPart};
 ghost use Rattle.script_runner.specs.Tables.{AllVacant};
 
 use crate::table::slots::open_slots;
+use crate::table::staff::Share;
 use control_block::desk::Desk;
 use control_block::domain::Domain;
 use control_word::Refusal;
@@ -22,20 +22,15 @@ pub(crate) struct Part<V: Drop> {
 }
 
 /// Whether a desk can give such a part, or why not.
-fn may_part<V: Drop>(
-    desk: &Desk<V>,
-    allowance: u32,
-    blocks: u32,
-    handed: &[Option<Held>],
-) -> Result<(), Refusal>
-    ensures fits { OnOk result (IsTooMuch desk.now allowance (length (handles_in handed.now)) → ⊥) }
-    ensures blocks { OnOk result (blocks ≤ length (stock_of desk.now)) }
-    ensures refused { IfErr result (WhyNoPart desk.now allowance blocks (length (handles_in handed.now))) }
+fn may_part<V: Drop>(desk: &Desk<V>, share: Share) -> Result<(), Refusal>
+    ensures fits { OnOk result (IsTooMuch desk.now share.allowance 0 → ⊥) }
+    ensures blocks { OnOk result (share.blocks ≤ length (stock_of desk.now)) }
+    ensures refused { IfErr result (WhyNoPart desk.now share.allowance share.blocks) }
 {
-    if !desk.may_give(allowance, handed) {
+    if !desk.may_give::<Option<Held>>(share.allowance, &[]) {
         return Err(Refusal::Limit);
     }
-    if desk.stock() < blocks {
+    if desk.stock() < share.blocks {
         return Err(Refusal::Full);
     }
     Ok(())
@@ -70,28 +65,23 @@ fn cut_part<V: Drop>(
     domain: &Domain<V>,
     desk: &mut Desk<V>,
     alloc: Global,
-    allowance: u32,
-    blocks: u32,
-    handed: &[Option<Held>],
-    slots: Vec<Option<Held>>,
-    pile: Pile<V>,
-    count: usize,
+    share: Share,
+    room: (Vec<Option<Held>>, Pile<V>),
 ) -> Result<Part<V>, Refusal>
     requires domain { Belongs desk.old domain.now }
-    requires held { HoldsAll desk.old (handles_in handed.now) }
-    requires fits { IsTooMuch desk.old allowance (length (handles_in handed.now)) → ⊥ }
-    requires blocks { blocks ≤ length (stock_of desk.old) }
-    requires slots { (slots.items ≡ []) × (count ≤ vec_capacity slots) }
-    ensures parts { IfOk result (λ p. SplitsOff desk.old allowance blocks (handles_in handed.now) desk.new p.desk) }
-    ensures slots { IfOk result (λ p. AllVacant p.slots.items × (length p.slots.items ≡ count)) }
-    ensures pile { IfOk result (λ p. p.pile ≡ pile) }
+    requires fits { IsTooMuch desk.old share.allowance 0 → ⊥ }
+    requires blocks { share.blocks ≤ length (stock_of desk.old) }
+    requires slots { (room.0.items ≡ []) × (share.slots ≤ vec_capacity room.0) }
+    ensures parts { IfOk result (λ p. SplitsOff desk.old share.allowance share.blocks [] desk.new p.desk) }
+    ensures slots { IfOk result (λ p. AllVacant p.slots.items × (length p.slots.items ≡ share.slots)) }
+    ensures pile { IfOk result (λ p. p.pile ≡ room.1) }
     ensures refused { IfErr result (λ why. why ≡ Refusal.Memory) }
     ensures same { IfErr result (λ _. desk.new ≡ desk.old) }
 {
-    match desk.split_slots(alloc, domain, allowance, blocks, handed) {
+    let (mut slots, pile) = room;
+    match desk.split_slots::<Option<Held>>(alloc, domain, share.allowance, share.blocks, &[]) {
         Ok(desk) => {
-            let mut slots = slots;
-            open_slots(&mut slots, count);
+            open_slots(&mut slots, share.slots);
             Ok(Part { desk, slots, pile })
         }
         Err(why) => {
@@ -102,37 +92,24 @@ fn cut_part<V: Drop>(
     }
 }
 
-/// A part of a desk for a further table, with so many vacant slots; the handles in the slots that are handed over are
-/// the new desk's from then on.
+/// A part of a desk for a further table, with so many vacant slots and no handle.
 pub(crate) fn part_of<V: Drop>(
     domain: &Domain<V>,
     desk: &mut Desk<V>,
     alloc: Global,
-    count: usize,
-    allowance: u32,
-    blocks: u32,
-    handed: &[Option<Held>],
+    share: Share,
 ) -> Result<Part<V>, Refusal>
     requires domain { Belongs desk.old domain.now }
-    requires held { HoldsAll desk.old (handles_in handed.now) }
-    ensures parts { IfOk result (λ p. SplitsOff desk.old allowance blocks (handles_in handed.now) desk.new p.desk) }
-    ensures fits { IfOk result (λ _. IsTooMuch desk.old allowance (length (handles_in handed.now)) → ⊥) }
-    ensures slots { IfOk result (λ p. AllVacant p.slots.items × (length p.slots.items ≡ count)) }
+    ensures parts { IfOk result (λ p. SplitsOff desk.old share.allowance share.blocks [] desk.new p.desk) }
+    ensures fits { IfOk result (λ _. IsTooMuch desk.old share.allowance 0 → ⊥) }
+    ensures slots { IfOk result (λ p. AllVacant p.slots.items × (length p.slots.items ≡ share.slots)) }
     ensures empty { IfOk result (λ p. p.pile.endings.items ≡ []) }
     ensures bears { IfOk result
         (λ p. (d : DeskNow V) → Belongs d domain.now → endings_of d ≡ 0 → Bears domain.now d p.pile) }
-    ensures refused { IfErr result (λ why. WhyNoPart desk.old allowance blocks (length (handles_in handed.now)) why) }
+    ensures refused { IfErr result (WhyNoPart desk.old share.allowance share.blocks) }
     ensures same { IfErr result (λ _. desk.new ≡ desk.old) }
 {
-    match may_part(desk, allowance, blocks, handed) {
-        Ok(()) => {}
-        Err(why) => return Err(why),
-    }
-    let (slots, pile) = match room_for(domain, alloc, count) {
-        Ok(room) => room,
-        Err(why) => return Err(why),
-    };
-    cut_part(
-        domain, desk, alloc, allowance, blocks, handed, slots, pile, count,
-    )
+    may_part(desk, share)?;
+    let room = room_for(domain, alloc, share.slots)?;
+    cut_part(domain, desk, alloc, share, room)
 }

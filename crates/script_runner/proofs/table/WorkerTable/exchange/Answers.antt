@@ -1,6 +1,6 @@
-use Rattle.std.proofs.Common.{◌≡◌, List, ◌∷◌, Some, sym, ◌∙◌, subst}
+use Rattle.std.proofs.Common.{List, ◌∷◌, Some, sym, ◌∙◌, subst}
 use Rattle.script_runner.proofs.TablePrelude.{Assigns, block_of_held, cell_of_site, FitsSlots, IsKindAt, IsInReach}
-use Rattle.script_runner.proofs.TablePrelude.{Kind, kind_at, kind_of_held, on_pile, place_of_held, Slot}
+use Rattle.script_runner.proofs.TablePrelude.{Kind, kind_at, on_pile, place_of_held, Slot}
 use Rattle.script_runner.proofs.TablePrelude.{TableNow}
 use Rattle.atomic_cells.specs.Cells as cells
 use Rattle.script_runner.specs.Cells.{ExchangesSlot}

@@ -1,4 +1,4 @@
-use Rattle.std.proofs.Common.{◌≡◌, sym, refl, ◌∙◌, subst}
+use Rattle.std.proofs.Common.{sym, refl, ◌∙◌, subst}
 use Rattle.script_runner.proofs.TablePrelude.{block_of_held, cell_of_site, IsKindAt, kind_at, place_of_held, TableNow, IsInReach}
 use Rattle.atomic_cells.specs.Cells as cells
 use Rattle.script_runner.specs.Cells.{TellsSlotHeld}

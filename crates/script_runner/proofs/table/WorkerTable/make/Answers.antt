@@ -1,7 +1,6 @@
-use Rattle.std.proofs.Common.{refl, ap, ◌∙◌, subst, ◌<◌, length, sym, ◌≡◌, []}
-use Rattle.script_runner.proofs.TablePrelude.{bears_kept, DeskNow, Owner, TableNow, IsBelow, stock_of}
+use Rattle.std.proofs.Common.{refl, subst, ◌<◌, length, sym}
+use Rattle.script_runner.proofs.TablePrelude.{bears_kept, Owner, TableNow, IsBelow}
 use Rattle.script_runner.specs.SlotCalls.{MakesIntoSlot}
-use Rattle.script_runner.proofs.Bringing.{only_full}
 use Rattle.script_runner.proofs.Filling.{fits_more}
 use Rattle.script_runner.proofs.Wholes.{same_whole, seen}
 use Rattle.script_runner.proofs.table.WorkerTable.make.Goals as goal

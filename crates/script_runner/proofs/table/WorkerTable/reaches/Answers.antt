@@ -1,5 +1,5 @@
 use Rattle.std.proofs.Common.{sym, subst}
-use Rattle.script_runner.proofs.TablePrelude.{IsInReach, TableNow, WhyNoCell}
+use Rattle.script_runner.proofs.TablePrelude.{IsInReach, TableNow}
 use Rattle.script_runner.specs.Cells.{NamesCell}
 use Rattle.script_runner.proofs.table.WorkerTable.reaches.Goals as goal
 

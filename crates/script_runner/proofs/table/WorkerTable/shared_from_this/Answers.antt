@@ -1,5 +1,5 @@
 use Rattle.std.proofs.Common.{refl, ap, ◌∙◌, subst, ◌<◌, length, sym}
-use Rattle.script_runner.proofs.TablePrelude.{DeskNow, Owner, SharesThis, TableNow, Weak, IsOwnerAt}
+use Rattle.script_runner.proofs.TablePrelude.{DeskNow, Owner, SharesThis, TableNow, IsOwnerAt}
 use Rattle.script_runner.specs.This.{IsNoThis}
 use Rattle.script_runner.proofs.Bringing.{this_below}
 use Rattle.script_runner.proofs.Filling.{fits_at, fits_more}

@@ -1,7 +1,5 @@
-use Rattle.std.proofs.Common.{◌≡◌, Err, refl, subst, ◌<◌, length, sym}
-use Rattle.script_runner.proofs.TablePrelude.{Owner, Refusal, TableNow, Weak, IsBelow, IsWeakAt}
-use Rattle.control_word.specs.declared.refusal.Refusal.TheVariants as refusal
-use Rattle.shared_handle.specs.Locks.{IsUpgrade}
+use Rattle.std.proofs.Common.{refl, subst, ◌<◌, length, sym}
+use Rattle.script_runner.proofs.TablePrelude.{Owner, TableNow, Weak, IsBelow, IsWeakAt}
 use Rattle.script_runner.specs.Handles.{GivesNoOwner, Upgrades}
 use Rattle.script_runner.proofs.Bringing.{bad_weak}
 use Rattle.script_runner.proofs.Filling.{fits_at, fits_more}

@@ -1,5 +1,5 @@
 use Rattle.std.proofs.Common.{◌≡◌, true, false, drop, Some, sym, refl, ap, ◌∙◌, subst, inr, arith}
-use Rattle.script_runner.proofs.Prelude.{comparison_tasks, IsDealt, MayGoOn, nothing}
+use Rattle.script_runner.proofs.Prelude.{comparison_tasks, HasScriptMembers, IsDealt, MayGoOn, nothing}
 use Rattle.script_runner.proofs.Allowances.{stays_compared}
 use Rattle.script_runner.proofs.Comparisons as comparisons
 use Rattle.script_runner.proofs.Noted as noted
@@ -18,8 +18,13 @@ settle-requires-in-Some g c =
     let v = c.compare-compared.new.table in
     record {
       vacant = subst (λ q. comparisons.Settling c.args.hand q) (sym c.top_of-ended.ensures.same)
-          (inr (comparisons.vacant_compared c.args.kinds.now.items may.stance c.args.hand c.args.table.now v may.arranged
-          c.compare-compared.result c.compare-compared.ensures.swapped c.compare-compared.ensures.aside));
+          (record {
+            room = inr (comparisons.vacant_compared c.args.kinds.now.items may.stance c.args.hand c.args.table.now v may.arranged
+                c.compare-compared.result c.compare-compared.ensures.swapped c.compare-compared.ensures.aside);
+            members = subst HasScriptMembers
+                (sym (stays_compared c.args.hand c.args.table.now c.args.name c.args.cell c.args.weak c.in-Some.swapped v
+                c.in-Some.ensures.compared).shape) may.arranged.members;
+          });
     }
 
 pub returns-in-None-clause-goes : goal.returns-in-None-clause-goes

@@ -1,5 +1,5 @@
 use Rattle.std.proofs.Common.{ℕ, sym, subst}
-use Rattle.script_runner.proofs.Prelude.{IsVacant, SettlesPartly, TableNow}
+use Rattle.script_runner.proofs.Prelude.{HasScriptMembers, IsVacant, SettlesPartly, TableNow}
 use Rattle.script_runner.proofs.Allowances.{stays_round}
 use Rattle.script_runner.proofs.Comparisons as comparisons
 use Rattle.script_runner.proofs.Noted as noted
@@ -24,7 +24,9 @@ returns-clause-goes g c =
     let stands = c.assert_invariant.ensures in
     subst (λ q. SettlesPartly c.args.hand c.args.statement q s c.told_of-ended.new.table x) told.same
     (subst (λ q. SettlesPartly c.args.hand c.args.statement t s q x) (sym c.told_of-ended.ensures.same)
-    (noted.round_noted c.args.hand c.args.statement t s u x (comparisons.hand_vacant c.args.hand t stands.fits stands.stands stands.ends vacant)
+    (noted.round_noted c.args.hand c.args.statement t s u x
+    (subst (λ (q : TableNow ℕ). HasScriptMembers q.desk.shape) (sym told.same) c.requires.vacant.members)
+    (comparisons.hand_vacant c.args.hand t stands.fits stands.stands stands.ends vacant)
     c.round-round.ensures.slots c.round-round.result c.round-round.ensures.round c.told_of-ended.result c.told_of-ended.ensures.told
     c.note.ensures.notes))
 

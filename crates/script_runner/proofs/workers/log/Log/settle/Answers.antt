@@ -1,4 +1,5 @@
-use Rattle.std.proofs.Common.{refl, ◌∙◌, inr}
+use Rattle.std.proofs.Common.{sym, refl, ◌∙◌, subst, inr}
+use Rattle.script_runner.proofs.Prelude.{HasScriptMembers}
 use Rattle.script_runner.proofs.Noted as noted
 use Rattle.script_runner.proofs.workers.log.Log.settle.Goals as goal
 
@@ -40,5 +41,5 @@ loop-preserved g c =
           l.2 r.goes l.0,
       r.slots ∙ l.3,
       (r.limits.0 ∙ l.4.0, r.limits.1 ∙ l.4.1),
-      inr (r.on refl),
+      record { room = inr (r.on refl); members = subst HasScriptMembers (sym r.limits.0) l.5.members },
     )

@@ -1,5 +1,5 @@
 use Rattle.owner_graph.proofs.Prelude.{AreInner}
-use Rattle.owner_graph.proofs.certificates.knots.steps_of.Given as goal
+use Rattle.owner_graph.proofs.certificates.knots.inner_steps.Given as goal
 
 abbrev pub invariant-loop-before : goal.invariant-loop-before
 invariant-loop-before l = AreInner l.handles l.labels l.steps.items

@@ -1,5 +1,5 @@
 use Rattle.owner_graph.proofs.Steps.{owned_at}
-use Rattle.owner_graph.proofs.certificates.knots.steps_of.Goals as goal
+use Rattle.owner_graph.proofs.certificates.knots.inner_steps.Goals as goal
 
 pub loop-before-preserved : goal.loop-before-preserved
 loop-before-preserved c = c.in_ok-add_ends.ensures c.args.handles.now c.loop-before.invariant
