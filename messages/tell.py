@@ -8,7 +8,8 @@ With `--reason` nothing runs: a run with these words was refused so, and why its
 said, or what a line of its file means. What was its standard input is file 3 then.
 `--explain` stands before the program's own words or among them. With it, more is told on standard error once
 the run has ended: what the numbers of refused statements mean, and which statement made each block that is
-left. Standard output and the first line of a refusal are the program's, and so is the exit status."""
+left. Below `never` it is said what a statement tells that can't tell the line. Standard output and the first
+line of a refusal are the program's, and so is the exit status."""
 
 import errno
 import os
@@ -24,6 +25,7 @@ import graphs
 import made
 from explain import OF_STATEMENTS, OUTPUT, Asked, explanation
 from knots import uncut
+from tellings import misfit
 
 # The commands that read a script or a graph, and their options that take a word.
 COMMANDS = ("check", "convert", "step", "fine", "run", "left", "draw", "owners", "orders")
@@ -156,7 +158,8 @@ def main(program, *words):
     options, others = parted(words)
     command, files = others[0] if others else "", others[1:]
     given = sys.stdin.buffer.read() if command in COMMANDS and not files else None
-    watched = explains and command in ("step", "fine", "run", "left")
+    finds = command == "orders" and "--find" in options
+    watched = finds or explains and command in ("step", "fine", "run", "left")
     ran = subprocess.run(
         [program, *words],
         input=given,
@@ -178,6 +181,8 @@ def main(program, *words):
         asked.acts = before_part(program, words, options, asked)
     lines = explanation(refusal, asked) if ran.returncode == 1 else []
     lines += meanings(ran.stdout) if watched else []
+    if finds and ran.stdout.startswith(b"never\n"):
+        lines += filter(None, [misfit(options["--find"], asked.script)])
     if explains and command == "left" and ran.returncode != 1:
         lines += made.of_blocks(program, [f"{name}={value}" for name, value in options.items()], asked.script)
         lines += uncut(ran.stdout)

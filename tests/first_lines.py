@@ -19,7 +19,7 @@ HEAD = """#![tactic(auto)]
 
 use std::io;
 """
-OWN = """use pointers::{Desk, Domain, Fault, Shared, SharedCell, Weak};
+OWN = """use pointers::{Desk, Domain, Fault, OptionalPointer, Shared, SharedCell, Weak};
 use std::sync::Wait;
 use std::thread::Threads;
 

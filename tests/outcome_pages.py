@@ -19,9 +19,9 @@ OUTCOMES = """(() => {
 
 
 def outcomes_told(text):
-    """The outcomes that `orders` tells, each as its lines, and the last lines."""
+    """The outcomes that `orders` tells, each as its lines, and the lines below them that a page has too."""
     outcomes, closing = [], []
-    for line in text.splitlines():
+    for line in text.splitlines()[:-1]:
         if line.startswith("outcome "):
             outcomes.append([line])
         elif line.startswith(("outcomes ", "differ ")):
