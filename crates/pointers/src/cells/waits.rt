@@ -20,21 +20,21 @@ const YIELDS: u32 = 128;
 /// The first sleep, in microseconds. Each is twice as long as the one before.
 const SHORTEST: u64 = 16;
 /// The longest one.
-const LONGEST: u64 = 1_024;
+const LONGEST: u64 = 1_000;
 
 /// What comes between two looks of a wait.
 #[derive(Drop)]
-pub(super) struct Pause {
+pub(super) struct Backoff {
     looks: u32,
     /// How long it sleeps next, in microseconds.
     sleep: u64,
 }
 
-impl Pause {
-    pub(super) fn new() -> Pause
+impl Backoff {
+    pub(super) fn new() -> Backoff
         ensures { (result.looks ≡ 0) × (result.sleep ≡ 16) }
     {
-        Pause {
+        Backoff {
             looks: 0,
             sleep: SHORTEST,
         }
@@ -63,12 +63,12 @@ impl<'p, 't, D: Domain> Member<'p, 't, D> {
         ensures changed { OnOk result (LookedFor D.opened Owner self.now (seen_by (λ x. x.now) mine.entry) false) }
         ensures refused { IfErr result (WhyNotLookedFor D.opened Owner self.now (seen_by (λ x. x.now) mine.entry)) }
     {
-        let mut pause = Pause::new();
+        let mut backoff = Backoff::new();
         for _ in rt.forever() {
             if !self.holds(mine)? {
                 return Ok(());
             }
-            pause.rest(rt);
+            backoff.rest(rt);
         }
         unreachable!()
     }
@@ -86,13 +86,13 @@ impl<'p, 't, D: Domain> Member<'p, 't, D> {
             ⊎ WhyNotLookedFor D.opened Owner self.now (seen_by (λ x. x.now) mine.entry) why) }
     {
         let start = Instant::now(rt)?;
-        let mut pause = Pause::new();
+        let mut backoff = Backoff::new();
         for _ in rt.forever() {
             let there = self.holds(mine)?;
             if !there || start.elapsed(rt)? >= most {
                 return Ok(!there);
             }
-            pause.rest(rt);
+            backoff.rest(rt);
         }
         unreachable!()
     }

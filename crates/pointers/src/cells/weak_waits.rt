@@ -6,7 +6,7 @@ ghost use Rattle.pointers.specs.SiteCalls.{LookedFor, WhyNotLookedFor};
 ghost use Rattle.pointers.specs.declared.fault.Fault.TheVariants.{Output};
 
 use crate::cells::up::Up;
-use crate::cells::waits::Pause;
+use crate::cells::waits::Backoff;
 use crate::domain::Domain;
 use crate::fault::Fault;
 use crate::weak::Weak;
@@ -19,12 +19,12 @@ impl<'p, 't, D: Domain> Up<'p, 't, D> {
         ensures changed { OnOk result (LookedFor D.opened kind.Weak self.now (seen_by (λ x. x.now) mine.entry) false) }
         ensures refused { IfErr result (WhyNotLookedFor D.opened kind.Weak self.now (seen_by (λ x. x.now) mine.entry)) }
     {
-        let mut pause = Pause::new();
+        let mut backoff = Backoff::new();
         for _ in rt.forever() {
             if !self.holds(mine)? {
                 return Ok(());
             }
-            pause.rest(rt);
+            backoff.rest(rt);
         }
         unreachable!()
     }
@@ -42,13 +42,13 @@ impl<'p, 't, D: Domain> Up<'p, 't, D> {
             ⊎ WhyNotLookedFor D.opened kind.Weak self.now (seen_by (λ x. x.now) mine.entry) why) }
     {
         let start = Instant::now(rt)?;
-        let mut pause = Pause::new();
+        let mut backoff = Backoff::new();
         for _ in rt.forever() {
             let there = self.holds(mine)?;
             if !there || start.elapsed(rt)? >= most {
                 return Ok(!there);
             }
-            pause.rest(rt);
+            backoff.rest(rt);
         }
         unreachable!()
     }

@@ -35,7 +35,7 @@ impl<'t, D: Domain> OptionalPointer for Option<Shared<'t, D>> {
 
     fn share(&self) -> Result<Self, Fault> {
         match self {
-            Some(pointer) => Ok(Some(pointer.share()?)),
+            Some(owner) => Ok(Some(owner.share()?)),
             None => Ok(None),
         }
     }
@@ -54,7 +54,7 @@ impl<'t, D: Domain> OptionalPointer for Option<Weak<'t, D>> {
 
     fn share(&self) -> Result<Self, Fault> {
         match self {
-            Some(pointer) => Ok(Some(pointer.share()?)),
+            Some(weak) => Ok(Some(weak.share()?)),
             None => Ok(None),
         }
     }
