@@ -201,7 +201,7 @@ fn a_tree_has_children(rt: HostRuntime) {
     plays(&rt, rt.alloc(), &Family);
 }
 
-/// Workers that push and pop, each as often.
+/// Workers that push and pop, each as often, with room for three pointers at a time.
 #[derive(Drop)]
 struct Pushers {
     pushed: AtomicU64,
@@ -230,7 +230,7 @@ impl<R: Threads + Wait + Sync> Program<u64, R> for Pushers {
 fn what_four_workers_push_is_popped_once(rt: HostRuntime) {
     let team = Team {
         workers: 4,
-        pointers: 8,
+        pointers: 1,
     };
     let pushers = Pushers {
         pushed: AtomicU64::new(0),

@@ -1,7 +1,7 @@
 -- Calls on a structure go on by one node.
 use Rattle.std.proofs.Common.{◌≡◌, ◌⊎◌, refl, sym, subst, inl, inr}
 use Rattle.std.proofs.lemmas.List.Elements.{All-nil, All-push}
-use Rattle.std.specs.Prelude.{All, Bool, false, IfOk, IsTrue, List, [], ◌∷◌, ◌++◌, IsSomeAnd}
+use Rattle.std.specs.Prelude.{All, Bool, true, false, IfOk, IfSome, IsTrue, List, [], ◌∷◌, ◌++◌, IsSomeAnd}
 use Rattle.std.specs.Prelude.{Option, None, Some, Result, Ok, Err, OnOk}
 use Rattle.control_word.specs.declared.model.handle.Kind.TheVariants.{Owner, Weak}
 use Rattle.control_block.specs.Desks.{DeskNow}
@@ -9,7 +9,7 @@ use Rattle.pointers.proofs.ListSteps.{passes_on, place_passed, refused_at, refus
 use Rattle.pointers.specs.Compares.{ComparedAt}
 use Rattle.pointers.specs.Faults.{WhyNoMore}
 use Rattle.pointers.specs.Known.{owned}
-use Rattle.pointers.specs.ListChanges.{AreAlike, Comes, IsPlaceOf, IsRefusedAt, Passes, Swaps}
+use Rattle.pointers.specs.ListChanges.{Comes, Follows, IsPlaceOf, IsRefusedAt, Passes, Swaps}
 use Rattle.pointers.specs.ListRemovals.{IsOther}
 use Rattle.pointers.specs.Lists.{Leads, behind, next_of}
 use Rattle.pointers.specs.Places.{WhyNotDoneAt, cell_at}
@@ -25,33 +25,43 @@ use Rattle.pointer_structures.specs.Trees.{Detaches, LeavesChildren, HasParent, 
 use Rattle.pointer_structures.specs.Watches.{ComesUp}
 
 module _ {V : Type 0} (o : DeskNow V) where
-  pub goes_first : (s : Site V) (node : Known V) (first below copy : Option (Known V)) → AreAlike o first below
-      → Comes o (next_of node) below → AreAlike o (Some node) copy → Swaps o s first copy → GoesFirst o s node
-  goes_first s node first below copy alike comes same swaps = record {
+  -- what was expected by a compare that swapped
+  pub kept_of : (s : Site V) (weak : Bool) (hoped new hoped' new' : Option (Known V)) (r : Result Bool Fault)
+      → IfOk r (λ (b : Bool). ComparedAt o (owner_of s) (cell_at o Owner s) Owner weak hoped new b hoped' new')
+      → IfOk r (λ (b : Bool). IsTrue b → hoped' ≡ hoped)
+  kept_of s weak hoped new hoped' new' (Ok true) is = λ did. is.1
+  kept_of s weak hoped new hoped' new' (Ok false) is = λ did. absurd (cc did)
+  kept_of s weak hoped new hoped' new' (Err why) is = tt
+
+  pub goes_first : (s : Site V) (node : Known V) (new first : Option (Known V)) (done : Bool) → new ≡ Some node
+      → IfSome new (λ (n : Known V). Follows o n first) → (IsTrue done → Swaps o s first new) → done ≡ true
+      → GoesFirst o s node
+  goes_first s node new first done is follows swaps did = record {
     first = first;
-    follows = (below, alike, comes);
-    copy = copy;
-    same = same;
-    comes = swaps;
+    follows = subst (λ (n : Option (Known V)). IfSome n (λ (n : Known V). Follows o n first)) is follows;
+    comes = subst (Swaps o s first) is (swaps did);
   }
 
-  -- an owner more of the first node was refused
-  pub share_refused : (s : Site V) (first : Option (Known V)) (why : Fault) → Leads o s first
-      → IsSomeAnd first (λ (c : Known V). WhyNoMore o (Some c) Share why) → IsChainRefused o s why
-  share_refused s None why leads not = absurd not
-  share_refused s (Some c) why leads not = refused_first o (λ d w. ⊥) s (Some c) c why leads refl (inr not)
+  -- a call on the `next` of the node, or for an owner more of the first one, was refused
+  pub follow_refused : (s : Site V) (node : Known V) (new first : Option (Known V)) (why : Fault) → new ≡ Some node
+      → Leads o s first
+      → IsSomeAnd new (λ (n : Known V). IsRefusedAt o (next_of n) why)
+      ⊎ IsSomeAnd first (λ (f : Known V). WhyNoMore o (Some f) Share why) → WhyNotPushed o s node why
+  follow_refused s node new first why is leads (inl not) =
+      inl (subst (λ (n : Option (Known V)). IsSomeAnd n (λ (m : Known V). IsRefusedAt o (next_of m) why)) is not)
+  follow_refused s node new None why is leads (inr not) = absurd not
+  follow_refused s node new (Some f) why is leads (inr not) =
+      inr (refused_first o (λ d w. ⊥) s (Some f) f why leads refl (inr not))
 
-  pub takes_top : (s : Site V) (top : Option (Known V)) (node : Known V) (below copy : Option (Known V)) → Leads o s top
-      → top ≡ Some node → Leads o (next_of node) below → AreAlike o (Some node) copy → Swaps o s copy below
-      → Pops o s (Some node)
-  takes_top s top node below copy leads some next same swaps = record {
+  pub takes_top : (s : Site V) (top kept below : Option (Known V)) (node : Known V) (done : Bool) → Leads o s top
+      → top ≡ Some node → kept ≡ Some node → Leads o (next_of node) below → (IsTrue done → Swaps o s (Some node) below)
+      → done ≡ true → Pops o s kept
+  takes_top s top kept below node done leads some is next swaps did = subst (Pops o s) (sym is) (record {
     leads = subst (Leads o s) some leads;
     below = below;
     next = next;
-    copy = copy;
-    same = same;
-    out = swaps;
-  }
+    out = swaps did;
+  })
 
   pub child_first : (s : Site V) (parent child : Known V) → s ≡ first_of parent → GoesFirst o s child
       → GoesFirst o (first_of parent) child

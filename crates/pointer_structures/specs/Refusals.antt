@@ -1,25 +1,20 @@
 -- Why a call on a structure was not done (own).
-use Rattle.std.specs.Prelude.{◌⊎◌, Some}
+use Rattle.std.specs.Prelude.{Some}
 use Rattle.control_word.specs.declared.model.handle.Kind.TheVariants.{Weak}
 use Rattle.control_block.specs.Desks.{DeskNow}
 use Rattle.pointers.specs.Faults.{WhyNoMore}
 use Rattle.pointers.specs.ListChanges.{IsListRefused, IsRefusedAt}
-use Rattle.pointers.specs.Lists.{next_of}
 use Rattle.pointers.specs.Places.{WhyNotDoneAt}
 use Rattle.pointers.specs.Sites.{Site, member_site}
 use Rattle.pointers.specs.declared.fault.Fault.{Fault}
 use Rattle.pointers.specs.declared.fault.call.Call.{Call}
-use Rattle.pointers.specs.declared.fault.call.Call.TheVariants.{Downgrade, Share}
+use Rattle.pointers.specs.declared.fault.call.Call.TheVariants.{Downgrade}
 use Rattle.pointers.specs.declared.known.Known.{Known}
 
 module _ {V : Type 0} (o : DeskNow V) where
   -- a call on the place of a chain of nodes was refused, on one behind a node, or one for an owner more of a node
   abbrev pub IsChainRefused : Site V → Fault → Type 0
   IsChainRefused s why = IsListRefused o (λ c w. ⊥) s why
-
-  -- a call on the node's `next` was refused, or one for an owner more of it
-  abbrev pub IsNextRefused : Known V → Fault → Type 0
-  IsNextRefused node why = IsRefusedAt o (next_of node) why ⊎ WhyNoMore o (Some node) Share why
 
   -- a call on the node's `up` was refused
   abbrev pub IsUpRefused : Known V → Fault → Type 0

@@ -1,7 +1,7 @@
 //! A stack in a place, which threads push on and pop from without a lock.
-ghost use Rattle.std.specs.Prelude.{◌≡◌, IfErr, IfOk, IsFalse, IsSomeAnd, IsTrue, OnOk, Some};
+ghost use Rattle.std.specs.Prelude.{◌≡◌, ◌⊎◌, IfErr, IfOk, IfSome, IsFalse, IsSomeAnd, IsTrue, OnOk, Some};
 ghost use Rattle.pointers.specs.Faults.{WhyNoMore};
-ghost use Rattle.pointers.specs.ListChanges.{AreAlike, Comes, IsRefusedAt, Swaps};
+ghost use Rattle.pointers.specs.ListChanges.{AreAlike, Comes, Follows, IsRefusedAt, Swaps};
 ghost use Rattle.pointers.specs.Lists.{Leads, next_of};
 ghost use Rattle.pointer_structures.specs.Refusals.{IsChainRefused};
 ghost use Rattle.pointer_structures.specs.Stacks.{GoesFirst, Pops, WhyNotPushed};
@@ -11,8 +11,8 @@ use std::marker::Model;
 use std::sync::Wait;
 
 /// A stack in a place for an owner, in C++ an `atomic<shared_ptr<Node>>` with the top: each object owns the one below
-/// it by its member `next`. All that have the same place share the stack. A call wants four pointers of the desk's to
-/// be unused.
+/// it by its member `next`. All that have the same place share the stack. A push wants two pointers of the desk's to be
+/// unused, a pop three.
 pub struct Stack<'p, 't, D: Domain> {
     place: Member<'p, 't, D>,
 }
@@ -50,10 +50,10 @@ impl<'p, 't, D: Domain> Stack<'p, 't, D> {
         ensures pushed { OnOk result (GoesFirst D.opened self.now node.entry) }
         ensures fault { IfErr result (WhyNotPushed D.opened self.now node.entry) }
     {
-        let mut new = share_one(&node)?;
+        let mut new = Some(node);
         for _ in rt.forever() {
             let mut first = self.top(rt)?;
-            put_next(&node, share(&first)?)?;
+            follow(&new, &first)?;
             if self.swap(rt, &mut first, &mut new)? {
                 return Ok(());
             }
@@ -72,9 +72,9 @@ impl<'p, 't, D: Domain> Stack<'p, 't, D> {
                 return Ok(None);
             };
             let mut below = next(rt, &node)?;
-            let mut top = share_one(&node)?;
+            let mut top = Some(node);
             if self.swap(rt, &mut top, &mut below)? {
-                return Ok(Some(node));
+                return Ok(top);
             }
         }
         unreachable!()
@@ -98,6 +98,7 @@ impl<'p, 't, D: Domain> Stack<'p, 't, D> {
         desired: &mut Option<Shared<'t, D>>,
     ) -> Result<bool, Fault>
         ensures swapped { IfOk result (λ done. IsTrue done → Swaps D.opened self.now expected.old desired.old) }
+        ensures kept { IfOk result (λ done. IsTrue done → expected.new ≡ expected.old) }
         ensures stays { IfOk result (λ done. IsFalse done → desired.new ≡ desired.old) }
         ensures fault { IfErr result (IsRefusedAt D.opened self.now) }
     {
@@ -129,22 +130,30 @@ pub(crate) fn put_next<'t, D: Domain>(
     node.next().store(next)
 }
 
+/// The node is before another, or is the last one.
+#[inline(always)]
+fn follow<'t, D: Domain>(
+    node: &Option<Shared<'t, D>>,
+    next: &Option<Shared<'t, D>>,
+) -> Result<(), Fault>
+    ensures follows { OnOk result (IfSome node.now (λ c. Follows D.opened c next.now)) }
+    ensures fault { IfErr result (λ why. IsSomeAnd node.now (λ c. IsRefusedAt D.opened (next_of c) why)
+        ⊎ IsSomeAnd next.now (λ c. WhyNoMore D.opened (Some c) Call.Share why)) }
+{
+    let Some(node) = node else {
+        return Ok(());
+    };
+    put_next(node, share(next)?)
+}
+
 /// One owner more, where there is one.
+#[inline(always)]
 fn share<'t, D: Domain>(of: &Option<Shared<'t, D>>) -> Result<Option<Shared<'t, D>>, Fault>
     ensures alike { IfOk result (AreAlike D.opened of.now) }
     ensures fault { IfErr result (λ why. IsSomeAnd of.now (λ c. WhyNoMore D.opened (Some c) Call.Share why)) }
 {
     match of {
-        Some(of) => share_one(of),
+        Some(of) => Ok(Some(of.share()?)),
         None => Ok(None),
     }
-}
-
-/// One owner more of the node.
-#[inline(always)]
-fn share_one<'t, D: Domain>(node: &Shared<'t, D>) -> Result<Option<Shared<'t, D>>, Fault>
-    ensures alike { IfOk result (AreAlike D.opened (Some node.now)) }
-    ensures fault { IfErr result (WhyNoMore D.opened (Some node.now) Call.Share) }
-{
-    Ok(Some(node.share()?))
 }

@@ -3,6 +3,7 @@ use Rattle.pointers.specs.ListChanges.{IsRefusedAt, Swaps}
 use Rattle.pointers.specs.Sites.{Site}
 use Rattle.pointers.proofs.Handles.{errs_map}
 use Rattle.pointers.proofs.ListSteps.{stays_of, swaps_of}
+use Rattle.pointer_structures.proofs.Steps.{kept_of}
 use Rattle.pointer_structures.proofs.stack.Stack.swap.Goals as goal
 
 pub returns-clause-swapped : goal.returns-clause-swapped
@@ -11,6 +12,11 @@ returns-clause-swapped g c =
     subst (λ (s : Site g.row.D-Value.Denot). IfOk call.result (λ (done : Bool). IsTrue done → Swaps o s c.args.expected.now
     c.args.desired.now)) c.self.view_is
     (swaps_of o place true _ _ _ _ call.result call.ensures.compared)
+
+pub returns-clause-kept : goal.returns-clause-kept
+returns-clause-kept g c =
+    let o = g.D.Domain.opened in let call = c.compare_exchange_weak in let place = c.self.inside.place in
+    kept_of o place true _ _ _ _ call.result call.ensures.compared
 
 pub returns-clause-stays : goal.returns-clause-stays
 returns-clause-stays g c =
