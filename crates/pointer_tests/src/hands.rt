@@ -79,6 +79,59 @@ fn cells<R: Wait, D: Domain<Value = ()>>(rt: &R, desk: &Desk<D>) -> Result<(), F
     )
 }
 
+/// A strong compare of a free cell: it finds something else, and then what is expected.
+fn compares<R: Wait, D: Domain<Value = ()>>(rt: &R, desk: &Desk<D>) -> Result<(), Fault> {
+    let cell = desk.cell(CELL);
+    let mut hand = desk.hold()?;
+    let one = hand.make([1, 0, 0, 0], ())?;
+    let two = hand.make([2, 0, 0, 0], ())?;
+    let copy = hand.share(&one)?;
+    hand.store(&cell, Some(copy))?;
+    let mut expected = Some(hand.share(&two)?);
+    let mut desired = Some(hand.share(&two)?);
+    row(22, hand.use_count(&two) == 3)?;
+    let swapped = hand.compare_exchange_strong(rt, &cell, &mut expected, &mut desired)?;
+    row(23, !swapped && is_one(desired.take(), &two))?;
+    row(24, hand.use_count(&one) == 3 && hand.use_count(&two) == 2)?;
+    desired = Some(hand.share(&two)?);
+    let swapped = hand.compare_exchange_strong(rt, &cell, &mut expected, &mut desired)?;
+    row(25, swapped && desired.is_none() && is_one(expected, &one))?;
+    row(26, is_one(hand.load(rt, &cell)?, &two))?;
+    let mut none = None;
+    let crowded = hand.compare_exchange_strong(rt, &cell, &mut none, &mut desired);
+    let why_not = Fault::Crowded(Call::CompareExchange(Spot::Shared(0)));
+    row(27, why(crowded) == Some(why_not))?;
+    row(28, none.is_none() && desired.is_none())
+}
+
+/// Compares with empty pointers, and weak ones, of a member.
+fn compares_none<R: Wait, D: Domain<Value = ()>>(rt: &R, desk: &Desk<D>) -> Result<(), Fault> {
+    let mut hand = desk.hold()?;
+    let one = hand.make([1, 0, 0, 0], ())?;
+    let two = hand.make([2, 0, 0, 0], ())?;
+    let child = one.first();
+    let mut expected = None;
+    let mut desired = Some(two);
+    let swapped = hand.compare_exchange_strong(rt, &child, &mut expected, &mut desired)?;
+    row(29, swapped && expected.is_none() && desired.is_none())?;
+    let swapped = hand.compare_exchange_weak(rt, &child, &mut expected, &mut desired)?;
+    row(30, !swapped && desired.is_none())?;
+    let Some(held) = &expected else {
+        return Err(Fault::Other(31));
+    };
+    row(31, hand.use_count(held) == 2)?;
+    for _ in rt.forever() {
+        if hand.compare_exchange_weak(rt, &child, &mut expected, &mut desired)? {
+            break;
+        }
+    }
+    row(32, hand.load(rt, &child)?.is_none() && expected.is_some())?;
+    let beyond = one.owner(9);
+    let none = hand.compare_exchange_weak(rt, &beyond, &mut expected, &mut desired);
+    let why_not = Fault::Member(Call::CompareExchange(Spot::Owner(9)));
+    row(33, why(none) == Some(why_not) && expected.is_some())
+}
+
 /// All pointers that the desk may have, and all blocks.
 fn limits<D: Domain<Value = ()>>(desk: &Desk<D>) -> Result<(), Fault> {
     let mut hand = desk.hold()?;
@@ -115,6 +168,10 @@ impl<R: Threads + Wait + Sync> Program<(), R> for Holder {
         owners(rt, desk)?;
         cells(rt, desk)?;
         limits(desk)?;
+        desk.clear(CELL)?;
+        compares(rt, desk)?;
+        desk.clear(CELL)?;
+        compares_none(rt, desk)?;
         desk.new(())?.store(CELL)
     }
 }

@@ -1,10 +1,13 @@
 //! What callers who hold a desk prove of it, with no proof file.
 ghost use Rattle.std.specs.Prelude.{◌≡◌, IfOk, None, Some, true};
+ghost use Rattle.control_word.specs.declared.model.handle.Kind.TheVariants.{Owner};
 ghost use Rattle.pointers.specs.Alone.{StoresAndLoads};
 ghost use Rattle.pointers.specs.Counts.{CountsTwo};
+ghost use Rattle.pointers.specs.HandCalls.{FindsNow};
 ghost use Rattle.pointers.specs.Known.{owned};
+ghost use Rattle.pointers.specs.Places.{cell_at};
 
-use pointers::{Desk, Domain, Fault, Hand, Shared, SharedCell, Weak};
+use pointers::{Desk, Domain, Fault, Hand, Member, Shared, SharedCell, Weak};
 use std::sync::Wait;
 
 /// With an owner in hand, a lock of a weak pointer to its object finds one.
@@ -72,4 +75,25 @@ pub fn counts_two<'t, D: Domain<Value = u64>>(
     let other = hand.share(&one)?;
     let count = hand.use_count(&one);
     Ok((one, other, count))
+}
+
+/// A pointer goes into a free cell that is empty. Where it isn't, the pointer comes back, with what the cell held.
+pub fn puts_where_empty<'t, D: Domain, R: Wait>(
+    rt: &R,
+    hand: &mut Hand<'t, D>,
+    cell: &Member<'_, '_, D>,
+    new: Shared<'t, D>,
+) -> Result<(Option<Shared<'t, D>>, Option<Shared<'t, D>>), Fault>
+    ensures put { IfOk result (λ r. (r.0 ≡ None) → FindsNow hand.old (cell_at D.opened Owner cell.now) false
+        None (Some new.entry) None hand.new × (r.1 ≡ None)) }
+    ensures back { IfOk result (λ r. (r.0 ≡ None → ⊥) → (r.0 ≡ Some new.entry)
+        × FindsNow hand.old (cell_at D.opened Owner cell.now) false None (Some new.entry) (Some r.1) hand.new) }
+{
+    let mut expected = None;
+    let mut desired = Some(new);
+    if hand.compare_exchange_strong(rt, cell, &mut expected, &mut desired)? {
+        Ok((None, None))
+    } else {
+        Ok((desired, expected))
+    }
 }

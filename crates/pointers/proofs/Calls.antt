@@ -13,7 +13,7 @@ use Rattle.shared_handle.specs.Locks.{IsLockBy}
 use Rattle.shared_handle.specs.declared.endings.Left.TheVariants.{Empty, Last, Others}
 use Rattle.pointers.proofs.Later.{by_count, by_event, by_none, goes_by}
 use Rattle.pointers.specs.Known.{IsAtAllowance}
-use Rattle.pointers.specs.Objects.{FindsNoOwner}
+use Rattle.pointers.specs.Objects.{FindsNoOwner, IsCounted}
 
 -- a weak handle's place counts only with a block
 pub weak_bag : (b : Option Block) (p : Option Place) (c : Option Block) (q : Option Place) (l : List NumberedHandle) → c ≡ b → q ≡ weak_place b p
@@ -81,6 +81,10 @@ module _ {V : Type 0} where
   pub by_count_of : (d : DeskNow V) (k : Kind) (b : Option Block) (p : Option Place) (n : ℕ) (e : DeskNow V) → IsUseCount d k b p n e → Later d e
   by_count_of d k None p n e is = same d e is.1
   by_count_of d k (Some b) p n e is = by_event d _ e is.0
+
+  pub counts_owners : (d : DeskNow V) (k : Kind) (b : Option Block) (p : Option Place) (n : ℕ) (e : DeskNow V) → IsUseCount d k b p n e → IsCounted d k b p n e
+  counts_owners d k None p n e is = is
+  counts_owners d k (Some b) p n e is = is.0
 
   pub by_expiry : (d : DeskNow V) (b : Option Block) (p : Option Place) (expired : Bool) (e : DeskNow V) → IsExpiry d b p expired e → Later d e
   by_expiry d None p expired e is = same d e is.1

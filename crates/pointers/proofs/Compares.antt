@@ -18,14 +18,14 @@ use Rattle.pointers.specs.Compares.{Finds, IsCompared}
 
 module _ {V : Type 0} where
   -- a compare in a legal history tells whether the pointers were equivalent
-  told_by : (d e : DeskNow V) (x : Cell) (expected new h : NumberedHandle) (swapped weak : Bool)
+  pub told_by : (d e : DeskNow V) (x : Cell) (expected new h : NumberedHandle) (swapped weak : Bool)
       → AddsEvent d (event.Compare x expected new h swapped weak) e → (swapped ≡ equivalent h expected) ⊎ ((weak ≡ true) × (swapped ≡ false))
   told_by d e x expected new h swapped weak a =
       let legal = subst (λ (l : List (Entry V)). IsLegal (opening_of d.shape) l) a.seen a.legal in legal.1.asks.4
 
   -- by handles
-  by_handles : (d e : DeskNow V) (x y : Cell) (k : Kind) (h n : Held) (hoped new : Option (Known V)) (swapped weak : Bool) (a : Option Block) (q : Option Place)
-      → y ≡ x → IsHandleOf hoped h → IsHandleOf new n → Compares d y k (block_of h) (place_of h) (block_of n) (place_of n) swapped a q weak e
+  pub by_handles : (d e : DeskNow V) (x y : Cell) (k : Kind) (h n : Held) (hoped new : Option (Known V)) (swapped weak : Bool) (a : Option Block)
+      (q : Option Place) → y ≡ x → IsHandleOf hoped h → IsHandleOf new n → Compares d y k (block_of h) (place_of h) (block_of n) (place_of n) swapped a q weak e
       → Compares d x k (block_by hoped) (place_by hoped) (block_by new) (place_by new) swapped a q weak e
   by_handles d e x y k h n hoped new swapped weak a q same is at c =
       subst (λ (z : Cell). Compares d z k (block_by hoped) (place_by hoped) (block_by new) (place_by new) swapped a q weak e) same

@@ -18,10 +18,11 @@ use Rattle.control_word.proofs.history.Moving.{more_owners, owner_counted}
 use Rattle.control_word.proofs.lists.Tallies.{put_same}
 use Rattle.control_block.specs.Desks.{AddsEvent, DeskNow, latest_of, on_latest, state_of}
 use Rattle.control_block.specs.Rule.{opening_of}
-use Rattle.shared_handle.specs.Calls.{IsUseCount, Makes, SharesOwner}
+use Rattle.shared_handle.specs.Calls.{Makes, SharesOwner}
 use Rattle.shared_handle.specs.Locks.{HasOwner}
 use Rattle.pointers.proofs.Later.{by_event}
 use Rattle.pointers.specs.Counts.{CountsTwo}
+use Rattle.pointers.specs.Objects.{IsCounted}
 use Rattle.pointers.specs.HandCalls.{MakesNow, SharesNow}
 use Rattle.pointers.specs.Known.{owned, pointed}
 use Rattle.pointers.specs.declared.known.Known.{Known}
@@ -82,14 +83,14 @@ module _ {V : Type 0} where
       }
 
   pub counts_two : (d m s e : DeskNow V) (fields : List ℕ) (x : V) (a c : Known V) (n : ℕ) → MakesNow d false fields x a m
-      → ((owned a ≡ None → ⊥) → HasOwner m (owned a)) → SharesNow m a c s → IsUseCount s Owner (owned a) (pointed a) n e
+      → ((owned a ≡ None → ⊥) → HasOwner m (owned a)) → SharesNow m a c s → IsCounted s Owner (owned a) (pointed a) n e
       → CountsTwo d fields x a c n e
   counts_two d m s e fields x a c n makes has shares counts = go (owned a) refl makes.2 has shares.0 counts
     where
       go : (b : Option Block) → owned a ≡ b → Makes makes.0 false false fields x b (pointed a) m → ((b ≡ None → ⊥) → HasOwner m b)
-          → SharesOwner m b (pointed a) (pointed c) s → IsUseCount s Owner b (pointed a) n e → CountsTwo d fields x a c n e
+          → SharesOwner m b (pointed a) (pointed c) s → IsCounted s Owner b (pointed a) n e → CountsTwo d fields x a c n e
       go None at made has shares counts = absurd made
       go (Some b) at made has shares counts =
           let mine = has (λ e. absurd (cc e)) in
           let latest = (by_event m _ s shares).latest Owner mine.0 b.0 mine.1 in
-          two d m s e fields x a c n b at makes (one_made makes.0 m b false fields x made.1) latest shares counts.0
+          two d m s e fields x a c n b at makes (one_made makes.0 m b false fields x made.1) latest shares counts

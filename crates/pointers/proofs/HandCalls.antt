@@ -36,7 +36,7 @@ use Rattle.pointers.specs.HandCalls.{ExchangesNow, IsButCount, LeavesNow, LoadsN
 use Rattle.pointers.specs.Known.{Lives, block_of, known_now, owned, place_of, pointed}
 use Rattle.pointers.specs.declared.known.Known.{Known}
 
-none_some : (b : Block) → None ≡ Some b → ⊥
+pub none_some : (b : Block) → None ≡ Some b → ⊥
 none_some b e = subst (λ (x : Option Block). Is x) e tt
   where
     Is : Option Block → Type 0
@@ -48,7 +48,7 @@ module _ {V : Type 0} where
   but_count d e n is = subst (λ (x : DeskNow V). IsButCount d x) (sym is) refl
 
   -- an empty owner that left changes the count alone
-  but_left : (d e : DeskNow V) (b : Option Block) (p : Option Place) (left : Left V) → b ≡ None → IsLeft d b p left e → IsButCount d e
+  pub but_left : (d e : DeskNow V) (b : Option Block) (p : Option Place) (left : Left V) → b ≡ None → IsLeft d b p left e → IsButCount d e
   but_left d e b p Empty none is = but_count d e (d.held - 1) is.1
   but_left d e b p Others none is = absurd (none_some is.0 (subst (λ (x : Option Block). x ≡ Some is.0) none is.1))
   but_left d e b p (Last x) none is = absurd (none_some x.block (subst (λ (y : Option Block). y ≡ Some x.block) none is.0))
@@ -61,7 +61,7 @@ module _ {V : Type 0} where
       → Loads d x k b p (record e { held = n })
   loads_count d e n x k b p a = record { same = a.same; between = a.between; seen = a.seen; quiet = a.quiet; legal = a.legal }
 
-  came_count : (got : Option (Known V)) (e : DeskNow V) (n : ℕ) → CameTo got e → CameTo got (record e { held = n })
+  pub came_count : (got : Option (Known V)) (e : DeskNow V) (n : ℕ) → CameTo got e → CameTo got (record e { held = n })
   came_count None e n came = tt
   came_count (Some r) e n came = came
 

@@ -2,14 +2,15 @@
 use Rattle.std.specs.Prelude.{◌≡◌, ℕ, Bool, false, true, List, [], ◌∷◌, slice_index, Option, None, Some}
 use Rattle.control_word.specs.declared.model.event.Entry.{Entry}
 use Rattle.control_word.specs.declared.model.event.Event.{Event}
-use Rattle.control_word.specs.declared.model.event.Event.TheVariants.{Make}
+use Rattle.control_word.specs.declared.model.event.Event.TheVariants.{Count, Make}
+use Rattle.control_word.specs.declared.model.handle.Kind.{Kind}
 use Rattle.control_word.specs.declared.place.Block.{Block}
 use Rattle.control_word.specs.declared.place.Place.{Place}
 use Rattle.control_word.specs.declared.refusal.Refusal.{Refusal}
 use Rattle.control_word.specs.declared.refusal.Refusal.TheVariants.{Null, Outside}
 use Rattle.control_word.specs.Events.{origin}
 use Rattle.control_word.specs.Histories.{IsLegal, entry}
-use Rattle.control_block.specs.Desks.{DeskNow}
+use Rattle.control_block.specs.Desks.{AddsEvent, DeskNow, on_latest}
 use Rattle.control_block.specs.Rule.{opening_of}
 use Rattle.shared_handle.specs.Endings.{IsOutside}
 use Rattle.shared_handle.specs.Locks.{IsLock}
@@ -64,3 +65,8 @@ module _ {V : Type 0} where
   abbrev pub FindsNoOwner : DeskNow V → Option Block → Option Place → DeskNow V → Type 0
   FindsNoOwner d None p e = e ≡ d
   FindsNoOwner d (Some b) p e = IsLock d b p false e
+
+  -- a step of the desk told how many owners the object has ([util.smartptr.shared.obs], [util.smartptr.weak.obs])
+  abbrev pub IsCounted : DeskNow V → Kind → Option Block → Option Place → ℕ → DeskNow V → Type 0
+  IsCounted d k None p n e = (n ≡ 0) × (e ≡ d)
+  IsCounted d k (Some b) p n e = AddsEvent d (Count (on_latest d k p b.0) n) e

@@ -12,6 +12,7 @@ mod leaves;
 mod looks;
 mod makes;
 mod opening;
+pub(crate) mod optional_compares;
 mod passing;
 mod passing_weak;
 mod shares;

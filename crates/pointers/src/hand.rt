@@ -15,6 +15,7 @@ use std::cell::RefMut;
 use std::marker::Model;
 
 mod cells;
+mod compares;
 mod pointers;
 
 /// A desk that is held: each call says what the desk was before, and what it is then, with this one event of its own.

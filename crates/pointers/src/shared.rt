@@ -8,7 +8,7 @@ ghost use Rattle.shared_handle.specs.Visits.{IsVisit};
 ghost use Rattle.pointers.specs.Faults.{WhyNoMore, WhyNoThis, WhyNot, WhyNotVisited};
 ghost use Rattle.pointers.specs.HandCalls.{CameAsCopy, CameAsWeak};
 ghost use Rattle.pointers.specs.Known.{AreOfOne, Since, owned, pointed};
-ghost use Rattle.pointers.specs.Objects.{IsField, WhyNoField, number_of_block};
+ghost use Rattle.pointers.specs.Objects.{IsCounted, IsField, WhyNoField, number_of_block};
 ghost use Rattle.pointers.specs.Values.{IsCopied};
 
 use crate::claim::shared_claim::SharedClaim;
@@ -179,7 +179,7 @@ impl<'t, D: Domain> Shared<'t, D> {
     #[inline(always)]
     pub fn use_count(&self) -> Result<u32, Fault>
         ensures count { IfOk result (λ n. Since D.opened self.now
-            (λ d e. calls.IsUseCount d kind.Owner (owned self.now) (pointed self.now) n e)) }
+            (λ d e. IsCounted d kind.Owner (owned self.now) (pointed self.now) n e)) }
         ensures fault { IfErr result (λ why. why ≡ Fault.Busy Call.UseCount) }
     {
         let desk = self.desk;

@@ -6,7 +6,7 @@ ghost use Rattle.shared_handle.specs.Calls as calls;
 ghost use Rattle.pointers.specs.Faults.{WhyNoMore, WhyNoOwner, WhyNot};
 ghost use Rattle.pointers.specs.HandCalls.{CameAsWeak, CameByLock};
 ghost use Rattle.pointers.specs.Known.{AreOfOne, Since, owned, pointed};
-ghost use Rattle.pointers.specs.Objects.{FindsNoOwner};
+ghost use Rattle.pointers.specs.Objects.{FindsNoOwner, IsCounted};
 
 use crate::claim::weak_claim::WeakClaim;
 use crate::desk::Desk;
@@ -154,7 +154,7 @@ impl<'t, D: Domain> Weak<'t, D> {
     #[inline(always)]
     pub fn use_count(&self) -> Result<u32, Fault>
         ensures count { IfOk result (λ n. Since D.opened self.now
-            (λ d e. calls.IsUseCount d kind.Weak (owned self.now) (pointed self.now) n e)) }
+            (λ d e. IsCounted d kind.Weak (owned self.now) (pointed self.now) n e)) }
         ensures fault { IfErr result (λ why. why ≡ Fault.Busy Call.UseCount) }
     {
         let desk = self.desk;

@@ -6,7 +6,9 @@ ghost use Rattle.pointers.specs.Claims.{known_by};
 ghost use Rattle.pointers.specs.Compares.{Finds, desired_after};
 ghost use Rattle.pointers.specs.Faults.{WhyNoMore};
 ghost use Rattle.pointers.specs.Cells.{IsSharedSite, shared_cell_of};
+ghost use Rattle.pointers.specs.Places.{WhyNoCell, shared_site_of, spot_of};
 ghost use Rattle.pointers.specs.SiteCalls.{Compared, WhyNotDone};
+ghost use Rattle.pointers.specs.Sites.{owner_of};
 
 use crate::cells::member::Member;
 use crate::claim::shared_claim::SharedClaim;
@@ -201,6 +203,26 @@ impl<'p, 't, D: Domain> Member<'p, 't, D> {
         self.compare(rt, true, expected, desired)
     }
 
+    /// A compare of it, by its form.
+    #[inline(always)]
+    pub(crate) fn comparing(&self, weak: bool) -> Result<Compare<'p, SharedAt<'p>, D>, Fault>
+        ensures cell { IfOk result (λ how. IsSharedSite D.opened how.at.site (known_by how.of)) }
+        ensures there { IfOk result (λ how. (how.at.site ≡ shared_site_of self.now)
+            × (known_by how.of ≡ owner_of self.now)) }
+        ensures form { IfOk result (λ how. (how.weak ≡ weak)
+            × (how.call ≡ Call.CompareExchange (spot_of Owner self.now))) }
+        ensures refused { IfErr result
+            (WhyNoCell D.opened Owner self.now (Call.CompareExchange (spot_of Owner self.now))) }
+    {
+        let call = Call::CompareExchange(self.spot());
+        Ok(Compare {
+            call,
+            at: self.at(call)?,
+            of: self.owner(),
+            weak,
+        })
+    }
+
     #[inline(always)]
     fn compare<R: Wait>(
         &self,
@@ -214,15 +236,8 @@ impl<'p, 't, D: Domain> Member<'p, 't, D> {
         ensures refused { IfErr result (WhyNotDone D.opened Owner self.now Call.CompareExchange) }
         ensures stay { IfErr result (λ _. (expected.new ≡ expected.old) × (desired.new ≡ desired.old)) }
     {
-        let desk = self.desk;
-        let call = Call::CompareExchange(self.spot());
-        let how = Compare {
-            call,
-            at: self.at(call)?,
-            of: self.owner(),
-            weak,
-        };
-        let found = desk.compare_any(rt, &how, expected, desired)?;
+        let how = self.comparing(weak)?;
+        let found = self.desk.compare_any(rt, &how, expected, desired)?;
         match found {
             None => Ok(true),
             Some(held) => {

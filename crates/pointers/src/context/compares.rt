@@ -1,15 +1,17 @@
 //! Compares of cells of owners.
-ghost use Rattle.std.specs.Prelude.{◌≡◌, ◌↔◌, ◌+◌, cond, IfErr, IfOk, IfSome, IsErr, OnOk, Some};
+ghost use Rattle.std.specs.Prelude.{◌≡◌, ◌↔◌, ◌+◌, ◌≤◌, cond, IfErr, IfOk, IfSome, IsErr, OnOk, Some};
 ghost use Rattle.control_word.specs.declared.model.handle.Kind.TheVariants.{Owner};
 ghost use Rattle.control_block.specs.CellCalls.{HoldsHandle};
-ghost use Rattle.control_block.specs.Desks.{Belongs, Keeps, bag_of};
+ghost use Rattle.control_block.specs.Desks.{Belongs, Keeps, allowance_of, bag_of, held_of};
 ghost use Rattle.atomic_cells.specs.Compares.{Compares, GivesBackDesired, bag_compared, came_out, has_swapped};
 ghost use Rattle.atomic_cells.specs.Sites.{IsOpenSite, shared_cell};
+ghost use Rattle.shared_handle.specs.Calls.{counting};
 ghost use Rattle.pointers.specs.Beside.{IsEmptyHandle, seen_by};
 ghost use Rattle.pointers.specs.Claims.{known_by};
 ghost use Rattle.pointers.specs.Cells.{IsSharedSite, shared_cell_of};
 ghost use Rattle.pointers.specs.Compares.{Finds};
 ghost use Rattle.pointers.specs.Faults.{Was};
+ghost use Rattle.pointers.specs.HandCalls.{FindsNow};
 ghost use Rattle.pointers.specs.Known.{IsAtAllowance};
 
 use crate::claim::shared_claim::SharedClaim;
@@ -96,6 +98,10 @@ impl<D: Domain> Context<D> {
     ) -> Result<SharedClaim<D>, Refusal>
         requires { Belongs D.opened domain.now }
         ensures empty { IfOk result (λ r. IsEmptyHandle r.known.handle) }
+        ensures count { OnOk result (self.new.desk ≡ counting (self.old.desk.held + 1) self.old.desk) }
+        ensures room { OnOk result (held_of self.new.desk ≤ allowance_of self.new.desk) }
+        ensures unchanged { IfErr result (λ _. self.new.desk ≡ self.old.desk) }
+        ensures limit { IsErr result ↔ IsAtAllowance self.old.desk }
         ensures refused { IfErr result
             (λ why. (why ≡ Refusal.Limit) × Was D.opened (known_by of.entry) IsAtAllowance) }
     {
@@ -124,6 +130,12 @@ impl<D: Domain> Context<D> {
             (seen_by (λ d. seen_by (λ x. x.known) d.held) r.0)) }
         ensures stays { IfOk result (λ r. IfSome r.0 (λ d. d.desired.known ≡ desired.known)) }
         ensures back { IfErr result (λ r. r.back.known ≡ desired.known) }
+        ensures exact { IfOk result (λ r. FindsNow self.old.desk
+            (shared_cell_of D.opened (known_by how.now.of) how.now.at.site) how.now.weak
+            (Some expected.now.known) (Some desired.known)
+            (seen_by (λ d. seen_by (λ x. x.known) d.held) r.0) self.new.desk) }
+        ensures unchanged { IfErr result (λ _. self.new.desk ≡ self.old.desk) }
+        ensures limit { IsErr result ↔ IsAtAllowance self.old.desk }
         ensures refused { IfErr result (λ r. (r.why ≡ Refusal.Limit)
             × Was D.opened (known_by how.now.of) IsAtAllowance) }
     {

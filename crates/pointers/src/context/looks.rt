@@ -3,10 +3,10 @@ ghost use Rattle.std.specs.Prelude.{◌≡◌, IfErr, IfOk, None};
 ghost use Rattle.control_word.specs.declared.model.handle.Kind.TheVariants.{Owner, Weak};
 ghost use Rattle.control_block.specs.Desks.{Belongs};
 ghost use Rattle.control_block.specs.HandleLists.{IsHeldByDesk};
-ghost use Rattle.shared_handle.specs.Calls.{IsExpiry, IsUseCount};
+ghost use Rattle.shared_handle.specs.Calls.{IsExpiry};
 ghost use Rattle.shared_handle.specs.Locks.{HasOwner};
 ghost use Rattle.pointers.specs.Known.{Lives, Since, owned, pointed};
-ghost use Rattle.pointers.specs.Objects.{IsField, WhyNoField};
+ghost use Rattle.pointers.specs.Objects.{IsCounted, IsField, WhyNoField};
 
 use crate::claim::shared_claim::SharedClaim;
 use crate::claim::weak_claim::WeakClaim;
@@ -37,8 +37,8 @@ impl<D: Domain> Context<D> {
     ) -> u32
         requires { Belongs D.opened domain.now }
         ensures since { Since D.opened of.now.known
-            (λ d e. IsUseCount d Owner (owned of.now.known) (pointed of.now.known) result e) }
-        ensures exact { IsUseCount self.old.desk Owner (owned of.now.known) (pointed of.now.known) result
+            (λ d e. IsCounted d Owner (owned of.now.known) (pointed of.now.known) result e) }
+        ensures exact { IsCounted self.old.desk Owner (owned of.now.known) (pointed of.now.known) result
             self.new.desk }
     {
         let of = of.look(&mut self.claims);
@@ -54,7 +54,7 @@ impl<D: Domain> Context<D> {
     ) -> u32
         requires { Belongs D.opened domain.now }
         ensures { Since D.opened of.now.known
-            (λ d e. IsUseCount d Weak (owned of.now.known) (pointed of.now.known) result e) }
+            (λ d e. IsCounted d Weak (owned of.now.known) (pointed of.now.known) result e) }
     {
         let of = of.look(&mut self.claims);
         use_count_weak(domain, &mut self.desk, of)

@@ -6,7 +6,7 @@ ghost use Rattle.shared_handle.specs.Calls as calls;
 ghost use Rattle.shared_handle.specs.Locks.{HasOwner};
 ghost use Rattle.pointers.specs.HandCalls.{Locks, MakesNow, Restocks, SharesNow, SharesWeaklyNow};
 ghost use Rattle.pointers.specs.Known.{AreOfOne, IsAtAllowance, owned, pointed};
-ghost use Rattle.pointers.specs.Objects.{FindsNoOwner};
+ghost use Rattle.pointers.specs.Objects.{FindsNoOwner, IsCounted};
 
 use crate::domain::Domain;
 use crate::fault::call::Call;
@@ -116,7 +116,7 @@ impl<'t, D: Domain> Hand<'t, D> {
 
     /// As `Shared::use_count`.
     pub fn use_count(&mut self, of: &Shared<'_, D>) -> u32
-        ensures { calls.IsUseCount self.old kind.Owner (owned of.now) (pointed of.now) result self.new }
+        ensures { IsCounted self.old kind.Owner (owned of.now) (pointed of.now) result self.new }
     {
         let domain = self.desk.domain;
         self.context.use_count(domain, &of.owner)

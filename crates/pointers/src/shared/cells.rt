@@ -2,6 +2,7 @@
 ghost use Rattle.std.specs.Prelude.{◌≡◌, IfErr, IfOk, None, OnOk, Option, Some};
 ghost use Rattle.control_word.specs.declared.model.handle.Kind.TheVariants.{Owner};
 ghost use Rattle.pointers.specs.Beside.{seen_by};
+ghost use Rattle.pointers.specs.Claims.{known_by};
 ghost use Rattle.pointers.specs.SiteCalls.{Exchanged, Locked, Stored, WhyNotDone, WhyNotLocked};
 ghost use Rattle.pointers.specs.Sites.{free_site, member_site};
 
@@ -39,6 +40,19 @@ pub(crate) fn claim<'t, D: Domain>(pointer: Option<Shared<'t, D>>) -> Option<Sha
 {
     match pointer {
         Some(pointer) => Some(pointer.into_claim()),
+        None => None,
+    }
+}
+
+/// The claim of a pointer that is borrowed, if there is one.
+#[inline(always)]
+pub(crate) fn claim_in<'a, 't, D: Domain>(
+    pointer: &'a Option<Shared<'t, D>>,
+) -> Option<&'a SharedClaim<D>>
+    ensures { known_by result ≡ pointer.now }
+{
+    match pointer {
+        Some(pointer) => Some(&pointer.owner),
         None => None,
     }
 }

@@ -1,4 +1,4 @@
-use Rattle.std.proofs.Common.{[], ◌∷◌, refl, ◌∙◌}
+use Rattle.std.proofs.Common.{[], ◌∷◌, Some, ap, refl, ◌∙◌}
 use Rattle.pointers.proofs.Prelude.{Differs, Owner, Shared, shared_cell, Swapped}
 use Rattle.control_block.specs.declared.handles.Held.TheVariants as held
 use Rattle.pointers.proofs.Calls.{by_drop}
@@ -7,7 +7,9 @@ use Rattle.pointers.proofs.Compares.{at_same, differed, hand_more, hand_swapped,
 use Rattle.pointers.proofs.Handles.{owner_held, was_at}
 use Rattle.pointers.proofs.InHand.{bears_more, carries_here, in_hand, leaves, nothing_beside}
 use Rattle.pointers.proofs.InHand.{whole_again}
+use Rattle.pointers.proofs.HandCompares.{differs_now, swaps_now}
 use Rattle.pointers.proofs.Later.{by_event}
+use Rattle.pointers.specs.Whole.{ContextNow}
 use Rattle.pointers.proofs.context.Context.compare.Goals as goal
 
 pub handles-requires-clause-cell : goal.handles-requires-clause-cell
@@ -121,3 +123,35 @@ returns-in-Err-clause-refused g c =
       says.refused.0,
       was_at o d c.self.inside.pile c.self.inside.claims.entries _ c.self.invariant c.look_at.ensures.has (says.limit.0 refl),
     )
+
+pub returns-in-Ok-Swapped-clause-exact : goal.returns-in-Ok-Swapped-clause-exact
+returns-in-Ok-Swapped-clause-exact g c =
+    let o = g.D.Domain.opened in let d = c.self.inside.desk in let e = c.handles.new.desk in let p = c.self.inside.pile in
+    let cs = c.self.inside.claims.entries in let w = c.self.invariant in
+    let first = c.look-hoped.ensures in let second = c.split-entry.ensures in
+    let x = shared_cell d c.args.how.now.at.site in let hoped = c.look-hoped.result.now in let new = c.split-entry.result.0 in
+    let raw = c.in-Ok-Swapped.ensures in
+    let says = says_by d x Owner hoped.block hoped.place new.block new.place c.args.how.now.weak e
+    (λ (h : Shared). h.block) (λ (h : Shared). h.place) _ (Swapped c.in-Ok-Swapped.found)
+    c.in-Ok-Swapped.field-0-is raw.compared raw.bag raw.held in
+    let of = stays o d p [] cs _ (nothing_beside o d p cs w) c.look_at.ensures.has in let out = c.drop_shared-gone.ensures.left in
+    swaps_now c.args.self.now.desk d e c.drop_shared-gone.new.desk _ _ (held.Owner hoped) (held.Owner new) (held.Owner c.in-Ok-Swapped.found)
+    (Some c.args.expected.now.known) (Some c.args.desired.known) c.args.how.now.weak out.left
+    (shared_alike o d c.args.how.now.at.site _ of c.requires.cell) first.handle second.handle says.compared out.leaves
+    (ap (λ (x : ContextNow g.row.D-Value.Denot). x.desk) c.self.view_is)
+
+pub returns-in-Ok-Differs-clause-exact : goal.returns-in-Ok-Differs-clause-exact
+returns-in-Ok-Differs-clause-exact g c =
+    let o = g.D.Domain.opened in let d = c.self.inside.desk in let e = c.handles.new.desk in let p = c.self.inside.pile in
+    let cs = c.self.inside.claims.entries in let w = c.self.invariant in
+    let first = c.look-hoped.ensures in let second = c.split-entry.ensures in
+    let x = shared_cell d c.args.how.now.at.site in let hoped = c.look-hoped.result.now in let new = c.split-entry.result.0 in
+    let raw = c.in-Ok-Differs.ensures in
+    let says = says_by d x Owner hoped.block hoped.place new.block new.place c.args.how.now.weak e
+    (λ (h : Shared). h.block) (λ (h : Shared). h.place) _ (Differs c.in-Ok-Differs.held c.in-Ok-Differs.desired)
+    c.in-Ok-Differs.field-0-is raw.compared raw.bag raw.held in
+    let of = stays o d p [] cs _ (nothing_beside o d p cs w) c.look_at.ensures.has in
+    differs_now c.args.self.now.desk d e c.arrived-held.new.desk _ _ (held.Owner hoped) (held.Owner new) (held.Owner c.in-Ok-Differs.held)
+    (Some c.args.expected.now.known) (Some c.args.desired.known) _ c.args.how.now.weak
+    (shared_alike o d c.args.how.now.at.site _ of c.requires.cell) first.handle second.handle says.compared
+    c.arrived-held.ensures.came c.arrived-held.ensures.count (ap (λ (x : ContextNow g.row.D-Value.Denot). x.desk) c.self.view_is)

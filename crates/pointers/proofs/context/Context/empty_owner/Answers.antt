@@ -1,6 +1,7 @@
 use Rattle.std.proofs.Common.{List, [], ◌∷◌, ◌++◌, Some, Option, refl, ap, ◌∙◌}
 use Rattle.pointers.proofs.Prelude.{Known}
 use Rattle.control_block.specs.declared.handles.Held.TheVariants as held
+use Rattle.pointers.proofs.HandCompares.{room_left}
 use Rattle.pointers.proofs.Handles.{passed_on, was_at}
 use Rattle.pointers.proofs.InHand.{claim_begins, comes_empty, nothing_beside}
 use Rattle.pointers.proofs.context.Context.empty_owner.Goals as goal
@@ -19,3 +20,8 @@ returns-in_err-handle-clause-refused g c =
     let o = g.D.Domain.opened in let d = c.self.inside.desk in let says = c.in_err-handle.ensures in
     let was = was_at o d c.self.inside.pile c.self.inside.claims.entries _ c.self.invariant c.look_at.ensures.has (says.limit.0 refl) in
     passed_on _ _ c.in_err-handle.field-0.0 c.from_residual.ensures.1 (says.refused.0, was)
+
+pub returns-clause-room : goal.returns-clause-room
+returns-clause-room g c =
+    let says = c.in_ok-handle.ensures in
+    room_left c.self.inside.desk c.empty.new.desk c.assert_invariant.ensures (λ at. absurd (cc (says.limit.1 at))) says.counted

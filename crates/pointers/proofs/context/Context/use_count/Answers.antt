@@ -1,8 +1,9 @@
 use Rattle.std.proofs.Common.{sym, subst}
-use Rattle.pointers.proofs.Prelude.{block_of, Held, IsUseCount, Owner, place_of}
+use Rattle.pointers.proofs.Prelude.{block_of, Held, Owner, place_of}
 use Rattle.pointers.specs.Known.{owned, pointed}
+use Rattle.pointers.specs.Objects.{IsCounted}
 use Rattle.pointers.specs.Whole.{ContextNow}
-use Rattle.pointers.proofs.Calls.{by_count_of}
+use Rattle.pointers.proofs.Calls.{by_count_of, counts_owners}
 use Rattle.pointers.proofs.Handles.{alike, bears_by, owner_held, since}
 use Rattle.pointers.proofs.context.Context.use_count.Goals as goal
 
@@ -25,11 +26,13 @@ returns-clause-since g c =
     let o = g.D.Domain.opened in let d = c.self.inside.desk in let e = c.use_count.new.desk in let of = c.look-of.result.now in
     let is = sym c.look-of.ensures.handle in
     since o d e c.self.inside.pile c.self.inside.claims.entries c.args.of.now.at c.args.of.now.known c.self.invariant c.look-of.ensures.has
-    (subst (λ (h : Held). IsUseCount d Owner (block_of h) (place_of h) c.use_count.result e) is c.use_count.ensures.count)
+    (subst (λ (h : Held). IsCounted d Owner (block_of h) (place_of h) c.use_count.result e) is
+    (counts_owners d Owner of.block of.place _ e c.use_count.ensures.count))
 
 pub returns-clause-exact : goal.returns-clause-exact
 returns-clause-exact g c =
-    let d = c.self.inside.desk in let e = c.use_count.new.desk in
+    let d = c.self.inside.desk in let e = c.use_count.new.desk in let of = c.look-of.result.now in
     subst (λ (x : ContextNow g.row.D-Value.Denot).
-    IsUseCount x.desk Owner (owned c.args.of.now.known) (pointed c.args.of.now.known) c.use_count.result e) c.self.view_is
-    (subst (λ (h : Held). IsUseCount d Owner (block_of h) (place_of h) c.use_count.result e) (sym c.look-of.ensures.handle) c.use_count.ensures.count)
+    IsCounted x.desk Owner (owned c.args.of.now.known) (pointed c.args.of.now.known) c.use_count.result e) c.self.view_is
+    (subst (λ (h : Held). IsCounted d Owner (block_of h) (place_of h) c.use_count.result e) (sym c.look-of.ensures.handle)
+    (counts_owners d Owner of.block of.place _ e c.use_count.ensures.count))

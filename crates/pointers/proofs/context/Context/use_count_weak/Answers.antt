@@ -1,6 +1,7 @@
 use Rattle.std.proofs.Common.{sym, subst}
-use Rattle.pointers.proofs.Prelude.{block_of, Held, IsUseCount, place_of, Weak}
-use Rattle.pointers.proofs.Calls.{by_count_of}
+use Rattle.pointers.proofs.Prelude.{block_of, Held, place_of, Weak}
+use Rattle.pointers.proofs.Calls.{by_count_of, counts_owners}
+use Rattle.pointers.specs.Objects.{IsCounted}
 use Rattle.pointers.proofs.Handles.{alike, bears_by, weak_held, since}
 use Rattle.pointers.proofs.context.Context.use_count_weak.Goals as goal
 
@@ -23,4 +24,5 @@ returns g c =
     let o = g.D.Domain.opened in let d = c.self.inside.desk in let e = c.use_count_weak.new.desk in let of = c.look-of.result.now in
     let is = sym c.look-of.ensures.handle in
     since o d e c.self.inside.pile c.self.inside.claims.entries c.args.of.now.at c.args.of.now.known c.self.invariant c.look-of.ensures.has
-    (subst (λ (h : Held). IsUseCount d Weak (block_of h) (place_of h) c.use_count_weak.result e) is c.use_count_weak.ensures.count)
+    (subst (λ (h : Held). IsCounted d Weak (block_of h) (place_of h) c.use_count_weak.result e) is
+    (counts_owners d Weak of.block of.place _ e c.use_count_weak.ensures.count))
