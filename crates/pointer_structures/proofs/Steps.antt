@@ -19,7 +19,7 @@ use Rattle.pointers.specs.declared.fault.Fault.{Fault}
 use Rattle.pointers.specs.declared.fault.call.Call.{Call}
 use Rattle.pointers.specs.declared.fault.call.Call.TheVariants.{Share}
 use Rattle.pointers.specs.declared.known.Known.{Known}
-use Rattle.pointer_structures.specs.Refusals.{IsChainRefused, IsUpRefused}
+use Rattle.pointer_structures.specs.Refusals.{IsUpRefused}
 use Rattle.pointer_structures.specs.Stacks.{GoesFirst, Pops, WhyNotPushed}
 use Rattle.pointer_structures.specs.Trees.{Detaches, LeavesChildren, HasParent, IsChildRefused, IsNoChild, Unlinks, first_of}
 use Rattle.pointer_structures.specs.Watches.{ComesUp}

@@ -3,7 +3,7 @@ use Rattle.std.specs.Prelude.{Some}
 use Rattle.control_word.specs.declared.model.handle.Kind.TheVariants.{Weak}
 use Rattle.control_block.specs.Desks.{DeskNow}
 use Rattle.pointers.specs.Faults.{WhyNoMore}
-use Rattle.pointers.specs.ListChanges.{IsListRefused, IsRefusedAt}
+use Rattle.pointers.specs.ListChanges.{IsListRefused}
 use Rattle.pointers.specs.Places.{WhyNotDoneAt}
 use Rattle.pointers.specs.Sites.{Site, member_site}
 use Rattle.pointers.specs.declared.fault.Fault.{Fault}

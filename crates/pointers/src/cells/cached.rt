@@ -6,6 +6,8 @@ ghost use Rattle.pointers.specs.declared.known.Known.{Known};
 ghost use Rattle.pointers.specs.declared.fault.call.Call.TheVariants.{Holds};
 ghost use Rattle.pointers.specs.SiteCalls.{Found, LookedFor, WhyNotFound, WhyNotLooked};
 
+use crate::cells::SharedCell;
+use crate::cells::location::Location;
 use crate::cells::member::Member;
 use crate::domain::Domain;
 use crate::fault::Fault;
@@ -38,6 +40,19 @@ impl<'p, 't, D: Domain> Member<'p, 't, D> {
         Cached {
             place: self,
             found: None,
+        }
+    }
+
+    /// As `holds_this`, for a look again and again: a free cell's is a call of its own, which asks once what the place
+    /// is.
+    #[inline(always)]
+    pub(crate) fn still_holds(&self, mine: &Shared<'t, D>) -> Result<bool, Fault>
+        ensures told { IfOk result (LookedFor D.opened Owner self.now (Some mine.now)) }
+        ensures refused { IfErr result (WhyNotLooked D.opened Owner self.now Holds) }
+    {
+        match self.location {
+            Location::Free(number) => self.desk.cell(SharedCell(number)).holds_this(mine),
+            Location::Member(..) => self.holds_this(mine),
         }
     }
 }
@@ -85,7 +100,7 @@ impl<'p, 't, D: Domain> Cached<'p, 't, D> {
         ensures refused { IfErr result (WhyNotLooked D.opened Owner self.now.place Holds) }
     {
         match &self.found {
-            Some(found) => self.place.holds_this(found),
+            Some(found) => self.place.still_holds(found),
             None => Ok(false),
         }
     }

@@ -141,7 +141,7 @@ where
         ensures refused { IfErr result (WhyNotLooked D.opened Owner self.now.place Holds) }
     {
         match &self.kept {
-            Some(kept) => self.place.holds_this(&kept.owner),
+            Some(kept) => self.place.still_holds(&kept.owner),
             None => Ok(false),
         }
     }

@@ -4,4 +4,4 @@ use Rattle.pointers.proofs.cells.cached.Cached.holds_still.Goals as goal
 
 pub returns-in-Some-clause-found : goal.returns-in-Some-clause-found
 returns-in-Some-clause-found g c =
-    told_still g.D.Domain.opened _ _ Owner c.in-Some.found c.args.self.now.found c.holds_this.result c.in-Some.is c.holds_this.ensures.told
+    told_still g.D.Domain.opened _ _ Owner c.in-Some.found c.args.self.now.found c.still_holds.result c.in-Some.is c.still_holds.ensures.told

@@ -6,4 +6,4 @@ use Rattle.pointers.proofs.cells.cached_value.CachedValue.holds_still.Goals as g
 
 pub returns-in-Some-clause-found : goal.returns-in-Some-clause-found
 returns-in-Some-clause-found g c =
-    told_still g.D.Domain.opened _ _ Owner c.in-Some.kept.owner _ c.holds_this.result (ap (seen_by (λ k. k.owner)) c.in-Some.is) c.holds_this.ensures.told
+    told_still g.D.Domain.opened _ _ Owner c.in-Some.kept.owner _ c.still_holds.result (ap (seen_by (λ k. k.owner)) c.in-Some.is) c.still_holds.ensures.told
