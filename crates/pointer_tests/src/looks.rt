@@ -2,7 +2,8 @@
 
 use pointer_calls::row;
 use pointers::{
-    Cached, Call, Desk, Domain, Fault, Place, Program, Refusal, Shared, SharedCell, Spot, WeakCell,
+    Cached, CachedWeak, Call, Desk, Domain, Fault, Place, Program, Refusal, Shared, SharedCell,
+    Spot, WeakCell,
 };
 use std::sync::Wait;
 use std::thread::Threads;
@@ -135,6 +136,59 @@ impl<R: Threads + Wait + Sync> Program<u64, R> for Reads {
     }
 }
 
+/// What a cached read of a weak place finds, by the field of its object, or nothing where that has ended.
+fn weak_field<D: Domain<Value = u64>, R: Wait>(
+    rt: &R,
+    cached: &mut CachedWeak<'_, '_, D>,
+) -> Result<Option<u64>, Fault> {
+    let Some(weak) = cached.get(rt)? else {
+        return Ok(None);
+    };
+    match weak.lock(rt)? {
+        Some(owner) => Ok(Some(owner.read()?)),
+        None => Ok(None),
+    }
+}
+
+/// A weak cell that is read again and again: what was found last is counted as no owner, and keeps no object.
+struct WeakReads;
+
+impl<R: Threads + Wait + Sync> Program<u64, R> for WeakReads {
+    fn work<D: Domain<Value = u64>>(
+        &self,
+        rt: &R,
+        _number: usize,
+        desk: &Desk<D>,
+    ) -> Result<(), Fault> {
+        let mut cached = desk.cached_weak(WATCHED);
+        row(1, cached.get(rt)?.is_none())?;
+        let first = desk.make([1; 4], 1)?;
+        first.downgrade()?.store(WATCHED)?;
+        row(2, weak_field(rt, &mut cached)? == Some(1))?;
+        row(3, weak_field(rt, &mut cached)? == Some(1))?;
+        row(4, first.use_count()? == 1)?;
+        drop(first);
+        row(5, weak_field(rt, &mut cached)? == None)?;
+        row(6, cached.found().is_some())?;
+        let second = desk.make([2; 4], 2)?;
+        second.downgrade()?.store(WATCHED)?;
+        row(7, weak_field(rt, &mut cached)? == Some(2))?;
+        desk.clear_weak(WATCHED)?;
+        row(8, cached.get(rt)?.is_none())?;
+        let mut up = second.up().cached();
+        row(9, weak_field(rt, &mut up)? == None)?;
+        second.up().store(Some(second.downgrade()?))?;
+        up.look(rt)?;
+        row(10, up.found().is_some())?;
+        row(11, weak_field(rt, &mut up)? == Some(2))?;
+        let none = Fault::Cell(Call::Load(Spot::Weak(2)));
+        row(
+            12,
+            weak_field(rt, &mut desk.cached_weak(WeakCell(2))) == Err(none),
+        )
+    }
+}
+
 /// A member that is read so, and a wait for what a cell no longer holds.
 struct Waits;
 
@@ -210,6 +264,11 @@ mod tests {
     #[test]
     fn a_cached_read_finds_what_the_cell_holds(rt: HostRuntime) {
         plays(&rt, rt.alloc(), &Reads);
+    }
+
+    #[test]
+    fn a_cached_read_of_a_weak_cell_keeps_no_object(rt: HostRuntime) {
+        plays(&rt, rt.alloc(), &WeakReads);
     }
 
     #[test]

@@ -3,6 +3,7 @@ ghost use Rattle.std.specs.Prelude.{◌≡◌, ◌<◌, ◌≤◌, ◌^◌};
 
 pub mod cached;
 pub mod cached_value;
+pub mod cached_weak;
 mod compares;
 mod compares_weak;
 pub mod link;

@@ -16,6 +16,7 @@ mod weak;
 
 pub use crate::cells::cached::Cached;
 pub use crate::cells::cached_value::CachedValue;
+pub use crate::cells::cached_weak::CachedWeak;
 pub use crate::cells::link::Link;
 pub use crate::cells::member::Member;
 pub use crate::cells::pool::FreeCells;
