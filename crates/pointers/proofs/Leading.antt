@@ -6,7 +6,8 @@ use Rattle.pointers.proofs.Prelude.{allowance_of, Answer, AreTeams, DeskNow, Eac
 use Rattle.pointers.proofs.Prelude.{Failed, Fault, faults_from, Fits, HasShares, held_of}
 use Rattle.pointers.proofs.Prelude.{Led, led_by, Lends, Shape, Stay, suc-mul, Team}
 use Rattle.pointers.proofs.Runs.{fits_few}
-use Rattle.pointers.specs.Leading.{Ends, Follows, IsAsBefore, IsOver, Lead, LeadsOn, Starts}
+use Rattle.pointers.specs.Leading.{Ends, Follows, IsAsBefore, IsOver, Lead, LeadsOn, Starts, led_with}
+use Rattle.pointers.specs.declared.known.Known.{Known}
 use Rattle.pointers.specs.Teams.{handles_of}
 use Rattle.pointers.specs.declared.program.teams.Teams.{Teams}
 
@@ -63,11 +64,11 @@ module _ {V : Type 0} where
   pub stay_then : (t u v : Teams V) → Stay t u → Stay u v → Stay t v
   stay_then t u v a b = record { domain = b.domain ∙ a.domain; allowance = b.allowance ∙ a.allowance; endings = b.endings ∙ a.endings }
 
-  module _ {P : Type 0} (leads : Lead P) (answers : P → ℕ → Answer) where
-    starts : (p q : P) (next : Option Team) (t u : Teams V) → leads p t.before (Ok next) q → Follows (answers q) next t u
-        → Starts leads answers (led_by p t) (led_by q u)
-    starts p q None t u call s = absurd s
-    starts p q (Some team) t u call s =
+  module _ {P : Type 0} (leads : Lead P V) (answers : P → ℕ → Answer) where
+    starts : (p q : P) (ks ms : List (Known V)) (next : Option Team) (t u : Teams V) → leads p t.before ks (Ok next) q ms
+        → Follows (answers q) next t u → Starts leads answers (led_with p ks t) (led_with q ms u)
+    starts p q ks ms None t u call s = absurd s
+    starts p q ks ms (Some team) t u call s =
         record {
           team = team;
           manned = s.manned;
@@ -82,35 +83,42 @@ module _ {V : Type 0} where
         }
 
     -- a call started a team, where one was started that it answered
-    pub started : (p q : P) (r : Result (Option Team) Fault) (next : Option Team) (t u : Teams V) (done : Result (Unit {0}) (Option Fault))
-        → leads p t.before r q → r ≡ Ok next → OnOk done (Follows (answers q) next t u) → OnOk done (Starts leads answers (led_by p t) (led_by q u))
-    started p q r next t u (Ok x) call is s = starts p q next t u (subst (λ (a : Result (Option Team) Fault). leads p t.before a q) is call) s
-    started p q r next t u (Err fault) call is s = tt
+    pub started : (p q : P) (ks ms : List (Known V)) (r : Result (Option Team) Fault) (next : Option Team) (t u : Teams V)
+        (done : Result (Unit {0}) (Option Fault)) → leads p t.before ks r q ms → r ≡ Ok next → OnOk done (Follows (answers q) next t u)
+        → OnOk done (Starts leads answers (led_with p ks t) (led_with q ms u))
+    started p q ks ms r next t u (Ok x) call is s =
+        starts p q ks ms next t u (subst (λ (a : Result (Option Team) Fault). leads p t.before ks a q ms) is call) s
+    started p q ks ms r next t u (Err fault) call is s = tt
 
-    ends : (p q : P) (next : Option Team) (t : Teams V) (fault : Option Fault) → leads p t.before (Ok next) q → IsOver t.desk next fault
-        → Ends leads (led_by p t) q fault
-    ends p q None t None call over = call
-    ends p q None t (Some why) call over = absurd over
-    ends p q (Some team) t None call over = absurd over
-    ends p q (Some team) t (Some why) call over = inr (team, call, over)
+    ends : (p q : P) (ks ms : List (Known V)) (next : Option Team) (t : Teams V) (fault : Option Fault) → leads p t.before ks (Ok next) q ms
+        → IsOver t.desk next fault → Ends leads (led_with p ks t) q ms fault
+    ends p q ks ms None t None call over = call
+    ends p q ks ms None t (Some why) call over = absurd over
+    ends p q ks ms (Some team) t None call over = absurd over
+    ends p q ks ms (Some team) t (Some why) call over = inr (team, call, over)
 
     -- or none
-    pub ended : (p q : P) (r : Result (Option Team) Fault) (next : Option Team) (t : Teams V) (done : Result (Unit {0}) (Option Fault))
-        → leads p t.before r q → r ≡ Ok next → IfErr done (IsOver t.desk next) → IfErr done (Ends leads (led_by p t) q)
-    ended p q r next t (Ok x) call is over = tt
-    ended p q r next t (Err fault) call is over = ends p q next t fault (subst (λ (a : Result (Option Team) Fault). leads p t.before a q) is call) over
+    pub ended : (p q : P) (ks ms : List (Known V)) (r : Result (Option Team) Fault) (next : Option Team) (t : Teams V)
+        (done : Result (Unit {0}) (Option Fault)) → leads p t.before ks r q ms → r ≡ Ok next → IfErr done (IsOver t.desk next)
+        → IfErr done (Ends leads (led_with p ks t) q ms)
+    ended p q ks ms r next t (Ok x) call is over = tt
+    ended p q ks ms r next t (Err fault) call is over =
+        ends p q ks ms next t fault (subst (λ (a : Result (Option Team) Fault). leads p t.before ks a q ms) is call) over
 
     -- a call by which no team was started was the last one
-    pub leads_on : (l : Led P V) (past : List (Led P V)) (p q : P) (t u : Teams V) (fault : Option Fault) → AreTeams leads answers l past (led_by p t)
-        → Ends leads (led_by p t) q fault → IsAsBefore t u → LeadsOn leads answers l (led_by q u) fault
-    leads_on l past p q t u fault teams over same =
+    pub leads_on : (l : Led P V) (past : List (Led P V)) (p q : P) (ks ms : List (Known V)) (t u : Teams V) (fault : Option Fault)
+        → AreTeams leads answers l past (led_with p ks t) → Ends leads (led_with p ks t) q ms fault → IsAsBefore t u
+        → LeadsOn leads answers l (led_by q u) fault
+    leads_on l past p q ks ms t u fault teams over same =
         record {
           past = past;
-          last = led_by p t;
+          last = led_with p ks t;
           teams = teams;
+          kept = ms;
           over = over;
           left = λ i. record {
             leader = q;
+            kept = [];
             before = sym same.before i;
             desk = sym same.desk i;
             workers = sym same.workers i;

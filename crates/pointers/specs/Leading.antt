@@ -13,18 +13,20 @@ use Rattle.pointers.specs.Shares.{GivesBack, HasShares, Joins}
 use Rattle.pointers.specs.declared.fault.Fault.{Fault}
 use Rattle.pointers.specs.declared.fault.Fault.TheVariants.{Memory, Refused}
 use Rattle.pointers.specs.declared.fault.call.Call.TheVariants as calls
+use Rattle.pointers.specs.declared.known.Known.{Known}
 use Rattle.pointers.specs.declared.program.Failed.{Failed}
 use Rattle.pointers.specs.declared.program.leader.Manned.{Manned}
 use Rattle.pointers.specs.declared.program.team.Team.{Team}
 use Rattle.pointers.specs.declared.program.teams.Teams.{Teams}
 
--- what a call of lead does to a leader, told how the team before was manned, and what it answers
-abbrev pub Lead : Type 0 → Type 1
-Lead P = P → Option Manned → Result (Option Team) Fault → P → Type 0
+-- what a call of lead does to a leader, told how the team before was manned, and to the pointers that it kept, and what
+-- it answers
+abbrev pub Lead : Type 0 → Type 0 → Type 1
+Lead P V = P → Option Manned → List (Known V) → Result (Option Team) Fault → P → List (Known V) → Type 0
 
 -- nothing is said of it
-abbrev pub any_lead : {P : Type 0} → Lead P
-any_lead p before r q = Unit {0}
+abbrev pub any_lead : {P V : Type 0} → Lead P V
+any_lead p before kept r q kept' = Unit {0}
 
 -- the reason that came first
 abbrev pub first_of : Option Refusal → Option Refusal → Option Refusal
@@ -36,11 +38,13 @@ abbrev pub leaders : Option Fault → List Failed
 leaders None = []
 leaders (Some why) = record { worker = 2 ^ 64 - 1; why = why } ∷ []
 
--- where a leader is before a call: what it is, what it is told, the desk that gives its teams parts, and of all teams
--- before, how many workers worked, why one didn't, and the faults that their work ended with
+-- where a leader is before a call: what it is, what it is told, the pointers that it kept, the desk that gives its
+-- teams parts, and of all teams before, how many workers worked, why one didn't, and the faults that their work ended
+-- with
 pub record Led (P V : Type 0) : Type 0 where
   pub leader : P
   pub before : Option Manned
+  pub kept : List (Known V)
   pub desk : DeskNow V
   pub workers : ℕ
   pub fewer : Option Refusal
@@ -110,23 +114,28 @@ module _ {V : Type 0} where
   IsOver d (Some team) (Some why) = WhyNoTeam d team why
 
   module _ {P : Type 0} where
-    abbrev pub led_by : P → Teams V → Led P V
-    led_by p t =
+    abbrev pub led_with : P → List (Known V) → Teams V → Led P V
+    led_with p kept t =
         record {
           leader = p;
           before = t.before;
+          kept = kept;
           desk = t.desk;
           workers = t.workers;
           fewer = t.fewer;
           failed = t.failed.items;
         }
 
+    -- it keeps nothing yet, or any more
+    abbrev pub led_by : P → Teams V → Led P V
+    led_by p t = led_with p [] t
+
     -- a call started a team, which worked
-    pub record Starts (leads : Lead P) (answers : P → ℕ → Answer) (l m : Led P V) : Type 0 where
+    pub record Starts (leads : Lead P V) (answers : P → ℕ → Answer) (l m : Led P V) : Type 0 where
       pub team : Team
       pub manned : Manned
       pub faults : List Failed
-      pub call : leads l.leader l.before (Ok (Some team)) m.leader
+      pub call : leads l.leader l.before l.kept (Ok (Some team)) m.leader m.kept
       pub room : HasShares l.desk (team.pointers + 2) team.workers
       pub works : TeamWorks (answers m.leader) team l.desk manned faults m.desk
       pub told : m.before ≡ Some manned
@@ -135,27 +144,29 @@ module _ {V : Type 0} where
       pub failed : m.failed ≡ l.failed ++ faults
 
     -- teams worked one after another, the newest first
-    abbrev pub AreTeams : Lead P → (P → ℕ → Answer) → Led P V → List (Led P V) → Led P V → Type 0
+    abbrev pub AreTeams : Lead P V → (P → ℕ → Answer) → Led P V → List (Led P V) → Led P V → Type 0
     AreTeams leads answers l [] m = m ≡ l
     AreTeams leads answers l (x ∷ xs) m = AreTeams leads answers l xs x × Starts leads answers x m
 
     -- a call started none: there is no more to do, or it answered a fault, or a team that isn't started
-    abbrev pub Ends : Lead P → Led P V → P → Option Fault → Type 0
-    Ends leads l q None = leads l.leader l.before (Ok None) q
-    Ends leads l q (Some why) =
-        leads l.leader l.before (Err why) q
-        ⊎ ((team : Team) × leads l.leader l.before (Ok (Some team)) q × WhyNoTeam l.desk team why)
+    abbrev pub Ends : Lead P V → Led P V → P → List (Known V) → Option Fault → Type 0
+    Ends leads l q kept None = leads l.leader l.before l.kept (Ok None) q kept
+    Ends leads l q kept (Some why) =
+        leads l.leader l.before l.kept (Err why) q kept
+        ⊎ ((team : Team) × leads l.leader l.before l.kept (Ok (Some team)) q kept × WhyNoTeam l.desk team why)
 
-    -- a leader started teams, until a call started none, and then all was so
-    pub record LeadsOn (leads : Lead P) (answers : P → ℕ → Answer) (l m : Led P V) (fault : Option Fault) : Type 0 where
-      pub past : List (Led P V)
-      pub last : Led P V
-      pub teams : AreTeams leads answers l past last
-      pub over : Ends leads last m.leader fault
-      pub left : record last { leader = m.leader } ≡ m
+    -- a leader started teams, until a call started none; then all was so, but that what it kept let go
+    pub record LeadsOn (leads : Lead P V) (answers : P → ℕ → Answer) (l m : Led P V) (fault : Option Fault) : Type 0
+      where
+        pub past : List (Led P V)
+        pub last : Led P V
+        pub teams : AreTeams leads answers l past last
+        pub kept : List (Known V)
+        pub over : Ends leads last m.leader kept fault
+        pub left : record last { leader = m.leader; kept = [] } ≡ m
 
     -- a leader led at a desk with so many handles, a part of the one that gave its teams theirs and joined it then
-    pub record LedAt (leads : Lead P) (answers : P → ℕ → Answer) (handles : ℕ) (l m : Led P V) (fault : Option Fault)
+    pub record LedAt (leads : Lead P V) (answers : P → ℕ → Answer) (handles : ℕ) (l m : Led P V) (fault : Option Fault)
         : Type 0 where
       pub rest : DeskNow V
       pub own : DeskNow V
@@ -168,7 +179,7 @@ module _ {V : Type 0} where
 
 module _ (V : Type 0) {P : Type 0} where
   -- in a new domain a leader led at a desk with so many handles, and the first desk closed the domain
-  pub record Leads (leads : Lead P) (answers : P → ℕ → Answer) (shape : Shape) (handles : ℕ) (p : P) (m : Led P V)
+  pub record Leads (leads : Lead P V) (answers : P → ℕ → Answer) (shape : Shape) (handles : ℕ) (p : P) (m : Led P V)
       (fault : Option Fault) (c : CensusNow) : Type 0 where
     pub domain : DomainNow
     pub first : DeskNow V
@@ -176,6 +187,7 @@ module _ (V : Type 0) {P : Type 0} where
     pub led : LedAt leads answers handles (record {
       leader = p;
       before = None;
+      kept = [];
       desk = first;
       workers = 0;
       fewer = None;

@@ -27,11 +27,11 @@ pub struct Manned {
 }
 
 /// A program that its first thread leads: it has a desk of its own, and starts teams one after another. `leads` says
-/// what a call of `lead` may do. A program that gives no such member says nothing.
+/// what a call of `lead` may do, also to the pointers in `kept`. A program that gives no such member says nothing.
 pub trait Leader<V: Drop, R: Threads + Wait + Sync>: Program<V, R> {
     ghost use Rattle.pointers.specs.Leading.{Lead, any_lead};
 
-    ghost leads: { Lead Self } = { any_lead };
+    ghost leads: { Lead Self V } = { any_lead };
 
     /// What the first thread does before the first team, between two, and after the last one. It answers the next team,
     /// or none where there is no more to do; a fault ends the program too. `before` says how many workers of the team
@@ -44,7 +44,7 @@ pub trait Leader<V: Drop, R: Threads + Wait + Sync>: Program<V, R> {
         desk: &'t Desk<'t, D>,
         kept: &mut Vec<Shared<'t, D>>,
     ) -> Result<Option<Team>, Fault>
-        ensures { leads self.old before result self.new };
+        ensures { leads self.old before kept.old.items result self.new kept.new.items };
 }
 
 /// A domain is opened, and the first thread leads at a desk of its own with so many pointers: between two calls of

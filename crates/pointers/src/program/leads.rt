@@ -3,7 +3,7 @@ ghost use Rattle.std.specs.Prelude.{◌≡◌, IfErr, OnOk};
 ghost use Rattle.control_block.specs.Desks.{Belongs};
 ghost use Rattle.shared_handle.specs.Piles.{Bears};
 ghost use Rattle.pointers.specs.Leading.{AreSet, Ends, Follows, IsAsBefore, IsLeft, IsOver};
-ghost use Rattle.pointers.specs.Leading.{LeadsOn, Starts, Stay, led_by};
+ghost use Rattle.pointers.specs.Leading.{LeadsOn, Starts, Stay, led_by, led_with};
 
 use crate::context::Context;
 use crate::desk::Desk;
@@ -38,8 +38,10 @@ fn lead_once<
 ) -> Result<(), Option<Fault>>
     requires set { AreSet teams.old }
     ensures started { OnOk result
-        (Starts P.leads P.answers (led_by leader.old teams.old) (led_by leader.new teams.new)) }
-    ensures ended { IfErr result (Ends P.leads (led_by leader.old teams.old) leader.new) }
+        (Starts P.leads P.answers (led_with leader.old kept.old.items teams.old)
+        (led_with leader.new kept.new.items teams.new)) }
+    ensures ended { IfErr result
+        (Ends P.leads (led_with leader.old kept.old.items teams.old) leader.new kept.new.items) }
     ensures same { IfErr result (λ _. IsAsBefore teams.old teams.new) }
     ensures set { AreSet teams.new }
     ensures stay { Stay teams.old teams.new }
