@@ -1,4 +1,4 @@
-use Rattle.std.proofs.Common.{ℕ, ◌+◌, List, None, refl, ◌∙◌, subst, rules}
+use Rattle.std.proofs.Common.{ℕ, ◌+◌, List, [], None, refl, ◌∙◌, subst, rules}
 use Rattle.pointers.proofs.Prelude.{Failed, Fits, led_by, Shape}
 use Rattle.pointers.proofs.Leading.{few_handles}
 use Rattle.pointers.proofs.Runs.{opened_none}
@@ -22,10 +22,11 @@ returns-in-Some-led-clause-runs g c =
         first = o.1;
         opened = c.in-Some-open_domain.ensures;
         led = subst (λ (l : List Failed). LedAt g.P.Leader.leads g.P.Program.answers (c.args.pointers + 2)
-            (record { leader = c.args.leader.now; before = None; desk = o.1; workers = 0; fewer = None; failed = l }) (led_by q t) c.in-Some-led.fault)
+            (record { leader = c.args.leader.now; before = None; kept = []; desk = o.1; workers = 0; fewer = None; failed = l })
+            (led_by q t) c.in-Some-led.fault)
             c.in-Ok.ensures.items
             (subst (λ (h : ℕ). LedAt g.P.Leader.leads g.P.Program.answers h
-            (record { leader = c.args.leader.now; before = None; desk = o.1; workers = 0; fewer = None; failed = c.in-Ok.failed.items }) (led_by q t)
+            (record { leader = c.args.leader.now; before = None; kept = []; desk = o.1; workers = 0; fewer = None; failed = c.in-Ok.failed.items }) (led_by q t)
             c.in-Some-led.fault)
             (c.each.ensures.is (few_handles c.args.shape c.args.pointers fits)) c.in-Some-led.ensures.led);
         closed = subst (λ (s : Shape). IsClosed t.desk s c.close_whole-census.result) c.in-Some-open_domain.ensures.of c.close_whole-census.ensures;
