@@ -1,5 +1,5 @@
 //! What callers who hold a desk prove of it, with no proof file.
-ghost use Rattle.std.specs.Prelude.{◌≡◌, IfOk, None, Some, true};
+ghost use Rattle.std.specs.Prelude.{◌≡◌, IfOk, None, Some, false, true};
 ghost use Rattle.control_word.specs.declared.model.handle.Kind.TheVariants.{Owner};
 ghost use Rattle.pointers.specs.Alone.{StoresAndLoads};
 ghost use Rattle.pointers.specs.Counts.{CountsTwo};
