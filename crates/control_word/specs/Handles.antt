@@ -5,6 +5,7 @@ use Rattle.control_word.specs.declared.model.handle.NumberedHandle.{NumberedHand
 use Rattle.control_word.specs.declared.place.Place.{Place}
 use Rattle.control_word.specs.declared.model.handle.Kind.{Kind}
 use Rattle.control_word.specs.declared.model.handle.Kind.TheVariants.{Owner, Weak}
+use Rattle.control_word.specs.Limits.{most_blocks}
 
 abbrev pub handle : Kind → Option ℕ → Option Place → NumberedHandle
 handle k o p = record { kind = k; object = o; place = p }
@@ -29,7 +30,7 @@ has_object h = elim (h.object) [ None ↦ false | Some o ↦ true ]
 -- null, or one of the four fields of a block (own)
 abbrev pub IsPointer : Option Place → Type 0
 IsPointer None = Unit {0}
-IsPointer (Some p) = (1 ≤ p.block.0) × (p.block.0 ≤ 65535) × (p.field < 4)
+IsPointer (Some p) = (1 ≤ p.block.0) × (p.block.0 ≤ most_blocks) × (p.field < 4)
 
 -- an empty weak handle has a null place (own)
 abbrev pub IsBare : Kind → Option ℕ → Option Place → Type 0

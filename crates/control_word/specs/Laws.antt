@@ -1,5 +1,5 @@
 -- What holds of every legal history, each said by itself.
-use Rattle.std.specs.Prelude.{◌≡◌, ◌≢◌, ℕ, suc, ◌+◌, ◌<◌, ◌≤◌, ◌↔◌, ◌⊎◌}
+use Rattle.std.specs.Prelude.{◌≡◌, ◌≢◌, ℕ, suc, ◌+◌, ◌-◌, ◌*◌, ◌<◌, ◌≤◌, ◌↔◌, ◌⊎◌}
 use Rattle.std.specs.Prelude.{◌++◌, true, false, List, [], length, ◌==◌}
 use Rattle.std.specs.List.{filter}
 use mathlib.Core.Option.{some}
@@ -14,6 +14,7 @@ use Rattle.control_word.specs.declared.model.handle.Kind.TheVariants.{Owner, Wea
 use Rattle.control_word.specs.declared.model.view.View.{View}
 use Rattle.control_word.specs.Handles.{object_of, equivalent, owner_before, IsFormed}
 use Rattle.control_word.specs.Layout.{spot}
+use Rattle.control_word.specs.Limits.{most_number}
 use Rattle.control_word.specs.State.{sum_below, Opening, State, Stored, live, ending, count, weak, weak_number, common}
 use Rattle.control_word.specs.State.{Has, held, bag_size}
 use Rattle.control_word.specs.State.{IsActing, IsVacant, InShape, on_shelf}
@@ -30,6 +31,14 @@ how_often b l = length (filter (λ x. x.block == b) l)
 -- how often it is in stores and on the shelf
 abbrev pub times_kept : State → ℕ → ℕ
 times_kept s b = how_often b s.stores + on_shelf s b
+
+-- how many owners one object can have in a domain that begins so, and how many weak handles, with the owners' common
+-- one
+abbrev pub most_owners : Opening → ℕ
+most_owners z = z.allowance + z.owners * z.blocks + z.cells
+
+abbrev pub most_weaks : Opening → ℕ
+most_weaks z = z.allowance + (z.members - z.owners) * z.blocks + z.cells + 1
 
 -- the cell is one of those that are counted
 abbrev pub IsCell : State → Cell → Type 0
@@ -122,11 +131,14 @@ module _ (V : Type 0) where
       × ((d : ℕ) → d < s.names → s.joined d ≡ false → 0 < s.allowance d)
       × ((d : ℕ) → bag_size s d ≤ s.allowance d)
 
-  -- the numbers of owners and of weak handles, with the owners' common one, have bounds
+  -- the numbers of owners and of weak handles, with the owners' common one, have bounds: the allowance, the members of
+  -- that kind and the free cells
   abbrev pub NumbersFit : Type 0
   NumbersFit =
       (z : Opening) (h : List (Entry V)) → IsLegal z h → (o : ℕ)
-      → let s = leads z h in (count s o ≤ 4784375) × (weak_number s o ≤ 4784376)
+      → let s = leads z h in
+      (count s o ≤ most_owners z) × (most_owners z ≤ most_number)
+      × (weak_number s o ≤ most_weaks z) × (most_weaks z ≤ most_number)
 
   -- an object that was once seen without an owner, by a desk with a weak handle of it, never has one again
   abbrev pub StaysExpired : Type 0

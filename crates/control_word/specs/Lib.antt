@@ -1,5 +1,7 @@
 pub mod Layout
+pub mod Limits
 pub mod Packing
+pub mod CellRows
 pub mod Refusal
 pub mod Handles
 pub mod State

@@ -1,5 +1,5 @@
 -- The state: who holds which handle, and what became of each object.
-use Rattle.std.specs.Prelude.{◌≡◌, ℕ, zero, suc, ◌+◌, ◌<◌, ◌≤◌, Bool, false, cond, ◌&&◌}
+use Rattle.std.specs.Prelude.{◌≡◌, ℕ, zero, suc, ◌+◌, ◌-◌, ◌<◌, ◌≤◌, Bool, false, cond, ◌&&◌}
 use Rattle.std.specs.Prelude.{◌==◌, nat_lt, ◌⊎◌, List, []}
 use Rattle.std.specs.Prelude.{◌∷◌, ◌++◌, map, length}
 use Rattle.std.specs.List.{filter}
@@ -7,6 +7,7 @@ use Rattle.control_word.specs.declared.model.handle.NumberedHandle.{NumberedHand
 use Rattle.control_word.specs.declared.model.handle.Kind.{Kind}
 use Rattle.control_word.specs.declared.model.handle.Kind.TheVariants.{Owner, Weak}
 use Rattle.control_word.specs.Handles.{same_handle, is_on, empty}
+use Rattle.control_word.specs.Limits.{most_blocks, most_members, most_free_cells, most_allowance, HasRoomForFunds}
 
 -- the function that is x at i, and else f
 abbrev pub put : {A : Type 0} → (ℕ → A) → ℕ → A → ℕ → A
@@ -31,9 +32,11 @@ pub record Opening : Type 0 where
 
 -- within the limits; each block is some desk's, and the desks' shares, 1 or more, are the whole allowance
 pub record IsOpening (z : Opening) : Type 0 where
-  pub limits : (z.blocks ≤ 65535) × (z.cells ≤ 256) × (z.allowance ≤ 4194304)
-  pub members : (3 ≤ z.members) × (z.members ≤ 9)
+  pub limits : (z.blocks ≤ most_blocks) × (z.cells ≤ most_free_cells) × (z.allowance ≤ most_allowance)
+  pub members : (3 ≤ z.members) × (z.members ≤ most_members)
   pub owners : (2 ≤ z.owners) × (z.owners < z.members)
+  pub room : HasRoomForFunds z.allowance z.owners z.blocks z.cells
+      × HasRoomForFunds z.allowance (z.members - z.owners) z.blocks z.cells
   pub holders : (b : ℕ) → z.holder b < z.desks
   pub shares : sum_below z.desks z.share ≡ z.allowance
   pub positive : (d : ℕ) → d < z.desks → 0 < z.share d
@@ -112,7 +115,7 @@ upto (suc n) f = f n ++ upto n f
 
 -- those of an object that has all members that there may be; a domain of fewer leaves the last ones empty
 abbrev pub members : Object → List NumberedHandle
-members x = upto 9 (λ m. x.member m ∷ [])
+members x = upto most_members (λ m. x.member m ∷ [])
 
 abbrev pub in_cells : State → List NumberedHandle
 in_cells s = upto s.cells (λ c. s.cell c ∷ []) ++ upto (suc s.made) (λ o. members (s.object o))

@@ -1,6 +1,6 @@
 -- The law of each kind of step: where the words stand for a history, and one desk changes one word as the kind says,
 -- they stand for a longer history, or for the same one with a further step of the desk's call. All of it is own.
-use Rattle.std.specs.Prelude.{◌≡◌, ◌≢◌, ℕ, suc, ◌+◌, ◌-◌, ◌*◌, ◌%◌, ◌<◌}
+use Rattle.std.specs.Prelude.{◌≡◌, ◌≢◌, ℕ, suc, ◌+◌, ◌-◌, ◌*◌, ◌/◌, ◌%◌, ◌<◌}
 use Rattle.std.specs.Prelude.{◌≤◌, ◌==◌}
 use Rattle.std.specs.Prelude.{Bool, true, false, cond, List, [], ◌∷◌, ◌++◌, length, slice_index}
 use Rattle.std.specs.Prelude.{slice_set, replicate, bit_and, bit_or, Option, Some, None}
@@ -23,13 +23,14 @@ use Rattle.control_word.specs.declared.model.view.View.{View}
 use Rattle.control_word.specs.declared.model.view.Pending.{Pending}
 use Rattle.control_word.specs.declared.model.view.Pending.TheVariants.{Idle, Making, Paying, Visiting, Parting, Merging}
 use Rattle.control_word.specs.Handles.{handle, owner, weak_of, empty, IsPointer}
-use Rattle.control_word.specs.Layout.{spot, shelf_place, bit_of}
+use Rattle.control_word.specs.Layout.{all_words, spot, shelf_words, bit_of}
 use Rattle.control_word.specs.State.{Opening, IsOpening, State, Has, held, stored, ending, kind_of_member, count}
 use Rattle.control_word.specs.State.{bag_size, weak_number, HasRoom, on_shelf}
 use Rattle.control_word.specs.Events.{Asks, after}
 use Rattle.control_word.specs.Histories.{entry, leads, value}
 use Rattle.control_word.specs.Words.{cell_at, blocks_of, counts_at, flags_of, shelf_spot}
 use Rattle.control_word.specs.Views.{Stands, sees_as, stays, comes, together, used_up, fresh, owed}
+use Rattle.control_word.specs.Limits.{cell_funds, one_fund}
 
 -- the flags and fields of a block, as its words are
 abbrev pub known_of : List ℕ → ℕ → List ℕ
@@ -167,7 +168,7 @@ module _ (V : Type 0) where
   abbrev pub TellsCount : Type 0
   TellsCount =
       (at : Point V) (k : Kind) (o : ℕ) (p : Option Place) (low high : ℕ) → Ready at Idle → Holding at k o p
-      → word at (counts at Owner o) ≡ low + 4294967296 * high → low < 4294967296
+      → word at (counts at Owner o) ≡ low + one_fund * high → low < one_fund
       → let n = cond (low == 0) (cond (high == 0) 0 1) low in
       Tells at (Count (handle k (Some o) p) n) Idle
       × (owed at.views (counts at Owner o) ≡ 0 → n ≡ count (state at) o)
@@ -225,7 +226,7 @@ module _ (V : Type 0) where
   -- a block's bit is 1 while the block is on the shelf
   abbrev pub ShelfShows : Type 0
   ShelfShows =
-      (at : Point V) (p : Pending V) (b : ℕ) → Ready at p → b < 65536
+      (at : Point V) (p : Pending V) (b : ℕ) → Ready at p → b / 64 < shelf_words at.opening.blocks
       → bit_at (word at (shelf_spot at.opening b)) (b % 64) ≡ on_shelf (state at) b
 
   -- shelve: the bit of a block of the own store is set
@@ -236,7 +237,7 @@ module _ (V : Type 0) where
   -- unshelve: a bit is cleared; the block is the desk's just where the bit was found set
   abbrev pub Unshelves : Type 0
   Unshelves =
-      (at : Point V) (b : Block) → Ready at Idle → b.0 < 65536
+      (at : Point V) (b : Block) → Ready at Idle → b.0 / 64 < shelf_words at.opening.blocks
       → let k = shelf_spot at.opening b.0 in
       let n = bit_and (word at k) (bit_not w64 (bit_of b.0)) in
       (bit_at (word at k) (b.0 % 64) ≡ 1 → Adds at k n (Unshelve b) Idle)
@@ -245,7 +246,7 @@ module _ (V : Type 0) where
   -- at the start all words are 0
   abbrev pub Begins : Type 0
   Begins = (z : Opening) → IsOpening z
-      → Stands z (replicate (shelf_place z.blocks z.cells 1024) 0) (fresh {V = V} 0 z.desks) []
+      → Stands z (replicate (all_words z.blocks z.cells) 0) (fresh {V = V} 0 z.desks) []
 
   -- No carry and no wrap: on the counts of an object that is there, is ending or has weak handles, the number may grow
   -- by one and the funds by 256, within their halves and the word
@@ -253,5 +254,5 @@ module _ (V : Type 0) where
   HasHeadroom =
       (at : Point V) (p : Pending V) → Ready at p → (k : Kind) (o : ℕ) → 0 < weak_number (state at) o
       → let i = counts at k o in (word at i + 1099511627776 < 18446744073709551616)
-      × ((low high : ℕ) → word at i ≡ low + 4294967296 * high → low < 4294967296
-      → (low + 1 < 4294967296) × (high + 256 < 4294967296))
+      × ((low high : ℕ) → word at i ≡ low + one_fund * high → low < one_fund
+      → (low + 1 < one_fund) × (high + cell_funds < one_fund))

@@ -16,6 +16,7 @@ use Rattle.control_word.specs.Layout.{spot}
 use Rattle.control_word.specs.State.{Opening, State, ending, Has, held, stored, IsActing, InShape}
 use Rattle.control_word.specs.Histories.{leads, value, IsLegal}
 use Rattle.control_word.specs.Words.{Shows, cell_spot, counts_at, blocks_of, bank}
+use Rattle.control_word.specs.Limits.{most_members, cell_funds, one_fund, one_taken}
 
 abbrev pub total : {A : Type 0} → (A → ℕ) → List A → ℕ
 total f [] = 0
@@ -50,7 +51,7 @@ module _ {V : Type 0} where
   -- what is on a word besides the state's number: what half-done calls added, the funds, and in a cell's word how many
   -- were taken
   abbrev pub more : Opening → State → List (View V) → (ℕ → ℕ) → ℕ → ℕ
-  more z s views taken i = added views i + 4294967296 * (paid views i + bank z s taken i) + 17179869184 * taken i
+  more z s views taken i = added views i + one_fund * (paid views i + bank z s taken i) + one_taken * taken i
 
   -- What a half-done call of desk d knows. One that has funds out or shut a door holds a handle of their block
   abbrev pub Fits : List ℕ → State → (ℕ → Option V) → ℕ → Pending V → Type 0
@@ -58,7 +59,7 @@ module _ {V : Type 0} where
       × ((j : ℕ) → j < 5 → slice_index words (spot b.0 (2 + j)) ≡ slice_index known j)
   Fits words s values d (Paying k o p word funds loads) =
       Has (held d (handle k (Some o) p)) s.hands × (word ≡ counts_at (blocks_of s) k o) × (loads ≤ funds)
-      × (loads ≤ 1) × (funds ≤ 256)
+      × (loads ≤ 1) × (funds ≤ cell_funds)
   Fits words s values d (Visiting o p word v) =
       Has (held d (handle Owner (Some o) p)) s.hands × (word ≡ spot (blocks_of s o) 2) × (values o ≡ Some v)
   Fits words s values d _ = Unit {0}
@@ -113,7 +114,7 @@ module _ {V : Type 0} where
 
 -- of a cell that holds no object nothing was taken
 pub record Bare (z : Opening) (s : State) (taken : ℕ → ℕ) : Type 0 where
-  pub members : (b m : ℕ) → InShape z b → m < 9 → ((s.object (s.latest b)).member m).object ≡ None
+  pub members : (b m : ℕ) → InShape z b → m < most_members → ((s.object (s.latest b)).member m).object ≡ None
       → taken (spot b (7 + m)) ≡ 0
   pub frees : (c : ℕ) → c < z.cells → (s.cell c).object ≡ None → taken (cell_spot z c) ≡ 0
 
@@ -123,7 +124,7 @@ module _ {V : Type 0} where
     pub taken : ℕ → ℕ
     pub legal : IsLegal z history
     pub shows : Shows z words (owed views) (more z (leads z history) views taken) (leads z history)
-    pub most : (i : ℕ) → taken i ≤ 256
+    pub most : (i : ℕ) → taken i ≤ cell_funds
     pub blank : (b k : ℕ) → InShape z b → k < 7 → taken (spot b k) ≡ 0
     pub bare : Bare z (leads z history) taken
     pub doors : (b : ℕ) → InShape z b → added views (spot b 2) ≤ 4

@@ -11,9 +11,13 @@ use Rattle.control_word.specs.declared.place.Block.{Block}
 use Rattle.control_word.specs.declared.packed.cell.CellWord.{CellWord}
 use Rattle.control_word.specs.declared.model.event.Cell.{Cell}
 use Rattle.control_word.specs.declared.model.event.Cell.TheVariants.{Free, Member}
-use Rattle.control_word.specs.Layout.{spot, cell_place, shelf_place}
-use Rattle.control_word.specs.State.{sum_below, Opening, Object, State, count, weak_number, IsVacant, InShape}
+use Rattle.control_word.specs.Layout.{all_words, spot, cell_place, shelf_place, shelf_words}
+use Rattle.control_word.specs.State.{sum_below, Opening, Object, State, count, weak_number}
+use Rattle.control_word.specs.State.{IsVacant, InShape}
 use Rattle.control_word.specs.State.{on_shelf}
+use Rattle.control_word.specs.Limits.{most_members, cell_funds, one_place_low, one_field}
+use Rattle.control_word.specs.Limits.{one_owned_high, one_place_high}
+use Rattle.control_word.specs.Packing.{low_part, high_part}
 
 -- the word of free cell c
 abbrev pub cell_spot : Opening → ℕ → ℕ
@@ -26,11 +30,12 @@ cell_at z s (Member o m) = spot (s.object o).block (7 + m)
 
 abbrev pub place_bits : Option Place → ℕ
 place_bits None = 0
-place_bits (Some p) = 65536 * p.block.0 + 4294967296 * p.field
+place_bits (Some p) =
+    one_place_low * low_part p.block.0 + one_field * p.field + one_place_high * high_part p.block.0
 
 abbrev pub owned_bits : (ℕ → ℕ) → Option ℕ → ℕ
 owned_bits block None = 0
-owned_bits block (Some o) = block o
+owned_bits block (Some o) = low_part (block o) + one_owned_high * high_part (block o)
 
 -- a cell's word with no fund taken; `block` tells where an object is
 unfoldable pub packed : (ℕ → ℕ) → NumberedHandle → ℕ
@@ -60,7 +65,7 @@ unfoldable pub object_words : (ℕ → ℕ) → Object → List ℕ
 object_words block x =
     flags_of x.enabled x.null
     ∷ slice_index x.fields 0 ∷ slice_index x.fields 1 ∷ slice_index x.fields 2 ∷ slice_index x.fields 3
-    ∷ listed 9 (λ m. packed block (x.member m))
+    ∷ listed most_members (λ m. packed block (x.member m))
 
 -- the sixteen words of a block
 abbrev pub block_words : State → ℕ → List ℕ
@@ -80,11 +85,11 @@ counts_at block k o = spot (block o) (slot k)
 
 -- the funds that a cell with this handle keeps on word i, with t of them taken
 abbrev pub worth : (ℕ → ℕ) → NumberedHandle → ℕ → ℕ → ℕ
-worth block h t i = elim (h.object) [ None ↦ 0 | Some o ↦ cond (i == counts_at block h.kind o) (256 - t) 0 ]
+worth block h t i = elim (h.object) [ None ↦ 0 | Some o ↦ cond (i == counts_at block h.kind o) (cell_funds - t) 0 ]
 
 abbrev pub member_funds : (ℕ → ℕ) → (ℕ → ℕ) → Object → ℕ → ℕ
 member_funds block taken x i =
-    sum_below 9 (λ m. worth block (x.member m) (taken (spot x.block (7 + m))) i)
+    sum_below most_members (λ m. worth block (x.member m) (taken (spot x.block (7 + m))) i)
 
 -- the funds that all cells keep on word i; taken j is how many were taken of the cell whose word is j
 unfoldable pub bank : Opening → State → (ℕ → ℕ) → ℕ → ℕ
@@ -103,11 +108,11 @@ shelf_spot z b = shelf_place z.blocks z.cells (b / 64)
 -- the bit of a block is 1 while the block is on the shelf
 abbrev pub ShowsShelf : Opening → List ℕ → State → Type 0
 ShowsShelf z words s =
-    (b : ℕ) → b < 65536 → bit_at (slice_index words (shelf_spot z b)) (b % 64) ≡ on_shelf s b
+    (b : ℕ) → b / 64 < shelf_words z.blocks → bit_at (slice_index words (shelf_spot z b)) (b % 64) ≡ on_shelf s b
 
 -- each word is what the state says, but for what is owed to it and what is on it besides
 pub record Shows (z : Opening) (words : List ℕ) (owed more : ℕ → ℕ) (s : State) : Type 0 where
-  pub sized : length words ≡ shelf_place z.blocks z.cells 1024
+  pub sized : length words ≡ all_words z.blocks z.cells
   pub blocks : (b k : ℕ) → InShape z b → k < 16 → Says s owed more b k (slice_index words (spot b k))
   pub free : (c : ℕ) → c < z.cells → slice_index words (cell_spot z c)
       ≡ packed (blocks_of s) (s.cell c) + more (cell_spot z c)

@@ -13,6 +13,7 @@ use Rattle.control_word.proofs.history.Soundness.{OwnersFit, Sound}
 use Rattle.control_word.proofs.lists.Tallies.{put_cases, put_other, put_same, tally_append}
 use Rattle.control_word.proofs.lists.Tallies.{tally_here, tally_without, upto_change}
 use Rattle.control_word.specs.State.{count, weak}
+use Rattle.control_word.specs.Limits.{most_members}
 
 pub tally_upto : (k : Kind) (r n j : ℕ) (f : ℕ → List NumberedHandle) → j < n → tally k r (f j) ≤ tally k r (upto n f)
 tally_upto k r zero j f lt = absurd (omega arith)
@@ -21,8 +22,8 @@ tally_upto k r (suc n) j f lt =
     (λ (ne : j ≢ n). let t = tally_upto k r n j f (omega arith) in omega (arith, tally_append k r (f n) (upto n f))) (cases_eq j n)
 
 -- the handles in cells are counted, so their objects were made
-pub member_counted : (k : Kind) (r : ℕ) (x : Object) (m : ℕ) → m < 9 → tally k r (x.member m ∷ []) ≤ tally k r (members x)
-member_counted k r x m lt = tally_upto k r 9 m (λ j. x.member j ∷ []) lt
+pub member_counted : (k : Kind) (r : ℕ) (x : Object) (m : ℕ) → m < most_members → tally k r (x.member m ∷ []) ≤ tally k r (members x)
+member_counted k r x m lt = tally_upto k r most_members m (λ j. x.member j ∷ []) lt
 
 pub one_of : (k : Kind) (r : ℕ) (x : NumberedHandle) → x.kind ≡ k → x.object ≡ Some r → tally k r (x ∷ []) ≡ 1
 one_of k r x kind object =
@@ -47,7 +48,7 @@ module _ (z : Opening) (s : State) (sound : Sound z s) where
       let t = tally_upto k r s.cells c (λ j. s.cell j ∷ []) lt in let u = one_of k r (s.cell c) refl e in
       in_cells_made r k (let w = tally_append k r cells rest in omega arith)
 
-  pub member_made : (q m r : ℕ) → q < suc s.made → m < 9 → ((s.object q).member m).object ≡ Some r → r < suc s.made
+  pub member_made : (q m r : ℕ) → q < suc s.made → m < most_members → ((s.object q).member m).object ≡ Some r → r < suc s.made
   member_made q m r lt le e =
       let x = (s.object q).member m in
       let k = x.kind in
@@ -69,18 +70,18 @@ sound_gets z s d Weak (Some o) p sound h =
     let t = h Weak o in let u = tally_here Weak o p [] in
     let c : 0 < weak s o = omega arith in sound_weak z s d o p sound (omega arith)
 
-member_put : (x : Object) (m : ℕ) (h : NumberedHandle) → m < 9 → (k : Kind) (q : ℕ)
+member_put : (x : Object) (m : ℕ) (h : NumberedHandle) → m < most_members → (k : Kind) (q : ℕ)
     → tally k q (members (record x { member = put x.member m h })) + tally k q (x.member m ∷ []) ≡ tally k q (members x) + tally k q (h ∷ [])
 member_put x m h lt k q =
     let f : ℕ → List NumberedHandle = λ j. x.member j ∷ [] in
     let g : ℕ → List NumberedHandle = λ j. put x.member m h j ∷ [] in
-    upto_change k q 9 m f g lt (λ i n. ap (λ (y : NumberedHandle). y ∷ []) (put_other x.member m h i n))
-    ∙ ap (λ (y : NumberedHandle). tally k q (upto 9 f) + tally k q (y ∷ [])) (put_same x.member m h m refl)
+    upto_change k q most_members m f g lt (λ i n. ap (λ (y : NumberedHandle). y ∷ []) (put_other x.member m h i n))
+    ∙ ap (λ (y : NumberedHandle). tally k q (upto most_members f) + tally k q (y ∷ [])) (put_same x.member m h m refl)
 
 -- the cell is one of those that are counted
 abbrev pub InState : State → Cell → Type 0
 InState s (Free c) = c < s.cells
-InState s (Member o m) = (m < 9) × (o < suc s.made)
+InState s (Member o m) = (m < most_members) × (o < suc s.made)
 
 cells_change : (s : State) (c : Cell) (x : NumberedHandle) → InState s c → (k : Kind) (q : ℕ)
     → tally k q (in_cells (fills c x s)) + tally k q (cell_of s c ∷ []) ≡ tally k q (in_cells s) + tally k q (x ∷ [])

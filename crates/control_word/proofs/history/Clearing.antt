@@ -11,6 +11,7 @@ use Rattle.control_word.proofs.history.Soundness.{OwnersFit, Sound}
 use Rattle.control_word.proofs.lists.Tallies.{put_cases, put_other, put_same, tally_append}
 use Rattle.control_word.proofs.lists.Tallies.{tally_cons, upto_change, upto_same}
 use Rattle.control_word.specs.State.{count, weak}
+use Rattle.control_word.specs.Limits.{most_members}
 
 -- counting over all objects after one of them changed
 tally_put : (k : Kind) (q n o : ℕ) (f : ℕ → Object) (x : Object) → o < n
@@ -45,17 +46,17 @@ tally_put k q (suc n) o f x lt =
 abbrev pub emptied : ℕ → Object → ℕ → Object
 emptied w x m = record x { member = put x.member m (empty (kind_of_member w m)) }
 
-emptied_tally : (w : ℕ) (x : Object) (m : ℕ) → m < 9 → (k : Kind) (q : ℕ)
+emptied_tally : (w : ℕ) (x : Object) (m : ℕ) → m < most_members → (k : Kind) (q : ℕ)
     → tally k q (members (emptied w x m)) + tally k q (x.member m ∷ []) ≡ tally k q (members x)
 emptied_tally w x m lt k q =
     let h = empty (kind_of_member w m) in
     let f : ℕ → List NumberedHandle = λ j. x.member j ∷ [] in
     let g : ℕ → List NumberedHandle = λ j. put x.member m h j ∷ [] in
-    let t : tally k q (upto 9 g) + tally k q (f m) ≡ tally k q (upto 9 f) + tally k q (g m) =
-    upto_change k q 9 m f g lt (λ i n. ap (λ (y : NumberedHandle). y ∷ []) (put_other x.member m h i n)) in
+    let t : tally k q (upto most_members g) + tally k q (f m) ≡ tally k q (upto most_members f) + tally k q (g m) =
+    upto_change k q most_members m f g lt (λ i n. ap (λ (y : NumberedHandle). y ∷ []) (put_other x.member m h i n)) in
     let u : tally k q (g m) ≡ 0 = ap (λ (y : NumberedHandle). tally k q (y ∷ [])) (put_same x.member m h m refl)
     ∙ empty_counts k (kind_of_member w m) q [] in
-    let w : tally k q (upto 9 f) + tally k q (g m) ≡ tally k q (upto 9 f) = omega arith in
+    let w : tally k q (upto most_members f) + tally k q (g m) ≡ tally k q (upto most_members f) = omega arith in
     t ∙ w
 
 pub no_object : (k m : Kind) (q : ℕ) (n : Option ℕ) (p : Option Place) → has_object (handle m n p) ≡ false → tally k q (handle m n p ∷ []) ≡ 0
@@ -73,7 +74,7 @@ gets_tally k q d h l r =
     (λ e. tally_cons k q h (map (λ x. x.handle) l ++ r)) (λ e. let t = no_object k h.kind q h.object h.place e in omega arith)
 
 -- a member goes from its object to a bag, and the counts stay
-clear_tally : (s : State) (d o m : ℕ) → m < 9 → o < suc s.made → (k : Kind) (q : ℕ)
+clear_tally : (s : State) (d o m : ℕ) → m < most_members → o < suc s.made → (k : Kind) (q : ℕ)
     → tally k q (handles (gets d ((s.object o).member m) (changes o (emptied s.owners (s.object o) m) s))) ≡ tally k q (handles s)
 clear_tally s d o m lt made k q =
     let x = s.object o in
@@ -93,12 +94,12 @@ clear_tally s d o m lt made k q =
       tally_append k q cells (upto (suc s.made) (λ j. members (s.object j))),
     )
 
-clear_count : (s : State) (d o m : ℕ) → m < 9 → o < suc s.made → (q : ℕ)
+clear_count : (s : State) (d o m : ℕ) → m < most_members → o < suc s.made → (q : ℕ)
     → count (gets d ((s.object o).member m) (changes o (emptied s.owners (s.object o) m) s)) q ≡ count s q
 unfolding count
 clear_count s d o m lt made q = clear_tally s d o m lt made Owner q
 
-clear_weak : (s : State) (d o m : ℕ) → m < 9 → o < suc s.made → (q : ℕ)
+clear_weak : (s : State) (d o m : ℕ) → m < most_members → o < suc s.made → (q : ℕ)
     → weak (gets d ((s.object o).member m) (changes o (emptied s.owners (s.object o) m) s)) q ≡ weak s q
 unfolding weak
 clear_weak s d o m lt made q = clear_tally s d o m lt made Weak q
@@ -106,7 +107,7 @@ clear_weak s d o m lt made q = clear_tally s d o m lt made Weak q
 pub was_made : (z : Opening) (s : State) (o : ℕ) → Sound z s → (s.object o).phase ≢ unmade → o < suc s.made
 was_made z s o sound n = ⊎_elim (λ lt. absurd (n (sound.fresh o lt))) (λ le. omega arith) (cases_lt s.made o)
 
-pub sound_clear : (z : Opening) (s : State) (d o m : ℕ) → Sound z s → (s.object o).phase ≡ ending d → m < 9
+pub sound_clear : (z : Opening) (s : State) (d o m : ℕ) → Sound z s → (s.object o).phase ≡ ending d → m < most_members
     → Sound z (clears d o m ((s.object o).member m) s)
 sound_clear z s d o m sound end lt =
     let x = emptied s.owners (s.object o) m in

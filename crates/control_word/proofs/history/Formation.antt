@@ -17,6 +17,7 @@ use Rattle.control_word.proofs.history.Soundness.{Formed, IsBusy, Sound}
 use Rattle.control_word.proofs.lists.Tallies.{has_before, held_self, held_true, put_cases}
 use Rattle.control_word.specs.Events.{place_at}
 use Rattle.control_word.specs.Laws.{AreFormed}
+use Rattle.control_word.specs.Limits.{most_blocks}
 
 -- the handle is well formed, and has an object
 abbrev IsGood : NumberedHandle → Type 0
@@ -72,10 +73,10 @@ empty_formed : (k : Kind) → IsFormed (empty k)
 empty_formed Owner = (tt, tt)
 empty_formed Weak = (tt, refl)
 
-place_formed : (b : ℕ) → 1 ≤ b → b ≤ 65535 → IsPointer (place_at b)
+place_formed : (b : ℕ) → 1 ≤ b → b ≤ most_blocks → IsPointer (place_at b)
 place_formed b low high = (low, high, omega arith)
 
-origin_formed : (b : ℕ) (null : Bool) → 1 ≤ b → b ≤ 65535 → IsPointer (origin b null)
+origin_formed : (b : ℕ) (null : Bool) → 1 ≤ b → b ≤ most_blocks → IsPointer (origin b null)
 origin_formed b true low high = tt
 origin_formed b false low high = place_formed b low high
 
@@ -145,7 +146,7 @@ formed_load s d c got formed open' is =
     (good_gets s d got formed.bags was) (λ o m. refl)
 
 formed_make : (z : Opening) (s : State) (d b : ℕ) (enabled null : Bool) (fields : List ℕ) → Formed s
-    → 1 ≤ b → b ≤ 65535 → Formed (made_state z s d b enabled null fields)
+    → 1 ≤ b → b ≤ most_blocks → Formed (made_state z s d b enabled null fields)
 formed_make z s d b enabled null fields formed low high =
     let x = new_object s.owners b enabled null fields in
     record {
@@ -160,7 +161,7 @@ formed_make z s d b enabled null fields formed low high =
     }
 
 -- a weak handle has the place of another handle of the object, or the object's own
-weak_place : (z : Opening) (s : State) (d o : ℕ) (p : Option Place) → z.blocks ≤ 65535 → Sound z s → Formed s
+weak_place : (z : Opening) (s : State) (d o : ℕ) (p : Option Place) → z.blocks ≤ most_blocks → Sound z s → Formed s
     → ((h : NumberedHandle) × Holds s d h.kind h × (h.object ≡ Some o)
     × ((p ≡ h.place) ⊎ (p ≡ place_at (s.object o).block)))
     ⊎ (((s.object o).phase ≡ ending d) × ((s.object o).enabled ≡ true) × (p ≡ place_at (s.object o).block))
@@ -186,7 +187,7 @@ weak_place z s d o p few fine formed asks = ⊎_elim
         let e2 : object_of h ≡ o = cc in subst (IsBusy s) e2 b
 
 module _ {V : Type 0} where
-  formed_after : (z : Opening) (s : State) (d : ℕ) (a : Event V) → z.blocks ≤ 65535 → Sound z s → Formed s
+  formed_after : (z : Opening) (s : State) (d : ℕ) (a : Event V) → z.blocks ≤ most_blocks → Sound z s → Formed s
       → Asks s d a → Formed (after s d a)
   formed_after z s d (Make b enabled null fields val) few fine formed asks =
       let there = (fine.stores d b.0 asks.0).1 in

@@ -23,6 +23,7 @@ use Rattle.control_word.proofs.lists.Tallies.{put_cases, put_other, put_same, st
 use Rattle.control_word.proofs.lists.Tallies.{stored_true, tally_append}
 use Rattle.control_word.specs.Handles.{IsBare}
 use Rattle.control_word.specs.State.{weak}
+use Rattle.control_word.specs.Limits.{most_members}
 
 -- each vacant block is in a store or on the shelf
 abbrev pub Kept : Opening → State → Type 0
@@ -138,7 +139,7 @@ kept_swap z s d (Member o m) new kept there hand =
     let t = swap_weak s d (Member o m) new there hand q in let u = common_put s o q x refl in omega arith)
 
 -- an ending object's member goes as by a swap with an empty handle
-pub kept_clear : (z : Opening) (s : State) (d o m : ℕ) → Kept z s → m < 9 → o < suc s.made
+pub kept_clear : (z : Opening) (s : State) (d o m : ℕ) → Kept z s → m < most_members → o < suc s.made
     → Kept z (clears d o m ((s.object o).member m) s)
 kept_clear z s d o m kept lt made =
     kept_swap z s d (Member o m) (empty (kind_of_member s.owners m)) kept (lt, made)

@@ -21,6 +21,7 @@ use Rattle.control_word.proofs.history.Shelving.{sound_shelved, sound_unshelved}
 use Rattle.control_word.proofs.history.Soundness.{IsBusy, Sound}
 use Rattle.control_word.proofs.lists.Tallies.{tally_append, tally_upto_empty}
 use Rattle.control_word.specs.State.{count, weak}
+use Rattle.control_word.specs.Limits.{most_members}
 
 -- a handle that is held, written out
 pub written : (l : List Held) (d : ℕ) (k : Kind) (h : NumberedHandle) → Has (held d h) l → h.kind ≡ k → h.object ≡ Some (object_of h)
@@ -121,7 +122,7 @@ no_weak : (z : Opening) (q : ℕ) → weak (start z) q ≡ 0
 unfolding weak
 no_weak z q = nothing Weak z q
 
-pub sound_start : (z : Opening) → z.members ≤ 9 → Sound z (start z)
+pub sound_start : (z : Opening) → z.members ≤ most_members → Sound z (start z)
 sound_start z few = record {
   owners = no_owner z;
   unmade_free = λ o e. let t = no_weak z o in omega arith;

@@ -12,6 +12,7 @@ use Rattle.control_word.proofs.lists.Tallies.{put_other, put_same, stored_self, 
 use Rattle.control_word.proofs.lists.Tallies.{tally_append, tally_cons, tally_here, tally_other}
 use Rattle.control_word.proofs.lists.Tallies.{tally_upto_empty, upto_same}
 use Rattle.control_word.specs.State.{count, weak}
+use Rattle.control_word.specs.Limits.{most_members}
 
 pub empty_counts : (k m : Kind) (o : ℕ) (l : List NumberedHandle) → tally k o (empty m ∷ l) ≡ tally k o l
 empty_counts Owner Owner o l = refl
@@ -20,9 +21,9 @@ empty_counts Weak Owner o l = refl
 empty_counts Weak Weak o l = refl
 
 -- empty members count nothing
-pub empty_members : (w : ℕ) (k : Kind) (q : ℕ) → tally k q (upto 9 (λ m. empty (kind_of_member w m) ∷ [])) ≡ 0
+pub empty_members : (w : ℕ) (k : Kind) (q : ℕ) → tally k q (upto most_members (λ m. empty (kind_of_member w m) ∷ [])) ≡ 0
 empty_members w k q =
-    tally_upto_empty k q 9 (λ m. empty (kind_of_member w m) ∷ []) (λ m lt. empty_counts k (kind_of_member w m) q [])
+    tally_upto_empty k q most_members (λ m. empty (kind_of_member w m) ∷ []) (λ m lt. empty_counts k (kind_of_member w m) q [])
 
 -- what a Make changes in the counts is its owner
 make_tally : (s : State) (d b : ℕ) (enabled null : Bool) (fields : List ℕ) (k : Kind) (q : ℕ)

@@ -11,6 +11,7 @@ use Rattle.control_word.proofs.history.Soundness.{IsBusy, OwnersFit, Sound}
 use Rattle.control_word.proofs.lists.Tallies.{tally_has, tally_here, tally_other, tally_without}
 use Rattle.control_word.proofs.lists.Tallies.{upto_same}
 use Rattle.control_word.specs.State.{count, weak}
+use Rattle.control_word.specs.Limits.{most_members}
 
 -- a change of the hands and of objects, in their blocks
 pub record Moves (s : State) (hs : List Held) (f : ℕ → Object) (g : ℕ → NumberedHandle) : Type 0 where
@@ -18,7 +19,7 @@ pub record Moves (s : State) (hs : List Held) (f : ℕ → Object) (g : ℕ → 
   pub weaks : (o : ℕ) → 0 < weak_number (record s { hands = hs; object = f; cell = g }) o → 0 < weak_number s o
   pub block : (o : ℕ) → (f o).block ≡ (s.object o).block
   pub made : (o : ℕ) → ((s.object o).phase ≡ unmade → (f o).phase ≡ unmade) × ((f o).phase ≡ unmade → (s.object o).phase ≡ unmade)
-  pub cleared : (o m : ℕ) → m < 9 → common (f o).phase ≡ 0 → (f o).member m ≡ empty (kind_of_member s.owners m)
+  pub cleared : (o m : ℕ) → m < most_members → common (f o).phase ≡ 0 → (f o).member m ≡ empty (kind_of_member s.owners m)
   pub unused : (o m : ℕ) → s.members ≤ m → (f o).member m ≡ empty (kind_of_member s.owners m)
 
 zero_from : (a b : ℕ) → (0 < a → 0 < b) → b ≡ 0 → a ≡ 0

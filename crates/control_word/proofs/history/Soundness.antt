@@ -6,6 +6,7 @@ use Rattle.control_word.proofs.Prelude.{kind_of_free, kind_of_member, live, Open
 use Rattle.control_word.proofs.Prelude.{stored, sum_below, times_kept, unmade, weak_number}
 use Rattle.control_word.proofs.lists.Tallies.{store_found}
 use Rattle.control_word.specs.State.{count}
+use Rattle.control_word.specs.Limits.{most_members}
 
 -- a live object has an owner, and no other has one
 abbrev pub OwnersFit : Phase → ℕ → Type 0
@@ -29,8 +30,8 @@ pub record Sound (z : Opening) (s : State) : Type 0 where
   pub stores : (d b : ℕ) → Has (stored d b) s.stores → IsVacant s b × InShape z b
   pub shelf : (b : ℕ) → s.shelved b ≡ true → IsVacant s b × InShape z b
   pub once : (b : ℕ) → times_kept s b ≤ 1
-  pub cleared : (o m : ℕ) → m < 9 → common (s.object o).phase ≡ 0 → (s.object o).member m ≡ empty (kind_of_member s.owners m)
-  pub few : s.members ≤ 9
+  pub cleared : (o m : ℕ) → m < most_members → common (s.object o).phase ≡ 0 → (s.object o).member m ≡ empty (kind_of_member s.owners m)
+  pub few : s.members ≤ most_members
   pub unused : (o m : ℕ) → s.members ≤ m → (s.object o).member m ≡ empty (kind_of_member s.owners m)
 
 -- what a bit tells

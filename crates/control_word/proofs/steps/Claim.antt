@@ -1,6 +1,6 @@
 -- The claim: a new object in the prepared block.
-use Rattle.std.proofs.Common.{◌≡◌, ℕ, zero, suc, ◌+◌, ◌-◌, ◌<◌, ◌≤◌, Bool, false, cond, ◌≢◌, ◌⊎◌}
-use Rattle.std.proofs.Common.{List, [], ◌∷◌, length, get_or, set, ◌==◌, slice_index, Some, None}
+use Rattle.std.proofs.Common.{◌≡◌, ℕ, zero, suc, ◌+◌, ◌*◌, ◌-◌, ◌<◌, ◌≤◌, Bool, false, cond, ◌≢◌, ◌⊎◌}
+use Rattle.std.proofs.Common.{List, ◌∷◌, length, get_or, set, ◌==◌, slice_index, Some, None}
 use Rattle.std.proofs.Common.{Option, sym, refl, ap, ◌∙◌, subst, inl, inr, ⊎_elim, arith, eq-eqb}
 use Rattle.std.proofs.Common.{ne_eqb}
 use Rattle.control_word.proofs.Prelude
@@ -9,7 +9,7 @@ use Prelude.{common, cond-false, cond-true, empty, Entry, entry, Fits, flags_of,
 use Prelude.{Has, Idle, IsVacant, Kind, kind_of_member, leads, Make, Making, member_funds, more}
 use Prelude.{new_object, NumberedHandle, Object, Opening, origin, owed, owes, owned_bits, Owner}
 use Prelude.{pays, Place, place_bits, put, Says, sees, slot, some, spot, Stands, State, stored}
-use Prelude.{value, View, Weak, weak_number, worth}
+use Prelude.{value, View, weak_number, worth}
 use Rattle.control_word.proofs.history.Cells.{cell_made, member_made}
 use Rattle.control_word.proofs.history.Kept.{cells_led}
 use Rattle.control_word.proofs.history.Legal.{sound}
@@ -29,26 +29,28 @@ use Rattle.control_word.proofs.words.Members.{packed_empty}
 use Rattle.control_word.specs.State.{count, weak}
 use Rattle.control_word.specs.Steps.{Claims}
 use Rattle.control_word.specs.Words.{bank, object_words, packed}
+use Rattle.control_word.specs.Limits.{most_members, cell_funds, one_owned_high}
+use Rattle.control_word.specs.Packing.{high_part, low_part}
 
 owned_put : (f g : ℕ → ℕ) (n : Option ℕ) → ((r : ℕ) → n ≡ Some r → f r ≡ g r) → owned_bits f n ≡ owned_bits g n
 owned_put f g None e = refl
-owned_put f g (Some r) e = e r refl
+owned_put f g (Some r) e = ap (λ n. low_part n + one_owned_high * high_part n) (e r refl)
 
 packed_put : (f g : ℕ → ℕ) (x : NumberedHandle) → ((r : ℕ) → x.object ≡ Some r → f r ≡ g r) → packed f x ≡ packed g x
 unfolding packed
 packed_put f g x e = ap (λ n. n + place_bits x.place) (owned_put f g x.object e)
 
-words_put : (f g : ℕ → ℕ) (x : Object) → ((m r : ℕ) → m < 9 → (x.member m).object ≡ Some r → f r ≡ g r)
+words_put : (f g : ℕ → ℕ) (x : Object) → ((m r : ℕ) → m < most_members → (x.member m).object ≡ Some r → f r ≡ g r)
     → object_words f x ≡ object_words g x
 unfolding object_words
 words_put f g x e =
-    let t = listed_equal 9 (λ m. packed f (x.member m)) (λ m. packed g (x.member m))
+    let t = listed_equal most_members (λ m. packed f (x.member m)) (λ m. packed g (x.member m))
     (λ m lt. packed_put f g (x.member m) (λ r u. e m r lt u)) in
     λ i. flags_of x.enabled x.null ∷ slice_index x.fields 0 ∷ slice_index x.fields 1 ∷ slice_index x.fields 2 ∷ slice_index x.fields 3
     ∷ t i
 
 -- the words of an object with empty members
-words_plain : (w : ℕ) (f : ℕ → ℕ) (x : Object) (j : ℕ) → 5 ≤ j → j < 14 → ((m : ℕ) → m < 9 → x.member m ≡ empty (kind_of_member w m))
+words_plain : (w : ℕ) (f : ℕ → ℕ) (x : Object) (j : ℕ) → 5 ≤ j → j < 14 → ((m : ℕ) → m < most_members → x.member m ≡ empty (kind_of_member w m))
     → get_or (object_words f x) j 0 ≡ 0
 unfolding object_words
 words_plain w f x zero le lt e = absurd (omega arith)
@@ -57,7 +59,7 @@ words_plain w f x (suc (suc zero)) le lt e = absurd (omega arith)
 words_plain w f x (suc (suc (suc zero))) le lt e = absurd (omega arith)
 words_plain w f x (suc (suc (suc (suc zero)))) le lt e = absurd (omega arith)
 words_plain w f x (suc (suc (suc (suc (suc j))))) le lt e =
-    listed_at 9 (λ m. packed f (x.member m)) j (omega arith)
+    listed_at most_members (λ m. packed f (x.member m)) j (omega arith)
     ∙ (ap (packed f) (e j (omega arith)) ∙ packed_empty f (kind_of_member w j))
 
 words_new : (w : ℕ) (f : ℕ → ℕ) (b : ℕ) (enabled null : Bool) (fields : List ℕ) (j : ℕ) → j < 5
@@ -120,7 +122,7 @@ module _ (z : Opening) (s : State) (sound : Sound z s) (d b : ℕ) (mine : Has (
       owners = ⊎_elim (λ x. x) (λ (x : count s (s.latest b) ≢ 0). let m = none in
           let a = live_busy s (s.latest b) (counted_live z s (s.latest b) sound (omega arith)) in absurd (omega arith)) (cases_eq (count s (s.latest b)) 0)
 
-      clear : (m : ℕ) → m < 9 → (s.object (s.latest b)).member m ≡ empty (kind_of_member s.owners m)
+      clear : (m : ℕ) → m < most_members → (s.object (s.latest b)).member m ≡ empty (kind_of_member s.owners m)
       clear m le = sound.cleared (s.latest b) m le (let a = none in omega arith)
 
       go : (j : ℕ) → j < 16 → (j < 2) ⊎ (6 < j) → get_or (block_words s b) j 0 ≡ 0
@@ -132,7 +134,7 @@ module _ (z : Opening) (s : State) (sound : Sound z s) (d b : ℕ) (mine : Has (
   worth_put : (f g : ℕ → ℕ) (m : Kind) (n : Option ℕ) (p : Option Place) (t i : ℕ) → ((r : ℕ) → n ≡ Some r → f r ≡ g r)
       → worth f (handle m n p) t i ≡ worth g (handle m n p) t i
   worth_put f g m None p t i e = refl
-  worth_put f g m (Some r) p t i e = ap (λ c. cond (i == spot c (slot m)) (256 - t) 0) (e r refl)
+  worth_put f g m (Some r) p t i e = ap (λ c. cond (i == spot c (slot m)) (cell_funds - t) 0) (e r refl)
 
   -- a new object has no funds in its cells
   bank_made : (taken : ℕ → ℕ) (i : ℕ) → bank z (made_state z s d b enabled null fields) taken i ≡ bank z s taken i
@@ -147,10 +149,10 @@ module _ (z : Opening) (s : State) (sound : Sound z s) (d b : ℕ) (mine : Has (
       let c = sum_all n (λ q. member_funds (blocks_of s) taken (s.object q) i) (λ q. member_funds (blocks_of t) taken (put s.object n x q) i)
       (λ q lt.
       let y = s.object q in
-      let w = λ (m : ℕ) (le : m < 9). let u = y.member m in worth_put (blocks_of t) (blocks_of s) u.kind u.object u.place (taken (spot y.block
+      let w = λ (m : ℕ) (le : m < most_members). let u = y.member m in worth_put (blocks_of t) (blocks_of s) u.kind u.object u.place (taken (spot y.block
       (7 + m))) i (λ r e. block_put r (member_made z s sound q m r lt le e)) in
       ap (λ u. member_funds (blocks_of t) taken u i) (put_other s.object n x q (λ e. omega arith))
-      ∙ sum_all 9 (λ m. worth (blocks_of s) (y.member m) (taken (spot y.block (7 + m))) i)
+      ∙ sum_all most_members (λ m. worth (blocks_of s) (y.member m) (taken (spot y.block (7 + m))) i)
       (λ m. worth (blocks_of t) (y.member m) (taken (spot y.block (7 + m))) i) w) in
       let none : member_funds (blocks_of t) taken (put s.object n x n) i ≡ 0 =
       ap (λ u. member_funds (blocks_of t) taken u i) (put_same s.object n x n refl) in

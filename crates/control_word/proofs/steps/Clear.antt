@@ -11,6 +11,7 @@ use Rattle.control_word.proofs.words.CellWords.{cell_read}
 use Rattle.control_word.proofs.words.Purses.{formed_empty}
 use Rattle.control_word.specs.CellSteps.{Clears}
 use Rattle.control_word.specs.Words.{packed}
+use Rattle.control_word.specs.Limits.{cell_funds}
 
 module _ {V : Type 0} where
   -- the desk that ends the object takes a member's value out
@@ -21,7 +22,7 @@ module _ {V : Type 0} where
       → let s = leads z h in let k = spot (s.object o).block (7 + m) in let old = (s.object o).member m in
       HasRoom (after {V = V} s v.name (ClearMember o m old)) v.name
       → let e = entry v.name (ClearMember o m old) in
-      Stands z (set words k 0) (set views i (record v { pending = purse (blocks_of s) old (256 - stands.taken k); seen = e ∷ h })) (e ∷ h)
+      Stands z (set words k 0) (set views i (record v { pending = purse (blocks_of s) old (cell_funds - stands.taken k); seen = e ∷ h })) (e ∷ h)
   unfolding packed
   clear_step z words views h stands i v at awake o m end lt idle room =
       let s = leads z h in
@@ -46,5 +47,5 @@ module _ {V : Type 0} where
       ((let u = (sound at.opening at.history ready.stands.legal).few in omega arith), omega arith) in
       let old = (s.object o).member m in
       let e : ready.stands.taken (cell_word at (Member o m)) ≡ taken = omega arith in
-      subst (λ t. Adds at (cell_word at (Member o m)) 0 (ClearMember o m old) (purse (blocks_of s) old (256 - t))) e
+      subst (λ t. Adds at (cell_word at (Member o m)) 0 (ClearMember o m old) (purse (blocks_of s) old (cell_funds - t))) e
       (clear_step at.opening at.words at.views at.history ready.stands at.seat at.view ready.seated ready.awake o m end lt ready.pending room)

@@ -15,13 +15,14 @@ use Rattle.control_word.proofs.words.Counting.{bag_fewer}
 use Rattle.control_word.proofs.words.Debts.{HasOut, idle_out, last_test}
 use Rattle.control_word.specs.State.{count}
 use Rattle.control_word.specs.Steps.{Leaves}
+use Rattle.control_word.specs.Limits.{one_fund}
 
 module _ {V : Type 0} where
   -- One owner less, and with it the funds that the desk had out on its count. It was the last just where the whole word was that
   pub settled_leave : (z : Opening) (words : List ℕ) (views : List (View V)) (h : List (Entry V)) (stands : Stands z words views h)
       (i : ℕ) (v : View V) (at : get_elem? views i ≡ some v) (awake : v.spent ≡ false) (o u : ℕ) (p : Option Place)
       → let k = spot ((leads z h).object o).block 0 in HasOut v.pending k u → Has (held v.name (owner o p)) (leads z h).hands
-      → let a = 4294967296 * u + 1 in let e = entry v.name (Leave (owner o p) (get_or words k 0 == a)) in
+      → let a = one_fund * u + 1 in let e = entry v.name (Leave (owner o p) (get_or words k 0 == a)) in
       (a ≤ get_or words k 0) × Stands z (set words k (get_or words k 0 - a)) (set views i (sees v (e ∷ h))) (e ∷ h)
   unfolding count
   settled_leave z words views h stands i v at awake o u p out holds =
@@ -32,7 +33,7 @@ module _ {V : Type 0} where
       let alive = counted_live z s o fine there in
       let busy = live_busy s o alive in
       let b = (s.object o).block in
-      let a = 4294967296 * u + 1 in
+      let a = one_fund * u + 1 in
       let last = get_or words (spot b 0) 0 == a in
       let x = s.object o in
       let y = cond last (moved_to (ending d) x) x in

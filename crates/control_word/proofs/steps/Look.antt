@@ -26,6 +26,7 @@ use Rattle.control_word.specs.State.{HasWhole, count}
 use Rattle.control_word.specs.Steps.{LooksOn, Reads, Tells, TellsCount, TellsExpired}
 use Rattle.control_word.specs.CellSteps.{DiffersEmpty, LoadsEmpty}
 use Rattle.control_word.specs.Words.{bank, object_words}
+use Rattle.control_word.specs.Limits.{one_fund}
 
 module _ {V : Type 0} where
   module _ (z : Opening) (words : List ℕ) (views : List (View V)) (h : List (Entry V)) (stands : Stands z words views h)
@@ -114,7 +115,7 @@ module _ {V : Type 0} where
     -- exactly the owners where no load of the object is under way
     count_exact : (o low high : ℕ) → IsBusy (leads z h) o
         → let i = counts_at (blocks_of (leads z h)) Owner o in
-        get_or words i 0 ≡ low + 4294967296 * high → low < 4294967296 → owed views i ≡ 0
+        get_or words i 0 ≡ low + one_fund * high → low < one_fund → owed views i ≡ 0
         → cond (low == 0) (cond (high == 0) 0 1) low ≡ count (leads z h) o
     count_exact o low high busy is small none =
         let s = leads z h in
@@ -137,7 +138,7 @@ module _ {V : Type 0} where
     pub count_step : (i : ℕ) (v : View V) → get_elem? views i ≡ some v → v.spent ≡ false → v.pending ≡ Idle
         → (k : Kind) (o : ℕ) (p : Option Place) (low high : ℕ)
         → Has (held v.name (handle k (Some o) p)) (leads z h).hands
-        → get_or words (spot ((leads z h).object o).block 0) 0 ≡ low + 4294967296 * high → low < 4294967296
+        → get_or words (spot ((leads z h).object o).block 0) 0 ≡ low + one_fund * high → low < one_fund
         → let n = cond (low == 0) (cond (high == 0) 0 1) low in
         let e = entry v.name (Count (handle k (Some o) p) n) in Stands z words (set views i (sees v (e ∷ h))) (e ∷ h)
     count_step i v at awake idle k o p low high holds is small =

@@ -19,6 +19,7 @@ use Rattle.control_word.proofs.words.Frames.{shelf_kept, total_set}
 use Rattle.control_word.proofs.words.Payments.{cond_one, one_at, one_else, one_here, shows_all}
 use Rattle.control_word.specs.CellSteps.{Refills}
 use Rattle.control_word.specs.Words.{bank, packed}
+use Rattle.control_word.specs.Limits.{cell_funds, one_taken}
 
 module _ {V : Type 0} where
   module _ (z : Opening) (words : List ℕ) (views : List (View V)) (h : List (Entry V)) (stands : Stands z words views h)
@@ -28,14 +29,14 @@ module _ {V : Type 0} where
       pub refill_step : (k : Kind) (o t : ℕ) (p q : Option Place) → let w = counts_at (blocks_of (leads z h)) k o in v.pending ≡ Paying k o p w t 0
           → handle k (Some o) q ≡ cell_of (leads z h) c → stands.taken (cell_at z (leads z h) c) ≡ t
           → let j = cell_at z (leads z h) c in
-          Stands z (set words j (get_or words j 0 - 17179869184 * t)) (set views i (record v { pending = Idle; seen = h })) h
+          Stands z (set words j (get_or words j 0 - one_taken * t)) (set views i (record v { pending = Idle; seen = h })) h
       refill_step k o t p q mine is was =
           let s = leads z h in
           let fine = sound z h stands.legal in
           let x = handle k (Some o) q in
           let j = cell_at z s c in
           let w = counts_at (blocks_of s) k o in
-          let n = get_or words j 0 - 17179869184 * t in
+          let n = get_or words j 0 - one_taken * t in
           let u : View V = record v { pending = Idle; seen = h } in
           let taken : ℕ → ℕ = put stands.taken j 0 in
           let few = stands.most j in
@@ -43,17 +44,17 @@ module _ {V : Type 0} where
           λ m.
           let b = bank_fill z s fine stands.taken m c (cell_of s c) s.hands 0 kept (cells_led z h) in
           let r : bank z (fills c (cell_of s c) s) taken m ≡ bank z s taken m = ap (λ y. bank z y taken m) (fills_same s c) in
-          let a0 = ap (λ y. worth (blocks_of s) y (stands.taken j) m) (sym is) ∙ cond_one w m (256 - stands.taken j) in
-          let a1 = ap (λ y. worth (blocks_of s) y 0 m) (sym is) ∙ cond_one w m 256 in
-          let a2 : 256 * one_at w m ≡ (256 - stands.taken j) * one_at w m + t * one_at w m = ⊎_elim
-          (λ q. let y = one_here w m q in let y0 : (256 - stands.taken j) * one_at w m ≡ (256 - stands.taken j) * 1 = ap
-          (λ n. (256 - stands.taken j) * n) y in
+          let a0 = ap (λ y. worth (blocks_of s) y (stands.taken j) m) (sym is) ∙ cond_one w m (cell_funds - stands.taken j) in
+          let a1 = ap (λ y. worth (blocks_of s) y 0 m) (sym is) ∙ cond_one w m cell_funds in
+          let a2 : cell_funds * one_at w m ≡ (cell_funds - stands.taken j) * one_at w m + t * one_at w m = ⊎_elim
+          (λ q. let y = one_here w m q in let y0 : (cell_funds - stands.taken j) * one_at w m ≡ (cell_funds - stands.taken j) * 1 = ap
+          (λ n. (cell_funds - stands.taken j) * n) y in
           let y1 : t * one_at w m ≡ t * 1 = ap (λ n. t * n) y in omega arith)
-          (λ q. let y = one_else w m q in let y0 : (256 - stands.taken j) * one_at w m ≡ (256 - stands.taken j) * 0 = ap
-          (λ n. (256 - stands.taken j) * n) y in
+          (λ q. let y = one_else w m q in let y0 : (cell_funds - stands.taken j) * one_at w m ≡ (cell_funds - stands.taken j) * 0 = ap
+          (λ n. (cell_funds - stands.taken j) * n) y in
           let y1 : t * one_at w m ≡ t * 0 = ap (λ n. t * n) y in omega arith) (cases_eq m w) in
           omega arith in
-          let enough : 17179869184 * t ≤ get_or words j 0 = full in
+          let enough : one_taken * t ≤ get_or words j 0 = full in
           let both : (m : ℕ) → (get_or (set words j n) m 0 + more z s views stands.taken m ≡ get_or words m 0 + more z s (set views i u) taken m)
           × (owed (set views i u) m ≡ owed views m) =
           λ m.
@@ -88,7 +89,7 @@ module _ {V : Type 0} where
               ∙ (λ r. record t { object = put_again t.object o r })
 
           known : (d : ℕ) (y : Pending V) → Fits words (leads z h) (value z h) d y
-              → Fits (set words (cell_at z (leads z h) c) (get_or words (cell_at z (leads z h) c) 0 - 17179869184 * t)) (leads z h) (value z h) d y
+              → Fits (set words (cell_at z (leads z h) c) (get_or words (cell_at z (leads z h) c) 0 - one_taken * t)) (leads z h) (value z h) d y
           known d Idle f = tt
           known d (Making b l) f = (
             f.0,
@@ -99,11 +100,11 @@ module _ {V : Type 0} where
           known d (Parting to) f = tt
           known d (Merging other mine others) f = tt
 
-          full : 17179869184 * t ≤ get_or words (cell_at z (leads z h) c) 0
+          full : one_taken * t ≤ get_or words (cell_at z (leads z h) c) 0
           full = go c kept was
             where
               go : (d : Cell) → IsKept (leads z h) d → stands.taken (cell_at z (leads z h) d) ≡ t
-                  → 17179869184 * t ≤ get_or words (cell_at z (leads z h) d) 0
+                  → one_taken * t ≤ get_or words (cell_at z (leads z h) d) 0
               go (Free d) op e = let a = stands.shows.free d (let t = cells_led z h in omega arith) in omega arith
               go (Member o m) op e =
                   let a = owed_paid z words views h stands (cell_at z (leads z h) (Member o m)) in

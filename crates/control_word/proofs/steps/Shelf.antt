@@ -12,7 +12,7 @@ use Rattle.std.proofs.lemmas.Nat.Bits.{bit_at-lt, bit_at-pow_other, bit_at-pow_s
 use Rattle.std.proofs.lemmas.Nat.Bits.{bit_at_not, bit_at_or}
 use Rattle.std.proofs.Math.Pow.{pow-lt}
 use Rattle.std.specs.Int.{bit_not, w64}
-use Rattle.control_word.proofs.history.Allowances.{allowed, opened}
+use Rattle.control_word.proofs.history.Allowances.{allowed}
 use Rattle.control_word.proofs.history.Legal.{sound}
 use Rattle.control_word.proofs.history.Others.{IsPlain, fits_after, plain_names, plain_visits}
 use Rattle.control_word.proofs.history.Soundness.{on_is}
@@ -21,7 +21,7 @@ use Rattle.control_word.proofs.views.Teams.{plain_step, still_step}
 use Rattle.control_word.proofs.words.Counting.{calm}
 use Rattle.control_word.proofs.words.Frames.{spot_fits}
 use Rattle.control_word.proofs.words.Payments.{shows_all}
-use Rattle.control_word.specs.Layout.{bit_of}
+use Rattle.control_word.specs.Layout.{bit_of, shelf_words}
 use Rattle.control_word.specs.State.{count, weak}
 use Rattle.control_word.specs.Steps.{ShelfShows, Shelves, Unshelves}
 use Rattle.control_word.specs.Words.{bank}
@@ -88,7 +88,7 @@ module _ (s : State) (r : List Stored) (f : ℕ → Bool) where
 module _ {V : Type 0} where
   module _ (z : Opening) (words : List ℕ) (views : List (View V)) (h : List (Entry V)) (stands : Stands z words views h)
       (i : ℕ) (v : View V) (at : get_elem? views i ≡ some v) (awake : v.spent ≡ false) (idle : v.pending ≡ Idle)
-      (b : ℕ) (low : b < 65536) (n : ℕ) where
+      (b : ℕ) (low : b / 64 < shelf_words z.blocks) (n : ℕ) where
     -- a write of a shelf word leaves the other words
     apart : (c j : ℕ) → InShape z c → j < 16 → spot c j ≢ shelf_spot z b
     apart c j hc lt e = let l = spot_fits z c j hc lt in omega arith
@@ -135,7 +135,7 @@ module _ {V : Type 0} where
     was = get_or words (shelf_spot z b.0) 0
 
     -- an event that moves the block between the desk's store and the shelf
-    moved_step : (a : Event V) (r : List Stored) (x : Bool) (n : ℕ) → b.0 < 65536 → IsPlain a → Asks (leads z h) v.name a
+    moved_step : (a : Event V) (r : List Stored) (x : Bool) (n : ℕ) → b.0 / 64 < shelf_words z.blocks → IsPlain a → Asks (leads z h) v.name a
         → Values (value z h) a → valued (leads z h) a (value z h) ≡ value z h
         → after (leads z h) v.name a ≡ record (leads z h) { stores = r; shelved = put (leads z h).shelved b.0 x }
         → bit_at n (b.0 % 64) ≡ cond x 1 0
@@ -164,13 +164,12 @@ module _ {V : Type 0} where
         Stands z (set words (shelf_spot z b.0) (bit_or was (bit_of b.0))) (set views i (sees v (e ∷ h))) (e ∷ h)
     shelve_step mine =
         let inside = ((sound z h stands.legal).stores v.name b.0 mine).1 in
-        let most = (opened z h stands.legal).limits.0 in
         let top = inside.1 in
         moved_step (Shelve b) _ true (bit_or was (bit_of b.0)) (omega arith) tt mine tt refl refl (bit_set was (b.0 % 64))
         (λ j lt ne. bit_set_else was (b.0 % 64) j ne)
 
     -- the bit was found set
-    unshelve_step : b.0 < 65536 → bit_at was (b.0 % 64) ≡ 1
+    unshelve_step : b.0 / 64 < shelf_words z.blocks → bit_at was (b.0 % 64) ≡ 1
         → let e = entry v.name (Unshelve b) in
         Stands z (set words (shelf_spot z b.0) (bit_and was (bit_not w64 (bit_of b.0)))) (set views i (sees v (e ∷ h))) (e ∷ h)
     unshelve_step low found =
@@ -180,7 +179,7 @@ module _ {V : Type 0} where
         (λ j lt ne. bit_cleared_else was (b.0 % 64) j (omega arith) lt ne)
 
     -- the bit was found clear: another desk has the block, or it was not on the shelf
-    missed_step : b.0 < 65536 → bit_at was (b.0 % 64) ≡ 0
+    missed_step : b.0 / 64 < shelf_words z.blocks → bit_at was (b.0 % 64) ≡ 0
         → Stands z (set words (shelf_spot z b.0) (bit_and was (bit_not w64 (bit_of b.0)))) (set views i (sees v h)) h
     missed_step low found =
         let s = leads z h in

@@ -1,5 +1,5 @@
 -- What stands at the start, what cells show, and that no count carries or wraps.
-use Rattle.std.proofs.Common.{◌≡◌, ℕ, None, ap, ◌∙◌, arith}
+use Rattle.std.proofs.Common.{◌≡◌, ℕ, ◌≤◌, None, ap, ◌∙◌, arith}
 use Rattle.control_word.proofs.Prelude.{blocks_of, Cell, cell_bits, cell_of, cell_word, Free}
 use Rattle.control_word.proofs.Prelude.{IsCellWord, me, Member, Pending, Point, Ready, shown}
 use Rattle.control_word.proofs.Prelude.{state, word}
@@ -12,6 +12,7 @@ use Rattle.control_word.proofs.words.Opening.{opens}
 use Rattle.control_word.proofs.words.Rooms.{funds_room, halves}
 use Rattle.control_word.specs.Steps.{Begins, HasHeadroom}
 use Rattle.control_word.specs.CellSteps.{CellsShow}
+use Rattle.control_word.specs.Limits.{cell_funds}
 
 module _ {V : Type 0} where
   pub begins : Begins V
@@ -26,11 +27,13 @@ module _ {V : Type 0} where
 
   -- the word of a free cell, or of a member of an object that is there or is ending
   pub kept_show : (at : Point V) (p : Pending V) (c : Cell) → Ready at p → IsKept (state at) c
-      → (taken : ℕ) × (let x = shown (blocks_of (state at)) (cell_of (state at) c) taken in (word at (cell_word at c) ≡ cell_bits x) × IsCellWord x)
+      → (taken : ℕ) × (let x = shown (blocks_of (state at)) (cell_of (state at) c) taken in
+      (word at (cell_word at c) ≡ cell_bits x) × IsCellWord x × (taken ≤ cell_funds))
       × ((cell_of (state at) c).object ≡ None → taken ≡ 0)
   kept_show at p c ready kept = (
     ready.stands.taken (cell_word at c),
-    cell_decodes at.opening at.words at.views at.history ready.stands at.seat at.view ready.seated ready.awake c kept,
+    let t = cell_decodes at.opening at.words at.views at.history ready.stands at.seat at.view ready.seated ready.awake c kept in
+        (t.0, t.1, ready.stands.most (cell_word at c)),
     nothing_taken at p ready c kept,
   )
 

@@ -24,6 +24,7 @@ use Rattle.control_word.proofs.words.Purses.{purse_adds, purse_fits, purse_lone,
 use Rattle.control_word.proofs.words.Purses.{purse_pays}
 use Rattle.control_word.specs.CellSteps.{Swaps}
 use Rattle.control_word.specs.Words.{packed}
+use Rattle.control_word.specs.Limits.{cell_funds, one_taken}
 
 module _ {V : Type 0} where
   module _ (z : Opening) (words : List ℕ) (views : List (View V)) (h : List (Entry V)) (stands : Stands z words views h)
@@ -31,13 +32,13 @@ module _ {V : Type 0} where
     -- the new value goes in with 256 funds, and the old one comes out with those that were not taken
     pub exchange_step : (a : Event V) (new : NumberedHandle) → IsPlain a → Asks (leads z h) v.name a → Values (value z h) a
         → after (leads z h) v.name a ≡ swaps v.name c new (cell_of (leads z h) c) (leads z h)
-        → v.pending ≡ purse (blocks_of (leads z h)) new 256 → InHand (leads z h) v.name (kind_of (leads z h) c) new
+        → v.pending ≡ purse (blocks_of (leads z h)) new cell_funds → InHand (leads z h) v.name (kind_of (leads z h) c) new
         → let s = leads z h in let k = cell_at z s c in let old = cell_of s c in
         HasRoom (after s v.name a) v.name
         → let e = entry v.name a in
         Stands z (set words k (packed (blocks_of s) new)) (set views i (record v {
           pending = purse (blocks_of s) old
-              (256 - stands.taken k);
+              (cell_funds - stands.taken k);
           seen = e ∷ h;
         })) (e ∷ h)
     exchange_step a' new plain asks vals is mine hand room =
@@ -48,27 +49,27 @@ module _ {V : Type 0} where
         let n = packed (blocks_of s) new in
         let e = entry v.name a' in
         let was = stands.taken k in
-        let put_in = purse (blocks_of s) old (256 - was) in
+        let put_in = purse (blocks_of s) old (cell_funds - was) in
         let u : View V = record v { pending = put_in; seen = e ∷ h } in
         let t = swaps v.name c new old s in
         let taken : ℕ → ℕ = put stands.taken k 0 in
         let more' : (m : ℕ) → (owed (set views i u) m ≡ owed views m)
-        × (more z t (set views i u) taken m + 17179869184 * stands.taken m ≡ more z s views stands.taken m + 17179869184 * taken m) =
+        × (more z t (set views i u) taken m + one_taken * stands.taken m ≡ more z s views stands.taken m + one_taken * taken m) =
         λ m.
         let a = total_set (λ (y : View V). owes y.pending m) views i v u at in let b = total_set (λ (y : View V). pays y.pending m) views i v u at in
         let d = total_set (λ (y : View V). adds y.pending m) views i v u at in
-        let a0 = ap (λ q. owes q m) mine ∙ purse_owes V (blocks_of s) new.kind new.object new.place 256 m in
-        let a1 = purse_owes V (blocks_of s) old.kind old.object old.place (256 - was) m in
+        let a0 = ap (λ q. owes q m) mine ∙ purse_owes V (blocks_of s) new.kind new.object new.place cell_funds m in
+        let a1 = purse_owes V (blocks_of s) old.kind old.object old.place (cell_funds - was) m in
         let b0 = ap (λ q. pays q m) mine ∙ purse_pays V (blocks_of s) new.kind new.object new.place 0 m in
         let b1 = purse_pays V (blocks_of s) old.kind old.object old.place was m in
-        let d0 = ap (λ q. adds q m) mine ∙ purse_adds V (blocks_of s) new.kind new.object new.place 256 m in
-        let d1 = purse_adds V (blocks_of s) old.kind old.object old.place (256 - was) m in
+        let d0 = ap (λ q. adds q m) mine ∙ purse_adds V (blocks_of s) new.kind new.object new.place cell_funds m in
+        let d1 = purse_adds V (blocks_of s) old.kind old.object old.place (cell_funds - was) m in
         let y = bank_fill z s fine stands.taken m c new (loses v.name new s).hands 0 kept (cells_led z h) in
         let y0 = bank_hands z (fills c new (loses v.name new s)) t.hands taken m in
         (omega arith, omega arith) in
         plain_step z words (set words k n) views h i v a' put_in taken stands at awake plain (purse_lone V (blocks_of s) old.kind old.object old.place
-        (256 - was))
-        (λ y. let q = purse_adds V (blocks_of s) old.kind old.object old.place (256 - was) (spot y 2) in omega arith) asks vals room
+        (cell_funds - was))
+        (λ y. let q = purse_adds V (blocks_of s) old.kind old.object old.place (cell_funds - was) (spot y 2) in omega arith) asks vals room
         (subst (λ y. Shows z (set words k n) (owed (set views i u)) (more z y (set views i u) taken) y) (sym is) (shows_swap c kept new n (owed
         (set views i u)) (more z t (set views i u) taken) hand refl (cell_read z words views h stands i v at awake c kept) more'))
         (λ m. ⊎_elim (λ (q : m ≡ k). let y = put_same stands.taken k 0 m q in omega arith) (λ (q : m ≢ k). let y = put_other stands.taken k 0 m q in
@@ -76,7 +77,7 @@ module _ {V : Type 0} where
         (λ b y hb hy. put_other stands.taken k 0 (spot b y) (cell_apart z words views h stands i v at awake c kept b y hb hy) ∙ stands.blank b y hb hy)
         (subst (λ y. Bare z y taken) (sym is) (bare_swap c kept new))
         (subst (λ y. Fits (set words k n) y (valued s a' (value z h)) v.name put_in) (sym is) (purse_fits (set words k n) s (valued s a'
-        (value z h)) v.name c new old.kind old.object old.place (256 - was) (omega arith)))
+        (value z h)) v.name c new old.kind old.object old.place (cell_funds - was) (omega arith)))
         (λ d q ne f. fits_after z s words (set words k n) (value z h) v.name a' fine d q (λ r. ne (sym r)) (plain_names a' plain d)
         (λ y z'. absurd (plain_visits a' plain y z'))
         (λ b has y lt. same_known z words views h stands i v at awake c kept n b y (fine.stores d b has).1 lt) f)
@@ -112,9 +113,9 @@ module _ {V : Type 0} where
         shows_swap : (d : Cell) (op : IsKept (leads z h) d) (new : NumberedHandle) (n : ℕ) (u g : ℕ → ℕ)
             → InHand (leads z h) v.name (kind_of (leads z h) d) new
             → let s = leads z h in let k = cell_at z s d in n ≡ packed (blocks_of s) new
-            → get_or words k 0 ≡ packed (blocks_of s) (cell_of s d) + 17179869184 * stands.taken k
+            → get_or words k 0 ≡ packed (blocks_of s) (cell_of s d) + one_taken * stands.taken k
             → ((m : ℕ) → (u m ≡ owed views m)
-            × (g m + 17179869184 * stands.taken m ≡ more z s views stands.taken m + 17179869184 * put stands.taken k 0 m))
+            × (g m + one_taken * stands.taken m ≡ more z s views stands.taken m + one_taken * put stands.taken k 0 m))
             → Shows z (set words k n) u g (swaps v.name d new (cell_of s d) s)
         shows_swap (Free d) op new n u g hand is read same =
             let s = leads z h in
@@ -179,14 +180,14 @@ module _ {V : Type 0} where
             (shelf_kept z words s k n (cell_low z words views h stands i v at awake (Member o l) op) stands.shows.shelf)
 
     -- Swap: an open cell
-    pub swap_step : (new : NumberedHandle) → IsOpen (leads z h) v.name c → v.pending ≡ purse (blocks_of (leads z h)) new 256
+    pub swap_step : (new : NumberedHandle) → IsOpen (leads z h) v.name c → v.pending ≡ purse (blocks_of (leads z h)) new cell_funds
         → InHand (leads z h) v.name (kind_of (leads z h) c) new
         → let s = leads z h in let k = cell_at z s c in let old = cell_of s c in
         HasRoom (after {V = V} s v.name (Swap c new old)) v.name
         → let e = entry v.name (Swap c new old) in
         Stands z (set words k (packed (blocks_of s) new)) (set views i (record v {
           pending = purse (blocks_of s) old
-              (256 - stands.taken k);
+              (cell_funds - stands.taken k);
           seen = e ∷ h;
         })) (e ∷ h)
     swap_step new open' mine hand room = exchange_step (Swap c new (cell_of (leads z h) c)) new tt (open', hand, refl) tt refl mine hand room
@@ -199,6 +200,6 @@ module _ {V : Type 0} where
       let r = cell_read at.opening at.words at.views at.history ready.stands at.seat at.view ready.seated ready.awake c kept in
       let old = cell_of s c in
       let e : ready.stands.taken (cell_word at c) ≡ taken = omega arith in
-      subst (λ t. Adds at (cell_word at c) (packed (blocks_of s) new) (Swap c new old) (purse (blocks_of s) old (256 - t))) e
+      subst (λ t. Adds at (cell_word at c) (packed (blocks_of s) new) (Swap c new old) (purse (blocks_of s) old (cell_funds - t))) e
       (exchange_step at.opening at.words at.views at.history ready.stands at.seat at.view ready.seated ready.awake c kept
       (Swap c new old) new tt asks tt refl ready.pending asks.1 room)

@@ -17,7 +17,8 @@ use Rattle.control_word.proofs.lists.Tallies.{put_again, put_other, put_same}
 use Rattle.control_word.proofs.views.Teams.{plain_step}
 use Rattle.control_word.proofs.words.Banks.{IsKept, bank_fill, open_kept}
 use Rattle.control_word.proofs.words.CellWords.{bare_put, cell_apart, cell_inside, cell_low}
-use Rattle.control_word.proofs.words.CellWords.{same_known, taken_left}
+use Rattle.control_word.proofs.words.CellWords.{same_known}
+use Rattle.control_word.proofs.words.Decoding.{taken_left}
 use Rattle.control_word.proofs.words.Counting.{bag_one}
 use Rattle.control_word.proofs.words.Frames.{shelf_kept, total_set}
 use Rattle.control_word.proofs.words.Funds.{counted_busy}
@@ -25,6 +26,7 @@ use Rattle.control_word.proofs.words.Payments.{cond_one, kept_in, one_at, one_el
 use Rattle.control_word.proofs.words.Payments.{read_set, shows_all, vacant_gain, words_gain}
 use Rattle.control_word.specs.CellSteps.{Takes}
 use Rattle.control_word.specs.Words.{bank}
+use Rattle.control_word.specs.Limits.{cell_funds, one_taken}
 
 module _ {V : Type 0} where
   module _ (z : Opening) (words : List ℕ) (views : List (View V)) (h : List (Entry V)) (stands : Stands z words views h)
@@ -33,10 +35,10 @@ module _ {V : Type 0} where
       -- one more is taken of the cell, and a load is under way
       pub take_step : (a : Event V) (k : Kind) (o : ℕ) (p : Option Place) → IsPlain a → Asks (leads z h) v.name a → Values (value z h) a
           → after (leads z h) v.name a ≡ record (leads z h) { hands = held v.name (handle k (Some o) p) ∷ (leads z h).hands }
-          → v.pending ≡ Idle → handle k (Some o) p ≡ cell_of (leads z h) c → stands.taken (cell_at z (leads z h) c) < 256
+          → v.pending ≡ Idle → handle k (Some o) p ≡ cell_of (leads z h) c → stands.taken (cell_at z (leads z h) c) < cell_funds
           → bag_size (leads z h) v.name < (leads z h).allowance v.name
           → let j = cell_at z (leads z h) c in let e = entry v.name a in
-          Stands z (set words j (get_or words j 0 + 17179869184)) (set views i (record v {
+          Stands z (set words j (get_or words j 0 + one_taken)) (set views i (record v {
             pending = Paying k o p (counts_at (blocks_of
                 (leads z h)) k o) 1 1;
             seen = e ∷ h;
@@ -47,7 +49,7 @@ module _ {V : Type 0} where
           let x = handle k (Some o) p in
           let j = cell_at z s c in
           let w = counts_at (blocks_of s) k o in
-          let n = get_or words j 0 + 17179869184 in
+          let n = get_or words j 0 + one_taken in
           let e = entry v.name a' in
           let new = Paying k o p w 1 1 in
           let u : View V = record v { pending = new; seen = e ∷ h } in
@@ -61,19 +63,19 @@ module _ {V : Type 0} where
           λ m.
           let b = bank_fill z s fine stands.taken m c (cell_of s c) (held v.name x ∷ s.hands) (suc was) kept (cells_led z h) in
           let r : bank z (fills c (cell_of s c) t) taken m ≡ bank z t taken m = ap (λ y. bank z y taken m) (fills_same t c) in
-          let a0 = ap (λ y. worth (blocks_of s) y was m) (sym is) ∙ cond_one w m (256 - was) in
-          let a1 = ap (λ y. worth (blocks_of s) y (suc was) m) (sym is) ∙ cond_one w m (256 - suc was) in
-          let a2 : (256 - was) * one_at w m ≡ (256 - suc was) * one_at w m + one_at w m = ⊎_elim
-          (λ q. let y = one_here w m q in let y0 : (256 - was) * one_at w m ≡ (256 - was) * 1 = ap (λ n. (256 - was) * n) y in
-          let y1 : (256 - suc was) * one_at w m ≡ (256 - suc was) * 1 = ap (λ n. (256 - suc was) * n) y in omega arith)
-          (λ q. let y = one_else w m q in let y0 : (256 - was) * one_at w m ≡ (256 - was) * 0 = ap (λ n. (256 - was) * n) y in
-          let y1 : (256 - suc was) * one_at w m ≡ (256 - suc was) * 0 = ap (λ n. (256 - suc was) * n) y in omega arith) (cases_eq m w) in
+          let a0 = ap (λ y. worth (blocks_of s) y was m) (sym is) ∙ cond_one w m (cell_funds - was) in
+          let a1 = ap (λ y. worth (blocks_of s) y (suc was) m) (sym is) ∙ cond_one w m (cell_funds - suc was) in
+          let a2 : (cell_funds - was) * one_at w m ≡ (cell_funds - suc was) * one_at w m + one_at w m = ⊎_elim
+          (λ q. let y = one_here w m q in let y0 : (cell_funds - was) * one_at w m ≡ (cell_funds - was) * 1 = ap (λ n. (cell_funds - was) * n) y in
+          let y1 : (cell_funds - suc was) * one_at w m ≡ (cell_funds - suc was) * 1 = ap (λ n. (cell_funds - suc was) * n) y in omega arith)
+          (λ q. let y = one_else w m q in let y0 : (cell_funds - was) * one_at w m ≡ (cell_funds - was) * 0 = ap (λ n. (cell_funds - was) * n) y in
+          let y1 : (cell_funds - suc was) * one_at w m ≡ (cell_funds - suc was) * 0 = ap (λ n. (cell_funds - suc was) * n) y in omega arith) (cases_eq m w) in
           omega arith in
           let taken' : (m : ℕ) → taken m ≡ stands.taken m + one_at j m =
           λ m. ⊎_elim (λ (q : m ≡ j). let y = one_here j m q in let a = ap stands.taken q in put_same stands.taken j (suc was) m q ∙ omega arith)
           (λ (q : m ≢ j). let y = one_else j m q in put_other stands.taken j (suc was) m q ∙ omega arith) (cases_eq m j) in
-          let read = λ (m : ℕ). read_set words j n m (cell_inside z words views h stands i v at awake c kept) 0 17179869184 (omega arith) in
-          let more' : (m : ℕ) → (more z t (set views i u) taken m ≡ more z s views stands.taken m + 17179869184 * one_at j m)
+          let read = λ (m : ℕ). read_set words j n m (cell_inside z words views h stands i v at awake c kept) 0 one_taken (omega arith) in
+          let more' : (m : ℕ) → (more z t (set views i u) taken m ≡ more z s views stands.taken m + one_taken * one_at j m)
           × (owed (set views i u) m ≡ owed views m + one_at w m) =
           λ m.
           let a = total_set (λ (y : View V). owes y.pending m) views i v u at in let b = total_set (λ (y : View V). pays y.pending m) views i v u at in
@@ -113,10 +115,10 @@ module _ {V : Type 0} where
 
       -- Load: an open cell
       pub load_step : (k : Kind) (o : ℕ) (p : Option Place) → IsOpen (leads z h) v.name c → v.pending ≡ Idle
-          → handle k (Some o) p ≡ cell_of (leads z h) c → stands.taken (cell_at z (leads z h) c) < 256
+          → handle k (Some o) p ≡ cell_of (leads z h) c → stands.taken (cell_at z (leads z h) c) < cell_funds
           → bag_size (leads z h) v.name < (leads z h).allowance v.name
           → let j = cell_at z (leads z h) c in let e = entry v.name (Load c (handle k (Some o) p)) in
-          Stands z (set words j (get_or words j 0 + 17179869184)) (set views i (record v {
+          Stands z (set words j (get_or words j 0 + one_taken)) (set views i (record v {
             pending = Paying k o p (counts_at (blocks_of
                 (leads z h)) k o) 1 1;
             seen = e ∷ h;
@@ -127,10 +129,10 @@ module _ {V : Type 0} where
       pub differs_step : (k : Kind) (o : ℕ) (p : Option Place) (expected new : NumberedHandle) (weak' : Bool) → IsOpen (leads z h) v.name c
           → InHand (leads z h) v.name (kind_of (leads z h) c) expected → InHand (leads z h) v.name (kind_of (leads z h) c) new
           → (false ≡ equivalent (cell_of (leads z h) c) expected) ⊎ (weak' ≡ true)
-          → v.pending ≡ Idle → handle k (Some o) p ≡ cell_of (leads z h) c → stands.taken (cell_at z (leads z h) c) < 256
+          → v.pending ≡ Idle → handle k (Some o) p ≡ cell_of (leads z h) c → stands.taken (cell_at z (leads z h) c) < cell_funds
           → bag_size (leads z h) v.name < (leads z h).allowance v.name
           → let j = cell_at z (leads z h) c in let e = entry v.name (Compare c expected new (handle k (Some o) p) false weak') in
-          Stands z (set words j (get_or words j 0 + 17179869184)) (set views i (record v {
+          Stands z (set words j (get_or words j 0 + one_taken)) (set views i (record v {
             pending = Paying k o p (counts_at (blocks_of
                 (leads z h)) k o) 1 1;
             seen = e ∷ h;

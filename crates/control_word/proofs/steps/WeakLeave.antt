@@ -21,6 +21,7 @@ use Rattle.control_word.proofs.words.Debts.{HasOut, idle_out, last_test}
 use Rattle.control_word.specs.State.{weak}
 use Rattle.control_word.specs.Steps.{Finishes, WeakLeaves}
 use Rattle.control_word.specs.Words.{bank}
+use Rattle.control_word.specs.Limits.{one_fund}
 
 eqb_suc : (n : ℕ) → (suc n == 1) ≡ (n == 0)
 eqb_suc n = ⊎_elim (λ (e : n ≡ 0). eq-eqb (suc n) 1 (omega arith) ∙ sym (eq-eqb n 0 e)) (λ (e : n ≢ 0). ne_eqb (suc n) 1 (λ u. omega arith)
@@ -53,7 +54,7 @@ module _ {V : Type 0} where
   pub settled_weak_leave : (z : Opening) (words : List ℕ) (views : List (View V)) (h : List (Entry V)) (stands : Stands z words views h)
       (i : ℕ) (v : View V) (at : get_elem? views i ≡ some v) (awake : v.spent ≡ false) (o f : ℕ) (p : Option Place)
       → let k = spot ((leads z h).object o).block 1 in HasOut v.pending k f → Has (held v.name (weak_of o p)) (leads z h).hands
-      → let a = 4294967296 * f + 1 in let e = entry v.name (WeakLeave (weak_of o p) (get_or words k 0 == a)) in
+      → let a = one_fund * f + 1 in let e = entry v.name (WeakLeave (weak_of o p) (get_or words k 0 == a)) in
       (a ≤ get_or words k 0) × Stands z (set words k (get_or words k 0 - a)) (set views i (sees v (e ∷ h))) (e ∷ h)
   unfolding weak
   settled_weak_leave z words views h stands i v at awake o f p out holds =
@@ -65,7 +66,7 @@ module _ {V : Type 0} where
       let hs = without same_held (held d (weak_of o p)) s.hands in
       let b = (s.object o).block in
       let k = spot b 1 in
-      let a = 4294967296 * f + 1 in
+      let a = one_fund * f + 1 in
       let vacant = get_or words k 0 == a in
       let made : (s.object o).phase ≢ unmade = λ e. let t = fine.unmade_free o e in omega arith in
       let rest = cond vacant (stored d b ∷ s.stores) s.stores in

@@ -6,7 +6,6 @@ use Rattle.control_word.proofs.Prelude.{get_elem?, Idle, InShape, leads, Making,
 use Rattle.control_word.proofs.Prelude.{number_of, Opening, owed, owes, Owner, paid, Parting}
 use Rattle.control_word.proofs.Prelude.{Paying, pays, Pending, slot, some, some-injective, spot}
 use Rattle.control_word.proofs.Prelude.{Stands, value, View, Visiting, Weak, weak_number}
-use Rattle.control_word.proofs.history.Allowances.{opened}
 use Rattle.control_word.proofs.history.Kept.{Same, same_kept}
 use Rattle.control_word.proofs.history.Legal.{held_busy, sound}
 use Rattle.control_word.proofs.history.Sole.{alone}
@@ -18,6 +17,7 @@ use Rattle.control_word.specs.Laws.{RestsExactly, SoleHasSeenAll}
 use Rattle.control_word.specs.State.{count}
 use Rattle.control_word.specs.Views.{IsAtRest, NamesBlock}
 use Rattle.control_word.specs.Words.{bank}
+use Rattle.control_word.specs.Limits.{one_fund}
 
 module _ {V : Type 0} where
   -- what a desk has by what it has seen, it has
@@ -115,7 +115,7 @@ module _ {V : Type 0} where
     )
 
     -- the funds on a word of a block, of whatever object, are a whole number of funds; its number is the state's
-    rest_word : (k : ℕ) → k < 2 → get_or words (spot b k) 0 ≡ get_or (block_words (leads z h) b) k 0 + 4294967296 * bank z
+    rest_word : (k : ℕ) → k < 2 → get_or words (spot b k) 0 ≡ get_or (block_words (leads z h) b) k 0 + one_fund * bank z
         (leads z h) stands.taken (spot b k)
     rest_word k low =
         let t = rest_sums k low in
@@ -123,16 +123,13 @@ module _ {V : Type 0} where
         let u = stands.blank b k inside (omega arith) in
         ⊎_elim (λ l. absurd (let l0 = l.0 in omega arith)) (λ e. omega arith) (stands.shows.blocks b k inside (omega arith))
 
-    number_read_of : (n f : ℕ) → n < 4294967296 → number_of (n + 4294967296 * f) ≡ n
+    number_read_of : (n f : ℕ) → n < one_fund → number_of (n + one_fund * f) ≡ n
     number_read_of n f lt = omega arith
 
   pub rests_exactly : RestsExactly V
   rests_exactly z words views h stands b inside rest =
       let s = leads z h in
       let o = s.latest b in
-      let low = opened z h stands.legal in
-      let limits = low.limits in
-      let l0 = limits.0 in let l1 = limits.1 in let l2 = limits.2 in
       let few = number_room z h stands.legal Owner o in
       let weak-few = number_room z h stands.legal Weak o in
       let a = rest_word z words views h stands b inside rest 0 (omega arith) in

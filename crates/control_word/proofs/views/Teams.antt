@@ -10,6 +10,7 @@ use Rattle.control_word.proofs.history.Kept.{acting_same, same_after}
 use Rattle.control_word.proofs.history.Others.{IsLone, IsPlain, acts_after, plain_names}
 use Rattle.control_word.proofs.words.Frames.{at_inside, total_set}
 use Rattle.control_word.specs.Views.{HasBoth, Team}
+use Rattle.control_word.specs.Limits.{cell_funds}
 
 module _ {V : Type 0} where
   -- one view changes, and the history may grow by an event of its desk
@@ -79,7 +80,7 @@ module _ {V : Type 0} where
       → let w : View V = sees_as v p (entry v.name a ∷ h) in
       let s' = after (leads z h) v.name a in
       Shows z words' (owed (set views i w)) (more z s' (set views i w) taken) s'
-      → ((j : ℕ) → taken j ≤ 256) → ((b k : ℕ) → InShape z b → k < 7 → taken (spot b k) ≡ 0) → Bare z s' taken
+      → ((j : ℕ) → taken j ≤ cell_funds) → ((b k : ℕ) → InShape z b → k < 7 → taken (spot b k) ≡ 0) → Bare z s' taken
       → ((b : ℕ) → InShape z b → added (set views i w) (spot b 2) ≤ 4)
       → Fits words' s' (value z (entry v.name a ∷ h)) v.name p
       → ((d : ℕ) → IsSecond p d → (v.name ≡ d → ⊥) × IsActing s' d × (StandsFor v d ⊎ (IsActing (leads z h) d → ⊥)))
@@ -137,7 +138,7 @@ module _ {V : Type 0} where
       → let w : View V = sees_as v p (entry v.name a ∷ h) in
       let s' = after (leads z h) v.name a in
       Shows z words' (owed (set views i w)) (more z s' (set views i w) taken) s'
-      → ((j : ℕ) → taken j ≤ 256) → ((b k : ℕ) → InShape z b → k < 7 → taken (spot b k) ≡ 0) → Bare z s' taken
+      → ((j : ℕ) → taken j ≤ cell_funds) → ((b k : ℕ) → InShape z b → k < 7 → taken (spot b k) ≡ 0) → Bare z s' taken
       → Fits words' s' (value z (entry v.name a ∷ h)) v.name p
       → ((d : ℕ) (q : Pending V) → d ≢ v.name → Fits words (leads z h) (value z h) d q → Fits words' s' (value z (entry v.name a ∷ h)) d q)
       → Stands z words' (set views i w) (entry v.name a ∷ h)
@@ -153,7 +154,7 @@ module _ {V : Type 0} where
       → let w : View V = sees_as v p h in
       let s = leads z h in
       Shows z words' (owed (set views i w)) (more z s (set views i w) taken) s
-      → ((j : ℕ) → taken j ≤ 256) → ((b k : ℕ) → InShape z b → k < 7 → taken (spot b k) ≡ 0) → Bare z s taken
+      → ((j : ℕ) → taken j ≤ cell_funds) → ((b k : ℕ) → InShape z b → k < 7 → taken (spot b k) ≡ 0) → Bare z s taken
       → ((b : ℕ) → InShape z b → added (set views i w) (spot b 2) ≤ 4)
       → Fits words' s (value z h) v.name p
       → ((d : ℕ) (q : Pending V) → d ≢ v.name → Fits words s (value z h) d q → Fits words' s (value z h) d q)
@@ -179,7 +180,7 @@ module _ {V : Type 0} where
       → let w : View V = sees_as v p h in
       let s = leads z h in
       Shows z words' (owed (set views i w)) (more z s (set views i w) taken) s
-      → ((j : ℕ) → taken j ≤ 256) → ((b k : ℕ) → InShape z b → k < 7 → taken (spot b k) ≡ 0) → Bare z s taken
+      → ((j : ℕ) → taken j ≤ cell_funds) → ((b k : ℕ) → InShape z b → k < 7 → taken (spot b k) ≡ 0) → Bare z s taken
       → Fits words' s (value z h) v.name p
       → ((d : ℕ) (q : Pending V) → d ≢ v.name → Fits words s (value z h) d q → Fits words' s (value z h) d q)
       → Stands z words' (set views i w) h

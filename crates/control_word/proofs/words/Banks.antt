@@ -15,6 +15,7 @@ use Rattle.control_word.proofs.lists.Tallies.{put_cases, put_other, put_same}
 use Rattle.control_word.proofs.words.Frames.{spot_apart, spot_fits}
 use Rattle.control_word.proofs.words.Funds.{cell_busy, member_busy}
 use Rattle.control_word.specs.Words.{bank}
+use Rattle.control_word.specs.Limits.{most_members, cell_funds}
 
 pub sum_set : (n p : ℕ) (f g : ℕ → ℕ) → p < n → ((j : ℕ) → j < n → j ≢ p → g j ≡ f j) → sum_below n g + f p ≡ sum_below n f + g p
 sum_set zero p f g lt same = absurd (omega arith)
@@ -35,7 +36,7 @@ sum_all (suc n) f g h = let a = h n (omega arith) in let b = sum_all n f g (λ j
 -- the cell is free, or a member of a busy object
 abbrev pub IsKept : State → Cell → Type 0
 IsKept s (Free c) = c < s.cells
-IsKept s (Member o m) = (m < 9) × IsBusy s o
+IsKept s (Member o m) = (m < most_members) × IsBusy s o
 
 pub open_kept : (z : Opening) (s : State) (d : ℕ) (c : Cell) → Sound z s → IsOpen s d c → IsKept s c
 open_kept z s d (Free c) fine open' = open'
@@ -46,7 +47,7 @@ module _ (z : Opening) (s : State) (fine : Sound z s) (taken : ℕ → ℕ) (i :
   gone_funds : (u : ℕ → ℕ) (q : ℕ) → common (s.object q).phase ≡ 0 → member_funds (blocks_of s) u (s.object q) i ≡ 0
   gone_funds u q e =
       let x = s.object q in
-      sum_zero 9 (λ m. worth (blocks_of s) (x.member m) (u (spot x.block (7 + m))) i)
+      sum_zero most_members (λ m. worth (blocks_of s) (x.member m) (u (spot x.block (7 + m))) i)
       (λ m lt. ap (λ (h : NumberedHandle). worth (blocks_of s) h (u (spot x.block (7 + m))) i) (fine.cleared q m lt e))
 
   -- an object of which no cell's word is k
@@ -57,7 +58,7 @@ module _ (z : Opening) (s : State) (fine : Sound z s) (taken : ℕ → ℕ) (i :
       (λ (ne : common (s.object q).phase ≢ 0).
       let x = s.object q in
       let n = apart (omega arith) in
-      sum_all 9 (λ m. worth (blocks_of s) (x.member m) (taken (spot x.block (7 + m))) i)
+      sum_all most_members (λ m. worth (blocks_of s) (x.member m) (taken (spot x.block (7 + m))) i)
       (λ m. worth (blocks_of s) (x.member m) (put taken k t (spot x.block (7 + m))) i)
       (λ m lt. ap (λ y. worth (blocks_of s) (x.member m) y i)
       (put_other taken k t (spot x.block (7 + m)) (n (7 + m) (omega arith) (omega arith)))))
@@ -79,7 +80,7 @@ module _ (z : Opening) (s : State) (fine : Sound z s) (taken : ℕ → ℕ) (i :
       omega arith
 
   -- of one object one member changes
-  own_funds : (x : Object) (m t : ℕ) (new : NumberedHandle) → m < 9 → 1 ≤ x.block → let k = spot x.block (7 + m) in
+  own_funds : (x : Object) (m t : ℕ) (new : NumberedHandle) → m < most_members → 1 ≤ x.block → let k = spot x.block (7 + m) in
       member_funds (blocks_of s) (put taken k t) (record x { member = put x.member m new }) i + worth (blocks_of s) (x.member m) (taken k) i
       ≡ member_funds (blocks_of s) taken x i + worth (blocks_of s) new t i
   own_funds x m t new lt pos =
@@ -88,9 +89,9 @@ module _ (z : Opening) (s : State) (fine : Sound z s) (taken : ℕ → ℕ) (i :
       let f : ℕ → ℕ = λ j. worth b (x.member j) (taken (spot x.block (7 + j))) i in
       let g : ℕ → ℕ = λ j. worth b (put x.member m new j) (put taken k t (spot x.block (7 + j))) i in
       let here : g m ≡ worth b new t i = λ y. worth b (put_same x.member m new m refl y) (put_same taken k t k refl y) i in
-      let all : sum_below 9 g + f m ≡ sum_below 9 f + g m = sum_set 9 m f g lt
+      let all : sum_below most_members g + f m ≡ sum_below most_members f + g m = sum_set most_members m f g lt
       (λ j l n y. worth b (put_other x.member m new j n y) (put_other taken k t (spot x.block (7 + j)) (λ e. n (omega arith)) y) i) in
-      all ∙ ap (λ n. sum_below 9 f + n) here
+      all ∙ ap (λ n. sum_below most_members f + n) here
 
   pub member_blocks : (o m : ℕ) (new : NumberedHandle) → ◌≡◌ {A = ℕ
       → ℕ} (λ q. (put s.object o (record (s.object o) { member = put (s.object o).member m new }) q).block) (blocks_of s)
@@ -98,7 +99,7 @@ module _ (z : Opening) (s : State) (fine : Sound z s) (taken : ℕ → ℕ) (i :
       (λ j y. y.block ≡ (s.object j).block) s.object o (record (s.object o) { member = put (s.object o).member m new }) q
       (λ e. ap (λ n. (s.object n).block) (sym e)) (λ n. refl))
 
-  bank_member : (o m : ℕ) (new : NumberedHandle) (hs : List Held) (t : ℕ) → m < 9 → IsBusy s o → s.cells ≡ z.cells
+  bank_member : (o m : ℕ) (new : NumberedHandle) (hs : List Held) (t : ℕ) → m < most_members → IsBusy s o → s.cells ≡ z.cells
       → let x = s.object o in let k = spot x.block (7 + m) in
       bank z (record s { hands = hs; object = put s.object o (record x { member = put x.member m new }) }) (put taken k t) i + worth (blocks_of s)
       (x.member m) (taken k) i
@@ -153,7 +154,7 @@ bank_none z s fine taken i none =
     let b = sum_zero (suc s.made) (λ q. member_funds (blocks_of s) taken (s.object q) i)
     (λ q lt.
     let x = s.object q in
-    sum_zero 9 (λ m. worth (blocks_of s) (x.member m) (taken (spot x.block (7 + m))) i)
+    sum_zero most_members (λ m. worth (blocks_of s) (x.member m) (taken (spot x.block (7 + m))) i)
     (λ m le. let y = x.member m in worth_none y.kind y.object y.place (taken (spot x.block (7 + m)))
     (λ r. member_busy z s fine q m r lt le))) in
     omega arith
@@ -161,4 +162,4 @@ bank_none z s fine taken i none =
     worth_none : (m : Kind) (n : Option ℕ) (p : Option Place) (t : ℕ) → ((r : ℕ) → n ≡ Some r → IsBusy s r)
         → worth (blocks_of s) (handle m n p) t i ≡ 0
     worth_none m None p t busy = refl
-    worth_none m (Some o) p t busy = cond-false _ (256 - t) 0 (ne_eqb i (counts_at (blocks_of s) m o) (none m o (busy o refl)))
+    worth_none m (Some o) p t busy = cond-false _ (cell_funds - t) 0 (ne_eqb i (counts_at (blocks_of s) m o) (none m o (busy o refl)))

@@ -16,6 +16,7 @@ use Rattle.control_word.proofs.words.Frames.{spot_apart, spot_fits}
 use Rattle.control_word.proofs.words.Funds.{slot_low}
 use Rattle.control_word.proofs.words.Members.{member_word}
 use Rattle.control_word.specs.Words.{packed}
+use Rattle.control_word.specs.Limits.{one_taken}
 
 module _ {V : Type 0} where
   module _ (z : Opening) (words : List ℕ) (views : List (View V)) (h : List (Entry V)) (stands : Stands z words views h)
@@ -93,7 +94,7 @@ module _ {V : Type 0} where
   module _ (z : Opening) (words : List ℕ) (views : List (View V)) (h : List (Entry V)) (stands : Stands z words views h)
       (i : ℕ) (v : View V) (at : get_elem? views i ≡ some v) (awake : v.spent ≡ false) (c : Cell) (kept : IsKept (leads z h) c) where
     -- nothing but the value and how many were taken is in a cell's word
-    cell_more : let k = cell_at z (leads z h) c in (owed views k ≡ 0) × (more z (leads z h) views stands.taken k ≡ 17179869184 * stands.taken k)
+    cell_more : let k = cell_at z (leads z h) c in (owed views k ≡ 0) × (more z (leads z h) views stands.taken k ≡ one_taken * stands.taken k)
     cell_more =
         let s = leads z h in
         let fine = sound z h stands.legal in
@@ -143,12 +144,12 @@ module _ {V : Type 0} where
 
     -- the word of an open cell
     pub cell_read : let k = cell_at z (leads z h) c in
-        get_or words k 0 ≡ packed (blocks_of (leads z h)) (cell_of (leads z h) c) + 17179869184 * stands.taken k
+        get_or words k 0 ≡ packed (blocks_of (leads z h)) (cell_of (leads z h) c) + one_taken * stands.taken k
     cell_read = go c kept cell_more
       where
         go : (d : Cell) → IsKept (leads z h) d
-            → let k = cell_at z (leads z h) d in (owed views k ≡ 0) × (more z (leads z h) views stands.taken k ≡ 17179869184 * stands.taken k)
-            → get_or words k 0 ≡ packed (blocks_of (leads z h)) (cell_of (leads z h) d) + 17179869184 * stands.taken k
+            → let k = cell_at z (leads z h) d in (owed views k ≡ 0) × (more z (leads z h) views stands.taken k ≡ one_taken * stands.taken k)
+            → get_or words k 0 ≡ packed (blocks_of (leads z h)) (cell_of (leads z h) d) + one_taken * stands.taken k
         go (Free d) op none = let a = stands.shows.free d (let t = cells_led z h in omega arith) in let b = none.1 in omega arith
         go (Member o m) op none =
             let s = leads z h in
@@ -157,11 +158,3 @@ module _ {V : Type 0} where
             let w = member_word s b o m op.0 p.0 in
             let x = none.0 in let y = none.1 in
             ⊎_elim (λ l. absurd (let t = l.1 in omega arith)) (λ t. omega arith) (stands.shows.blocks b (7 + m) p.1 (let y = op.0 in omega arith))
-
-    -- whether all funds were taken shows in the whole word
-    pub taken_all : stands.taken (cell_at z (leads z h) c) < 256 → packed (blocks_of (leads z h)) (cell_of (leads z h) c) < 17179869184
-        → get_or words (cell_at z (leads z h) c) 0 < 4398046511104
-    taken_all lt few = let r = cell_read in omega arith
-
-    pub taken_left : get_or words (cell_at z (leads z h) c) 0 < 4398046511104 → stands.taken (cell_at z (leads z h) c) < 256
-    taken_left lt = let r = cell_read in omega arith

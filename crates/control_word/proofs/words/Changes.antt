@@ -19,6 +19,7 @@ use Rattle.control_word.proofs.words.Funds.{bank_still, slot_low}
 use Rattle.control_word.proofs.words.Payments.{one_at, one_else, one_here}
 use Rattle.control_word.specs.State.{count}
 use Rattle.control_word.specs.Words.{bank}
+use Rattle.control_word.specs.Limits.{one_fund}
 
 module _ {V : Type 0} where
   stores_shows : (z : Opening) (ws : List ℕ) (us taken : ℕ → ℕ) (vs : List (View V)) (t : State) (r : List Stored)
@@ -39,7 +40,7 @@ module _ {V : Type 0} where
         → ((q : ℕ) → (slot k ≢ 0) ⊎ (q ≢ o) → count s' q ≡ count s q)
         → ((q : ℕ) → (slot k ≢ 1) ⊎ (q ≢ o) → weak_number s' q ≡ weak_number s q)
         → ((q : ℕ) → moved_to unmade (f q) ≡ moved_to unmade (s.object q))
-        → n + number s k o + 4294967296 * u ≡ get_or words (counts_at (blocks_of s) k o) 0 + number s' k o
+        → n + number s k o + one_fund * u ≡ get_or words (counts_at (blocks_of s) k o) 0 + number s' k o
         → bag_size s' v.name ≤ s.allowance v.name
         → Stands z (set words (counts_at (blocks_of s) k o) n) (set views i (sees v (entry v.name a ∷ h))) (entry v.name a ∷ h)
     settled_stores a hs f r k o n u plain out asks vals busy same counts weaks still e room =
@@ -52,7 +53,7 @@ module _ {V : Type 0} where
         let place = fine.placed o busy in
         let quiet = settles z words views h stands i v at awake j u out (entry v.name a ∷ h) in
         let bank' : (m : ℕ) → bank z s' stands.taken m ≡ bank z s stands.taken m = λ m. bank_still z s hs f stands.taken m still in
-        let more' : (m : ℕ) → more z s views stands.taken m ≡ more z s' (set views i w) stands.taken m + 4294967296 * (u * one_at j m) =
+        let more' : (m : ℕ) → more z s views stands.taken m ≡ more z s' (set views i w) stands.taken m + one_fund * (u * one_at j m) =
         λ m. let q = quiet m in let c = bank' m in let x = q.1 in let y = q.2 in omega arith in
         let read = number_read z words views h stands k o busy in
         let counted = more_counts z words views h stands k o busy in
@@ -89,7 +90,7 @@ module _ {V : Type 0} where
         → ((q : ℕ) → (slot k ≢ 0) ⊎ (q ≢ o) → count s' q ≡ count s q)
         → ((q : ℕ) → (slot k ≢ 1) ⊎ (q ≢ o) → weak_number s' q ≡ weak_number s q)
         → ((q : ℕ) → moved_to unmade (f q) ≡ moved_to unmade (s.object q))
-        → n + number s k o + 4294967296 * u ≡ get_or words (counts_at (blocks_of s) k o) 0 + number s' k o
+        → n + number s k o + one_fund * u ≡ get_or words (counts_at (blocks_of s) k o) 0 + number s' k o
         → bag_size s' v.name ≤ s.allowance v.name
         → Stands z (set words (counts_at (blocks_of s) k o) n) (set views i (sees v (entry v.name a ∷ h))) (entry v.name a ∷ h)
     settled_step a hs f k o n u plain out asks vals busy same counts weaks still e room = settled_stores a hs f

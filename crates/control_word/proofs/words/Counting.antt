@@ -18,6 +18,7 @@ use Rattle.control_word.proofs.words.Frames.{spot_apart, total_none, total_set}
 use Rattle.control_word.proofs.words.Funds.{bank_few, same_counts, slot_low, total_le, total_some}
 use Rattle.control_word.specs.State.{count, weak}
 use Rattle.control_word.specs.Words.{bank}
+use Rattle.control_word.specs.Limits.{one_fund}
 
 module _ {V : Type 0} where
   -- a write of an owner or a weak word leaves what the other desks' half-done calls know
@@ -65,7 +66,7 @@ number_tally s Owner o = omega arith
 number_tally s Weak o = omega arith
 
 -- a word whose funds are at least the loads under way is 1 just where its number is 1 and stands alone
-pub one_test : (n l m f : ℕ) → n + l ≡ m + 4294967296 * f → l ≤ f → 0 < m → (m ≡ 1 → f ≡ 0) → (n == 1) ≡ (m == 1)
+pub one_test : (n l m f : ℕ) → n + l ≡ m + one_fund * f → l ≤ f → 0 < m → (m ≡ 1 → f ≡ 0) → (n == 1) ≡ (m == 1)
 one_test n l m f e le pos none =
     ⊎_elim (λ (t : m ≡ 1). let u = none t in eq-eqb n 1 (omega arith) ∙ sym (eq-eqb m 1 t))
     (λ (t : m ≢ 1). ne_eqb n 1 (λ u. ⊎_elim (λ (v : f ≡ 0). t (omega arith)) (λ (v : f ≢ 0). absurd (omega arith)) (cases_eq f 0))
@@ -135,7 +136,7 @@ module _ {V : Type 0} where
 
     -- the word that counts a kind of handles of a busy object has the number, less the loads under way, and the funds
     pub more_counts : (k : Kind) (o : ℕ) → IsBusy (leads z h) o → let i = counts_at (blocks_of (leads z h)) k o in
-        more z (leads z h) views stands.taken i ≡ 4294967296 * (paid views i + bank z (leads z h) stands.taken i)
+        more z (leads z h) views stands.taken i ≡ one_fund * (paid views i + bank z (leads z h) stands.taken i)
     more_counts k o busy =
         let s = leads z h in
         let i = counts_at (blocks_of s) k o in
@@ -145,7 +146,7 @@ module _ {V : Type 0} where
         omega arith
 
     pub number_read : (k : Kind) (o : ℕ) → IsBusy (leads z h) o → let i = counts_at (blocks_of (leads z h)) k o in
-        get_or words i 0 + owed views i ≡ number (leads z h) k o + 4294967296 * (paid views i + bank z (leads z h) stands.taken i)
+        get_or words i 0 + owed views i ≡ number (leads z h) k o + one_fund * (paid views i + bank z (leads z h) stands.taken i)
     number_read Owner o busy =
         let s = leads z h in let b = (s.object o).block in let p = (sound z h stands.legal).placed o busy in
         let m = more_counts Owner o busy in

@@ -16,6 +16,7 @@ use Rattle.control_word.proofs.words.Frames.{total_set}
 use Rattle.control_word.proofs.words.Funds.{bank_few, total_some}
 use Rattle.control_word.proofs.words.Payments.{cond_one, one_at, one_here, rest_paid}
 use Rattle.control_word.specs.Words.{bank}
+use Rattle.control_word.specs.Limits.{one_fund}
 
 module _ {V : Type 0} where
   -- a call with so many funds out on word w, and with nothing else on any word
@@ -94,7 +95,7 @@ module _ {V : Type 0} where
     -- the desk's handle is the last of its number just where the whole word is 1 and what the desk has out
     pub last_test : (k : Kind) (o f : ℕ) (p : Option Place) → let s = leads z h in let w = counts_at (blocks_of s) k o in
         HasOut v.pending w f → Has (held v.name (handle k (Some o) p)) s.hands → 0 < number s k o → (number s k o ≡ 1 → tally k o (handles s) ≡ 1)
-        → (4294967296 * f + 1 ≤ get_or words w 0) × ((get_or words w 0 == 4294967296 * f + 1) ≡ (number s k o == 1))
+        → (one_fund * f + 1 ≤ get_or words w 0) × ((get_or words w 0 == one_fund * f + 1) ≡ (number s k o == 1))
     last_test k o f p out has some' alone =
         let s = leads z h in
         let w = counts_at (blocks_of s) k o in
@@ -104,9 +105,9 @@ module _ {V : Type 0} where
         let one : f * one_at w w ≡ f * 1 = ap (λ c. f * c) (one_here w w refl) in
         let l = rest_paid z words views h stands i v at awake Idle h w (omega arith) in
         let rest = paid (set views i (sees v h)) w + bank z s stands.taken w in
-        let more : 4294967296 * f + 1 ≤ get_or words w 0 = omega arith in (
+        let more : one_fund * f + 1 ≤ get_or words w 0 = omega arith in (
           more,
-          funds_test (get_or words w 0) (4294967296 * f) (omega arith)
-              ∙ one_test (get_or words w 0 - 4294967296 * f) (owed (set views i (sees v h)) w) (number s k o) rest (omega arith) (omega arith) some'
+          funds_test (get_or words w 0) (one_fund * f) (omega arith)
+              ∙ one_test (get_or words w 0 - one_fund * f) (owed (set views i (sees v h)) w) (number s k o) rest (omega arith) (omega arith) some'
               (λ e. no_others_funds k o p has (alone e)),
         )

@@ -16,6 +16,7 @@ use Rattle.control_word.proofs.lists.Tallies.{tally_append}
 use Rattle.control_word.proofs.words.Frames.{spot_apart}
 use Rattle.control_word.specs.State.{count, weak}
 use Rattle.control_word.specs.Words.{bank}
+use Rattle.control_word.specs.Limits.{most_members, cell_funds}
 
 module _ {A : Type 0} where
   pub total_le : (f g : A → ℕ) (l : List A) → ((i : ℕ) (a : A) → get_elem? l i ≡ some a → f a ≤ g a) → total f l ≤ total g l
@@ -64,7 +65,7 @@ module _ (z : Opening) (s : State) (fine : Sound z s) where
       let t = tally_upto m r s.cells c (λ j. s.cell j ∷ []) lt in let u = one_of m r (s.cell c) refl e in
       in_cells_busy r m (let w = tally_append m r cells rest in omega arith)
 
-  pub member_busy : (q m r : ℕ) → q < suc s.made → m < 9 → ((s.object q).member m).object ≡ Some r → IsBusy s r
+  pub member_busy : (q m r : ℕ) → q < suc s.made → m < most_members → ((s.object q).member m).object ≡ Some r → IsBusy s r
   member_busy q m r lt le e =
       let x = (s.object q).member m in
       let j = x.kind in
@@ -76,23 +77,23 @@ module _ (z : Opening) (s : State) (fine : Sound z s) where
 
   module _ (k : Kind) (o : ℕ) (busy : IsBusy s o) where
     worth_few : (m : Kind) (n : Option ℕ) (p : Option Place) (t : ℕ) → ((r : ℕ) → n ≡ Some r → IsBusy s r)
-        → worth (blocks_of s) (handle m n p) t (counts_at (blocks_of s) k o) ≤ 256 * tally k o (handle m n p ∷ [])
+        → worth (blocks_of s) (handle m n p) t (counts_at (blocks_of s) k o) ≤ cell_funds * tally k o (handle m n p ∷ [])
     worth_few m None p t b = omega arith
     worth_few m (Some q) p t b =
         ⊎_elim
         (λ (e : counts_at (blocks_of s) k o ≡ counts_at (blocks_of s) m q).
         let x = same_counts k m o q busy (b q refl) e in
         let one = one_of k o (handle m (Some q) p) (sym x.0) (ap Some (sym x.1)) in
-        let c : cond (counts_at (blocks_of s) k o == counts_at (blocks_of s) m q) (256 - t) 0 ≡ 256 - t =
-        cond-true _ (256 - t) 0 (eq-eqb _ _ e) in omega arith)
+        let c : cond (counts_at (blocks_of s) k o == counts_at (blocks_of s) m q) (cell_funds - t) 0 ≡ cell_funds - t =
+        cond-true _ (cell_funds - t) 0 (eq-eqb _ _ e) in omega arith)
         (λ (ne : counts_at (blocks_of s) k o ≢ counts_at (blocks_of s) m q).
-        let c : ◌≡◌ {A = ℕ} (cond (counts_at (blocks_of s) k o == counts_at (blocks_of s) m q) (256 - t) 0) 0 = cond-false _ (256 - t) 0
+        let c : ◌≡◌ {A = ℕ} (cond (counts_at (blocks_of s) k o == counts_at (blocks_of s) m q) (cell_funds - t) 0) 0 = cond-false _ (cell_funds - t) 0
         (ne_eqb _ _ ne) in omega arith)
         (cases_eq (counts_at (blocks_of s) k o) (counts_at (blocks_of s) m q))
 
-    members_below : (taken : ℕ → ℕ) (q : ℕ) → q < suc s.made → (n : ℕ) → n ≤ 9 → let x = s.object q in
+    members_below : (taken : ℕ → ℕ) (q : ℕ) → q < suc s.made → (n : ℕ) → n ≤ most_members → let x = s.object q in
         sum_below n (λ m. worth (blocks_of s) (x.member m) (taken (spot x.block (7 + m))) (counts_at (blocks_of s) k o))
-        ≤ 256 * tally k o (upto n (λ m. x.member m ∷ []))
+        ≤ cell_funds * tally k o (upto n (λ m. x.member m ∷ []))
     members_below taken q lt zero le = omega arith
     members_below taken q lt (suc n) le =
         let x = s.object q in
@@ -102,11 +103,11 @@ module _ (z : Opening) (s : State) (fine : Sound z s) where
         omega (arith, tally_append k o (y ∷ []) (upto n (λ m. x.member m ∷ [])))
 
     members_few : (taken : ℕ → ℕ) (q : ℕ) → q < suc s.made
-        → member_funds (blocks_of s) taken (s.object q) (counts_at (blocks_of s) k o) ≤ 256 * tally k o (members (s.object q))
-    members_few taken q lt = members_below taken q lt 9 (omega arith)
+        → member_funds (blocks_of s) taken (s.object q) (counts_at (blocks_of s) k o) ≤ cell_funds * tally k o (members (s.object q))
+    members_few taken q lt = members_below taken q lt most_members (omega arith)
 
     frees_few : (taken : ℕ → ℕ) (n : ℕ) → n ≤ s.cells
-        → sum_below n (λ c. worth (blocks_of s) (s.cell c) (taken (cell_spot z c)) (counts_at (blocks_of s) k o)) ≤ 256 * tally k o (upto n
+        → sum_below n (λ c. worth (blocks_of s) (s.cell c) (taken (cell_spot z c)) (counts_at (blocks_of s) k o)) ≤ cell_funds * tally k o (upto n
         (λ c. s.cell c ∷ []))
     frees_few taken zero le = omega arith
     frees_few taken (suc n) le =
@@ -117,7 +118,7 @@ module _ (z : Opening) (s : State) (fine : Sound z s) where
 
     objects_few : (taken : ℕ → ℕ) (n : ℕ) → n ≤ suc s.made
         → sum_below n (λ q. member_funds (blocks_of s) taken (s.object q) (counts_at (blocks_of s) k o))
-        ≤ 256 * tally k o (upto n (λ q. members (s.object q)))
+        ≤ cell_funds * tally k o (upto n (λ q. members (s.object q)))
     objects_few taken zero le = omega arith
     objects_few taken (suc n) le =
         let a = members_few taken n (omega arith) in
@@ -125,7 +126,7 @@ module _ (z : Opening) (s : State) (fine : Sound z s) where
         omega (arith, tally_append k o (members (s.object n)) (upto n (λ q. members (s.object q))))
 
     -- the funds of the cells are at most 256 for each handle in a cell
-    pub bank_few : (taken : ℕ → ℕ) → bank z s taken (counts_at (blocks_of s) k o) ≤ 256 * tally k o (in_cells s)
+    pub bank_few : (taken : ℕ → ℕ) → bank z s taken (counts_at (blocks_of s) k o) ≤ cell_funds * tally k o (in_cells s)
     unfolding bank
     bank_few taken =
         let cells = upto s.cells (λ c. s.cell c ∷ []) in

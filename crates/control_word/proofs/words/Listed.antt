@@ -2,6 +2,7 @@
 use Rattle.std.proofs.Common.{◌≡◌, ℕ, zero, suc, ◌<◌, get_or, refl, ◌∷◌, arith}
 use Rattle.control_word.proofs.Prelude.{Object}
 use Rattle.control_word.specs.Words.{listed, object_words, packed}
+use Rattle.control_word.specs.Limits.{most_members}
 
 pub listed_at : (n : ℕ) (f : ℕ → ℕ) (j : ℕ) → j < n → get_or (listed n f) j 0 ≡ f j
 listed_at zero f j lt = absurd (omega arith)
@@ -26,6 +27,6 @@ listed_equal (suc n) f g e =
 
 -- the words behind the first five
 pub words_high : (f : ℕ → ℕ) (x : Object) (j : ℕ)
-    → get_or (object_words f x) (suc (suc (suc (suc (suc j))))) 0 ≡ get_or (listed 9 (λ m. packed f (x.member m))) j 0
+    → get_or (object_words f x) (suc (suc (suc (suc (suc j))))) 0 ≡ get_or (listed most_members (λ m. packed f (x.member m))) j 0
 unfolding object_words
 words_high f x j = refl

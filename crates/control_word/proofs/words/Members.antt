@@ -12,19 +12,20 @@ use Rattle.control_word.proofs.words.Banks.{IsKept}
 use Rattle.control_word.proofs.words.Listed.{listed_at, listed_same, words_high}
 use Rattle.control_word.proofs.words.Payments.{kept_in}
 use Rattle.control_word.specs.Words.{object_words, packed}
+use Rattle.control_word.specs.Limits.{most_members}
 
 pub packed_empty : (f : ℕ → ℕ) (k : Kind) → packed f (empty k) ≡ 0
 unfolding packed
 packed_empty f k = refl
 
 -- the word of a member among the words of its block
-pub member_word : (s : State) (b o m : ℕ) → m < 9 → s.latest b ≡ o
+pub member_word : (s : State) (b o m : ℕ) → m < most_members → s.latest b ≡ o
     → get_or (block_words s b) (7 + m) 0 ≡ packed (blocks_of s) ((s.object o).member m)
 member_word s b o m lt e =
     let seven : 7 + m ≡ suc (suc (suc (suc (suc (suc (suc m)))))) = omega arith in
     ap (λ j. get_or (block_words s b) j 0) seven
     ∙ (words_high (blocks_of s) (s.object (s.latest b)) m
-    ∙ (listed_at 9 (λ i. packed (blocks_of s) ((s.object (s.latest b)).member i)) m lt
+    ∙ (listed_at most_members (λ i. packed (blocks_of s) ((s.object (s.latest b)).member i)) m lt
     ∙ ap (λ n. packed (blocks_of s) ((s.object n).member m)) e))
 
 -- the other words of an object of which one member changed
@@ -37,7 +38,7 @@ words_member f x m h (suc (suc zero)) n = refl
 words_member f x m h (suc (suc (suc zero))) n = refl
 words_member f x m h (suc (suc (suc (suc zero)))) n = refl
 words_member f x m h (suc (suc (suc (suc (suc j))))) n =
-    listed_same 9 (λ i. packed f (put x.member m h i)) (λ i. packed f (x.member i)) j
+    listed_same most_members (λ i. packed f (put x.member m h i)) (λ i. packed f (x.member i)) j
     (ap (packed f) (put_other x.member m h j (λ e. n (omega arith))))
 
 module _ (z : Opening) (s : State) (sound : Sound z s) (d : ℕ) (new : NumberedHandle) where

@@ -23,6 +23,7 @@ use Rattle.control_word.proofs.words.Counting.{each_paid, number_read}
 use Rattle.control_word.proofs.words.Frames.{shelf_kept, spot_apart, spot_fits, total_set}
 use Rattle.control_word.proofs.words.Funds.{slot_low, total_le}
 use Rattle.control_word.specs.Words.{packed}
+use Rattle.control_word.specs.Limits.{one_fund}
 
 pub kept_in : (z : Opening) (s : State) (c : Cell) → Sound z s → IsKept s c → InState s c
 kept_in z s (Free c) fine kept = kept
@@ -163,7 +164,7 @@ module _ {V : Type 0} where
         ((m : ℕ) → adds v.pending m ≡ 0) → ((m : ℕ) → pays v.pending m ≡ a * one_at w m) → ((m : ℕ) → owes v.pending m ≡ b * one_at w m)
         → ((m : ℕ) → adds new m ≡ 0) → ((m : ℕ) → pays new m ≡ c * one_at w m) → ((m : ℕ) → owes new m ≡ d * one_at w m)
         → Fits words (leads z h) (value z h) v.name new
-        → n + d + 4294967296 * a ≡ get_or words w 0 + b + 4294967296 * c
+        → n + d + one_fund * a ≡ get_or words w 0 + b + one_fund * c
         → Stands z (set words w n) (set views i (record v { pending = new; seen = h })) h
     pay_step k o new a b c d n lone busy adds0 pays0 owes0 adds1 pays1 owes1 fits eq =
         let s = leads z h in
@@ -208,7 +209,7 @@ module _ {V : Type 0} where
     -- the funds of a half-done call are on the word, whatever is owed to it
     pub own_funds : (k : Kind) (o f l : ℕ) (p : Option Place) → v.pending ≡ Paying k o p (counts_at (blocks_of (leads z h)) k o) f l
         → IsBusy (leads z h) o
-        → 4294967296 * f ≤ get_or words (counts_at (blocks_of (leads z h)) k o) 0 + l
+        → one_fund * f ≤ get_or words (counts_at (blocks_of (leads z h)) k o) 0 + l
     own_funds k o f l p mine busy =
         let s = leads z h in
         let w = counts_at (blocks_of s) k o in

@@ -7,6 +7,7 @@ use Rattle.control_word.proofs.Prelude.{NumberedHandle, owes, Owner, pays, Place
 use Rattle.control_word.proofs.Prelude.{swaps, Weak, worth}
 use Rattle.control_word.proofs.history.Others.{IsLone}
 use Rattle.control_word.proofs.words.Members.{swap_blocks}
+use Rattle.control_word.specs.Limits.{cell_funds}
 
 pub formed_empty : (k : Kind) → IsFormed (empty k)
 formed_empty Owner = (tt, tt)
@@ -14,7 +15,7 @@ formed_empty Weak = (tt, refl)
 
 module _ (V : Type 0) where
   pub purse_pays : (block : ℕ → ℕ) (k : Kind) (n : Option ℕ) (p : Option Place) (t m : ℕ)
-      → pays {V = V} (purse block (handle k n p) (256 - t)) m ≡ worth block (handle k n p) t m
+      → pays {V = V} (purse block (handle k n p) (cell_funds - t)) m ≡ worth block (handle k n p) t m
   purse_pays block k None p t m = refl
   purse_pays block k (Some o) p t m = refl
 
@@ -35,7 +36,7 @@ module _ (V : Type 0) where
 module _ {V : Type 0} where
   -- the funds of what came out are under a handle in the bag
   pub purse_fits : (words : List ℕ) (s : State) (values : ℕ
-      → Option V) (d : ℕ) (c : Cell) (new : NumberedHandle) (k : Kind) (n : Option ℕ) (p : Option Place) (f : ℕ) → f ≤ 256
+      → Option V) (d : ℕ) (c : Cell) (new : NumberedHandle) (k : Kind) (n : Option ℕ) (p : Option Place) (f : ℕ) → f ≤ cell_funds
       → Fits words (swaps d c new (handle k n p) s) values d (purse (blocks_of s) (handle k n p) f)
   purse_fits words s values d c new k None p f few = tt
   purse_fits words s values d c new k (Some o) p f few = (

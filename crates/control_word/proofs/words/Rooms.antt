@@ -8,11 +8,8 @@ use Prelude.{handle, handles, Held, held, Idle, in_cells, is_on, IsLegal, Kind, 
 use Prelude.{Merging, Opening, owed, owes, Owner, paid, Parting, Paying, pays, Pending, Place}
 use Prelude.{some, some-injective, Stands, tally, total, value, View, Visiting, Weak, word}
 use Rattle.control_word.proofs.history.Allowances.{allowed, opened}
-use Rattle.control_word.proofs.history.Bounds.{in_cells_few}
-use Rattle.control_word.proofs.history.Formation.{formed}
-use Rattle.control_word.proofs.history.Kept.{cells_led}
 use Rattle.control_word.proofs.history.Legal.{sound}
-use Rattle.control_word.proofs.history.Numbers.{numbers_fit}
+use Rattle.control_word.proofs.history.Numbers.{cells_room, members_of, numbers_fit, some_handle}
 use Rattle.control_word.proofs.history.Soundness.{IsBusy}
 use Rattle.control_word.proofs.lists.Tallies.{num_has, tally_append}
 use Rattle.control_word.proofs.views.Names.{named, named_awake, names_sum, own, own_awake, own_sum}
@@ -21,53 +18,55 @@ use Rattle.control_word.proofs.words.Counting.{owes_funds, pays_handle}
 use Rattle.control_word.proofs.words.Frames.{total_none}
 use Rattle.control_word.proofs.words.Funds.{bank_few, total_le}
 use Rattle.control_word.specs.Words.{bank}
+use Rattle.control_word.specs.Limits.{cell_funds, most_number, one_fund, HasRoomForFunds}
+use Rattle.control_word.proofs.Prelude.{IsOpening}
 
 -- the number that a word tells: its low half, or 1 where that is 0 and funds are there
-pub relaxed : (n l m f : ℕ) (low high : ℕ) → n + l ≡ m + 4294967296 * f → l ≤ f → l ≤ m → m < 4294967296 → n ≡ low + 4294967296 * high
-    → low < 4294967296 → (low ≡ m - l) × (high ≡ f)
+pub relaxed : (n l m f : ℕ) (low high : ℕ) → n + l ≡ m + one_fund * f → l ≤ f → l ≤ m → m < one_fund → n ≡ low + one_fund * high
+    → low < one_fund → (low ≡ m - l) × (high ≡ f)
 relaxed n l m f low high e a b c d g =
     ⊎_elim (λ (t : high ≡ f). (omega arith, t)) (λ (t : high ≢ f). ⊎_elim (λ (u : high < f). absurd (omega arith))
     (λ u. absurd (omega arith)) (cases_lt high f)) (cases_eq high f)
 
-module _ {V : Type 0} where
-  -- no more handles of a kind are in cells than cells and members
-  cells_room : (z : Opening) (h : List (Entry V)) → IsLegal z h → (k : Kind) (o : ℕ) → tally k o (in_cells (leads z h)) ≤ z.cells + 9 * z.blocks
-  cells_room z h legal Owner o = let t = (in_cells_few z (leads z h) (sound z h legal) (formed z h legal) o).0 in let e = cells_led z h in omega arith
-  cells_room z h legal Weak o = let t = (in_cells_few z (leads z h) (sound z h legal) (formed z h legal) o).1 in let e = cells_led z h in omega arith
+-- the rule of the opening, for either kind
+kind_room : (z : Opening) → IsOpening z → (k : Kind) → HasRoomForFunds z.allowance (members_of z k) z.blocks z.cells
+kind_room z proper Owner = proper.room.0
+kind_room z proper Weak = proper.room.1
 
-  pub number_room : (z : Opening) (h : List (Entry V)) → IsLegal z h → (k : Kind) (o : ℕ) → number (leads z h) k o ≤ 4784376
-  number_room z h legal Owner o = let t = (numbers_fit z h legal o).0 in omega arith
-  number_room z h legal Weak o = let t = (numbers_fit z h legal o).1 in omega arith
+module _ {V : Type 0} where
+  pub number_room : (z : Opening) (h : List (Entry V)) → IsLegal z h → (k : Kind) (o : ℕ) → number (leads z h) k o ≤ most_number
+  number_room z h legal Owner o = let t = numbers_fit z h legal o in let a = t.0 in let b = t.1 in omega arith
+  number_room z h legal Weak o = let t = numbers_fit z h legal o in let a = t.2 in let b = t.3 in omega arith
 
   module _ (z : Opening) (words : List ℕ) (views : List (View V)) (h : List (Entry V)) (stands : Stands z words views h) where
-    pays_few : (d : ℕ) (p : Pending V) (i : ℕ) → Fits words (leads z h) (value z h) d p → pays p i ≤ 256
+    pays_few : (d : ℕ) (p : Pending V) (i : ℕ) → Fits words (leads z h) (value z h) d p → pays p i ≤ cell_funds
     pays_few d Idle i fits = omega arith
     pays_few d (Making b known) i fits = omega arith
     pays_few d (Visiting o p word w) i fits = omega arith
     pays_few d (Parting to) i fits = omega arith
     pays_few d (Merging other x y) i fits = omega arith
-    pays_few d (Paying k o p word funds loads) i fits = let t = fits.4 in cond_both (i == word) funds 0 (λ n. n ≤ 256) (λ e. t) (λ e. omega arith)
+    pays_few d (Paying k o p word funds loads) i fits = let t = fits.4 in cond_both (i == word) funds 0 (λ n. n ≤ cell_funds) (λ e. t) (λ e. omega arith)
 
     same_names : (i j : ℕ) (v w : View V) → get_elem? views i ≡ some v → get_elem? views j ≡ some w → v.spent ≡ false → w.spent ≡ false
         → v.name ≡ w.name → i ≡ j
     same_names i j v w a b l m e = stands.team.names i j v w a b l m w.name (inl e) (inl refl)
 
     -- half-done calls have no more than 256 funds out for each desk, and each desk has an allowance
-    pub paid_room : (i : ℕ) → paid views i ≤ 256 * z.allowance
+    pub paid_room : (i : ℕ) → paid views i ≤ cell_funds * z.allowance
     paid_room i =
         let s = leads z h in
         let fine = allowed z h stands.legal in
-        let a = total_le (λ (v : View V). pays v.pending i) (λ (v : View V). 256 * named s.allowance s.names v) views (λ j v e. go j v e v.spent refl) in
+        let a = total_le (λ (v : View V). pays v.pending i) (λ (v : View V). cell_funds * named s.allowance s.names v) views (λ j v e. go j v e v.spent refl) in
         let b = total_times (named s.allowance s.names) views in
         let c = names_sum s.allowance s.names views same_names in
         let d = fine.shares in omega arith
       where
-        total_times : (f : View V → ℕ) (l : List (View V)) → total (λ v. 256 * f v) l ≡ 256 * total f l
+        total_times : (f : View V → ℕ) (l : List (View V)) → total (λ v. cell_funds * f v) l ≡ cell_funds * total f l
         total_times f [] = refl
         total_times f (x ∷ xs) = let t = total_times f xs in omega arith
 
         go : (j : ℕ) (v : View V) → get_elem? views j ≡ some v → (t : Bool) → v.spent ≡ t
-            → pays v.pending i ≤ 256 * named (leads z h).allowance (leads z h).names v
+            → pays v.pending i ≤ cell_funds * named (leads z h).allowance (leads z h).names v
         go j v e true t = let a = ap (λ p. pays p i) (stands.team.rests j v e t) in omega arith
         go j v e false t =
             let s = stands.team.seated j v e t in
@@ -77,7 +76,7 @@ module _ {V : Type 0} where
 
     -- the funds on a word, with 256 more, and the number, with one more, stay in their halves
     pub funds_room : (k : Kind) (o : ℕ) → IsBusy (leads z h) o → let i = counts_at (blocks_of (leads z h)) k o in
-        (number (leads z h) k o + 1 < 4294967296) × (paid views i + bank z (leads z h) stands.taken i + 256 < 4294967296)
+        (number (leads z h) k o + 1 < one_fund) × (paid views i + bank z (leads z h) stands.taken i + cell_funds < one_fund)
         × (get_or words i 0 + 1099511627776 < 18446744073709551616)
     funds_room k o busy =
         let s = leads z h in
@@ -86,10 +85,10 @@ module _ {V : Type 0} where
         let p = paid_room i in
         let b = bank_few z s (sound z h stands.legal) k o busy stands.taken in
         let c = cells_room z h stands.legal k o in
-        let d = cells_led z h in
         let r = number_read z words views h stands k o busy in
-        let limits = (opened z h stands.legal).limits in
-        let l0 = limits.0 in let l1 = limits.1 in let l2 = limits.2 in
+        let proper = opened z h stands.legal in
+        let some' = some_handle z proper in
+        let rule = kind_room z proper k in
         (omega arith, omega arith, omega arith)
 
     owes_one : (d : ℕ) (p : Pending V) (i : ℕ) → Fits words (leads z h) (value z h) d p → owes p i ≤ 1
@@ -131,7 +130,7 @@ module _ {V : Type 0} where
 
     -- the halves of a word are its number and its funds
     pub halves : (k : Kind) (o : ℕ) → IsBusy (leads z h) o → (low high : ℕ) → let i = counts_at (blocks_of (leads z h)) k o in
-        get_or words i 0 ≡ low + 4294967296 * high → low < 4294967296
+        get_or words i 0 ≡ low + one_fund * high → low < one_fund
         → (low ≡ number (leads z h) k o - owed views i) × (high ≡ paid views i + bank z (leads z h) stands.taken i)
     halves k o busy low high e small =
         let s = leads z h in
@@ -148,8 +147,8 @@ module _ {V : Type 0} where
     pub sole_exact : (i : ℕ) (v : View V) → get_elem? views i ≡ some v → v.pending ≡ Idle → ((j : ℕ) (u : View V) → get_elem? views j ≡ some u
         → u.spent ≡ false → j ≡ i)
         → (k : Kind) (o : ℕ) → IsBusy (leads z h) o → (low high : ℕ)
-        → get_or words (counts_at (blocks_of (leads z h)) k o) 0 ≡ low + 4294967296 * high
-        → low < 4294967296 → low ≡ number (leads z h) k o
+        → get_or words (counts_at (blocks_of (leads z h)) k o) 0 ≡ low + one_fund * high
+        → low < one_fund → low ≡ number (leads z h) k o
     sole_exact i v at idle only k o busy low high is small =
         let w = counts_at (blocks_of (leads z h)) k o in
         let none = total_none (λ (u : View V). owes u.pending w) views (λ j u e. go j u e u.spent refl) in

@@ -11,6 +11,7 @@ opening_fits = record {
   limits = (omega arith, omega arith, omega arith);
   members = (omega arith, omega arith);
   owners = (omega arith, omega arith);
+  room = (omega arith, omega arith);
   holders = λ b. omega arith;
   shares = refl;
   positive = λ d lt.

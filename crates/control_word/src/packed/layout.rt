@@ -1,4 +1,4 @@
-//! Where words lie in a table: block after block, then the free cells, then the shelf.
+//! Where words lie in a table: block after block, then the free cells, then the shelf and its summary.
 //!
 //! | word of a block | holds |
 //! |---|---|
@@ -9,10 +9,11 @@
 //! | 7 to 15 | `MEMBERS`: the cells `first`, `next` and `up`, and further owners |
 //!
 //! A vacant block has 0 in its counts and members; its flags and fields may be anything. Bit
-//! `b % 64` of shelf word `b / 64` is 1 while block `b` is on the shelf.
+//! `b % 64` of shelf word `b / 64` is 1 while block `b` is on the shelf. Bit `j % 64` of summary
+//! word `j / 64` is shelf word `j`'s.
 ghost use Rattle.std.specs.Prelude.{◌≡◌, ◌<◌};
 ghost use Rattle.control_word.specs.Layout.{IsSite, WordsLieApart, bit_of, cell_place, shelf_place};
-ghost use Rattle.control_word.specs.Layout.{site_place, spot, table_size};
+ghost use Rattle.control_word.specs.Layout.{shelf_words, site_place, spot, summary_place, summary_words, table_size};
 ghost use Rattle.control_word.specs.Words.{slot};
 
 use crate::model::handle::Kind;
@@ -25,8 +26,8 @@ use crate::site::Site;
 pub const BLOCK_STRIDE: usize = 16;
 /// Words from a free cell to the next: one used and seven that stay 0, for the same reason.
 pub const CELL_STRIDE: usize = 8;
-/// Words of the shelf, one after another: a bit for each block that there may be.
-pub const SHELF_WORDS: usize = 1024;
+/// Bits of a word of the shelf or of its summary.
+pub const SHELF_BITS: u32 = 64;
 /// Words of a block that are used.
 pub const BLOCK_WORDS: usize = 16;
 
@@ -62,7 +63,7 @@ pub fn block_word(block: Block, word: usize) -> usize
     requires word { word < 16 }
     ensures { result ≡ spot block.0 word }
 {
-    BLOCK_STRIDE * (usize::from(block.0) - 1) + word
+    BLOCK_STRIDE * (block.number() as usize - 1) + word
 }
 
 /// Where handles of this kind on the block's object are counted (own). Condition: blocks are from 1 on.
@@ -101,10 +102,10 @@ pub fn site_word(blocks: u32, site: Site) -> usize
 /// Where a shelf word lies (own), by its number from 0, in a table of so many blocks and free
 /// cells.
 #[inline]
-pub fn shelf_word(blocks: u32, cells: u32, word: u16) -> usize
+pub fn shelf_word(blocks: u32, cells: u32, word: u32) -> usize
     ensures { result ≡ shelf_place blocks cells word }
 {
-    BLOCK_STRIDE * blocks as usize + CELL_STRIDE * cells as usize + usize::from(word)
+    BLOCK_STRIDE * blocks as usize + CELL_STRIDE * cells as usize + word as usize
 }
 
 /// A block's bit in its shelf word (own), which is the word of the number `block / 64`.
@@ -112,7 +113,31 @@ pub fn shelf_word(blocks: u32, cells: u32, word: u16) -> usize
 pub fn shelf_bit(block: Block) -> u64
     ensures { result ≡ bit_of block.0 }
 {
-    1 << (block.0 % 64)
+    1 << (block.number() % 64)
+}
+
+/// How many words the shelf of so many blocks has (own): a bit for each number up to the last block's.
+#[inline]
+pub fn shelf_length(blocks: u32) -> u32
+    ensures { result ≡ shelf_words blocks }
+{
+    blocks / SHELF_BITS + 1
+}
+
+/// How many words its summary has (own): a bit for each word of the shelf.
+#[inline]
+pub fn summary_length(blocks: u32) -> u32
+    ensures { result ≡ summary_words blocks }
+{
+    blocks / SHELF_BITS / SHELF_BITS + 1
+}
+
+/// Where a summary word lies (own), by its number from 0.
+#[inline]
+pub fn summary_word(blocks: u32, cells: u32, word: u32) -> usize
+    ensures { result ≡ summary_place blocks cells word }
+{
+    shelf_word(blocks, cells, 0) + shelf_length(blocks) as usize + word as usize
 }
 
 /// How many words a table of this shape has (own).
@@ -120,7 +145,8 @@ pub fn table_words(shape: &Shape) -> usize
     ensures { result ≡ table_size shape.now }
 {
     let cells = shape.shared_cells as usize + shape.weak_cells as usize;
-    BLOCK_STRIDE * shape.blocks as usize + CELL_STRIDE * cells + SHELF_WORDS
+    let shelf = shelf_length(shape.blocks) as usize + summary_length(shape.blocks) as usize;
+    BLOCK_STRIDE * shape.blocks as usize + CELL_STRIDE * cells + shelf
 }
 
 /// Of the layout (own): no two words lie at one place, and each lies within its table.
