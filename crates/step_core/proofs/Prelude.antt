@@ -164,7 +164,7 @@ pub use Rattle.step_core.specs.Turning.{IsMatched, IsProperPendingCall, IsSeen, 
 pub use Rattle.step_core.specs.Turning.{IsTried, IsUnderWay, NextActLocks, Plays, returned}
 pub use Rattle.step_core.specs.Turning.{turned_by}
 pub use Rattle.step_core.specs.Turns.{ActsNow, IsChosen, TurnIs}
-pub use Rattle.step_core.specs.Watching.{content, is_watching, IsCellOfShape}
+pub use Rattle.step_core.specs.Watching.{is_watching, IsCellOfShape}
 pub use Rattle.step_core.specs.WorldStates.{AllHold, AllRestIdle, is_event, IsOver, TakesStep}
 pub use Rattle.step_core.specs.Worlds.{abstraction, Advances, AllFit, CountsAll, GoesTo}
 pub use Rattle.step_core.specs.Worlds.{is_loading, pending_call_of, step_of, Steps, StepsBy}

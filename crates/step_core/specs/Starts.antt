@@ -1,22 +1,25 @@
 -- How a world begins. All of it is own.
 pub use Rattle.step_threads.specs.Interleavings.{first_frame, no_slots}
-use Rattle.std.specs.Prelude.{◌≡◌, ◌*◌, ◌<◌, ◌≤◌, List, [], All, length, map, replicate}
+use Rattle.std.specs.Prelude.{◌≡◌, ◌+◌, ◌*◌, ◌<◌, ◌≤◌, List, [], All, length, map, replicate}
 use Rattle.control_word.specs.declared.shape.Shape.{Shape}
 use Rattle.control_word.specs.Layout.{IsWithinLimits, table_size}
 use Rattle.control_word.specs.Views.{fresh}
 use Rattle.step_threads.specs.declared.programs.call.Call.{Call}
 use Rattle.step_threads.specs.declared.programs.call.Call.TheVariants.{Make, MakeThis, Shelve}
 use Rattle.step_table.specs.declared.memory.extent.Extent.{Extent}
+use Rattle.step_table.specs.Openings.{world_blocks, world_cells}
 use Rattle.step_threads.specs.declared.pending_call.PendingCall.{PendingCall}
 use Rattle.step_threads.specs.declared.pending_call.PendingCall.TheVariants.{Rest}
 use Rattle.step_threads.specs.Programs.{AllHaveCells, IsProgram, Part}
 use Rattle.step_core.specs.Worlds.{WorldState}
 use Rattle.step_table.specs.GhostStates.{GhostState}
 
--- a world of this shape may run the program: both are within the limits, objects have two owner members and a weak one,
--- each actor has 40 handles or more, and the shape has the cells of all calls
+-- a world of this shape may run the program: both are within the limits of worlds, objects have two owner members and a
+-- weak one, each actor has 40 handles or more, and the shape has the cells of all calls
 pub record CanBegin (shape : Shape) (parts : List Part) : Type 0 where
   pub limits : IsWithinLimits shape
+  pub blocks : shape.blocks ≤ world_blocks
+  pub free_cells : shape.shared_cells + shape.weak_cells ≤ world_cells
   pub members : (shape.owners ≡ 2) × (shape.weaks ≡ 1)
   pub program : IsProgram parts
   pub enough : 40 * length parts ≤ shape.allowance

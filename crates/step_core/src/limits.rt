@@ -1,5 +1,5 @@
 //! Which programs a world may run.
-ghost use Rattle.std.specs.Prelude.{◌≡◌, ◌↔◌, ◌&&◌, ◌≤◌, ◌∷◌, ◌++◌, Some, None, All};
+ghost use Rattle.std.specs.Prelude.{◌≡◌, ◌↔◌, ◌&&◌, ◌≤◌, ◌+◌, ◌∷◌, ◌++◌, Some, None, All};
 ghost use Rattle.std.specs.Prelude.{IsTrue, map};
 ghost use Rattle.step_threads.specs.Programs.{AllHaveCells, HasCells, IsApartFromCell, IsDeclared, IsIn, IsPart};
 ghost use Rattle.step_threads.specs.Programs.{IsProgram};
@@ -7,11 +7,16 @@ ghost use Rattle.step_threads.specs.Programs.{IsWellNamed, as_in, call_count, as
 ghost use Rattle.step_threads.specs.Programs.{part_of};
 ghost use Rattle.step_threads.specs.Programs.{through, weak_asked};
 ghost use Rattle.step_core.specs.Starts.{AllHaveFields, CanBegin, HasFields};
+ghost use Rattle.step_table.specs.Openings.{world_blocks, world_cells};
 
 use control_word::Shape;
 use step_table::limits::MOST_ACTORS;
 use step_threads::programs::call::{Actor, Call, CellName, Kind, Name};
 
+/// Most blocks of a world; a domain may have more.
+const MOST_BLOCKS: u32 = 65_535;
+/// Most free cells of a world, shared and weak together.
+const MOST_FREE_CELLS: u32 = 256;
 /// Most names of an actor.
 const MOST_NAMES: usize = 32;
 /// Most calls of a program, over all its actors.
@@ -269,12 +274,22 @@ fn have_cells(shape: &Shape, actors: &[Actor]) -> bool
     true
 }
 
+/// Whether a world may have so many blocks and free cells.
+fn is_small(shape: &Shape) -> bool
+    ensures { IsTrue result ↔ (shape.now.blocks ≤ world_blocks)
+        × (shape.now.shared_cells + shape.now.weak_cells ≤ world_cells) }
+{
+    let cells = u64::from(shape.shared_cells) + u64::from(shape.weak_cells);
+    shape.blocks <= MOST_BLOCKS && cells <= u64::from(MOST_FREE_CELLS)
+}
+
 /// Whether a world of this shape may run these actors.
 pub(crate) fn can_begin(shape: &Shape, actors: &[Actor]) -> bool
     ensures begin { IsTrue result ↔ CanBegin shape.now (map part_of actors.now) }
     ensures fields { IsTrue result → AllHaveFields (map part_of actors.now) }
 {
     shape.is_within_limits()
+        && is_small(shape)
         && shape.owners == 2
         && shape.weaks == 1
         && is_program(actors)

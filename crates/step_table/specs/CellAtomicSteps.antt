@@ -25,6 +25,7 @@ use Rattle.step_table.specs.declared.cell_steps.cell_step.CellStep.TheVariants.{
 use Rattle.step_table.specs.declared.cell_steps.cell_step.CellStep.TheVariants.{Refill, Swap, Holds}
 use Rattle.step_table.specs.declared.cell_steps.cell_step.CellStep.TheVariants.{CompareSwap, TakeOut}
 use Rattle.step_table.specs.declared.cell_steps.cell_step.Compared.{Compared}
+use Rattle.control_word.specs.Limits.{cell_funds, one_fund, one_taken}
 
 -- the cell as histories name it: a member by its object
 abbrev pub cell_in : State → Site → Named
@@ -83,22 +84,22 @@ module _ {V : Type 0} where
   cell_pending s (Take c x y) = owing_funds s (kind_in_state s c) x.owned x.place 1 1
   cell_pending s (Turn k b) = Idle
   cell_pending s (Refill c t) = Idle
-  cell_pending s (Swap c new x) = owing_funds s (kind_in_state s c) x.owned x.place (256 - x.taken) 0
-  cell_pending s (CompareSwap c x y) = owing_funds s (kind_in_state s c) x.owned x.place (256 - x.taken) 0
-  cell_pending s (TakeOut b m x) = owing_funds s (kind_of_member 2 m) x.owned x.place (256 - x.taken) 0
+  cell_pending s (Swap c new x) = owing_funds s (kind_in_state s c) x.owned x.place (cell_funds - x.taken) 0
+  cell_pending s (CompareSwap c x y) = owing_funds s (kind_in_state s c) x.owned x.place (cell_funds - x.taken) 0
+  cell_pending s (TakeOut b m x) = owing_funds s (kind_of_member 2 m) x.owned x.place (cell_funds - x.taken) 0
 
 -- the words after it, in a table of so many blocks
 abbrev pub cell_words : ℕ → List ℕ → CellStep → List ℕ
 cell_words blocks w (Look c x y) = w
 cell_words blocks w (Holds c x b) = w
 cell_words blocks w (Bring k b p f) =
-    slice_set w (spot b.0 (slot k)) (slice_index w (spot b.0 (slot k)) + 4294967296 * f)
+    slice_set w (spot b.0 (slot k)) (slice_index w (spot b.0 (slot k)) + one_fund * f)
 cell_words blocks w (GiveBack k b f) =
-    slice_set w (spot b.0 (slot k)) (slice_index w (spot b.0 (slot k)) - 4294967296 * f)
-cell_words blocks w (Take c x y) = slice_set w (site_place blocks c) (slice_index w (site_place blocks c) + 17179869184)
+    slice_set w (spot b.0 (slot k)) (slice_index w (spot b.0 (slot k)) - one_fund * f)
+cell_words blocks w (Take c x y) = slice_set w (site_place blocks c) (slice_index w (site_place blocks c) + one_taken)
 cell_words blocks w (Turn k b) = slice_set w (spot b.0 (slot k)) (slice_index w (spot b.0 (slot k)) - 4294967295)
 cell_words blocks w (Refill c t) =
-    slice_set w (site_place blocks c) (slice_index w (site_place blocks c) - 17179869184 * t)
+    slice_set w (site_place blocks c) (slice_index w (site_place blocks c) - one_taken * t)
 cell_words blocks w (Swap c new x) = slice_set w (site_place blocks c) (cell_bits new)
 cell_words blocks w (CompareSwap c x y) = slice_set w (site_place blocks c) (cell_bits y.new)
 cell_words blocks w (TakeOut b m x) = slice_set w (spot b.0 (7 + m)) 0

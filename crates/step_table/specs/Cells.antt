@@ -1,9 +1,10 @@
 -- What a step finds in a cell. All of it is own.
-use Rattle.std.specs.Prelude.{◌≡◌, ℕ, ◌<◌, slice_index, Option}
+use Rattle.std.specs.Prelude.{◌≡◌, ℕ, ◌<◌, ◌≤◌, slice_index, Option}
 use Rattle.control_word.specs.Layout.{site_place}
 use Rattle.control_word.specs.declared.packed.cell.CellWord.{CellWord}
 use Rattle.control_word.specs.Events.{InHand, IsOpen, cell_of}
 use Rattle.control_word.specs.declared.place.Block.{Block}
+use Rattle.control_word.specs.Limits.{cell_funds}
 use Rattle.control_word.specs.Packing.{IsCellWord, cell_bits}
 use Rattle.control_word.specs.State.{State, weak_number}
 use Rattle.control_word.specs.Words.{block_of, blocks_of}
@@ -23,6 +24,7 @@ word_of_cell v c = slice_index v.words (site_place v.extent.shape.blocks c)
 -- the value is the cell's, and its word is the cell's word
 pub record ShowsCell (v : GhostState) (c : Site) (x : CellWord) : Type 0 where
   pub valid : IsCellWord x
+  pub few : x.taken ≤ cell_funds
   pub bits : word_of_cell v c ≡ cell_bits x
   pub holds : handle_told (model_state v) c x ≡ cell_of (model_state v) (cell_in (model_state v) c)
 

@@ -25,6 +25,8 @@ use Rattle.step_table.specs.Cells.{word_of_cell}
 use Rattle.step_table.specs.AtomicSteps.{owned}
 use Rattle.step_table.specs.Registers.{Slots, place_of, plain, slot_pointer, slot_value}
 use Rattle.step_table.specs.GhostStates.{Nothing, GhostState, model_state}
+use Rattle.control_word.specs.Limits.{cell_funds}
+use Rattle.control_word.specs.Packing.{taken_in}
 
 -- the handle in a cell
 abbrev pub held_in : State → Site → NumberedHandle
@@ -64,7 +66,7 @@ is_of k (Full x) = same_kind x.kind k
 
 -- what a cell holds, and how many of its funds were taken
 abbrev pub seen : GhostState → Site → CellWord
-seen v c = shown (blocks_of (model_state v)) (held_in (model_state v) c) (word_of_cell v c / 17179869184)
+seen v c = shown (blocks_of (model_state v)) (held_in (model_state v) c) (taken_in (word_of_cell v c))
 
 -- the block of what a slot's value owns or shares
 abbrev pub block_of_value : Slot → Option Block
@@ -92,7 +94,7 @@ same_value x y = same_block x.owned y.owned && same_place x.place y.place
 
 -- the value has an object, and all of its funds were taken
 abbrev pub is_spent : CellWord → Bool
-is_spent x = is_some x.owned && x.taken == 256
+is_spent x = is_some x.owned && x.taken == cell_funds
 
 -- the funds that were brought for a slot's value, which goes into a cell: without an object there are none
 abbrev pub owing_for : State → Slot → ℕ → Pending Nothing

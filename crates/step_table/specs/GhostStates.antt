@@ -27,7 +27,7 @@ use Rattle.step_table.specs.declared.memory.ghost_history.AtomicStep.TheVariants
 use Rattle.step_table.specs.declared.memory.ghost_history.AtomicStep.TheVariants.{OnShelf}
 use Rattle.step_table.specs.declared.memory.ghost_history.AtomicStep.TheVariants.{OnCell}
 use Rattle.step_table.specs.CellAtomicSteps.{cell_event, cell_pending, cell_words}
-use Rattle.step_table.specs.ShelfAtomicSteps.{shelf_event, shelf_words}
+use Rattle.step_table.specs.ShelfAtomicSteps.{shelf_event, words_shelved}
 use Rattle.step_table.specs.Openings.{IsExtent, opening, share_of}
 
 -- objects of the machine have no value of their own
@@ -98,7 +98,7 @@ words_after v (Expired k b p expired) = v.words
 words_after v (Read b p n) = v.words
 words_after v (Clear b m) = v.words
 words_after v (Finish b vacant) = slice_set v.words (spot b.0 1) (slice_index v.words (spot b.0 1) - 1)
-words_after v (OnShelf b x) = shelf_words (opening v.extent) v.words b x
+words_after v (OnShelf b x) = words_shelved (opening v.extent) v.words b x
 words_after v (OnCell x) = cell_words v.extent.shape.blocks v.words x
 
 abbrev pub known_words : Pending Nothing → List ℕ

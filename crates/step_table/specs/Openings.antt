@@ -1,5 +1,6 @@
 -- How a world begins: each actor has a store of blocks and a share of the allowance. All of it is own.
 use Rattle.std.specs.Prelude.{ℕ, ◌+◌, ◌-◌, ◌*◌, ◌/◌, ◌%◌, ◌≤◌, ◌==◌, cond, nat_lt}
+use Rattle.control_word.specs.Limits.{most_allowance}
 use Rattle.control_word.specs.State.{Opening}
 use Rattle.step_table.specs.declared.memory.extent.Extent.{Extent}
 
@@ -30,11 +31,18 @@ opening x =
       share = share_of x;
     }
 
+-- worlds have limits of their own: blocks, and free cells
+abbrev pub world_blocks : ℕ
+world_blocks = 65535
+
+abbrev pub world_cells : ℕ
+world_cells = 256
+
 -- 1 to 64 actors, with an allowance of 40 handles each or more, over a table within the limits
 pub record IsExtent (x : Extent) : Type 0 where
   pub some : 1 ≤ x.actors
   pub few : x.actors ≤ 64
-  pub blocks : x.shape.blocks ≤ 65535
-  pub cells : x.shape.shared_cells + x.shape.weak_cells ≤ 256
-  pub allowance : x.shape.allowance ≤ 4194304
+  pub blocks : x.shape.blocks ≤ world_blocks
+  pub cells : x.shape.shared_cells + x.shape.weak_cells ≤ world_cells
+  pub allowance : x.shape.allowance ≤ most_allowance
   pub enough : 40 * x.actors ≤ x.shape.allowance

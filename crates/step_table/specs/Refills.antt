@@ -1,5 +1,5 @@
 -- What a thread relies on that took a fund of a cell, until the cell is refilled. All of it is own.
-use Rattle.std.specs.Prelude.{◌≡◌, ℕ, suc, Bool, ◌&&◌, Some, nat_lt}
+use Rattle.std.specs.Prelude.{◌≡◌, ℕ, suc, Bool, ◌&&◌, Some, nat_lt, ◌≤◌}
 use Rattle.control_word.specs.declared.packed.cell.CellWord.{CellWord}
 use Rattle.control_word.specs.declared.model.handle.Kind.{Kind}
 use Rattle.control_word.specs.declared.place.Block.{Block}
@@ -14,6 +14,7 @@ use Rattle.step_table.specs.CellAtomicSteps.{kind_in_state, owing_funds}
 use Rattle.step_table.specs.Cells.{IsOpenTo}
 use Rattle.step_table.specs.Contents.{same_value}
 use Rattle.step_table.specs.GhostStates.{GhostState, handle_in_block, pending, model_state}
+use Rattle.control_word.specs.Limits.{cell_funds}
 
 -- one fund more is taken
 abbrev pub more_taken : CellWord → CellWord
@@ -38,6 +39,7 @@ StageFits d Failing k b x v = pending v d ≡ owing_funds (model_state v) k (Som
 -- the value has an object, the cell is open, and the desk has what it loaded
 pub record RefillFits (d : ℕ) (stage : Stage) (c : Site) (x : CellWord) (v : GhostState) : Type 0 where
   pub valid : IsCellWord x
+  pub few : x.taken ≤ cell_funds
   pub block : Block
   pub owned : x.owned ≡ Some block
   pub opens : IsOpenTo v d c

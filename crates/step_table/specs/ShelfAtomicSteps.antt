@@ -1,5 +1,6 @@
 -- What a step on a shelf word is an event of, and what it makes of the word. All of it is own.
 use Rattle.std.specs.Prelude.{ℕ, List, Option, Some, None, slice_index, slice_set, bit_and, bit_or}
+use Rattle.std.specs.Prelude.{cond, nat_lt}
 use Rattle.std.specs.Int.{bit_not, w64}
 use Rattle.control_word.specs.declared.model.event.Event.{Event}
 use Rattle.control_word.specs.declared.model.event.Event.TheVariants as event
@@ -21,6 +22,8 @@ bit_moved Shelve b n = bit_or n (bit_of b)
 bit_moved Unshelve b n = bit_and n (bit_not w64 (bit_of b))
 bit_moved Miss b n = bit_and n (bit_not w64 (bit_of b))
 
-abbrev pub shelf_words : Opening → List ℕ → Block → ShelfStep → List ℕ
-shelf_words z words b x =
-    let k = shelf_spot z b.0 in slice_set words k (bit_moved x b.0 (slice_index words k))
+-- a block that the table doesn't have has no bit
+abbrev pub words_shelved : Opening → List ℕ → Block → ShelfStep → List ℕ
+words_shelved z words b x =
+    let k = shelf_spot z b.0 in
+    cond (nat_lt z.blocks b.0) words (slice_set words k (bit_moved x b.0 (slice_index words k)))

@@ -1,5 +1,5 @@
 -- What a compare tells that has seen its cell, and how it comes to swap it.
-use Rattle.std.proofs.Common.{◌≡◌, ℕ, ◌<◌, Bool, true, false, ◌⊎◌, [], length, ◌==◌, Some, None}
+use Rattle.std.proofs.Common.{◌≡◌, ℕ, ◌<◌, ◌≤◌, Bool, true, false, ◌⊎◌, [], length, ◌==◌, Some, None}
 use Rattle.std.proofs.Common.{sym, refl, ap, ◌∙◌, subst, ⊎_elim, eqb-true}
 use Rattle.step_threads.proofs.Prelude
 use Prelude.{as_word, cell_bits, cell_of_name, CellName, CellWord, Compare, compared_in, comparing}
@@ -7,6 +7,8 @@ use Prelude.{Empty, FitsThread, frame_view, Full, GhostState, hand, Idle, is_exp
 use Prelude.{IsNext, Matched, matches, model_state, Nothing, owing_for, Pending, pending}
 use Prelude.{PendingCall, pointer_of, rest, same_value, Saw, Slot, slot_value, step_at}
 use Prelude.{TableInvariant, task_at, Thread, waits, word_of_cell}
+use Rattle.step_table.proofs.tables.Shown.{found_in, kept_cell}
+use Rattle.step_threads.proofs.CellNames.{cell_open}
 use Rattle.step_threads.proofs.CompareFits.{cell_of_compare}
 use Rattle.step_threads.proofs.CompareSteps.{expected_told, fetches_none, matched_at, shown_still}
 use Rattle.step_threads.proofs.Compares.{may_compare}
@@ -26,6 +28,17 @@ module _ (d : ℕ) (t : Thread) (v : GhostState) (k : ℕ) (c : CellName) (weak 
       let seen = shown_still d slots v c x kept fits.seat fits.holds inside may.0 valid (eqb-true _ _ same) in
       sym (expected_told d slots v k c kept fits.seat fits.holds inside may.0 may.2)
       ∙ ap (λ (y : CellWord). same_value y (as_word (slot_value slots k))) (sym seen) ∙ is
+
+  -- and no more funds of it were taken than it had
+  pub few_still : TableInvariant v → t.frame.at < length t.frame.tasks.items → IsCellWord x
+      → (word_of_cell v (cell_of_name (model_state v) t.frame.registers.slots.items c) == cell_bits x) ≡ true → x.taken ≤ 256
+  few_still kept lt valid same =
+      let slots = t.frame.registers.slots.items in
+      let at = cell_of_name (model_state v) slots c in
+      let inside = cell_of_compare d t v k c weak x fits act lt in
+      let may = may_compare t.frame k c weak lt fits.ready act fits.still in
+      let way = cell_open v d slots c inside fits.holds may.0 in
+      (found_in v d at x kept fits.seat (kept_cell v d at kept way) valid (eqb-true _ _ same)).shows.few
 
   module _ (pending_call : (t.pending_call ≡ Saw x) ⊎ (t.pending_call ≡ Matched x)) where
     -- it is at its act, no object ends, and what was seen is the word of a cell

@@ -13,7 +13,8 @@ use Prelude.{sum_by_pushed, TableInvariant, task_at, there, Thread, todo, Weak, 
 use Prelude.{with_end}
 use Rattle.step_table.specs.declared.memory.ghost_history.AtomicStep.TheVariants.{Leave}
 use Rattle.step_threads.proofs.Frames.{hand_plain}
-use Rattle.step_threads.proofs.holding.Few.{store_few}
+use Rattle.step_threads.proofs.holding.Few.{store_room}
+use Rattle.step_threads.specs.Stocks.{HasRoomFor}
 use Rattle.step_threads.proofs.Threads.{cells_on, own_pending, resting}
 use Rattle.step_threads.proofs.holding.Ends.{ends_none, ends_nothing, ends_one}
 use Rattle.step_threads.proofs.holding.Storing.{one_stored}
@@ -31,15 +32,15 @@ finished_store d v b c at =
 pub room_left : (d : ℕ) (t : Thread) (v : GhostState) (e : Ending) → TableInvariant v → TableInvariant (ghost_after_step v d (Finish e.block true))
     → FitsThread d t v
     → t.pending_call ≡ Rest
-    → IsEndingAtStage d e v → length t.stock.blocks < t.stock.room
+    → IsEndingAtStage d e v → HasRoomFor t.stock e.block.0
 room_left d t v e kept kept' fits rests is =
     let b = e.block in
     let at = (there v b kept (ending_busy v d b is.ending)).0 in
     let s = resting d t v fits rests in
-    let f = store_few d (ghost_after_step v d (Finish b true)) (b.0 ∷ t.stock.blocks) kept'
+    store_room d (ghost_after_step v d (Finish b true)) b.0 t.stock kept'
     (λ c. let g = finished_store d v b c at in let a = sum_by-cons (λ (y : ℕ). cond (y == c) 1 0) b.0 t.stock.blocks in
-    let o = s.stocked c in omega (arith, g, a, o)) in
-    let r = s.roomy in omega (arith, f, r)
+    let o = s.stocked c in omega (arith, g, a, o))
+    s.roomy
 
 -- the object whose last owner leaves is ending in the desk's hands
 pub left_ending : (v : GhostState) (d : ℕ) (x : Handle) (last : Bool) → last ≡ true
@@ -82,22 +83,22 @@ left_place d v b p vacant kept kept' = (there v b kept (handle_busy v d Weak b p
 pub room_weak : (v w : GhostState) (d : ℕ) (t : Thread) (o : Option Handle) (last : Bool) (x : Handle) → TableInvariant v → TableInvariant w → FitsThread d t v
     → t.pending_call ≡ Rest
     → w ≡ done_on (leave (model_state v)) v d o → last ≡ on (is_last (model_state v)) false o → o ≡ Some x → x.kind ≡ Weak → last ≡ true
-    → length t.stock.blocks < t.stock.room
+    → HasRoomFor t.stock x.block.0
 room_weak v w d t o last x kept kept' fits e is said at kind ended =
     go x.kind kind (is_last (model_state v) x) (sym (said ∙ ap (on (is_last (model_state v)) false) at) ∙ ended)
     (subst (λ (u : GhostState). TableInvariant u) (is ∙ ap (done_on (leave (model_state v)) v d) at) kept')
   where
-    go : (k : Kind) → k ≡ Weak → (b : Bool) → b ≡ true → TableInvariant (ghost_after_step v d (leave_as k x b)) → length t.stock.blocks < t.stock.room
+    go : (k : Kind) → k ≡ Weak → (b : Bool) → b ≡ true → TableInvariant (ghost_after_step v d (leave_as k x b)) → HasRoomFor t.stock x.block.0
     go Owner e b q kept' = cc
     go Weak k b q kept' =
         let later : TableInvariant (ghost_after_step v d (WeakLeave x.block x.place true)) =
         subst (λ (z : Bool). TableInvariant (ghost_after_step v d (WeakLeave x.block x.place z))) q kept' in
         let s = resting d t v fits e in
-        let f = store_few d (ghost_after_step v d (WeakLeave x.block x.place true)) (x.block.0 ∷ t.stock.blocks) later
+        store_room d (ghost_after_step v d (WeakLeave x.block x.place true)) x.block.0 t.stock later
         (λ c. let g = left_store d v x.block x.place c (left_place d v x.block x.place true kept later) in
         let a = sum_by-cons (λ (y : ℕ). cond (y == c) 1 0) x.block.0 t.stock.blocks in
-        let o = s.stocked c in omega (arith, g, a, o)) in
-        let r = s.roomy in omega (arith, f, r)
+        let o = s.stocked c in omega (arith, g, a, o))
+        s.roomy
 
 -- there is room for its ending
 pub begins_room : (v w : GhostState) (d : ℕ) (t : Thread) (c : Frame) (o : Option Handle) (last : Bool) (x : Handle) → TableInvariant w → FitsThread d t v

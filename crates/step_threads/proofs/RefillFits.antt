@@ -1,5 +1,5 @@
 -- A thread that refills a cell fits the table.
-use Rattle.std.proofs.Common.{◌≡◌, ℕ, Bool, true, false, cond, Some, None, Option, sym, refl, ap, ◌∙◌, subst, eqb-true}
+use Rattle.std.proofs.Common.{◌≡◌, ℕ, ◌≤◌, Bool, true, false, cond, Some, None, Option, sym, refl, ap, ◌∙◌, subst, eqb-true}
 use Rattle.step_threads.proofs.Prelude
 use Prelude.{and_parts, Block, Bring, CellWord, Checking, Failing, FitsThread, ghost_after_step, GhostState}
 use Prelude.{GiveBack, is_low, kind_in_state, Lacking, model_state, OnCell, PendingCall, Refill}
@@ -7,6 +7,7 @@ use Prelude.{Refilling, Rest, Site, Stage, TableInvariant, Thread, Turn, Turning
 use Rattle.step_table.specs.declared.cell_steps.cell_step.CellStep.TheVariants.{Refill as Refills}
 use Rattle.control_word.proofs.lists.Tallies.{same_place_true}
 use Rattle.control_word.specs.Handles.{same_place}
+use Rattle.control_word.specs.Limits.{cell_funds}
 use Rattle.control_word.specs.Packing.{IsCellWord}
 use Rattle.control_word.specs.State.{Has, held}
 use Rattle.control_word.specs.declared.place.Place.{Place}
@@ -56,9 +57,9 @@ module _ (d : ℕ) (t : Thread) (v : GhostState) (c : Site) (x : CellWord) (k : 
           (own_pending v d (OnCell (Turn (kind_in_state (model_state v) c) b)) kept fits.seat) tt
 
   -- the cell shows the same value, of which many funds were taken, or not
-  pub fits_checked : (y : CellWord) → IsCellWord y → t.pending_call ≡ Refill Checking c x k
+  pub fits_checked : (y : CellWord) → IsCellWord y → y.taken ≤ cell_funds → t.pending_call ≡ Refill Checking c x k
       → FitsThread d (At t (cond (is_drained x y) (Refill Lacking c y k) Rest)) v
-  fits_checked y valid e = go (is_drained x y) refl
+  fits_checked y valid few e = go (is_drained x y) refl
     where
       r : RefillFits d Checking c x v
       r = refill_here d t v Checking c x k fits e
@@ -68,6 +69,7 @@ module _ (d : ℕ) (t : Thread) (v : GhostState) (c : Site) (x : CellWord) (k : 
           let same = and_parts (same_block x.owned y.owned) (same_place x.place y.place) (and_parts (same_value x y) (is_low y) is).0 in
           record {
             valid = valid;
+            few = few;
             block = r.block;
             owned = sym (same_owner x.owned y.owned same.0) ∙ r.owned;
             opens = r.opens;

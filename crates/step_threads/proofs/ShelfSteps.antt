@@ -17,7 +17,8 @@ use Rattle.step_threads.proofs.Frames.{owed_by, ready_head}
 use Rattle.step_threads.proofs.Steps.{at_act, stepped_as, waits_act}
 use Rattle.step_threads.proofs.Threads.{cells_on, own_pending, resting}
 use Rattle.step_threads.proofs.holding.Ends.{ends_gone}
-use Rattle.step_threads.proofs.holding.Few.{store_few}
+use Rattle.step_threads.proofs.holding.Few.{store_room}
+use Rattle.step_threads.specs.Stocks.{HasRoomFor}
 use Rattle.step_threads.proofs.holding.Storing.{one_stored, taken_stored}
 
 -- nothing is taken and nothing dropped
@@ -69,16 +70,16 @@ stocks_missed d l room v b stocks = record { stocked = stocks.stocked; roomy = s
 -- it has room there
 pub room_unshelve : (d : ℕ) (t : Thread) (v w : GhostState) (b : Block) → FitsThread d t v → t.pending_call ≡ Rest
     → w ≡ ghost_after_step v d (atomic_step.OnShelf b shelf.Unshelve) → TableInvariant w
-    → length t.stock.blocks < t.stock.room
+    → HasRoomFor t.stock b.0
 room_unshelve d t v w b fits e is kept =
     let s = resting d t v fits e in
-    let f = store_few d (ghost_after_step v d (atomic_step.OnShelf b shelf.Unshelve)) (b.0 ∷ t.stock.blocks)
+    store_room d (ghost_after_step v d (atomic_step.OnShelf b shelf.Unshelve)) b.0 t.stock
     (subst (λ (u : GhostState). TableInvariant u) is kept)
     (λ c. let g = num_cons (same_stored (stored d c)) (stored d b.0) (model_state v).stores in
     let k = one_stored d b.0 c in
     let a = sum_by-cons (λ (y : ℕ). cond (y == c) 1 0) b.0 t.stock.blocks in
-    let o = s.stocked c in omega (arith, g, k, a, o)) in
-    let r = s.roomy in omega (arith, f, r)
+    let o = s.stocked c in omega (arith, g, k, a, o))
+    s.roomy
 
 -- a bit of the shelf was set or cleared, and the thread went on
 pub fits_moved : (d : ℕ) (t : Thread) (v : GhostState) (b : Block) (x : ShelfStep) (c : Frame) (s : StoreView) → TableInvariant v → FitsThread d t v

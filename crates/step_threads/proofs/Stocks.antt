@@ -7,16 +7,29 @@ use Rattle.step_threads.proofs.Prelude.{numbers}
 use Rattle.std.specs.BinaryHeap.{IsUpperBound, PopsGreatest}
 use Rattle.std.specs.Ordering.{nat_cmp}
 use Rattle.std.specs.declared.cmp.Reverse.{Reverse}
-use Rattle.std.proofs.lemmas.List.Sorted.{IsPermutation-append_left, IsPermutation-map}
+use Rattle.std.proofs.lemmas.List.Sorted.{All-permutation, IsPermutation-append_left, IsPermutation-map}
 use Rattle.std.proofs.lemmas.List.Sorted.{IsPermutation-middle, IsPermutation-refl}
-use Rattle.std.proofs.lemmas.List.Elements.{All-append, All-from_recursion}
+use Rattle.std.proofs.lemmas.List.Elements.{All-append, All-cons, All-from_recursion, All-head, All-tail}
 use Rattle.std.proofs.lemmas.Map.Keys.{ge_from_not_lt}
-use Rattle.step_threads.specs.Stocks.{IsOrdered}
+use Rattle.step_threads.specs.Stocks.{IsNumber, IsOrdered}
 
 -- one more block in a heap
 pub pushed : (b : ℕ) (old new : List (Reverse ℕ)) (range : List ℕ) → IsPermutation (record { 0 = b } ∷ old) new
     → IsPermutation (b ∷ (numbers old ++ range)) (numbers new ++ range)
 pushed b old new range p = IsPermutation-append_left range (b ∷ numbers old) (numbers new) (IsPermutation-map (λ (r : Reverse ℕ). r.0) _ _ p)
+
+-- the numbers in a heap are those of blocks
+pub pushed_valid : (b : ℕ) (old new : List (Reverse ℕ)) → IsPermutation (record { 0 = b } ∷ old) new → IsNumber b → All IsNumber (numbers old)
+    → All IsNumber (numbers new)
+pushed_valid b old new p is all =
+    All-permutation IsNumber (b ∷ numbers old) (numbers new) (IsPermutation-map (λ (r : Reverse ℕ). r.0) _ _ p)
+    (All-cons IsNumber b (numbers old) is all)
+
+pub popped_valid : (b : ℕ) (old new : List (Reverse ℕ)) → IsPermutation old (record { 0 = b } ∷ new) → All IsNumber (numbers old)
+    → IsNumber b × All IsNumber (numbers new)
+popped_valid b old new p all =
+    let rest = All-permutation IsNumber (numbers old) (b ∷ numbers new) (IsPermutation-map (λ (r : Reverse ℕ). r.0) _ _ p) all in
+    (All-head IsNumber b (numbers new) rest, All-tail IsNumber b (numbers new) rest)
 
 pub on_ok : {T E P : Type 0} (r : Result T E) → is_err r ≡ false → OnOk r P → P
 on_ok (Ok x) e p = p

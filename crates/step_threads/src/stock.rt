@@ -1,9 +1,9 @@
 //! An actor's vacant blocks.
 ghost use Rattle.std.specs.Prelude.{◌≡◌, ◌⊎◌, ◌<◌, ◌≤◌, ℕ, true, false, [], ◌∷◌, ◌+◌};
-ghost use Rattle.std.specs.Prelude.{length, All, IfOk, MatchOption};
+ghost use Rattle.std.specs.Prelude.{All, IfOk, MatchOption};
 ghost use Rattle.std.specs.BinaryHeap.{heap_items};
 ghost use Rattle.std.specs.List.Sorted.{IsPermutation};
-ghost use Rattle.step_threads.specs.Stocks.{IsRange, from, numbers};
+ghost use Rattle.step_threads.specs.Stocks.{HasRoomFor, IsRange, from, numbers};
 
 use control_word::place::Block;
 use std::alloc::{AllocError, Global};
@@ -20,7 +20,7 @@ pub struct Stock {
     /// The block behind the last of them.
     end: u32,
     /// Those that came in.
-    returned: BinaryHeap<Reverse<u16>>,
+    returned: BinaryHeap<Reverse<u32>>,
 }
 
 impl Model for Stock {
@@ -39,9 +39,10 @@ impl Model for Stock {
 }
 
 impl Stock {
-    /// So many blocks, from `first` on, and room for `room`.
+    /// So many blocks, from `first` on, which is a block's number, and room for `room`.
     pub fn new(alloc: Global, first: u16, count: u16, room: usize) -> Result<Stock, AllocError>
-        requires { first + count ≤ 65536 }
+        requires first { 0 < first }
+        requires count { first + count ≤ 65536 }
         ensures blocks { IfOk result (λ s. IsPermutation (from first count) s.blocks) }
         ensures room { IfOk result (λ s. room ≤ s.room) }
     {
@@ -56,11 +57,11 @@ impl Stock {
 
     /// A block comes in.
     pub fn put(&mut self, block: Block)
-        requires { length self.old.blocks < self.old.room }
+        requires { HasRoomFor self.old block.0 }
         ensures blocks { IsPermutation (block.0 ∷ self.old.blocks) self.new.blocks }
         ensures room { self.old.room ≤ self.new.room }
     {
-        if self.returned.push(Reverse(block.0)).is_err() {
+        if self.returned.push(Reverse(block.number())).is_err() {
             unreachable!()
         }
     }
@@ -73,19 +74,19 @@ impl Stock {
         ensures room { self.new.room ≡ self.old.room }
     {
         if takes_next(&self.returned, self.next, self.end) {
-            let block = Block(self.next as u16);
+            let block = Block::numbered(self.next);
             self.next += 1;
             return Some(block);
         }
         match self.returned.pop() {
             None => None,
-            Some(Reverse(block)) => Some(Block(block)),
+            Some(Reverse(block)) => Some(Block::numbered(block)),
         }
     }
 }
 
 /// Whether there are blocks from `next` on, and none that was returned is less.
-fn takes_next(returned: &BinaryHeap<Reverse<u16>>, next: u32, end: u32) -> bool
+fn takes_next(returned: &BinaryHeap<Reverse<u32>>, next: u32, end: u32) -> bool
     requires { IsRange (heap_items returned.now) next end }
     ensures next { result ≡ true → (next < end) × All (λ c. next ≤ c) (numbers (heap_items returned.now)) }
     ensures returned { result ≡ false → (next ≡ end)
@@ -96,6 +97,6 @@ fn takes_next(returned: &BinaryHeap<Reverse<u16>>, next: u32, end: u32) -> bool
     }
     match returned.peek() {
         None => true,
-        Some(Reverse(block)) => next < u32::from(*block),
+        Some(Reverse(block)) => next < *block,
     }
 }

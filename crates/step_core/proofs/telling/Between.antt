@@ -14,6 +14,7 @@ use Prelude.{TableInvariant, there, Thread, thread_frame, thread_pending, Totals
 use Prelude.{Weak, weak, weak_number, world_state, WorldState}
 use Rattle.control_word.proofs.words.Counting.{more_counts, number, number_tally}
 use Rattle.control_word.proofs.words.Rooms.{halves, number_room, owed_few}
+use Rattle.control_word.specs.Limits.{most_number}
 use Rattle.control_word.specs.Words.{counts_at}
 use Rattle.step_threads.proofs.holding.Ends.{one_more}
 use Rattle.step_core.specs.Showing.{counts_by}
@@ -79,10 +80,10 @@ module _ (v : GhostState) (threads : List Thread) (b : ℕ) (fit : AllFit v thre
       let makes = added_makes v threads b fit kept size inside.0 in omega (arith, e, owes, makes)
 
   -- they stay within a count's range
-  pub owners_few : count (model_state v) ((model_state v).latest b) ≤ 4784376
+  pub owners_few : count (model_state v) ((model_state v).latest b) ≤ most_number
   owners_few = number_room (opening v.extent) v.history kept.stands.legal Owner ((model_state v).latest b)
 
-  pub weaks_few : weak_number (model_state v) ((model_state v).latest b) + makes_in b (map thread_pending threads) ≤ 4784440
+  pub weaks_few : weak_number (model_state v) ((model_state v).latest b) + makes_in b (map thread_pending threads) ≤ most_number + 64
   weaks_few =
       let room = number_room (opening v.extent) v.history kept.stands.legal Weak ((model_state v).latest b) in
       let few = added_few v threads b fit kept size inside.0 in

@@ -46,7 +46,9 @@ told_step d u m e kept after begun lt told =
           (λ i. (frame_of (abstraction (world_state_by d u x)) i).endings) after
           (ap (λ (y : FrameView). y.endings) (get_or-set_same u.frame_views d (frame_by w x) nowhere lt))
           (λ i n. ap (λ (y : FrameView). y.endings) (get_or-set_other u.frame_views d i (frame_by w x) nowhere n));
-      watched = watched_step d u kept after begun told.watched;
+      watched =
+          watched_step d u kept after begun (let a = told.threads in let b = told.pending_calls in let some = kept.proper.few in omega (arith, a, b, some))
+          told.watched;
       tidy = tidy_after d u begun.pending_call lt told.tidy;
     }
 

@@ -5,7 +5,7 @@ use Rattle.std.proofs.Common.{sym, refl, ap, ◌∙◌, subst, inl, inr, ⊎_eli
 use Rattle.std.proofs.Common.{get_or-set_same, ltb-false, eq-eqb, ne_eqb, eqb-true}
 use Rattle.step_core.proofs.Prelude
 use Prelude.{and_from, and_parts, AtomicStep, Block, cases_eq, cell_bits, CellWord, Checking}
-use Prelude.{cond_both, content, Failing, false≢true, FrameView, Free, ghost_after, GhostState}
+use Prelude.{cond_both, Failing, false≢true, FrameView, Free, ghost_after, GhostState}
 use Prelude.{handle_busy, is_drained, is_low, is_watching, IsCellOfShape, IsCellWord, IsSite}
 use Prelude.{kind_in_state, Lacking, Member, model_state, more_taken, opening, PendingCall, Refill}
 use Prelude.{RefillFits, Refilling, refills_on, Rest, same_Some, same_value, Saw, seen, seen_found}
@@ -13,10 +13,14 @@ use Prelude.{Shape, Site, site_place, Stage, Step, TableInvariant, there, Turnin
 use Prelude.{word_of_cell}
 use Rattle.step_table.specs.declared.memory.shelf.ShelfStep.{ShelfStep}
 use Rattle.control_word.specs.Words.{shelf_spot}
+use Rattle.std.specs.Prelude.{nat_lt}
+use Rattle.step_table.specs.ShelfAtomicSteps.{bit_moved}
 use Rattle.step_table.specs.declared.cell_steps.cell_step.CellStep.TheVariants as cell_step
 use Rattle.step_table.specs.declared.memory.ghost_history.AtomicStep.TheVariants as atomic_step
 use Rattle.step_core.proofs.watching.Blocks.{IsThere, StaysOff, bring_off, give_back_off, turn_off}
-use Rattle.step_core.proofs.watching.Words.{Watch, bit, flag, more_told, same_told, taken_told}
+use Rattle.step_core.proofs.watching.Words.{Watch, bit, flag, more_told, refilled_told, same_told, taken_told}
+use Rattle.control_word.specs.Limits.{one_taken}
+use Rattle.control_word.specs.Packing.{taken_in, without_taken}
 
 -- a cell of the shape has a place
 pub somewhere : (z : Shape) (c : Site) → IsCellOfShape z c → IsSite c
@@ -44,7 +48,11 @@ shelf_apart v (Member a m) b is e =
 pub shelf_off : (v : GhostState) (d : ℕ) (x : ShelfStep) (b : Block) (c : Site) → IsCellOfShape v.extent.shape c
     → slice_index (ghost_after v d (Some (atomic_step.OnShelf b x))).words (site_place v.extent.shape.blocks c) ≡ word_of_cell v c
 shelf_off v d x b c is =
-    get_or-set_other v.words (shelf_spot (opening v.extent) b.0) (site_place v.extent.shape.blocks c) _ 0 (shelf_apart v c b.0 is)
+    let p = site_place v.extent.shape.blocks c in
+    let k = shelf_spot (opening v.extent) b.0 in
+    let moved = slice_set v.words k (bit_moved x b.0 (slice_index v.words k)) in
+    cond_both (nat_lt v.extent.shape.blocks b.0) v.words moved (λ (w : List ℕ). slice_index w p ≡ word_of_cell v c) (λ t. refl)
+    (λ t. get_or-set_other v.words k p _ 0 (shelf_apart v c b.0 is))
 
 -- one word is another, or none is: so it is for each cell of the shape
 abbrev pub WatchesWord : GhostState → PendingCall → List ℕ → PendingCall → Type 0
@@ -71,7 +79,8 @@ going_on v d s r c y k x off e is = inl (off e (somewhere v.extent.shape e is), 
 elsewhere : (v : GhostState) (s : Stage) (c : Site) (x : CellWord) (k p a : ℕ) → p ≢ site_place v.extent.shape.blocks c
     → bit v.extent.shape.blocks p a (Refill s c x k) ≡ 0
 elsewhere v s c x k p a ne =
-    ap (λ (t : Bool). cond (t && is_low x && content (cell_bits x) == content a) 1 0) (ne_eqb (site_place v.extent.shape.blocks c) p (λ e. ne (sym e)))
+    ap (λ (t : Bool). cond (t && is_low x && without_taken (cell_bits x) == without_taken a) 1 0)
+    (ne_eqb (site_place v.extent.shape.blocks c) p (λ e. ne (sym e)))
 
 -- one cell's word is another
 module _ (v : GhostState) (c : Site) (word : ℕ) (h g : PendingCall) (kept : TableInvariant v)
@@ -100,28 +109,29 @@ put_in v d c x h g kept quiet valid none =
 
 -- a fund is taken
 pub taken : (v : GhostState) (c : Site) (x : CellWord) (k : ℕ) → TableInvariant v → IsCellWord x → word_of_cell v c ≡ cell_bits x
-    → WatchesWord v (Saw x) (slice_set v.words (site_place v.extent.shape.blocks c) (word_of_cell v c + 17179869184)) (Refill Turning c (more_taken x) k)
+    → WatchesWord v (Saw x) (slice_set v.words (site_place v.extent.shape.blocks c) (word_of_cell v c + one_taken)) (Refill Turning c (more_taken x) k)
 taken v c x k kept valid shows =
-    changed v c (word_of_cell v c + 17179869184) (Saw x) (Refill Turning c (more_taken x) k) kept (go (is_low (more_taken x)) refl) (λ p a ne. refl)
+    changed v c (word_of_cell v c + one_taken) (Saw x) (Refill Turning c (more_taken x) k) kept (go (is_low (more_taken x)) refl) (λ p a ne. refl)
   where
     blocks : ℕ
     blocks = v.extent.shape.blocks
 
     go : (b : Bool) → is_low (more_taken x) ≡ b
-        → Watch blocks (site_place blocks c) (word_of_cell v c) (word_of_cell v c + 17179869184) (Saw x) (Refill Turning c (more_taken x) k)
+        → Watch blocks (site_place blocks c) (word_of_cell v c) (word_of_cell v c + one_taken) (Saw x) (Refill Turning c (more_taken x) k)
     go true low =
-        let same : cell_bits (more_taken x) ≡ word_of_cell v c + 17179869184 = more_told x ∙ ap (λ (n : ℕ). n + 17179869184) (sym shows) in
+        let same : cell_bits (more_taken x) ≡ word_of_cell v c + one_taken = more_told x ∙ ap (λ (n : ℕ). n + one_taken) (sym shows) in
         inr (inr (
           refl,
           refl,
           ap (λ (t : Bool). cond t 1 0)
               (and_from _ _ (and_from _ _ (eq-eqb (site_place blocks c) (site_place blocks c) refl) low)
-              (eq-eqb (content (cell_bits (more_taken x))) (content (word_of_cell v c + 17179869184)) (ap content same))),
+              (eq-eqb (without_taken (cell_bits (more_taken x))) (without_taken (word_of_cell v c + one_taken)) (ap without_taken same))),
         ))
     go false high =
         let few : suc x.taken ≤ 127 = ltb-false 127 (suc x.taken) high in
-        let t = taken_told x valid in
-        inr (inl (omega (arith, few, t, shows)))
+        let m = taken_told (more_taken x) (record { owned = valid.owned; place = valid.place; taken = omega (arith, few) }) in
+        let same : taken_in (word_of_cell v c + one_taken) ≡ suc x.taken = ap taken_in (ap (λ (n : ℕ). n + one_taken) shows ∙ sym (more_told x)) ∙ m in
+        inr (inl (omega (arith, few, same)))
 
 middle_false : (a b : Bool) → (a && false && b) ≡ false
 middle_false true b = refl
@@ -134,8 +144,8 @@ last_false false = refl
 -- few funds are none to put back
 few_quiet : (v : GhostState) (s : Stage) (c : Site) (x : CellWord) (k : ℕ) → is_low x ≡ false → IsQuiet v (Refill s c x k)
 few_quiet v s c x k few p a =
-    ap (λ (t : Bool). cond (site_place v.extent.shape.blocks c == p && t && content (cell_bits x) == content a) 1 0) few
-    ∙ ap (λ (t : Bool). cond t 1 0) (middle_false (site_place v.extent.shape.blocks c == p) (content (cell_bits x) == content a))
+    ap (λ (t : Bool). cond (site_place v.extent.shape.blocks c == p && t && without_taken (cell_bits x) == without_taken a) 1 0) few
+    ∙ ap (λ (t : Bool). cond t 1 0) (middle_false (site_place v.extent.shape.blocks c == p) (without_taken (cell_bits x) == without_taken a))
 
 -- the block of what is put back is one of the table
 pub block_there : (v : GhostState) (d : ℕ) (s : Stage) (c : Site) (x : CellWord) → TableInvariant v → RefillFits d s c x v → (b : Block)
@@ -174,19 +184,19 @@ module _ (v : GhostState) (d : ℕ) (c : Site) (x : CellWord) (k : ℕ) (w : Fra
       valid = (seen_found v d c kept seat fits.opens).shows.valid
 
       differs : p ≡ q → same_value x y ≡ false → bit blocks p here (Refill Checking c x k) ≡ 0
-      differs e ne = go (content (cell_bits x) == content here) refl
+      differs e ne = go (without_taken (cell_bits x) == without_taken here) refl
         where
-          go : (b : Bool) → (content (cell_bits x) == content here) ≡ b → ◌≡◌ {A = ℕ} (cond (q == p && is_low x && b) 1 0) 0
+          go : (b : Bool) → (without_taken (cell_bits x) == without_taken here) ≡ b → ◌≡◌ {A = ℕ} (cond (q == p && is_low x && b) 1 0) 0
           go false f = ap (λ (t : Bool). cond t 1 0) (last_false (q == p && is_low x))
           go true f =
-              absurd (false≢true (sym ne ∙ same_told x y fits.valid valid (eqb-true _ _ f ∙ ap content (shows e))))
+              absurd (false≢true (sym ne ∙ same_told x y fits.valid valid (eqb-true _ _ f ∙ ap without_taken (shows e))))
 
       at_cell : p ≡ q → (b : Bool) → is_drained x y ≡ b → Watch blocks p here here (Refill Checking c x k) (cond b (Refill Lacking c y k) Rest)
       at_cell e true drained =
           let a = and_parts (same_value x y) (is_low y) drained in
           let one : bit blocks p here (Refill Lacking c y k) ≡ 1 =
           ap (λ (t : Bool). cond t 1 0) (and_from _ _ (and_from _ _ (eq-eqb q p (sym e)) a.1)
-          (eq-eqb (content (cell_bits y)) (content here) (ap content (sym (shows e))))) in
+          (eq-eqb (without_taken (cell_bits y)) (without_taken here) (ap without_taken (sym (shows e))))) in
           let f = flag (is_watching blocks p here (Refill Checking c x k)) in
           inl (refl, omega (arith, one, f))
       at_cell e false not = by_value (same_value x y) refl
@@ -198,7 +208,7 @@ module _ (v : GhostState) (d : ℕ) (c : Site) (x : CellWord) (k : ℕ) (w : Fra
               let few : y.taken ≤ 127 = ltb-false 127 y.taken high in
               let t = taken_told y valid in
               let s = shows e in
-              inr (inl (omega (arith, few, t, s)))
+              let r : taken_in here ≡ y.taken = ap taken_in s ∙ t in inr (inl (omega (arith, few, r)))
 
   -- the thread's refill goes on
   pub refilled : (s : Stage) → RefillFits d s c x v → (b : Block) → x.owned ≡ Some b
@@ -218,8 +228,11 @@ module _ (v : GhostState) (d : ℕ) (c : Site) (x : CellWord) (k : ℕ) (w : Fra
       cond_both (word_of_cell v c == cell_bits x) (within w k (Some (atomic_step.OnCell (cell_step.Refill c x.taken))) Rest)
       (within w k None (Refill Failing c x k))
       (λ (y : Step). Watches v d (Refill Refilling c x k) y.atomic_step y.pending_call)
-      (λ e. changed v c (word_of_cell v c - 17179869184 * x.taken) (Refill Refilling c x k) Rest kept
-      (inr (inl (let s = eqb-true _ _ e in let t = taken_told x fits.valid in omega (arith, s, t)))) (λ p a ne. elsewhere v Refilling c x k p a ne))
+      (λ e. changed v c (word_of_cell v c - one_taken * x.taken) (Refill Refilling c x k) Rest kept
+      (inr (inl (
+      let s = eqb-true _ _ e in
+      let r : taken_in (word_of_cell v c - one_taken * x.taken) ≡ 0 = ap (λ (n : ℕ). taken_in (n - one_taken * x.taken)) s ∙ refilled_told x fits.valid in
+      omega (arith, r)))) (λ p a ne. elsewhere v Refilling c x k p a ne))
       (λ e. going_on v d Refilling Failing c x k None (λ n valid. refl))
   refilled Failing fits b own =
       going_on v d Failing Checking c x k (Some (atomic_step.OnCell (cell_step.GiveBack (kind_in_state (model_state v) c) b x.taken)))

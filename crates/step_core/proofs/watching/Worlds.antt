@@ -1,5 +1,5 @@
 -- No step ever finds all funds of a cell taken.
-use Rattle.std.proofs.Common.{◌≡◌, ℕ, ◌/◌, ◌<◌, ◌≤◌, Bool, true, false, not, ◌&&◌, List, [], ◌∷◌}
+use Rattle.std.proofs.Common.{◌≡◌, ℕ, ◌<◌, ◌≤◌, Bool, true, false, not, ◌&&◌, List, [], ◌∷◌}
 use Rattle.std.proofs.Common.{length, get_or, set, is_some, ◌==◌, slice_index, Some, None, Option}
 use Rattle.std.proofs.Common.{sym, refl, ap, ◌∙◌, subst, arith, ne_eqb}
 use Rattle.step_core.proofs.Prelude
@@ -23,19 +23,21 @@ use Rattle.step_core.proofs.watching.Blocks.{inside_there}
 use Rattle.step_core.proofs.watching.Cells.{Watches, last_false}
 use Rattle.step_core.proofs.watching.PendingCalls.{each_watch}
 use Rattle.step_core.proofs.watching.Steps.{IsWatch}
-use Rattle.step_core.proofs.watching.Words.{watch}
+use Rattle.step_core.proofs.watching.Words.{filter_few, watch}
+use Rattle.control_word.specs.Packing.{taken_in}
 
-by_atomic_step : (v : GhostState) (d : ℕ) (h g : PendingCall) (x : Option AtomicStep) (l : List PendingCall) → d < length l → get_or l d Rest ≡ h
-    → Watches v d h x g → IsWatched v l → IsWatched (ghost_after v d x) (set l d g)
-by_atomic_step v d h g None l lt at w was c is = watch v.extent.shape.blocks (site_place v.extent.shape.blocks c) _ _ d h g l lt at (w c is) (was c is)
-by_atomic_step v d h g (Some x) l lt at w was c is = watch v.extent.shape.blocks (site_place v.extent.shape.blocks c) _ _ d h g l lt at (w c is) (was c is)
+by_atomic_step : (v : GhostState) (d : ℕ) (h g : PendingCall) (x : Option AtomicStep) (l : List PendingCall) → length l ≤ 64
+    → d < length l → get_or l d Rest ≡ h → Watches v d h x g → IsWatched v l → IsWatched (ghost_after v d x) (set l d g)
+by_atomic_step v d h g None l few lt at w was c is =
+    watch v.extent.shape.blocks (site_place v.extent.shape.blocks c) _ _ d h g l few lt at (w c is) (was c is)
+by_atomic_step v d h g (Some x) l few lt at w was c is =
+    watch v.extent.shape.blocks (site_place v.extent.shape.blocks c) _ _ d h g l few lt at (w c is) (was c is)
 
 -- after a step of a thread few funds of each cell are taken, or they are to be put back
 pub watched_step : (d : ℕ) (u : WorldState) → TableInvariant u.ghost_state → TableInvariant (ghost_by u.ghost_state d (step_of d u)) → HasBegun d u
-    → IsWatched u.ghost_state
-    u.pending_calls
+    → length u.pending_calls ≤ 64 → IsWatched u.ghost_state u.pending_calls
     → IsWatched (world_state_by d u (step_of d u)).ghost_state (world_state_by d u (step_of d u)).pending_calls
-watched_step d u kept after begun was =
+watched_step d u kept after begun few was =
     go (step_of d u)
     (each_watch u.ghost_state d (frame_of (abstraction u) d) kept begun.seat begun.holds (pending_call_of u d) begun.pending_call begun.tried begun.proper
     begun.out after)
@@ -43,13 +45,7 @@ watched_step d u kept after begun was =
     go : (x : Option Step) → IsWatch u.ghost_state d (pending_call_of u d) x → IsWatched (ghost_by u.ghost_state d x)
         (set u.pending_calls d (pending_call_by (pending_call_of u d) x))
     go None w = subst (λ (l : List PendingCall). IsWatched u.ghost_state l) (sym (set-get_or u.pending_calls d Rest)) was
-    go (Some x) w = by_atomic_step u.ghost_state d (pending_call_of u d) x.pending_call x.atomic_step u.pending_calls begun.within refl w was
-
-filter_few : (p : PendingCall → Bool) (l : List PendingCall) → length (filter p l) ≤ length l
-filter_few p [] = omega arith
-filter_few p (x ∷ xs) =
-    let i = filter_few p xs in
-    cond_both (p x) (x ∷ filter p xs) (filter p xs) (λ (l : List PendingCall). length l ≤ length (x ∷ xs)) (λ t. omega (arith, i)) (λ t. omega (arith, i))
+    go (Some x) w = by_atomic_step u.ghost_state d (pending_call_of u d) x.pending_call x.atomic_step u.pending_calls few begun.within refl w was
 
 -- the cell that is named is one of the shape, where it is there
 pub named_cell : (v : GhostState) (d : ℕ) (slots : Slots) → TableInvariant v → HoldsBag d slots v → (c : CellName) → IsIn v.extent.shape c
@@ -78,7 +74,7 @@ module _ (v : GhostState) (l : List PendingCall) (few : length l ≤ 64) (was : 
       let z = v.extent.shape in
       let a = was c is in
       let m = filter_few (is_watching z.blocks (site_place z.blocks c) (word_of_cell v c)) l in
-      let ne : (word_of_cell v c / 17179869184 == 256) ≡ false = ne_eqb _ 256 (λ e. omega (arith, a, m, few, e)) in
+      let ne : (taken_in (word_of_cell v c) == 256) ≡ false = ne_eqb _ 256 (λ e. omega (arith, a, m, few, e)) in
       ap (λ (t : Bool). is_some (seen v c).owned && t) ne ∙ last_false (is_some (seen v c).owned)
 
   module _ (d : ℕ) (w : FrameView) (kept : TableInvariant v) (holds : HoldsBag d w.slots v) where

@@ -101,6 +101,7 @@ module _ (d e : ℕ) (v : GhostState) (x : AtomicStep) (n : e ≢ d) (kept : Tab
       let k = sym (kind_stays v (ghost_after_step v e x) c refl) in
       record {
         valid = fits.valid;
+        few = fits.few;
         block = fits.block;
         owned = fits.owned;
         opens = open_others c fits.opens;

@@ -104,6 +104,7 @@ module _ (d : ℕ) (v : GhostState) (kept : TableInvariant v) (lt : d < v.extent
           let t = gets d (handle_told s c x) s in
           record {
             valid = record { owned = valid.owned; place = valid.place; taken = omega (arith, few) };
+            few = omega (arith, few);
             block = b;
             owned = some;
             opens = subst (λ (u : State). IsOpen u d (cell_in u c)) (sym is) (open_got s d (handle_told s c x) c way);
@@ -123,6 +124,7 @@ module _ (d : ℕ) (v : GhostState) (kept : TableInvariant v) (lt : d < v.extent
   turns_fund c x b fits =
       record {
         valid = fits.valid;
+        few = fits.few;
         block = fits.block;
         owned = fits.owned;
         opens = fits.opens;
@@ -136,6 +138,7 @@ module _ (d : ℕ) (v : GhostState) (kept : TableInvariant v) (lt : d < v.extent
   brings_funds c x b fits some =
       record {
         valid = fits.valid;
+        few = fits.few;
         block = b;
         owned = some;
         opens = fits.opens;
@@ -150,6 +153,7 @@ module _ (d : ℕ) (v : GhostState) (kept : TableInvariant v) (lt : d < v.extent
   gives_back c x b fits =
       record {
         valid = fits.valid;
+        few = fits.few;
         block = fits.block;
         owned = fits.owned;
         opens = fits.opens;
@@ -160,4 +164,12 @@ module _ (d : ℕ) (v : GhostState) (kept : TableInvariant v) (lt : d < v.extent
 module _ (d : ℕ) (v : GhostState) where
   -- the cell shows something else
   pub misses_cell : (c : Site) (x : CellWord) → RefillFits d Refilling c x v → RefillFits d Failing c x v
-  misses_cell c x fits = record { valid = fits.valid; block = fits.block; owned = fits.owned; opens = fits.opens; has = fits.has; pays = fits.pays }
+  misses_cell c x fits = record {
+    valid = fits.valid;
+    few = fits.few;
+    block = fits.block;
+    owned = fits.owned;
+    opens = fits.opens;
+    has = fits.has;
+    pays = fits.pays;
+  }

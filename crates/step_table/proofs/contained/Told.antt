@@ -26,24 +26,12 @@ use Rattle.step_table.proofs.holding.Owning.{slot_held}
 use Rattle.step_table.proofs.tables.Members.{member_kind}
 use Rattle.step_table.proofs.tables.Places.{handle_busy, there}
 use Rattle.step_table.proofs.tables.Shown.{Found}
+use Rattle.control_word.proofs.packing.Cells.{cell_taken_in}
+use Rattle.control_word.specs.Packing.{taken_in}
 
 -- the parts of a word are within their fields, and behind them is what was taken
-taken_told : (x : CellWord) → IsCellWord x → cell_bits x / 17179869184 ≡ x.taken
-taken_told x valid =
-    let a = owned_few x.owned valid.owned in let b = place_few x.place valid.place in let c = field_few x.place valid.place in
-    omega (arith, a, b, c)
-  where
-    owned_few : (o : Option Block) → IfSome o IsBlock → block_number o ≤ 65535
-    owned_few None is = omega arith
-    owned_few (Some b) is = is.1
-
-    place_few : (p : Option Place) → IfSome p IsPlace → place_block p ≤ 65535
-    place_few None is = omega arith
-    place_few (Some q) is = is.0.1
-
-    field_few : (p : Option Place) → IfSome p IsPlace → place_field p ≤ 3
-    field_few None is = omega arith
-    field_few (Some q) is = is.1
+taken_told : (x : CellWord) → IsCellWord x → taken_in (cell_bits x) ≡ x.taken
+taken_told x valid = cell_taken_in x valid
 
 -- the block of the object that a word tells is the word's
 block_told : (s : State) (o : Option Block) → ((b : Block) → o ≡ Some b → blocks_of s (s.latest b.0) ≡ b.0)
@@ -66,7 +54,7 @@ module _ (v : GhostState) (d : ℕ) (c : Site) (x : CellWord) (found : Found v c
       let o : x.owned ≡ block_of (blocks_of s) h.object =
       sym (block_told s x.owned found.there) ∙ ap (λ (y : NumberedHandle). block_of (blocks_of s) y.object) shows.holds in
       let p : x.place ≡ h.place = ap (λ (y : NumberedHandle). y.place) shows.holds in
-      let t : x.taken ≡ word_of_cell v c / 17179869184 = sym (taken_told x shows.valid) ∙ ap (λ (n : ℕ). n / 17179869184) (sym shows.bits) in
+      let t : x.taken ≡ taken_in (word_of_cell v c) = sym (taken_told x shows.valid) ∙ ap taken_in (sym shows.bits) in
       λ j. record { owned = o j; place = p j; taken = t j }
 
   -- and comes into a slot so

@@ -19,6 +19,8 @@ use Rattle.step_table.proofs.tables.Places.{handle_busy, there}
 use Rattle.step_table.proofs.holding.Slots.{counted_has, full_is, full_less, has_slot, num_none}
 use Rattle.step_table.proofs.holding.Slots.{num_set, num_some, one_held, one_slot, slot_inside}
 use Rattle.step_table.proofs.tables.Start.{forty}
+use Rattle.control_word.specs.Limits.{most_blocks}
+use Rattle.step_table.specs.Openings.{world_blocks}
 
 -- a pointer in a slot is a handle in the bag
 pub slot_held : (d : ℕ) (slots : Slots) (v : GhostState) (i : ℕ) (x : Handle) → HoldsBag d slots v → slot_pointer slots i ≡ Some x
@@ -256,13 +258,13 @@ claimed_owns v d b enabled null fields h (y ∷ ys) f =
     ∙ sym (one_slot (is_it v h) y) in
     omega (arith, i, m, n, c)
 
-origin_formed : (z : Opening) (b : ℕ) (null : Bool) → InShape z b → z.blocks ≤ 65535 → IsPointer (origin b null)
+origin_formed : (z : Opening) (b : ℕ) (null : Bool) → InShape z b → z.blocks ≤ most_blocks → IsPointer (origin b null)
 origin_formed z b true shape few = tt
 origin_formed z b false shape few = let low = shape.0 in let high = shape.1 in (low, omega (arith, high, few), omega arith)
 
 pub holds_claim : (d : ℕ) (slots : Slots) (v : GhostState) (i : ℕ) (b : Block) (form : Form) → TableInvariant v → HoldsBag d slots v
     → Has (stored d b.0) (model_state v).stores
-    → InShape (opening v.extent) b.0 → v.extent.shape.blocks ≤ 65535 → i < length slots → slot_pointer slots i ≡ None
+    → InShape (opening v.extent) b.0 → v.extent.shape.blocks ≤ world_blocks → i < length slots → slot_pointer slots i ≡ None
     → HoldsBag d (set slots i (Full (record { kind = Owner; block = b; place = origin b.0 form.null })))
     (ghost_after_step v d (Claim b form.enabled form.null form.fields))
 holds_claim d slots v i b form kept holds has shape few lt e =
@@ -286,5 +288,5 @@ holds_claim d slots v i b form kept holds has shape few lt e =
           let s = num_set slot_has_object slots i (Full x) lt in
           let z = num_none slot_has_object (slot_value slots i) (λ q. refl) e in
           let o = holds.size in omega (arith, a, s, z, o));
-      formed = formed_set slots i (Full x) holds.formed lt (origin_formed (opening v.extent) b.0 form.null shape few);
+      formed = formed_set slots i (Full x) holds.formed lt (origin_formed (opening v.extent) b.0 form.null shape (omega (arith, few)));
     }

@@ -1,5 +1,5 @@
 -- What a word that was found tells of its cell.
-use Rattle.std.proofs.Common.{◌≡◌, ℕ, ◌+◌, ◌*◌, ◌<◌, ◌∷◌, length, get_or, set, Some, None, Option}
+use Rattle.std.proofs.Common.{◌≡◌, ℕ, ◌+◌, ◌*◌, ◌<◌, ◌≤◌, ◌∷◌, length, get_or, set, Some, None, Option}
 use Rattle.std.proofs.Common.{sym, refl, ap, ◌∙◌, subst, arith}
 use Rattle.step_table.proofs.Prelude
 use Prelude.{Block, block_fits, block_number, blocks_of, cell_bits, cell_in, cell_of, cell_shown}
@@ -9,8 +9,8 @@ use Prelude.{object_of_block, opening, owing_funds, owned_fits, Paying, Pending,
 use Prelude.{place_block, place_field, purse, same_Some, sees_as, shown, ShowsCell, Site}
 use Prelude.{site_place, slot, sound, spot, Stands, TableInvariant, view_in, word_of_cell}
 use Rattle.control_word.proofs.history.Clearing.{was_made}
-use Rattle.control_word.proofs.packing.Cells.{same_block, same_place}
-use Rattle.control_word.proofs.packing.Fields.{same_parts}
+use Rattle.control_word.proofs.packing.Cells.{same_cells}
+use Rattle.control_word.specs.Limits.{cell_funds, one_taken}
 use Rattle.control_word.proofs.words.Banks.{open_kept}
 use Rattle.control_word.proofs.words.CellWords.{cell_inside}
 use Rattle.control_word.proofs.words.Funds.{cell_busy, member_busy}
@@ -48,12 +48,7 @@ word_inside v d c kept lt is =
 
 -- cells with one word are one
 one_cell : (x y : CellWord) → IsCellWord x → IsCellWord y → cell_bits x ≡ cell_bits y → x ≡ y
-one_cell x y hx hy e =
-    let p = same_parts (block_number x.owned) (place_block x.place) (place_field x.place) x.taken (block_number y.owned) (place_block y.place)
-    (place_field y.place) y.taken (owned_fits x.owned hx.owned) (block_fits x.place hx.place) (field_fits x.place hx.place)
-    (owned_fits y.owned hy.owned) (block_fits y.place hy.place) (field_fits y.place hy.place) e in
-    let o = same_block x.owned y.owned hx.owned hy.owned p.0 in let q = same_place x.place y.place hx.place hy.place p.1 p.2 in let t = p.3 in
-    λ j. record { owned = o j; place = q j; taken = t j }
+one_cell x y hx hy e = same_cells x y hx hy e
 
 -- the object that a cell holds is the latest of its block
 latest_of : (v : GhostState) (c : Named) → TableInvariant v → IsKept (model_state v) c → (o : ℕ) → (cell_of (model_state v) c).object ≡ Some o
@@ -99,7 +94,7 @@ shown_there v k (Some o) p t last b e =
 pub record Found (v : GhostState) (c : Site) (x : CellWord) : Type 0 where
   pub shows : ShowsCell v c x
   pub bits : get_or v.words (at_cell v (cell_in (model_state v) c)) 0 ≡ packed (blocks_of (model_state v))
-      (cell_of (model_state v) (cell_in (model_state v) c)) + 17179869184 * x.taken
+      (cell_of (model_state v) (cell_in (model_state v) c)) + one_taken * x.taken
   pub owed : (f : ℕ) → ◌≡◌ {A = Pending Nothing} (purse (blocks_of (model_state v)) (cell_of (model_state v) (cell_in (model_state v) c)) f)
       (owing_funds (model_state v) (kind_in_state (model_state v) c) x.owned x.place f 0)
   pub there : (b : Block) → x.owned ≡ Some b → blocks_of (model_state v) (object_of_block v b) ≡ b.0
@@ -120,11 +115,12 @@ found_in v d c x kept lt is valid bits =
       shows =
           record {
             valid = valid;
+            few = subst (λ (y : CellWord). y.taken ≤ cell_funds) (sym same) code.few;
             bits = bits;
             holds = ap (handle_as s (kind_in_state s c)) same ∙ subst (λ (k : Kind). handle_as s k (shown (blocks_of s) h code.taken) ≡ h) code.kind
                 (handle_shown v h.kind h.object h.place code.taken last);
           };
-      bits = code.bits ∙ sym (cell_shown (blocks_of s) h code.taken) ∙ ap (λ (y : CellWord). packed (blocks_of s) h + 17179869184 * y.taken) (sym same);
+      bits = code.bits ∙ sym (cell_shown (blocks_of s) h code.taken) ∙ ap (λ (y : CellWord). packed (blocks_of s) h + one_taken * y.taken) (sym same);
       owed = λ f.
           purse_shown v h.kind h.object h.place code.taken f last
           ∙ ap (λ (k : Kind). let y = shown (blocks_of s) h code.taken in owing_funds s k y.owned y.place f 0) code.kind

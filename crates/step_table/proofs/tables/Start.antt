@@ -55,9 +55,11 @@ holder_low x b fine =
 pub proper : (x : Extent) → IsExtent x → IsOpening (opening x)
 proper x fine =
     record {
-      limits = (fine.blocks, fine.cells, fine.allowance);
+      limits = (let b = fine.blocks in omega (arith, b), let c = fine.cells in omega (arith, c), fine.allowance);
       members = (omega arith, omega arith);
       owners = (omega arith, omega arith);
+      room =
+          let b = fine.blocks in let c = fine.cells in let a = fine.allowance in (omega (arith, a, b, c), omega (arith, a, b, c));
       holders = λ b. holder_low x b fine;
       shares = all_shares x fine;
       positive = λ d lt. let f = forty x fine d lt in omega (arith, f);

@@ -12,7 +12,7 @@ use Prelude.{kind_of_member, loses, Member, model_state, Nothing, num_without, N
 use Prelude.{object_at, object_of_block, OnCell, opening, owing_funds, owned_fits, Paying, Pending}
 use Prelude.{pending, Place, purse, put, same_held, ShowsCell, Site, site_place, slot, spot, State}
 use Prelude.{Swap, swaps, TableInvariant, Take, TakeOut, word_of_cell}
-use Rattle.control_word.proofs.packing.Cells.{cell_bits_fit}
+use Rattle.control_word.proofs.packing.Cells.{cell_bits_fit, cell_taken_in}
 use Rattle.control_word.proofs.steps.CompareSwap.{compare_swaps}
 use Rattle.control_word.proofs.steps.Swap.{swaps'}
 use Rattle.control_word.proofs.steps.Take.{takes}
@@ -25,6 +25,8 @@ use Rattle.step_table.proofs.tables.Members.{member_kind, three_members}
 use Rattle.step_table.proofs.tables.Places.{ending_busy, handle_busy, named as own, there}
 use Rattle.step_table.proofs.tables.Shown.{Found, adds_by, cell_there, found_in, kept_cell}
 use Rattle.step_table.proofs.tables.Standing.{kept_after, point, ready}
+use Rattle.control_word.specs.Limits.{cell_funds, one_taken}
+use Rattle.control_word.specs.Packing.{taken_in}
 
 some_none : {x : ℕ} → Some x ≡ None → ⊥
 some_none e = cc
@@ -85,7 +87,7 @@ swap_room v d c k o p old kept hand more = go c
         let l = less o hand more in let g = gets_most (loses d (handle k (object_at (model_state v) o) p) (model_state v)) d old in omega (arith, l, g)
 
 pub kept_swap : (v : GhostState) (d : ℕ) (c : Site) (new x : CellWord) → TableInvariant v → d < v.extent.actors → IsOpenTo v d c → new.taken ≡ 0
-    → HasInHand v d c new → pending v d ≡ owing_funds (model_state v) (kind_in_state (model_state v) c) new.owned new.place 256 0
+    → HasInHand v d c new → pending v d ≡ owing_funds (model_state v) (kind_in_state (model_state v) c) new.owned new.place cell_funds 0
     → (new.owned ≡ None → bag_size (model_state v) d < (model_state v).allowance d) → ShowsCell v c x
     → TableInvariant (ghost_after_step v d (OnCell (Swap c new x)))
 kept_swap v d c new x kept lt way full hand owes more shows =
@@ -97,21 +99,23 @@ kept_swap v d c new x kept lt way full hand owes more shows =
     let f = found_in v d c x kept lt is shows.valid shows.bits in
     let m = own v d kept lt in
     let law =
-    swaps' (point v d) e h (ready v d _ kept lt (owes ∙ hand_purse v d k new.owned new.place 256 kept hand))
+    swaps' (point v d) e h (ready v d _ kept lt (owes ∙ hand_purse v d k new.owned new.place cell_funds kept hand))
     (subst (λ (n : ℕ). IsOpen s n e) (sym m) way, subst (λ (n : ℕ). InHand s n k h) (sym m) hand, refl)
     (subst (λ (n : ℕ). HasRoom (swaps n e h (cell_of s e) s) n) (sym m) (swap_room v d e k new.owned new.place (cell_of s e) kept hand more)) x.taken
     f.bits in
     kept_after v d (OnCell (Swap c new x)) kept lt
     (adds_by v d _ (site_place v.extent.shape.blocks c) _ (cell_bits new) _ _ _ _ kept lt (cell_there v c kept is)
     (hand_packed v d k new.owned new.place kept hand ∙ ap (λ (t : ℕ). cell_bits (record { owned = new.owned; place = new.place; taken = t })) (sym full))
-    (ap (event.Swap e h) (sym shows.holds)) (f.owed (256 - x.taken)) law)
+    (ap (event.Swap e h) (sym shows.holds)) (f.owed (cell_funds - x.taken)) law)
 
-pub cell_bits_few : (x : CellWord) → IsCellWord x → cell_bits x < 8796093022208
-cell_bits_few x valid = cell_bits_fit x valid
+-- one more taken fits the word
+pub one_more_fits : (x : CellWord) → IsCellWord x → x.taken < cell_funds → cell_bits x + one_taken < 18446744073709551616
+one_more_fits x valid few =
+    let t = cell_bits_fit (record x { taken = x.taken + 1 }) (record { owned = valid.owned; place = valid.place; taken = omega (arith, few) }) in
+    omega (arith, t)
 
-left_over : (x : CellWord) → IsCellWord x → x.taken < 256 → cell_bits x < 4398046511104
-left_over x valid few =
-    let o = owned_fits x.owned valid.owned in let b = block_fits x.place valid.place in let f = field_fits x.place valid.place in omega (arith, o, b, f, few)
+left_over : (x : CellWord) → IsCellWord x → x.taken < cell_funds → taken_in (cell_bits x) < cell_funds
+left_over x valid few = let t = cell_taken_in x valid in omega (arith, t, few)
 
 -- a load under way, of a cell that told this value
 load_owing : (v : GhostState) (c : Site) (x : CellWord) (b : Block) (f : Found v c x) → x.owned ≡ Some b
@@ -126,7 +130,7 @@ load_owing v c x b f e =
     (λ (q : Option Block). owing_funds (model_state v) k q x.place 1 1) (sym e)
 
 pub kept_take : (v : GhostState) (d : ℕ) (c : Site) (x : CellWord) → TableInvariant v → d < v.extent.actors → pending v d ≡ Idle → IsOpenTo v d c
-    → x.owned ≢ None → x.taken < 256 → bag_size (model_state v) d < (model_state v).allowance d → IsCellWord x → word_of_cell v c ≡ cell_bits x
+    → x.owned ≢ None → x.taken < cell_funds → bag_size (model_state v) d < (model_state v).allowance d → IsCellWord x → word_of_cell v c ≡ cell_bits x
     → TableInvariant (ghost_after_step v d (OnCell (Take c x None)))
 kept_take v d c x kept lt idle way some few room valid bits = go x.owned refl
   where
@@ -147,15 +151,16 @@ kept_take v d c x kept lt idle way some few room valid bits = go x.owned refl
         load_owing v c x b f e in
         let law = (takes (point v d) n k o x.place (ready v d Idle kept lt idle) same
         (subst (λ (i : ℕ). bag_size s i < s.allowance i) (sym m) room)
-        (subst (λ (i : ℕ). get_or v.words i 0 < 4398046511104) (sym there) (subst (λ (i : ℕ). i < 4398046511104) (sym bits) (left_over x valid few)))).0
+        (subst (λ (i : ℕ). taken_in (get_or v.words i 0) < cell_funds) (sym there)
+        (subst (λ (i : ℕ). taken_in i < cell_funds) (sym bits) (left_over x valid few)))).0
         (subst (λ (i : ℕ). IsOpen s i n) (sym m) way) in
         kept_after v d (OnCell (Take c x None)) kept lt
-        (adds_by v d _ (site_place v.extent.shape.blocks c) _ (word_of_cell v c + 17179869184) _ _ _ _ kept lt there
-        (ap (λ (i : ℕ). get_or v.words i 0 + 17179869184) there) (ap (event.Load n) (sym told)) owed law)
+        (adds_by v d _ (site_place v.extent.shape.blocks c) _ (word_of_cell v c + one_taken) _ _ _ _ kept lt there
+        (ap (λ (i : ℕ). get_or v.words i 0 + one_taken) there) (ap (event.Load n) (sym told)) owed law)
 
 pub kept_compare : (v : GhostState) (d : ℕ) (c : Site) (x : CellWord) (y : Compared) → TableInvariant v → d < v.extent.actors → IsOpenTo v d c → y.new.taken ≡ 0
     → equivalent (handle_told (model_state v) c x) (handle_told (model_state v) c y.expected) ≡ true → HasInHand v d c y.expected
-    → HasInHand v d c y.new → pending v d ≡ owing_funds (model_state v) (kind_in_state (model_state v) c) y.new.owned y.new.place 256 0
+    → HasInHand v d c y.new → pending v d ≡ owing_funds (model_state v) (kind_in_state (model_state v) c) y.new.owned y.new.place cell_funds 0
     → (y.new.owned ≡ None → bag_size (model_state v) d < (model_state v).allowance d) → IsCellWord x → word_of_cell v c ≡ cell_bits x
     → TableInvariant (ghost_after_step v d (OnCell (CompareSwap c x y)))
 kept_compare v d c x y kept lt way full alike wanted hand owes more valid bits =
@@ -169,7 +174,7 @@ kept_compare v d c x y kept lt way full alike wanted hand owes more valid bits =
     let m = own v d kept lt in
     let same : equivalent (cell_of s e) w ≡ true = ap (λ (q : NumberedHandle). equivalent q w) (sym f.shows.holds) ∙ alike in
     let law =
-    compare_swaps (point v d) e w h y.weak (ready v d _ kept lt (owes ∙ hand_purse v d k y.new.owned y.new.place 256 kept hand)) same (
+    compare_swaps (point v d) e w h y.weak (ready v d _ kept lt (owes ∙ hand_purse v d k y.new.owned y.new.place cell_funds kept hand)) same (
       subst (λ (n : ℕ). IsOpen s n e) (sym m) way,
       subst (λ (n : ℕ). InHand s n k w) (sym m) wanted,
       subst (λ (n : ℕ). InHand s n k h) (sym m) hand,
@@ -182,7 +187,7 @@ kept_compare v d c x y kept lt way full alike wanted hand owes more valid bits =
     (adds_by v d _ (site_place v.extent.shape.blocks c) _ (cell_bits y.new) _ _ _ _ kept lt (cell_there v c kept is)
     (hand_packed v d k y.new.owned y.new.place kept hand ∙ ap
     (λ (t : ℕ). cell_bits (record { owned = y.new.owned; place = y.new.place; taken = t })) (sym full))
-    (ap (λ (q : NumberedHandle). event.Compare e w h q true y.weak) (sym f.shows.holds)) (f.owed (256 - x.taken)) law)
+    (ap (λ (q : NumberedHandle). event.Compare e w h q true y.weak) (sym f.shows.holds)) (f.owed (cell_funds - x.taken)) law)
 
 -- an ending object's member is one that words are kept for
 pub ending_cell : (v : GhostState) (d : ℕ) (b : Block) (m : ℕ) → ((model_state v).object (object_of_block v b)).phase ≡ ending d → m < 3
@@ -208,10 +213,10 @@ kept_take_out v d b m x kept lt idle end few room shows =
     kept_after v d (OnCell (TakeOut b m x)) kept lt
     (adds_by v d _ (spot b.0 (7 + m)) _ 0 _ _ _ _ kept lt (cell_there v c kept is) refl
     (ap (event.ClearMember o m) (sym shows.holds) ∙ ap (λ (k : Kind). event.ClearMember o m (handle_as s k x)) (member_kind v m))
-    (f.owed (256 - x.taken) ∙ ap (λ (k : Kind). owing_funds s k x.owned x.place (256 - x.taken) 0) (member_kind v m)) law)
+    (f.owed (cell_funds - x.taken) ∙ ap (λ (k : Kind). owing_funds s k x.owned x.place (cell_funds - x.taken) 0) (member_kind v m)) law)
 
 pub kept_take_differing : (v : GhostState) (d : ℕ) (c : Site) (x : CellWord) (y : Compared) → TableInvariant v → d < v.extent.actors → pending v d ≡ Idle
-    → IsOpenTo v d c → x.owned ≢ None → x.taken < 256
+    → IsOpenTo v d c → x.owned ≢ None → x.taken < cell_funds
     → equivalent (handle_told (model_state v) c x) (handle_told (model_state v) c y.expected) ≡ false
     → HasInHand v d c y.expected → HasInHand v d c y.new → bag_size (model_state v) d < (model_state v).allowance d → IsCellWord x
     → word_of_cell v c ≡ cell_bits x
@@ -236,7 +241,8 @@ kept_take_differing v d c x y kept lt idle way some few other wanted hand room v
         let differs : equivalent (handle k (Some o) x.place) w ≡ false = ap (λ (q : NumberedHandle). equivalent q w) (sym told) ∙ other in
         let law = (takes (point v d) n k o x.place (ready v d Idle kept lt idle) same
         (subst (λ (i : ℕ). bag_size s i < s.allowance i) (sym m) room)
-        (subst (λ (i : ℕ). get_or v.words i 0 < 4398046511104) (sym there) (subst (λ (i : ℕ). i < 4398046511104) (sym bits) (left_over x valid few)))).1
+        (subst (λ (i : ℕ). taken_in (get_or v.words i 0) < cell_funds) (sym there)
+        (subst (λ (i : ℕ). taken_in i < cell_funds) (sym bits) (left_over x valid few)))).1
         w h y.weak (
           subst (λ (i : ℕ). IsOpen s i n) (sym m) way,
           subst (λ (i : ℕ). InHand s i k w) (sym m) wanted,
@@ -245,6 +251,6 @@ kept_take_differing v d c x y kept lt idle way some few other wanted hand room v
           inl (sym differs),
         ) in
         kept_after v d (OnCell (Take c x (Some y))) kept lt
-        (adds_by v d _ (site_place v.extent.shape.blocks c) _ (word_of_cell v c + 17179869184) _ _ _ _ kept lt there
-        (ap (λ (i : ℕ). get_or v.words i 0 + 17179869184) there) (ap (λ (q : NumberedHandle). event.Compare n w h q false y.weak) (sym told))
+        (adds_by v d _ (site_place v.extent.shape.blocks c) _ (word_of_cell v c + one_taken) _ _ _ _ kept lt there
+        (ap (λ (i : ℕ). get_or v.words i 0 + one_taken) there) (ap (λ (q : NumberedHandle). event.Compare n w h q false y.weak) (sym told))
         (load_owing v c x b f e) law)

@@ -55,7 +55,7 @@ pub enum CellStep {
     /// The funds that were brought went into a cell, in place of so many that were taken.
     Refill {
         cell: Site,
-        taken: u16,
+        taken: u32,
     },
     /// A value went into a cell, and what it held came out.
     Swap {

@@ -28,7 +28,7 @@ pub(crate) fn is_same_place(one: Option<Place>, other: Option<Place>) -> bool
 {
     match (one, other) {
         (None, None) => true,
-        (Some(one), Some(other)) => one.block.0 == other.block.0 && one.field == other.field,
+        (Some(one), Some(other)) => one.block == other.block && one.field == other.field,
         _ => false,
     }
 }

@@ -1,8 +1,9 @@
 //! Compares of what cells hold with the values of an actor's slots. Each function is one atomic step, or none where the
 //! cell shows another word by then.
-ghost use Rattle.std.specs.Prelude.{◌≡◌, ◌≢◌, ◌<◌, ◌==◌, ◌||◌, cond, is_some, true, false};
+ghost use Rattle.std.specs.Prelude.{◌≡◌, ◌≢◌, ◌<◌, ◌≤◌, ◌==◌, ◌||◌, cond, is_some, true, false};
 ghost use Rattle.std.specs.Prelude.{length, None};
 ghost use Rattle.control_word.specs.declared.model.view.Pending.TheVariants.{Idle};
+ghost use Rattle.control_word.specs.Limits.{cell_funds};
 ghost use Rattle.control_word.specs.Packing.{IsCellWord, cell_bits};
 ghost use Rattle.step_table.specs.CellAtomicSteps.{kind_in_state};
 ghost use Rattle.step_table.specs.Cells.{IsOpenTo, word_of_cell};
@@ -78,6 +79,7 @@ impl Registers {
         requires open { IsOpenTo table.old desk cell }
         requires compare { CanCompare (kind_in_state (model_state table.old) cell) self.old.slots.items comparing }
         ensures valid { IsCellWord result }
+        ensures few { result.taken ≤ cell_funds }
         ensures found { result ≡ seen table.old cell }
         ensures slots { self.new.slots.items
             ≡ cond (is_some result.owned
@@ -194,7 +196,7 @@ pub fn is_same_value(one: CellWord, other: CellWord) -> bool
 {
     let owned = match (one.owned, other.owned) {
         (None, None) => true,
-        (Some(one), Some(other)) => one.0 == other.0,
+        (Some(one), Some(other)) => one == other,
         _ => false,
     };
     owned && is_same_place(one.place, other.place)

@@ -1,7 +1,8 @@
 //! How what cells hold comes into the slots of an actor. Each function is one atomic step.
-ghost use Rattle.std.specs.Prelude.{◌≡◌, ◌≢◌, ◌<◌, ◌==◌, cond, is_some, true, false, length};
+ghost use Rattle.std.specs.Prelude.{◌≡◌, ◌≢◌, ◌<◌, ◌≤◌, ◌==◌, cond, is_some, true, false, length};
 ghost use Rattle.std.specs.Prelude.{slice_set, Some, None};
 ghost use Rattle.control_word.specs.declared.model.view.Pending.TheVariants.{Idle};
+ghost use Rattle.control_word.specs.Limits.{cell_funds};
 ghost use Rattle.control_word.specs.Packing.{IsCellWord, cell_bits};
 ghost use Rattle.control_word.specs.State.{ending};
 ghost use Rattle.step_table.specs.Cells.{IsOpenTo, word_of_cell};
@@ -68,6 +69,7 @@ impl Registers {
         requires inside { to < length self.old.slots.items }
         requires empty { slot_pointer self.old.slots.items to ≡ None }
         ensures valid { IsCellWord result }
+        ensures few { result.taken ≤ cell_funds }
         ensures found { result ≡ seen table.old cell }
         ensures slots { self.new.slots.items
             ≡ cond (is_some result.owned) self.old.slots.items

@@ -1,5 +1,5 @@
 //! The shelf: vacant blocks that any desk may take. Each function is one atomic step on one word.
-ghost use Rattle.std.specs.Prelude.{◌≡◌, ◌<◌, cond};
+ghost use Rattle.std.specs.Prelude.{◌≡◌, ◌<◌, ◌≤◌, cond, false};
 ghost use Rattle.control_word.specs.declared.model.view.Pending.TheVariants.{Idle};
 ghost use Rattle.control_word.specs.State.{Has, stored};
 ghost use Rattle.control_word.specs.Words.{shelf_spot};
@@ -8,7 +8,7 @@ ghost use Rattle.step_table.specs.GhostStates.{ghost_after_step, pending, model_
 
 use crate::memory::ghost_history::AtomicStep;
 use crate::memory::table::Table;
-use control_word::packed::layout::{shelf_bit, shelf_word};
+use control_word::packed::layout::{SHELF_BITS, shelf_bit, shelf_word};
 use control_word::place::Block;
 
 /// What a step on a shelf word did to a block's bit.
@@ -32,7 +32,7 @@ impl Table {
         shelf_word(
             shape.blocks,
             shape.shared_cells + shape.weak_cells,
-            block.0 / 64,
+            block.number() / SHELF_BITS,
         )
     }
 
@@ -55,6 +55,34 @@ impl Table {
     pub fn unshelve(&mut self, desk: usize, block: Block) -> bool
         requires seat { desk < self.old.extent.actors }
         requires idle { pending self.old desk ≡ Idle }
+        ensures got { result ≡ (model_state self.old).shelved block.0 }
+        ensures after { self.new ≡ ghost_after_step self.old desk
+            (AtomicStep.OnShelf block (cond result ShelfStep.Unshelve ShelfStep.Miss)) }
+    {
+        if block.number() > self.extent.shape.blocks {
+            self.miss(desk, block);
+            return false;
+        }
+        self.clear_bit(desk, block)
+    }
+
+    /// The same of a block that the table doesn't have. It is on no shelf, and this is a look.
+    fn miss(&mut self, desk: usize, block: Block)
+        requires seat { desk < self.old.extent.actors }
+        requires idle { pending self.old desk ≡ Idle }
+        requires beyond { self.old.extent.shape.blocks < block.0 }
+        ensures absent { (model_state self.old).shelved block.0 ≡ false }
+        ensures after { self.new ≡ ghost_after_step self.old desk (AtomicStep.OnShelf block ShelfStep.Miss) }
+    {
+        let atomic_step = ShelfStep::Miss;
+        self.ghost_history = self.then(desk, AtomicStep::OnShelf { block, atomic_step });
+    }
+
+    /// The same of one that it has.
+    fn clear_bit(&mut self, desk: usize, block: Block) -> bool
+        requires seat { desk < self.old.extent.actors }
+        requires idle { pending self.old desk ≡ Idle }
+        requires inside { block.0 ≤ self.old.extent.shape.blocks }
         ensures got { result ≡ (model_state self.old).shelved block.0 }
         ensures after { self.new ≡ ghost_after_step self.old desk
             (AtomicStep.OnShelf block (cond result ShelfStep.Unshelve ShelfStep.Miss)) }

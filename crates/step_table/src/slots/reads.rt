@@ -88,7 +88,7 @@ fn into(pointer: Handle) -> Option<Handle>
     ensures { result ≡ into pointer pointer.place }
 {
     match pointer.place {
-        Some(place) if place.block.0 == pointer.block.0 => Some(pointer),
+        Some(place) if place.block == pointer.block => Some(pointer),
         _ => None,
     }
 }

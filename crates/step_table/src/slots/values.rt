@@ -80,11 +80,11 @@ fn owner(pointer: Handle) -> Option<Handle>
 }
 
 /// Where a pointer stands in owner order: 0 without an object.
-fn rank(pointer: Option<Handle>) -> u16
+fn rank(pointer: Option<Handle>) -> u32
     ensures { result ≡ on (λ x. x.block.0) 0 pointer }
 {
     match pointer {
-        Some(pointer) => pointer.block.0,
+        Some(pointer) => pointer.block.number(),
         None => 0,
     }
 }

@@ -12,6 +12,7 @@ use Rattle.control_word.specs.Laws.{how_often}
 use Rattle.control_word.specs.State.{Stored as Kept_in}
 use Rattle.step_threads.proofs.holding.Ends.{one_more}
 use Rattle.step_threads.proofs.holding.Storing.{counted_stored}
+use Rattle.step_threads.specs.Stocks.{HasRoomFor, StoreView}
 
 -- numbers from 1 to n, each once at most, are n or fewer
 without_number : (b c : ℕ) (l : List ℕ) → in_list c (filter (λ x. not (x == b)) l) ≤ in_list c l
@@ -79,6 +80,21 @@ store_few d v l kept same =
     few v.extent.shape.blocks l
     (λ b. let m = most_once d b (model_state v) in let o = fine.once b in let s = same b in omega (arith, m, o, s))
     (λ b lt. (fine.stores d b (counted_stored (stored d b) (model_state v).stores (let s = same b in omega (arith, s, lt)))).1)
+
+-- a block that comes into the store of a desk is one of the shape, and the store has room for it
+pub store_room : (d : ℕ) (v : GhostState) (b : ℕ) (s : StoreView) → TableInvariant v
+    → ((c : ℕ) → in_store (model_state v) d c ≡ in_list c (b ∷ s.blocks)) → v.extent.shape.blocks ≤ s.room → HasRoomFor s b
+store_room d v b s kept same roomy =
+    let f = store_few d v (b ∷ s.blocks) kept same in
+    let a = sum_by-cons (λ (y : ℕ). cond (y == b) 1 0) b s.blocks in
+    let z = cond-true {A = ℕ} (b == b) 1 0 (eq-eqb b b refl) in
+    let e = same b in
+    let fine = sound (opening v.extent) v.history kept.stands.legal in
+    let i = (fine.stores d b (counted_stored (stored d b) (model_state v).stores (omega (arith, a, z, e)))).1 in
+    let least = i.0 in
+    let most = i.1 in
+    let few = kept.proper.blocks in
+    ((omega (arith, least), omega (arith, most, few)), omega (arith, f, roomy))
 
 abbrev blocks : List Ending → List ℕ
 blocks [] = []

@@ -42,7 +42,7 @@ impl Thread {
         if found.owned.is_none() {
             return Stepped::Event(silent(statement));
         }
-        if u32::from(found.taken) == CELL_FUNDS {
+        if found.taken == CELL_FUNDS {
             return Stepped::Waited;
         }
         self.pending_call = PendingCall::Saw { found };
@@ -72,7 +72,7 @@ impl Thread {
             if found.owned.is_none() {
                 return Stepped::Event(compared(statement, false));
             }
-            if u32::from(found.taken) == CELL_FUNDS {
+            if found.taken == CELL_FUNDS {
                 return Stepped::Waited;
             }
         }

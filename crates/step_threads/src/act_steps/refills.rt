@@ -14,7 +14,7 @@ use step_table::cell_steps::refill::Stage;
 use step_table::memory::table::Table;
 
 /// Most funds of a cell's that are taken before they are put back.
-const MOST_TAKEN: u16 = 127;
+const MOST_TAKEN: u32 = 127;
 
 impl Thread {
     ghost use Rattle.step_threads.specs.Threads.{FitsThread, HasStepped};
@@ -118,7 +118,7 @@ impl Thread {
             block,
             place: found.place,
         };
-        table.bring(desk, pointer, u32::from(found.taken));
+        table.bring(desk, pointer, found.taken);
         self.pending_call = at_stage(Stage::Refilling, cell, found, statement);
         Stepped::Quiet(silent(statement))
     }
@@ -164,7 +164,7 @@ impl Thread {
     {
         table.assert_invariant();
         let kind = table.kind_in(cell);
-        table.give_back(desk, kind, block, u32::from(found.taken));
+        table.give_back(desk, kind, block, found.taken);
         self.pending_call = at_stage(Stage::Checking, cell, found, statement);
         Stepped::Quiet(silent(statement))
     }

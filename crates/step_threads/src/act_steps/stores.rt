@@ -210,7 +210,7 @@ pub(crate) fn returning(kind: Kind, statement: u32, found: CellWord) -> PendingC
         Some(block) => PendingCall::Returning {
             kind,
             block,
-            funds: CELL_FUNDS - u32::from(found.taken),
+            funds: CELL_FUNDS - found.taken,
             statement,
         },
     }

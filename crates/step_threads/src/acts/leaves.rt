@@ -7,6 +7,7 @@ ghost use Rattle.step_table.specs.Registers.{is_full, slot_pointer};
 ghost use Rattle.step_threads.specs.Frames.{hand};
 ghost use Rattle.step_threads.specs.Endings.{first_of};
 ghost use Rattle.step_threads.specs.Rows.{ending_as, ending_by, with_end};
+ghost use Rattle.step_threads.specs.Stocks.{HasRoomFor};
 ghost use Rattle.step_threads.specs.AbstractStates.{remains_as};
 ghost use Rattle.step_table.specs.GhostStates.{object_of_block, model_state};
 ghost use Rattle.step_threads.specs.declared.programs.act.Act.{Act};
@@ -119,7 +120,7 @@ impl Thread {
         requires begins { (x : Handle) → held ≡ Some x → x.kind ≡ Owner → last ≡ true
             → length self.old.frame.endings.list < self.old.frame.endings.room }
         requires room { (x : Handle) → held ≡ Some x → x.kind ≡ Weak → last ≡ true
-            → length self.old.stock.blocks < self.old.stock.room }
+            → HasRoomFor self.old.stock x.block.0 }
         ensures frame { self.new.frame ≡ record self.old.frame { endings = self.new.frame.endings } }
         ensures endings { self.new.frame.endings.list
             ≡ with_end statement (ending_by last held) self.old.frame.endings.list }
@@ -147,7 +148,7 @@ impl Thread {
             → ((model_state table.now).object (object_of_block table.now pointer.block)).phase ≡ ending desk }
         requires begins { pointer.kind ≡ Owner → length self.old.frame.endings.list
             < self.old.frame.endings.room }
-        requires room { pointer.kind ≡ Weak → length self.old.stock.blocks < self.old.stock.room }
+        requires room { pointer.kind ≡ Weak → HasRoomFor self.old.stock pointer.block.0 }
         ensures frame { self.new.frame ≡ record self.old.frame { endings = self.new.frame.endings } }
         ensures endings { self.new.frame.endings.list
             ≡ with_end statement (ending_as pointer.kind pointer) self.old.frame.endings.list }

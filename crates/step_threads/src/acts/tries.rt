@@ -1,6 +1,7 @@
 //! How a thread loads and compares what cells hold, act by act.
-ghost use Rattle.std.specs.Prelude.{◌≡◌, ◌≢◌, ◌<◌, ◌==◌, ◌||◌, cond, is_some, true, false};
+ghost use Rattle.std.specs.Prelude.{◌≡◌, ◌≢◌, ◌<◌, ◌≤◌, ◌==◌, ◌||◌, cond, is_some, true, false};
 ghost use Rattle.std.specs.Prelude.{length, slice_set, Some, None};
+ghost use Rattle.control_word.specs.Limits.{cell_funds};
 ghost use Rattle.control_word.specs.Packing.{IsCellWord, cell_bits};
 ghost use Rattle.step_table.specs.Cells.{word_of_cell};
 ghost use Rattle.step_table.specs.Contents.{as_word, compared_in, owing_for, same_value, seen};
@@ -75,6 +76,7 @@ impl Frame {
         requires act { (task_at self.old).act ≡ Act.Load cell }
         requires there { is_there self.old.registers.slots.items cell ≡ true }
         ensures valid { IsCellWord result }
+        ensures few { result.taken ≤ cell_funds }
         ensures found { result ≡ seen table.old
             (cell_of_name (model_state table.old) self.old.registers.slots.items cell) }
         ensures table { table.new ≡ cond (is_some result.owned) table.old (ghost_after_step table.old desk
@@ -142,6 +144,7 @@ impl Frame {
         requires can { CanAct desk self.old table.old }
         requires act { (task_at self.old).act ≡ Act.Compare name cell weak }
         ensures valid { IsCellWord result }
+        ensures few { result.taken ≤ cell_funds }
         ensures found { result ≡ seen table.old
             (cell_of_name (model_state table.old) self.old.registers.slots.items cell) }
         ensures table { table.new

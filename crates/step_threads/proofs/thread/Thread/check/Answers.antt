@@ -46,4 +46,4 @@ returns-clause-fits c =
       | else-is_drained w ↦ w.self-is ∙ sym (cond-false (is_drained x y) next Rest (sym c.is_drained.ensures ∙ w.if-is_drained.false))
     ] in
     fits_as d t (cond (is_drained x y) next Rest) c.if-is_drained.self v v pending_call refl
-    (fits_checked d t v cell x k c.requires.fits y c.shown-now.ensures.valid c.requires.pending_call)
+    (fits_checked d t v cell x k c.requires.fits y c.shown-now.ensures.valid c.shown-now.ensures.few c.requires.pending_call)

@@ -12,7 +12,7 @@ use Rattle.step_threads.proofs.Acting.{stays_here, steps_as}
 use Rattle.step_threads.proofs.CompareSteps.{answers}
 use Rattle.step_threads.proofs.Going.{or_right}
 use Rattle.step_threads.proofs.thread.Thread.compare.Goals as goal
-use Rattle.step_threads.proofs.thread.Thread.compare.Goals.{then-not-is_same_value+else-is_none+else-from-eq-CELL_FUNDS}
+use Rattle.step_threads.proofs.thread.Thread.compare.Goals.{then-not-is_same_value+else-is_none+else-found-eq-CELL_FUNDS}
 use Rattle.step_threads.proofs.thread.Thread.compare.Goals.{else-not-is_same_value}
 
 pub look_to_compare-found-requires-clause-can : goal.look_to_compare-found-requires-clause-can
@@ -62,8 +62,8 @@ returns-then-is_none-clause-fits c =
     (Some (compared_in slots (comparing slots k c.args.weak))) x c.look_to_compare-found.new.self c.look_to_compare-found.new.table c.assert_invariant.ensures
     (look.table ∙ cond-false (is_some x.owned || same_value x (as_word (slot_value slots k))) _ _ neither) (look.on neither)
 
-pub returns-then-from-eq-CELL_FUNDS-clause-stepped : goal.returns-then-from-eq-CELL_FUNDS-clause-stepped
-returns-then-from-eq-CELL_FUNDS-clause-stepped c =
+pub returns-then-found-eq-CELL_FUNDS-clause-stepped : goal.returns-then-found-eq-CELL_FUNDS-clause-stepped
+returns-then-found-eq-CELL_FUNDS-clause-stepped c =
     let d = c.args.desk in
     let t = c.args.self.now in
     let v = c.args.table.now in
@@ -82,11 +82,11 @@ returns-then-from-eq-CELL_FUNDS-clause-stepped c =
     (Some (compared_in slots (comparing slots k c.args.weak))) x
     (differ_looks d t v r.begins k cell c.args.weak r.act x look.found differs)
     (differ_waits d t v r.begins k cell c.args.weak r.act x look.found differs) _ _ full
-    (eq-eqb x.taken 256 (sym c.from.ensures ∙ c.if-from-eq-CELL_FUNDS.true))
+    (eq-eqb x.taken 256 c.if-found-eq-CELL_FUNDS.true)
     (look.table ∙ cond-true (is_some x.owned || same_value x (as_word (slot_value slots k))) _ _ either) (ap frame_view (look.stays either)) r.begins.rest
 
-pub returns-then-from-eq-CELL_FUNDS-clause-fits : goal.returns-then-from-eq-CELL_FUNDS-clause-fits
-returns-then-from-eq-CELL_FUNDS-clause-fits c =
+pub returns-then-found-eq-CELL_FUNDS-clause-fits : goal.returns-then-found-eq-CELL_FUNDS-clause-fits
+returns-then-found-eq-CELL_FUNDS-clause-fits c =
     let t = c.args.self.now in
     let r = c.requires in
     let slots = t.frame.registers.slots.items in
@@ -114,7 +114,7 @@ returns-clause-stepped c =
     let at = cell_of_name (model_state v) slots cell in
     let y = compared_in slots (comparing slots k c.args.weak) in
     elim c.if-not-is_same_value.branch [
-      | then-not-is_same_value+else-is_none+else-from-eq-CELL_FUNDS w ↦
+      | then-not-is_same_value+else-is_none+else-found-eq-CELL_FUNDS w ↦
           let full : is_some x.owned ≡ true = w.if-is_none.ensures in
           let differs : same ≡ false =
           ap (same_value x) (sym c.word-expected.ensures) ∙ sym c.is_same_value.ensures ∙ w.if-not-is_same_value.true in
@@ -122,7 +122,7 @@ returns-clause-stepped c =
           looks_full d t v r.begins (Compare k cell c.args.weak) r.act at (Some y) x
           (differ_looks d t v r.begins k cell c.args.weak r.act x look.found differs)
           (differ_waits d t v r.begins k cell c.args.weak r.act x look.found differs) _ _ _ full
-          (ne_eqb x.taken 256 (λ e. w.if-from-eq-CELL_FUNDS.false (w.from.ensures ∙ e))) says
+          (ne_eqb x.taken 256 w.if-found-eq-CELL_FUNDS.false) says
           (look.table ∙ cond-true (is_some x.owned || same) _ _ either) (ap frame_view (look.stays either)) refl
       | else-not-is_same_value w ↦
           let alike : same ≡ true =
@@ -145,13 +145,13 @@ returns-clause-fits c =
     let look = c.look_to_compare-found.ensures in
     let same = same_value x (as_word (slot_value slots k)) in
     elim c.if-not-is_same_value.branch [
-      | then-not-is_same_value+else-is_none+else-from-eq-CELL_FUNDS w ↦
+      | then-not-is_same_value+else-is_none+else-found-eq-CELL_FUNDS w ↦
           let full : is_some x.owned ≡ true = w.if-is_none.ensures in
           let either : (is_some x.owned || same) ≡ true = ap (λ (b : Bool). b || same) full in
-          let few = ne_eqb x.taken 256 (λ e. w.if-from-eq-CELL_FUNDS.false (w.from.ensures ∙ e)) in
+          let few = ne_eqb x.taken 256 w.if-found-eq-CELL_FUNDS.false in
           sees_cell c.args.desk t v r.begins x _ _ (look.stays either)
           (look.table ∙ cond-true (is_some x.owned || same) _ _ either) look.valid
-          (subst (λ (a : Act). IsSeenBy slots x a) (sym r.act) (inr (is_loaded x look.valid full few)))
+          (subst (λ (a : Act). IsSeenBy slots x a) (sym r.act) (inr (is_loaded x look.few full few)))
       | else-not-is_same_value w ↦
           let alike : same ≡ true =
           ap (same_value x) (sym c.word-expected.ensures) ∙ sym c.is_same_value.ensures ∙ w.if-not-is_same_value.false in

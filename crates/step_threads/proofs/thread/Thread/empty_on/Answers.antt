@@ -2,7 +2,10 @@ use Rattle.std.proofs.Common.{ℕ, cond, drop, set, is_some, sym, ap, ◌∙◌,
 use Rattle.step_threads.proofs.Prelude.{Event, FitsThread, GhostState, gives_back, HasStepped}
 use Rattle.step_threads.proofs.Prelude.{held_in, HoldsBag, Kind, Member, model_state, Said}
 use Rattle.step_threads.proofs.Prelude.{slot_of, slot_pointer}
+use Rattle.control_word.specs.declared.packed.cell.CellWord.{CellWord}
 use Rattle.step_table.proofs.tables.Members.{member_kind}
+use Rattle.step_table.proofs.tables.Swaps.{ending_cell}
+use Rattle.step_threads.proofs.Looks.{seen_few}
 use Rattle.step_threads.proofs.Emptying.{clearing_here, fits_emptied, idle_clearing, is_clearing}
 use Rattle.step_threads.proofs.Emptying.{none_full, stepped_emptied}
 use Rattle.step_threads.proofs.holding.Ends.{ending_here, first_is}
@@ -89,3 +92,16 @@ returns-clause-stepped c =
     c.take_out-found.ensures.table c.advance.ensures.list
     (c.returning-self.ensures
     ∙ ap (λ (k : Kind). gives_back k e.statement x x.owned) (c.kind_in-kind.ensures ∙ member_kind v e.stage)))
+
+pub returning-self-requires : goal.returning-self-requires
+returning-self-requires c =
+    let t = c.args.self.now in
+    let v = c.args.table.now in
+    let d = c.args.desk in
+    let e = c.in-Some.ending in
+    let first = sym c.first.ensures ∙ c.in-Some.is in
+    let ends = ending_here d v t.frame.endings.list e c.requires.fits.endings.all first in
+    let few = (clearing_here t.frame.registers.slots.items t.frame.endings.list e (is_clearing d t v c.requires.fits c.requires.pending_call) first).0 in
+    let is = ending_cell v d e.block e.stage ends.ending few in
+    let s = seen_few v d (Member e.block e.stage) c.assert_invariant.ensures c.requires.fits.seat is in
+    let x = ap (λ (y : CellWord). y.taken) c.take_out-found.ensures.found in omega (arith, s, x)

@@ -53,8 +53,8 @@ returns-then-is_none-clause-fits c =
     c.look_to_load-found.result c.look_to_load-found.new.self c.look_to_load-found.new.table c.assert_invariant.ensures
     (look.table ∙ cond-false (is_some c.look_to_load-found.result.owned) _ _ bare) (look.on bare)
 
-pub returns-then-from-eq-CELL_FUNDS-clause-stepped : goal.returns-then-from-eq-CELL_FUNDS-clause-stepped
-returns-then-from-eq-CELL_FUNDS-clause-stepped c =
+pub returns-then-found-eq-CELL_FUNDS-clause-stepped : goal.returns-then-found-eq-CELL_FUNDS-clause-stepped
+returns-then-found-eq-CELL_FUNDS-clause-stepped c =
     let d = c.args.desk in
     let t = c.args.self.now in
     let v = c.args.table.now in
@@ -67,11 +67,11 @@ returns-then-from-eq-CELL_FUNDS-clause-stepped c =
     (cell_of_name (model_state v) t.frame.registers.slots.items c.args.cell) None found
     (load_looks d t v r.begins c.args.cell found there look.found)
     (load_waits d t v r.begins c.args.cell found there look.found) _ _ full
-    (eq-eqb found.taken 256 (sym c.from.ensures ∙ c.if-from-eq-CELL_FUNDS.true))
+    (eq-eqb found.taken 256 c.if-found-eq-CELL_FUNDS.true)
     (look.table ∙ cond-true (is_some c.look_to_load-found.result.owned) _ _ full) (ap frame_view (look.stays full)) r.begins.rest
 
-pub returns-then-from-eq-CELL_FUNDS-clause-fits : goal.returns-then-from-eq-CELL_FUNDS-clause-fits
-returns-then-from-eq-CELL_FUNDS-clause-fits c =
+pub returns-then-found-eq-CELL_FUNDS-clause-fits : goal.returns-then-found-eq-CELL_FUNDS-clause-fits
+returns-then-found-eq-CELL_FUNDS-clause-fits c =
     let r = c.requires in
     let look = c.look_to_load-found.ensures in
     let full : is_some c.look_to_load-found.result.owned ≡ true = c.if-is_none.ensures in
@@ -92,7 +92,7 @@ returns-clause-stepped c =
     (cell_of_name (model_state v) t.frame.registers.slots.items c.args.cell) None found
     (load_looks d t v r.begins c.args.cell found there look.found)
     (load_waits d t v r.begins c.args.cell found there look.found) _ _ _ full
-    (ne_eqb found.taken 256 (λ e. c.if-from-eq-CELL_FUNDS.false (c.from.ensures ∙ e)))
+    (ne_eqb found.taken 256 c.if-found-eq-CELL_FUNDS.false)
     (ap (λ (s : Said). Quiet s) (c.silent-2.ensures ∙ ap silent c.statement-statement.ensures))
     (look.table ∙ cond-true (is_some c.look_to_load-found.result.owned) _ _ full) (ap frame_view (look.stays full)) refl
 
@@ -104,7 +104,7 @@ returns-clause-fits c =
     let look = c.look_to_load-found.ensures in
     let full : is_some c.look_to_load-found.result.owned ≡ true = c.if-is_none.ensures in
     let there = sym c.is_there.ensures ∙ c.if-not-is_there.false in
-    let few = ne_eqb found.taken 256 (λ e. c.if-from-eq-CELL_FUNDS.false (c.from.ensures ∙ e)) in
+    let few = ne_eqb found.taken 256 c.if-found-eq-CELL_FUNDS.false in
     sees_cell c.args.desk t c.args.table.now r.begins found _ _ (look.stays full)
     (look.table ∙ cond-true (is_some c.look_to_load-found.result.owned) _ _ full) look.valid
-    (subst (λ (a : Act). IsSeenBy t.frame.registers.slots.items found a) (sym r.act) (there, is_loaded found look.valid full few))
+    (subst (λ (a : Act). IsSeenBy t.frame.registers.slots.items found a) (sym r.act) (there, is_loaded found look.few full few))

@@ -5,7 +5,7 @@ use Prelude.{frame_view, GhostState, gives_back, hand, HasGoneOn, Kind, kind_in_
 use Prelude.{model_state, PendingCall, Quiet, Said, silent, slot_pointer}
 use Rattle.step_threads.proofs.CompareFits.{compare_missed, compare_swapped, looking_claims}
 use Rattle.step_threads.proofs.CompareSteps.{answers, swaps_it, swaps_none}
-use Rattle.step_threads.proofs.CompareTells.{match_at, match_goes, match_none, match_valid}
+use Rattle.step_threads.proofs.CompareTells.{few_still, match_at, match_goes, match_none, match_valid}
 use Rattle.step_threads.proofs.CompareTells.{match_within, tells_still}
 use Rattle.step_threads.proofs.thread.Thread.match_cell.Goals as goal
 use Rattle.step_threads.proofs.Compares.{may_compare}
@@ -112,3 +112,17 @@ cell-at-requires-clause-there c =
     let r = c.requires in
     let within = match_within c.args.desk t c.args.table.now c.args.name c.args.cell c.args.weak c.args.found r.fits r.act r.pending_call in
     (may_compare t.frame c.args.name c.args.cell c.args.weak within r.fits.ready r.act r.fits.still).0
+
+pub returning-self-requires : goal.returning-self-requires
+returning-self-requires c =
+    let d = c.args.desk in
+    let t = c.args.self.now in
+    let v = c.args.table.now in
+    let k = c.args.name in
+    let n = c.args.cell in
+    let x = c.args.found in
+    let r = c.requires in
+    let hit = c.if-not-compare_and_swap.false in
+    let within = match_within d t v k n c.args.weak x r.fits r.act r.pending_call in
+    let valid = match_valid d t v k n c.args.weak x r.fits r.act r.pending_call in
+    few_still d t v k n c.args.weak x r.fits r.act c.assert_invariant.ensures within valid (sym c.compare_and_swap.ensures.same ∙ hit)

@@ -2,12 +2,12 @@ use Rattle.std.proofs.Common.{◌≡◌, ℕ, ◌+◌, length, get_or, None, sym
 use Rattle.step_table.proofs.Prelude.{Extent, GhostState, OnCell, site_place, TableInvariant, Take}
 use Rattle.step_table.proofs.tables.Standing.{kept_as, kept_now}
 use Rattle.step_table.proofs.tables.Shown.{kept_cell, somewhere, word_inside}
-use Rattle.step_table.proofs.tables.Swaps.{cell_bits_few, kept_take}
+use Rattle.step_table.proofs.tables.Swaps.{one_more_fits, kept_take}
 use Rattle.step_table.proofs.memory.table.Table.take_fund.Goals as goal
 
 pub overflow_add-pack : goal.overflow_add-pack
 overflow_add-pack c =
-    let a = cell_bits_few c.args.seen c.requires.seen.0 in let e = c.pack.ensures in omega (arith, a, e)
+    let a = one_more_fits c.args.seen c.requires.seen.0 c.requires.seen.2 in let e = c.pack.ensures in omega (arith, a, e)
 
 pub site_word-requires : goal.site_word-requires
 site_word-requires c =

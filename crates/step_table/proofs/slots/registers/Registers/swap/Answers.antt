@@ -45,7 +45,7 @@ returns-clause-found c =
     (open_shown v c.args.desk c.args.cell x c.assert_invariant.ensures c.requires.seat c.requires.open c.swap_cell-found.ensures.found)
 
 pub returns-clause-few : goal.returns-clause-few
-returns-clause-few c = c.swap_cell-found.ensures.found.valid.taken
+returns-clause-few c = c.swap_cell-found.ensures.found.few
 
 pub returns-clause-slots : goal.returns-clause-slots
 returns-clause-slots c =

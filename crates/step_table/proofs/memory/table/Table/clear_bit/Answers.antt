@@ -4,7 +4,7 @@ use Rattle.step_table.proofs.Prelude.{opening, ShelfStep, TableInvariant, Unshel
 use Rattle.control_word.proofs.packing.Bits.{bit_tells}
 use Rattle.step_table.proofs.tables.Shelf.{cleared_words, found_on, kept_unshelve, shown_bit}
 use Rattle.step_table.proofs.tables.Standing.{found, kept_as, kept_now}
-use Rattle.step_table.proofs.memory.table.Table.unshelve.Goals as goal
+use Rattle.step_table.proofs.memory.table.Table.clear_bit.Goals as goal
 
 pub returns-clause-got : goal.returns-clause-got
 returns-clause-got c =
@@ -14,7 +14,7 @@ returns-clause-got c =
     let w : c.self.inside.words ≡ v.words = ap (λ (s : GhostState). s.words) c.self.view_is in
     let f : c.get-found.result ≡ found_on v b = found c.self.inside.words v.words c.place_on_shelf-word.result _ _ w
     c.place_on_shelf-word.ensures c.get-found.ensures in
-    let t = bit_tells (found_on v b) (b.0 % 64) ((model_state v).shelved b.0) (shown_bit v b.0 k (omega arith)) in
+    let t = bit_tells (found_on v b) (b.0 % 64) ((model_state v).shelved b.0) (shown_bit v b.0 k c.requires.inside) in
     let m = c.shelf_bit.ensures in
     (λ i. not (bit_and (f i) (m i) == 0)) ∙ t
 
@@ -26,9 +26,9 @@ invariant_of-self c =
     let w : c.self.inside.words ≡ v.words = ap (λ (s : GhostState). s.words) c.self.view_is in
     let x = not (bit_and c.get-found.result c.shelf_bit.result == 0) in
     kept_as v c.args.desk (OnShelf b (cond x Unshelve Miss)) _ _ _ _
-    (kept_unshelve v c.args.desk b x k c.requires.seat c.requires.idle (omega arith) (returns-clause-got c))
+    (kept_unshelve v c.args.desk b x k c.requires.seat c.requires.idle c.requires.inside (returns-clause-got c))
     (ap (λ (s : GhostState). s.extent) c.self.view_is)
     (let e = c.place_on_shelf-word.ensures in let f = c.get-found.ensures in let m = c.shelf_bit-2.ensures in
-    let s = c.set.ensures in let t = cleared_words (opening v.extent) v.words b x in cc)
+    let s = c.set.ensures in let t = cleared_words (opening v.extent) v.words b x c.requires.inside in cc)
     (subst (λ (y : ShelfStep). (c.then-ghost_history.result.history ≡ history_after v c.args.desk (OnShelf b y))
     × (c.then-ghost_history.result.views ≡ views_after v c.args.desk (OnShelf b y))) c.cleared-atomic_step.ensures c.then-ghost_history.ensures)
