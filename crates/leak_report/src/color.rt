@@ -42,7 +42,7 @@ fn add_colored(
     ensures { OnOk result (map in_color blocks.new.items ≡ map in_color blocks.old.items
         ++ colored (state_in (abstraction world.now)) found.now.findings found.now.held.items number) }
 {
-    match world.census(Block(number)) {
+    match world.census(Block::numbered(u32::from(number))) {
         Some(_) => {
             let color = color_of(found, number);
             blocks.push(Colored {

@@ -79,7 +79,8 @@ fn is_leaked(world: &World, number: u16, found: &Found) -> bool
     ensures { IsTrue result ↔ ((census_of (state_in (abstraction world.now)) number ≢ None)
         × (marked found.now.findings.kept.items number ≡ false)) }
 {
-    world.census(Block(number)).is_some() && !found.findings.is_kept(u32::from(number))
+    world.census(Block::numbered(u32::from(number))).is_some()
+        && !found.findings.is_kept(u32::from(number))
 }
 
 /// Whether a block is leaked.

@@ -52,7 +52,7 @@ fn put_block(world: &World, number: u16, found: &Found, text: &mut String) -> Re
     ensures { OnOk result (AddsLines text.old text.new
         (node_lines (state_in (abstraction world.now)) found.now.findings found.now.held.items number)) }
 {
-    let Some(fields) = world.fields(Block(number)) else {
+    let Some(fields) = world.fields(Block::numbered(u32::from(number))) else {
         return Ok(());
     };
     let color = color_of(found, number);

@@ -31,7 +31,7 @@ fn source(cell: Site) -> u32
 {
     match cell {
         Site::Free { .. } => 0,
-        Site::Member { block, .. } => u32::from(block.0),
+        Site::Member { block, .. } => block.number(),
     }
 }
 
@@ -51,7 +51,7 @@ fn holding(shared: u32, cell: Site, block: Block) -> Holding
 {
     Holding {
         from: source(cell),
-        to: u32::from(block.0),
+        to: block.number(),
         slot: slot(cell),
         label: slot(cell),
         is_owner: holds_owner(shared, cell),
@@ -103,18 +103,17 @@ fn add_free(
 fn add_members(
     world: &World,
     shared: u32,
-    number: u16,
+    block: Block,
     holdings: &mut Vec<Holding>,
 ) -> Result<(), AllocError>
     requires shared { shared ≡ (model_state world.now.ghost_state).shared }
     requires end { IsAtEnd world.now }
-    requires block { (1 ≤ number) × (number ≤ world.now.ghost_state.extent.shape.blocks) }
+    requires block { (1 ≤ block.0) × (block.0 ≤ world.now.ghost_state.extent.shape.blocks) }
     ensures held { OnOk result (holdings.new.items
-        ≡ holdings.old.items ++ held_by_block (model_state world.now.ghost_state) number) }
+        ≡ holdings.old.items ++ held_by_block (model_state world.now.ghost_state) block.0) }
     ensures among { OnOk result
         (AddsAmong world.now.ghost_state.extent.shape.blocks holdings.old.items holdings.new.items) }
 {
-    let block = Block(number);
     if world.census(block).is_none() {
         return Ok(());
     }
@@ -140,7 +139,7 @@ fn add_blocks(
         (AddsAmong world.now.ghost_state.extent.shape.blocks holdings.old.items holdings.new.items) }
 {
     for before in 0..blocks {
-        add_members(world, shared, before + 1, holdings)?;
+        add_members(world, shared, Block::numbered(u32::from(before + 1)), holdings)?;
     }
     Ok(())
 }

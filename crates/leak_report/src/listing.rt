@@ -30,7 +30,7 @@ fn put_left(
         (left_lines shared found.now.held.items found.now.findings.kept.items
         (state_in (abstraction world.now)) number)) }
 {
-    let Some(counts) = world.census(Block(number)) else {
+    let Some(counts) = world.census(Block::numbered(u32::from(number))) else {
         return Ok(());
     };
     let block = u32::from(number);

@@ -93,8 +93,7 @@ fn put_block(alloc: Global, text: &mut String, lane: Lane, bottom: Point) -> Res
     ensures { OnOk result (Shows (string_bytes text.old) (string_bytes text.new)
         (lane_words lane)) }
 {
-    let number = u32::from(lane.block);
-    put_title(alloc, text, "block ", number, at(bottom.x, TITLES))?;
+    put_title(alloc, text, "block ", lane.block, at(bottom.x, TITLES))?;
     put_piece(text, lane, bottom.x, bottom.y)?;
     Ok(())
 }

@@ -9,7 +9,7 @@ use std::alloc::{AllocError, Global};
 /// What is in a block's lane: its last counts, and where they began to be drawn as they are.
 #[derive(Clone, Copy)]
 pub(crate) struct Lane {
-    pub block: u16,
+    pub block: u32,
     pub counts: Option<Counts>,
     pub since: u32,
 }
@@ -48,7 +48,7 @@ fn cells_of(alloc: Global, rows: &[Row]) -> Result<Vec<u32>, AllocError> {
 }
 
 /// Adds the blocks of changes.
-fn add_blocks(blocks: &mut Vec<u16>, changes: &[Change]) -> Result<(), AllocError> {
+fn add_blocks(blocks: &mut Vec<u32>, changes: &[Change]) -> Result<(), AllocError> {
     for change in changes {
         blocks.push(change.block)?;
     }
@@ -56,7 +56,7 @@ fn add_blocks(blocks: &mut Vec<u16>, changes: &[Change]) -> Result<(), AllocErro
 }
 
 /// A lane for each of these blocks, which are in order.
-fn lanes_by(alloc: Global, blocks: &[u16]) -> Result<Vec<Lane>, AllocError> {
+fn lanes_by(alloc: Global, blocks: &[u32]) -> Result<Vec<Lane>, AllocError> {
     let mut lanes = Vec::new(alloc);
     let mut last = 0;
     for block in blocks {
@@ -115,12 +115,12 @@ impl Lanes {
                 Some(index) => self.cell_lane(index),
                 None => self.left,
             },
-            Site::Member { block, .. } => self.block_place(block.0),
+            Site::Member { block, .. } => self.block_place(block.number()),
         }
     }
 
     /// The lane of a block.
-    pub(crate) fn block_place(&self, block: u16) -> u32 {
+    pub(crate) fn block_place(&self, block: u32) -> u32 {
         match self.index_of(block) {
             Some(index) => self.block_lane(index),
             None => self.left,
@@ -128,7 +128,7 @@ impl Lanes {
     }
 
     /// Which lane is a block's.
-    pub(crate) fn index_of(&self, block: u16) -> Option<usize> {
+    pub(crate) fn index_of(&self, block: u32) -> Option<usize> {
         self.blocks.iter().position(|it| it.block == block)
     }
 

@@ -5,7 +5,7 @@ use control_word::{Counts, Site};
 /// What a block's counts are from an act on: its owners and weak pointers; none where it is vacant.
 #[derive(Clone, Copy)]
 pub struct Change {
-    pub block: u16,
+    pub block: u32,
     pub counts: Option<Counts>,
 }
 
@@ -29,7 +29,7 @@ pub enum Holder {
 #[derive(Clone, Copy)]
 pub struct Pointer {
     pub holder: Holder,
-    pub block: u16,
+    pub block: u32,
     pub is_owner: bool,
 }
 
@@ -51,7 +51,7 @@ pub struct Row {
 /// A block that is left, and its color.
 #[derive(Clone, Copy)]
 pub struct LeftBlock {
-    pub block: u16,
+    pub block: u32,
     pub color: &'static str,
 }
 

@@ -100,7 +100,7 @@ fn put_holder(text: &mut String, holder: Holder) -> Result<(), AllocError>
             Ok(())
         }
         Holder::Cell(Site::Member { block, member }) => {
-            put_pair(text, "member ", u32::from(block.0), u32::from(member))
+            put_pair(text, "member ", block.number(), u32::from(member))
         }
     }
 }

@@ -201,7 +201,7 @@ pub(crate) fn put_title(
 pub(crate) fn put_left(
     alloc: Global,
     text: &mut String,
-    block: u16,
+    block: u32,
     point: Point,
 ) -> Result<(), AllocError>
     ensures { OnOk result (Shows (string_bytes text.old) (string_bytes text.new)
@@ -211,7 +211,7 @@ pub(crate) fn put_left(
         class: "left",
         before: "block ",
     };
-    put_counted(alloc, text, words, u32::from(block), point)?;
+    put_counted(alloc, text, words, block, point)?;
     Ok(())
 }
 

@@ -34,7 +34,7 @@ fn picture(alloc: Global) -> Result<Picture, AllocError> {
     });
     let free = row(alloc, 7, Site::Free { number: 0 }, counts)?;
     let member = Site::Member {
-        block: Block(1),
+        block: Block::numbered(1),
         member: 0,
     };
     let gone = row(alloc, 8, member, None)?;

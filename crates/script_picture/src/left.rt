@@ -24,7 +24,7 @@ pub(crate) fn left_of(alloc: Global, end: &End) -> Result<Left, AllocError> {
     let mut blocks = Vec::new(alloc);
     for colored in colors(alloc, end)? {
         blocks.push(LeftBlock {
-            block: colored.block,
+            block: u32::from(colored.block),
             color: colored.color,
         })?;
     }

@@ -58,7 +58,7 @@ fn add_slot(
     if let Some(handle) = world.held(thread, Name(number)) {
         pointers.push(Pointer {
             holder: Holder::Name { thread, number },
-            block: handle.block.0,
+            block: handle.block.number(),
             is_owner: is_owner(handle.kind),
         })?;
     }
@@ -86,7 +86,7 @@ fn add_cell(world: &World, cell: Site, pointers: &mut Vec<Pointer>) -> Result<()
     if let Some(block) = world.target(cell) {
         pointers.push(Pointer {
             holder: Holder::Cell(cell),
-            block: block.0,
+            block: block.number(),
             is_owner: holds_owner(cell),
         })?;
     }
@@ -121,14 +121,14 @@ fn add_members(world: &World, block: Block, pointers: &mut Vec<Pointer>) -> Resu
 }
 
 /// Adds what is in the members of an object; a vacant block has none.
-fn add_block(world: &World, number: u16, pointers: &mut Vec<Pointer>) -> Result<(), AllocError>
-    requires some { 1 ≤ number }
-    requires within { number ≤ world.now.ghost_state.extent.shape.blocks }
+fn add_block(world: &World, block: Block, pointers: &mut Vec<Pointer>) -> Result<(), AllocError>
+    requires some { 1 ≤ block.0 }
+    requires within { block.0 ≤ world.now.ghost_state.extent.shape.blocks }
     ensures { OnOk result (pointers.new.items
-        ≡ pointers.old.items ++ in_block (model_state world.now.ghost_state) number) }
+        ≡ pointers.old.items ++ in_block (model_state world.now.ghost_state) block.0) }
 {
-    match world.counts(Block(number)) {
-        Some(_) => add_members(world, Block(number), pointers),
+    match world.counts(block) {
+        Some(_) => add_members(world, block, pointers),
         None => Ok(()),
     }
 }
@@ -140,7 +140,7 @@ fn add_blocks(world: &World, blocks: u16, pointers: &mut Vec<Pointer>) -> Result
         ≡ pointers.old.items ++ flat_map (in_block (model_state world.now.ghost_state)) (from 1 blocks)) }
 {
     for before in 0..blocks {
-        add_block(world, before + 1, pointers)?;
+        add_block(world, Block::numbered(u32::from(before + 1)), pointers)?;
     }
     Ok(())
 }

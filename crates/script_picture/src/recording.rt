@@ -84,7 +84,8 @@ fn add_change(
 {
     let index = usize::from(block);
     if index < shown.len() {
-        let counts = world.counts(Block(block));
+        let block = u32::from(block);
+        let counts = world.counts(Block::numbered(block));
         if counts != shown[index] {
             changes.push(Change { block, counts })?;
             shown[index] = counts;
@@ -155,7 +156,10 @@ fn touch_text(alloc: Global, aimed: Aimed) -> Result<String, AllocError> {
     }
     if aimed.writes {
         match aimed.block {
-            Some(Block(number)) => write!(shown, "b{number}")?,
+            Some(block) => {
+                let number = block.number();
+                write!(shown, "b{number}")?;
+            }
             None => shown.push_str("empty")?,
         }
     }

@@ -20,17 +20,26 @@ shape_fits blocks threads least most some many =
       cells = omega arith;
       some_handle = omega arith;
       allowance = omega arith;
+      owners_room = omega (arith, whole, most);
+      weaks_room = omega (arith, whole, most);
     }
+
+-- they are no more than there are
+pub few_blocks : (blocks threads : ℕ) → blocks ≤ 65535 → blocks / threads * threads ≤ 65535
+few_blocks blocks threads most =
+    let whole : blocks / threads * threads + blocks % threads ≡ blocks = div-add-mod' blocks threads in omega (arith, whole, most)
 
 -- a program with all the cells that it names in shapes with those of texts can begin
 pub can_begin : (script : ScriptView) (parts : List Part) → IsWithinLimits (script_shape script)
-    → parts ≡ program_in script.threads → IsProgram parts
+    → (script_shape script).blocks ≤ 65535 → parts ≡ program_in script.threads → IsProgram parts
     → ((shape : Shape) → HasTextCells shape → All (AllHaveCells shape) parts) → CanBegin (script_shape script) parts
-can_begin script parts limits is program cells =
+can_begin script parts limits few is program cells =
     let size : length parts ≡ length script.threads = ap length is ∙ length-map script.threads part_in in
     let many : length script.threads ≤ 64 = omega (arith, size, program.actors) in
     record {
       limits = limits;
+      blocks = few;
+      free_cells = omega arith;
       members = (refl, refl);
       program = program;
       enough = omega (arith, size, many);

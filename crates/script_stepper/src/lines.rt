@@ -5,7 +5,7 @@ ghost use Rattle.script_text.specs.Canonical.{AddsLines, number_after};
 ghost use Rattle.script_stepper.specs.Lines.{answer_text, block_text, ended_text, line_of, line_start, locked_word};
 ghost use Rattle.script_stepper.specs.Lines.{place_text, said_lines, totals_text, yes_or_no};
 
-use control_word::{Counts, Place};
+use control_word::{Block, Counts, Place};
 use script_text::{put_number, put_numbers};
 use std::alloc::AllocError;
 use std::fmt::Write;
@@ -56,7 +56,7 @@ fn locked_word(is_owner: bool) -> &'static str
 }
 
 /// Adds a block and a field of its object, which end a line.
-fn put_place_at(text: &mut String, block: u16, field: u8) -> Result<(), AllocError>
+fn put_place_at(text: &mut String, block: u32, field: u8) -> Result<(), AllocError>
     ensures { OnOk result (string_bytes text.new
         ≡ string_bytes text.old ++ codes "place " ++ decimal block ++ codes "." ++ decimal field ++ 10 ∷ []) }
 {
@@ -71,7 +71,7 @@ fn put_place(text: &mut String, place: Option<Place>) -> Result<(), AllocError>
 {
     match place {
         None => text.push_str("place null\n")?,
-        Some(Place { block, field }) => put_place_at(text, block.0, field)?,
+        Some(Place { block, field }) => put_place_at(text, block.number(), field)?,
     }
     Ok(())
 }
@@ -172,11 +172,11 @@ pub fn put_lines(text: &mut String, thread: u8, said: &[Said]) -> Result<(), All
 }
 
 /// Adds `block B owners N weaks K`, the line of a block that isn't vacant (own). Refused where a growth was.
-pub fn put_block(text: &mut String, block: u16, counts: Counts) -> Result<(), AllocError>
-    ensures { OnOk result (AddsLines text.old text.new (block_text block counts ∷ [])) }
+pub fn put_block(text: &mut String, block: Block, counts: Counts) -> Result<(), AllocError>
+    ensures { OnOk result (AddsLines text.old text.new (block_text block.0 counts ∷ [])) }
 {
     let Counts { owners, weaks } = counts;
-    put_number(text, "block ", u64::from(block))?;
+    put_number(text, "block ", u64::from(block.number()))?;
     put_number(text, " owners ", u64::from(owners))?;
     put_last(text, " weaks ", u64::from(weaks))?;
     Ok(())

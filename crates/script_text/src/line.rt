@@ -26,7 +26,7 @@ pub(crate) enum Line {
     Cell(&'static str, CellName, Name),
     Load(Name, CellName),
     Compare(&'static str, CellName, Name, Name),
-    Number(&'static str, u16),
+    Number(&'static str, u32),
 }
 
 /// What a line has after its first word.
@@ -36,7 +36,7 @@ pub(crate) enum Word {
     In(CellName),
     Fields([u64; 4]),
     Field(Field),
-    Number(u16),
+    Number(u32),
     Null,
 }
 
@@ -87,8 +87,8 @@ fn line_of(call: &Call) -> Line
             Line::Compare(word, cell, expected, desired)
         }
         Call::Holds { cell, name } => Line::Cell("holds", cell, name),
-        Call::Shelve { count } => Line::Number("shelve", count),
-        Call::Unshelve { block } => Line::Number("unshelve", block.0),
+        Call::Shelve { count } => Line::Number("shelve", u32::from(count)),
+        Call::Unshelve { block } => Line::Number("unshelve", block.number()),
     }
 }
 

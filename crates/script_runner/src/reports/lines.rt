@@ -24,12 +24,12 @@ fn put_threads(text: &mut String, lines: &[Vec<Said>]) -> Result<(), AllocError>
 }
 
 /// Adds the line of a block, where it isn't vacant.
-fn put_counts(text: &mut String, census: &Census<u64>, number: u16) -> Result<(), AllocError>
-    requires { HasBlock census.now number }
-    ensures { OnOk result (AddsLines text.old text.new (closed_block_lines census.now number)) }
+fn put_counts(text: &mut String, census: &Census<u64>, block: Block) -> Result<(), AllocError>
+    requires { HasBlock census.now block.0 }
+    ensures { OnOk result (AddsLines text.old text.new (closed_block_lines census.now block.0)) }
 {
-    if !census.is_vacant(Block(number)) {
-        put_block(text, number, census.counts(Block(number)))?;
+    if !census.is_vacant(block) {
+        put_block(text, block, census.counts(block))?;
     }
     Ok(())
 }
@@ -38,8 +38,8 @@ fn put_counts(text: &mut String, census: &Census<u64>, number: u16) -> Result<()
 fn put_census(text: &mut String, census: &Census<u64>) -> Result<(), AllocError>
     ensures { OnOk result (AddsLines text.old text.new (closed_census_lines census.now)) }
 {
-    for before in 0..census.blocks() as u16 {
-        put_counts(text, census, before + 1)?;
+    for before in 0..census.blocks() {
+        put_counts(text, census, Block::numbered(before + 1))?;
     }
     Ok(())
 }

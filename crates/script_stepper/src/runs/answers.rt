@@ -48,6 +48,7 @@ fn shape_of(blocks: u32, threads: u32) -> Shape
     requires few { threads ≤ 64 }
     ensures shape { result ≡ shape_for blocks threads }
     ensures within { IsWithinLimits result }
+    ensures few { result.blocks ≤ 65535 }
 {
     Shape {
         blocks: blocks / threads * threads,
@@ -63,6 +64,7 @@ fn shape_of(blocks: u32, threads: u32) -> Shape
 fn world_of(alloc: Global, script: &Script, shape: Shape) -> Result<World, Fault>
     requires shape { shape ≡ script_shape script.now }
     requires within { IsWithinLimits shape }
+    requires few { shape.blocks ≤ 65535 }
     ensures ok { IfOk result (λ w. w ≡ first_world_state shape (program_in script.now.threads)) }
     ensures kept { IfOk result (λ w. TableInvariant w.ghost_state) }
     ensures memory { IfErr result (λ fault. fault ≡ Memory) }

@@ -12,13 +12,13 @@ use std::alloc::AllocError;
 use step_core::World;
 
 /// Adds the line of a block, where it isn't vacant.
-fn put_counts(world: &World, number: u16, text: &mut String) -> Result<(), AllocError>
+fn put_counts(world: &World, block: Block, text: &mut String) -> Result<(), AllocError>
     requires end { IsAtEnd world.now }
-    requires block { (1 ≤ number) × (number ≤ world.now.ghost_state.extent.shape.blocks) }
-    ensures { OnOk result (AddsLines text.old text.new (block_lines (state_in (abstraction world.now)) number)) }
+    requires block { (1 ≤ block.0) × (block.0 ≤ world.now.ghost_state.extent.shape.blocks) }
+    ensures { OnOk result (AddsLines text.old text.new (block_lines (state_in (abstraction world.now)) block.0)) }
 {
-    if let Some(counts) = world.census(Block(number)) {
-        put_block(text, number, counts)?;
+    if let Some(counts) = world.census(block) {
+        put_block(text, block, counts)?;
     }
     Ok(())
 }
@@ -30,7 +30,7 @@ fn put_census(world: &World, blocks: u16, text: &mut String) -> Result<(), Alloc
     ensures { OnOk result (AddsLines text.old text.new (census_lines blocks (state_in (abstraction world.now)))) }
 {
     for before in 0..blocks {
-        put_counts(world, before + 1, text)?;
+        put_counts(world, Block::numbered(u32::from(before + 1)), text)?;
     }
     Ok(())
 }

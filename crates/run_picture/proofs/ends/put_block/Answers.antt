@@ -1,7 +1,6 @@
-use Rattle.std.proofs.Common.{ℕ, ◌++◌, ap, codes, decimal}
 use Rattle.std.specs.Prelude.{string_bytes}
 use Rattle.run_picture.specs.Shown.{lane_words}
-use Rattle.run_picture.proofs.Showing.{shows_before, shows_is}
+use Rattle.run_picture.proofs.Showing.{shows_before}
 use Rattle.run_picture.proofs.ends.put_block.Goals as goal
 
 pub returns : goal.returns
@@ -10,5 +9,4 @@ returns c =
     let t1 = string_bytes c.put_title.new.text in
     let t2 = string_bytes c.put_piece.new.text in
     shows_before t0 t1 t2 (lane_words c.args.lane)
-    (shows_is t0 t1 _ _ (ap (λ (n : ℕ). codes "block " ++ decimal n) c.from-number.ensures)
-    c.in_ok-put_title.ensures) c.in_ok-put_piece.ensures
+    c.in_ok-put_title.ensures c.in_ok-put_piece.ensures
