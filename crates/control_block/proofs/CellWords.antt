@@ -11,8 +11,7 @@ use Prelude.{shown, some, sound, Split, spot, State, Swap, Unshelve, Visit, Weak
 use Rattle.atomic_table.specs.Table as Table
 use Rattle.control_word.proofs.history.Kept.{members_led, owners_led}
 use Rattle.control_word.proofs.history.Clearing.{was_made}
-use Rattle.control_word.proofs.packing.Cells.{same_block, same_place}
-use Rattle.control_word.proofs.packing.Fields.{same_parts}
+use Rattle.control_word.proofs.packing.Cells.{same_cells}
 use Rattle.control_word.proofs.steps.Standing.{kept_show}
 use Rattle.control_word.proofs.words.Banks.{IsKept, open_kept}
 use Rattle.control_word.specs.Events.{kind_of}
@@ -24,12 +23,7 @@ use Rattle.control_block.proofs.Passage.{held_there, point, ready}
 
 -- cells with one word are one
 pub one_cell : (x y : CellWord) → IsCellWord x → IsCellWord y → cell_bits x ≡ cell_bits y → x ≡ y
-one_cell x y hx hy e =
-    let p = same_parts (block_number x.owned) (place_block x.place) (place_field x.place) x.taken (block_number y.owned) (place_block y.place)
-    (place_field y.place) y.taken (owned_fits x.owned hx.owned) (block_fits x.place hx.place) (field_fits x.place hx.place)
-    (owned_fits y.owned hy.owned) (block_fits y.place hy.place) (field_fits y.place hy.place) e in
-    let o = same_block x.owned y.owned hx.owned hy.owned p.0 in let q = same_place x.place y.place hx.place hy.place p.1 p.2 in let t = p.3 in
-    λ j. record { owned = o j; place = q j; taken = t j }
+one_cell x y hx hy e = same_cells x y hx hy e
 
 module _ {V : Type 0} where
   -- the number of shared cells stays

@@ -21,6 +21,9 @@ use Rattle.control_block.proofs.desks.DeskSteps.{came, ending_same}
 use Rattle.control_block.proofs.Latest.{calls_keep_latest}
 use Rattle.control_block.proofs.Own.{goes_by_call, goes_by_none, goes_in_turn}
 use Rattle.control_block.proofs.Sole.{comes_next}
+use Rattle.control_word.specs.Layout.{shelf_words}
+use Rattle.control_block.specs.ShelfStepKinds.{HasBlocks, IsShelfWord}
+use Rattle.control_word.proofs.history.Soundness.{on_is}
 
 bit_left : (n j i : ℕ) → j < 64 → i < 64 → i ≢ j → bit_at (bit_and n (bit_not w64 (2 ^ j))) i ≡ bit_at n i
 bit_left n j i lt low ne =
@@ -44,6 +47,11 @@ fewer_bits n j a lt is one =
 pub not_one : (b : Bool) → mir.Val.bool_byte b ≡ 0 → b ≡ false
 not_one true e = absurd (omega (arith, e))
 not_one false e = refl
+
+-- fewer bits of a word are of fewer blocks
+pub blocks_left : (blocks j n a : ℕ) → HasBlocks blocks j n → HasBlocks blocks j (bit_and n (bit_not w64 a))
+blocks_left blocks j n a has b at one =
+    has b at (let t = bit_at_and n (bit_not w64 a) (b % 64) in let u = bit_at-lt n (b % 64) in omega (arith, t, u, one))
 
 module _ {V : Type 0} where
   endings_on : (d m f : DeskNow V) → KeepsEndings d m → KeepsEndings m f → KeepsEndings d f
@@ -188,25 +196,33 @@ module _ {V : Type 0} where
       subst (λ l. is (leads (opening_of v.shape) (l ++ v.view.seen)))
       (nothing_unseen (opening_of v.shape) t.between v.view.seen t.legal v.view.name t.quiet whole) t.so
 
+  -- a word that was told has bits of the domain's blocks alone
+  pub blocks_of_word : (v : SeatView V) (j n : ℕ) → IsSo v (IsShelfWord j n) → HasBlocks v.shape.blocks j n
+  blocks_of_word v j n t b at one =
+      let z = opening_of v.shape in let h = t.between ++ v.view.seen in
+      let on = t.so b at in
+      ((sound z h t.legal).shelf b (on_is ((leads z h).shelved b) (omega (arith, on, one)))).1
+
   -- the shelf's words are the table's
   pub shelf_inside : {n' : ℕ} (d : Inside V) (id : TableId) (k : Shape) (i j : ℕ) → IsDeskWith n' d → d.seat.table_id ≡ id
-      → d.seat.me.0.shape ≡ k → i ≡ shelf_at k j → j < 1024 → (i ≡ shelf_at d.seat.me.0.shape j) × (i < id.words)
+      → d.seat.me.0.shape ≡ k → i ≡ shelf_at k j → j < shelf_words k.blocks → (i ≡ shelf_at d.seat.me.0.shape j) × (i < id.words)
   shelf_inside d id k i j h table shape e low =
       let words = ap (λ (y : TableId). y.words) (sym table) ∙ h.sized.words in
+      let long = ap (λ (y : Shape). shelf_words y.blocks) shape in
       let here : i ≡ shelf_at d.seat.me.0.shape j = e ∙ ap (λ y. shelf_at y j) (sym shape) in (here, omega arith)
 
   -- what a sole desk knows of a word, after a step for the block of one of its bits
   pub bits_on : (m f : DeskNow V) (word bits a r : ℕ) (b : Block) → a ≡ bit_of b.0 → b.0 / 64 ≡ word → Unshelved r m f
       → IsSole m → on_shelf (state_of f) b.0 ≡ 0
-      → ((c : ℕ) → c < 65536 → c / 64 ≡ word → bit_at bits (c % 64) ≡ 0 → on_shelf (state_of m) c ≡ 0)
-      → (c : ℕ) → c < 65536 → c / 64 ≡ word → bit_at (bit_and bits (bit_not w64 a)) (c % 64) ≡ 0 → on_shelf (state_of f) c ≡ 0
-  bits_on m f word bits a r b is at u sole off rest c low here zero =
+      → ((c : ℕ) → c / 64 ≡ word → bit_at bits (c % 64) ≡ 0 → on_shelf (state_of m) c ≡ 0)
+      → (c : ℕ) → c / 64 ≡ word → bit_at (bit_and bits (bit_not w64 a)) (c % 64) ≡ 0 → on_shelf (state_of f) c ≡ 0
+  bits_on m f word bits a r b is at u sole off rest c here zero =
       ⊎_elim
       (λ (e : c ≡ b.0). ap (on_shelf (state_of f)) e ∙ off)
       (λ (ne : c ≢ b.0).
       let apart : c % 64 ≢ b.0 % 64 = λ q. ne (omega arith) in
       let same = bit_left bits (b.0 % 64) (c % 64) (omega arith) (omega arith) apart in
-      let was = rest c low here (sym same ∙ (ap (λ y. bit_at (bit_and bits (bit_not w64 y)) (c % 64)) (sym is) ∙ zero)) in
+      let was = rest c here (sym same ∙ (ap (λ y. bit_at (bit_and bits (bit_not w64 y)) (c % 64)) (sym is) ∙ zero)) in
       let t = (u.clears sole).none_new c in omega arith)
       (cases_eq c b.0)
 
@@ -215,23 +231,23 @@ module _ {V : Type 0} where
 
   -- and of the words passed, after one more
   pub words_on : (d m f : DeskNow V) (n k from word : ℕ) → Unshelved n d m → Unshelved k m f → IsSole d
-      → ((b : ℕ) → b < 65536 → from ≤ b / 64 → b / 64 < word → on_shelf (state_of m) b ≡ 0)
-      → ((b : ℕ) → b < 65536 → b / 64 ≡ word → on_shelf (state_of f) b ≡ 0)
-      → (b : ℕ) → b < 65536 → from ≤ b / 64 → b / 64 < word + 1 → on_shelf (state_of f) b ≡ 0
-  words_on d m f n k from word a u sole before here b low from' below =
+      → ((b : ℕ) → from ≤ b / 64 → b / 64 < word → on_shelf (state_of m) b ≡ 0)
+      → ((b : ℕ) → b / 64 ≡ word → on_shelf (state_of f) b ≡ 0)
+      → (b : ℕ) → from ≤ b / 64 → b / 64 < word + 1 → on_shelf (state_of f) b ≡ 0
+  words_on d m f n k from word a u sole before here b from' below =
       ⊎_elim
-      (λ (e : b / 64 ≡ word). here b low e)
+      (λ (e : b / 64 ≡ word). here b e)
       (λ (ne : b / 64 ≢ word).
-      let was = before b low from' (omega arith) in let t = (u.clears (a.clears sole).sole).none_new b in omega arith)
+      let was = before b from' (omega arith) in let t = (u.clears (a.clears sole).sole).none_new b in omega arith)
       (cases_eq (b / 64) word)
 
   -- over all words, a sole desk gets as many as it asks for, or all that there are
   pub all_shelved : (d m f : DeskNow V) (n k count words first : ℕ) → Unshelved n d m → Unshelved k m f → IsSole d
-      → d.shape.blocks ≤ 65535 → words ≡ d.shape.blocks / 64 + 1 → n ≤ count → k ≤ count - n
-      → (n < count → (b : ℕ) → b < 65536 → first ≤ b / 64 → b / 64 < words → on_shelf (state_of m) b ≡ 0)
-      → (k < count - n → (b : ℕ) → b < 65536 → 0 ≤ b / 64 → b / 64 < first → on_shelf (state_of f) b ≡ 0)
+      → words ≡ shelf_words d.shape.blocks → n ≤ count → k ≤ count - n
+      → (n < count → (b : ℕ) → first ≤ b / 64 → b / 64 < words → on_shelf (state_of m) b ≡ 0)
+      → (k < count - n → (b : ℕ) → 0 ≤ b / 64 → b / 64 < first → on_shelf (state_of f) b ≡ 0)
       → n + k ≡ min count (shelved_of d)
-  all_shelved d m f n k count words first a u sole most all few some' front back =
+  all_shelved d m f n k count words first a u sole all few some' front back =
       let t = unshelved_on n k d m f a u in
       let fewer = (t.clears sole).fewer in
       let same = ap (λ (y : Shape). y.blocks) t.passes.same.shape in
@@ -239,9 +255,9 @@ module _ {V : Type 0} where
       (λ (lt : n + k < count).
       let none : shelved_of f ≡ 0 = sum_zero f.shape.blocks (λ j. on_shelf (state_of f) (suc j)) (λ j low.
       ⊎_elim
-      (λ (q : suc j / 64 < first). back (omega arith) (suc j) (omega arith) (omega arith) q)
+      (λ (q : suc j / 64 < first). back (omega arith) (suc j) (omega arith) q)
       (λ (q : first ≤ suc j / 64).
-      let z = front (omega arith) (suc j) (omega arith) q (omega arith) in
+      let z = front (omega arith) (suc j) q (omega arith) in
       let l = (u.clears (a.clears sole).sole).none_new (suc j) in omega arith)
       (cases_lt (suc j / 64) first)) in
       omega arith)

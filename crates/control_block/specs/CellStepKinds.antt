@@ -20,7 +20,7 @@ use Rattle.control_word.specs.Events.{cell_of}
 use Rattle.control_word.specs.Handles.{empty, handle, equivalent, object_of}
 use Rattle.control_word.specs.Histories.{leads, IsLegal}
 use Rattle.control_word.specs.Layout.{cell_place, spot}
-use Rattle.control_word.specs.Packing.{IsCellWord, IsPackedCell, cell_bits}
+use Rattle.control_word.specs.Packing.{IsCellWord, IsPackedCell, cell_bits, without_taken}
 use Rattle.control_word.specs.State.{kind_of_free, kind_of_member}
 use Rattle.control_word.specs.Views.{NoneBy}
 use Rattle.control_word.specs.Words.{blocks_of, packed, shown}
@@ -28,6 +28,7 @@ use Rattle.control_block.specs.StepKinds.{At, Added, HoldingInBlock, goes_on, kn
 use Rattle.control_block.specs.FundStepKinds.{owing}
 use Rattle.control_block.specs.Rule.{members_of, opening_of}
 use Rattle.control_block.specs.declared.table.SeatView.{SeatView}
+use Rattle.control_word.specs.Limits.{cell_funds}
 
 -- the kind of the handles in a cell
 abbrev pub kind_in : Shape → Cell → Kind
@@ -77,7 +78,7 @@ module _ {V : Type 0} where
       pub old : NumberedHandle
       pub kind : old.kind ≡ k
       pub shows : IsWordOf w old x
-      pub event : Added v (debt old x.owned (256 - x.taken)) None (e old) w
+      pub event : Added v (debt old x.owned (cell_funds - x.taken)) None (e old) w
 
   -- what the cell holds, and nothing changes
   abbrev pub as_peeked : Cell → At V → CellWord → At V → Type 0
@@ -110,7 +111,7 @@ module _ {V : Type 0} where
   -- whether the cell holds this handle, by its word but for the funds taken
   abbrev pub told_same : Cell → NumberedHandle → Step (Option V) → At V → ℕ → At V → Type 0
   told_same c h st m n m' =
-      tells (Same c h (n % 17179869184 == packed (blocks_of (known m.0)) h)) m.0 m'.0 × (m'.1 ≡ m.1)
+      tells (Same c h (without_taken n == packed (blocks_of (known m.0)) h)) m.0 m'.0 × (m'.1 ≡ m.1)
 
   -- a fund of the cell was taken, where its word was the one that was found; else it is another, and nothing changes
   abbrev pub took : Cell → (NumberedHandle → Event V) → Step (Option V) → At V → ℕ → At V → Type 0

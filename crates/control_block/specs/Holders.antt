@@ -4,9 +4,9 @@ use Rattle.std.specs.Prelude.{◌∷◌, ◌++◌, length}
 use Rattle.std.specs.Prelude.{slice_index}
 use Rattle.std.specs.List.{filter}
 use Rattle.control_word.specs.Layout.{site_place}
-use Rattle.control_word.specs.Handles.{same_kind}
+use Rattle.control_word.specs.Handles.{rank, same_kind}
 use Rattle.control_word.specs.State.{State, count, kind_of_free, kind_of_member, tally, weak}
-use Rattle.control_word.specs.Words.{blocks_of, owned_bits}
+use Rattle.control_word.specs.Words.{blocks_of}
 use Rattle.control_word.specs.declared.model.handle.NumberedHandle.{NumberedHandle}
 use Rattle.control_word.specs.declared.model.handle.Kind.{Kind}
 use Rattle.control_word.specs.declared.model.handle.Kind.TheVariants.{Owner, Weak}
@@ -15,13 +15,14 @@ use Rattle.control_block.specs.Desks.{DeskNow, bag_of, latest_of, state_of}
 use Rattle.control_block.specs.declared.cell_calls.CellAt.{CellAt}
 use Rattle.control_word.specs.declared.site.Site.{Site}
 use Rattle.control_word.specs.declared.site.Site.TheVariants.{Free, Member}
+use Rattle.control_word.specs.Packing.{owned_in}
 
 -- the block of the object that a cell holds a handle on, or 0: as the words have it, and as the state has it
 abbrev pub owned_at : CensusNow → Site → ℕ
-owned_at c x = slice_index c.words (site_place c.blocks x) % 65536
+owned_at c x = owned_in (slice_index c.words (site_place c.blocks x))
 
 abbrev pub owned_by : State → NumberedHandle → ℕ
-owned_by s h = owned_bits (blocks_of s) h.object
+owned_by s h = rank (blocks_of s) h
 
 abbrev pub frees_in : CensusNow → ℕ
 frees_in c = c.shared_cells + c.weak_cells

@@ -19,6 +19,7 @@ use Rattle.control_block.specs.StepKinds.{At, HoldingInBlock, Rests, known, tell
 use Rattle.control_block.specs.Rule.{opening_of}
 use Rattle.control_block.specs.declared.table.SeatView.{SeatView}
 use Rattle.control_block.specs.declared.released.Released.{Released}
+use Rattle.control_word.specs.Limits.{cell_funds}
 
 -- the block that a cell's word shows, or none of the table's
 abbrev pub block_out : CellWord → Block
@@ -42,7 +43,7 @@ module _ {V : Type 0} where
 
   -- it came out, and the half-done call has to give back its funds that were not taken
   abbrev pub OwesFor : Kind → CellWord → At V → Type 0
-  OwesFor k x me = Owes (debt (shown_handle me.0 k x) x.owned (256 - x.taken)) me
+  OwesFor k x me = Owes (debt (shown_handle me.0 k x) x.owned (cell_funds - x.taken)) me
 
   abbrev pub nothing : Released V
   nothing = record { value = None; vacant = false }

@@ -1,5 +1,5 @@
 -- What the steps on the shelf tell.
-use Rattle.std.specs.Prelude.{◌≡◌, ℕ, ◌+◌, ◌/◌, ◌%◌, ◌<◌, List, ◌++◌, Option}
+use Rattle.std.specs.Prelude.{◌≡◌, ℕ, ◌+◌, ◌/◌, ◌%◌, ◌<◌, ◌≤◌, List, ◌++◌, Option}
 use Rattle.std.specs.Int.{bit_at}
 use Rattle.atomic_table.specs.Table.{Step}
 use Rattle.control_word.specs.declared.model.event.Entry.{Entry}
@@ -20,7 +20,11 @@ shelf_at k j = shelf_place k.blocks (k.shared_cells + k.weak_cells) j
 
 -- n, as word j of the shelf, tells of each of its blocks whether it is there
 abbrev pub IsShelfWord : ℕ → ℕ → State → Type 0
-IsShelfWord j n s = (b : ℕ) → b < 65536 → b / 64 ≡ j → bit_at n (b % 64) ≡ on_shelf s b
+IsShelfWord j n s = (b : ℕ) → b / 64 ≡ j → bit_at n (b % 64) ≡ on_shelf s b
+
+-- and of no others
+abbrev pub HasBlocks : ℕ → ℕ → ℕ → Type 0
+HasBlocks blocks j n = (b : ℕ) → b / 64 ≡ j → bit_at n (b % 64) ≡ 1 → (0 < b) × (b ≤ blocks)
 
 -- the block isn't on the shelf
 abbrev pub IsOff : ℕ → State → Type 0

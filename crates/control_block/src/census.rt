@@ -1,5 +1,6 @@
 //! What is left of a domain once its sole desk closes it.
 ghost use Rattle.std.specs.Prelude.{◌≡◌, ◌<◌, ◌≤◌, ◌↔◌, IsTrue};
+ghost use Rattle.control_word.specs.Limits.{most_blocks};
 ghost use Rattle.control_block.specs.Census.{owners_in, weaks_in, HasBlock};
 
 mod holders;
@@ -25,6 +26,7 @@ impl<V: Drop> Model for Census<V> {
     ghost use Rattle.control_block.specs.Census.{CensusNow};
     ghost use Rattle.control_block.specs.Rule.{members_of};
     ghost use Rattle.control_word.specs.Layout.{table_size};
+    ghost use Rattle.control_word.specs.Limits.{most_blocks, most_free_cells, most_members};
     ghost use Rattle.std.specs.Prelude.{◌+◌, ◌≤◌};
     ghost use Rattle.std.specs.Slots.{slots_items, slots_len, IsFull};
 
@@ -40,15 +42,15 @@ impl<V: Drop> Model for Census<V> {
     } };
 
     ghost invariant = { λ c. IsFull c.closed.words × IsFull c.closed.slots
-        × (table_size c.shape ≤ slots_len c.closed.words) × (c.shape.blocks ≤ 65535)
-        × (members_of c.shape ≤ 9) × (c.shape.shared_cells + c.shape.weak_cells ≤ 256) };
+        × (table_size c.shape ≤ slots_len c.closed.words) × (c.shape.blocks ≤ most_blocks)
+        × (members_of c.shape ≤ most_members) × (c.shape.shared_cells + c.shape.weak_cells ≤ most_free_cells) };
 }
 
 impl<V: Drop> Census<V> {
     /// How many blocks the domain had (own).
     pub fn blocks(&self) -> u32
         ensures is { result ≡ self.now.blocks }
-        ensures few { result ≤ 65535 }
+        ensures few { result ≤ most_blocks }
     {
         self.shape.blocks
     }
@@ -72,7 +74,7 @@ impl<V: Drop> Census<V> {
     pub(crate) fn has(&self, block: Block) -> bool
         ensures { IsTrue result ↔ HasBlock self.now block.0 }
     {
-        block.0 > 0 && u32::from(block.0) <= self.shape.blocks
+        block.number() > 0 && block.number() <= self.shape.blocks
     }
 
     pub(crate) fn counts_in(&self, block: Block) -> Counts

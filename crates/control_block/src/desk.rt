@@ -20,7 +20,7 @@ pub struct Desk<V: Drop> {
     /// It has room for all blocks.
     pub(crate) store: Vec<Block, Global>,
     /// The word of the shelf where it found a block last.
-    pub(crate) shelf_word: u16,
+    pub(crate) shelf_word: u32,
 }
 
 impl<V: Drop> Model for Desk<V> {

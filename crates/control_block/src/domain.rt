@@ -5,6 +5,7 @@ ghost use Rattle.control_word.specs.Layout.{IsWithinLimits};
 ghost use Rattle.control_word.specs.State.{kind_of_member};
 ghost use Rattle.control_block.specs.Desks.{IsFirstDesk, all_blocks};
 ghost use Rattle.control_block.specs.Rule.{members_of};
+ghost use Rattle.control_word.specs.Limits.{most_blocks, most_free_cells};
 
 use crate::desk::Desk;
 use crate::slot::Slot;
@@ -76,7 +77,7 @@ impl<V: Drop> Domain<V> {
 
     /// How many free shared cells there are (own).
     pub fn shared_cells(&self) -> u32
-        ensures { (result ≡ self.now.shape.shared_cells) × (result + self.now.shape.weak_cells ≤ 256) }
+        ensures { (result ≡ self.now.shape.shared_cells) × (result + self.now.shape.weak_cells ≤ most_free_cells) }
     {
         self.shape.shared_cells
     }
@@ -91,12 +92,12 @@ impl<V: Drop> Domain<V> {
 
 /// All blocks, least first, with room for each.
 fn all_stored(alloc: Global, blocks: u32) -> Result<Vec<Block, Global>, AllocError>
-    requires { blocks ≤ 65535 }
+    requires { blocks ≤ most_blocks }
     ensures { IfOk result (λ v. (v.items ≡ all_blocks blocks) × (vec_capacity v ≡ blocks)) }
 {
     let mut store = Vec::with_capacity(alloc, blocks as usize)?;
     for number in 0..blocks {
-        store.push_reserved(Block((number + 1) as u16));
+        store.push_reserved(Block::numbered(number + 1));
     }
     Ok(store)
 }

@@ -4,25 +4,27 @@ ghost use Rattle.control_word.specs.State.{on_shelf};
 ghost use Rattle.control_block.specs.Desks.{Belongs, state_of, stock_of};
 ghost use Rattle.control_block.specs.Own.{IsSole};
 ghost use Rattle.control_block.specs.Shelf.{Shelved, Unshelved, shelved_of};
-ghost use Rattle.control_block.specs.ShelfStepKinds.{IsShelfWord, shelf_at};
+ghost use Rattle.control_block.specs.ShelfStepKinds.{HasBlocks, IsShelfWord, shelf_at};
+ghost use Rattle.control_word.specs.Layout.{shelf_words};
+ghost use Rattle.control_word.specs.Limits.{most_blocks};
 
 use crate::desk::Desk;
 use crate::domain::Domain;
 use crate::steps::shelf;
 use control_word::Block;
-use control_word::packed::layout::{shelf_bit, shelf_word};
+use control_word::packed::layout::{SHELF_BITS, shelf_bit, shelf_length, shelf_word};
 use std::marker::Brand;
 
 impl<V: Drop> Domain<V> {
     /// How many words of the shelf have a block's bit.
-    fn shelf_words(&self) -> u16
-        ensures { (result ≡ self.now.shape.blocks / 64 + 1) × (result ≤ 1024) }
+    fn shelf_words(&self) -> u32
+        ensures { result ≡ shelf_words self.now.shape.blocks }
     {
-        (self.shape.blocks / 64 + 1) as u16
+        shelf_length(self.shape.blocks)
     }
 
     /// Where a word of the shelf lies.
-    fn shelf_place(&self, word: u16) -> usize
+    fn shelf_place(&self, word: u32) -> usize
         ensures { result ≡ shelf_at self.now.shape word }
     {
         let cells = self.shape.shared_cells + self.shape.weak_cells;
@@ -65,14 +67,14 @@ impl<V: Drop> Desk<V> {
     }
 
     /// The same of the words from one on, below another.
-    fn unshelve_among(&mut self, domain: &Domain<V>, from: u16, to: u16, count: u32) -> u32
+    fn unshelve_among(&mut self, domain: &Domain<V>, from: u32, to: u32, count: u32) -> u32
         requires domain { Belongs self.old domain.now }
-        requires words { to ≤ 1024 }
+        requires words { to ≤ shelf_words domain.now.shape.blocks }
         ensures most { result ≤ count }
         ensures unshelved { Unshelved result self.old self.new }
         ensures same { result ≡ 0 → self.new ≡ self.old }
         ensures cleared { IsSole self.old → result < count
-            → (b : ℕ) → b < 65536 → from ≤ b / 64 → b / 64 < to → on_shelf (state_of self.new) b ≡ 0 }
+            → (b : ℕ) → from ≤ b / 64 → b / 64 < to → on_shelf (state_of self.new) b ≡ 0 }
     {
         let mut taken = 0;
         for word in from..to {
@@ -85,14 +87,14 @@ impl<V: Drop> Desk<V> {
     }
 
     /// The same of one word: one look at it, and one step for each block that the look told.
-    fn unshelve_from(&mut self, domain: &Domain<V>, word: u16, count: u32) -> u32
+    fn unshelve_from(&mut self, domain: &Domain<V>, word: u32, count: u32) -> u32
         requires domain { Belongs self.old domain.now }
-        requires word { word < 1024 }
+        requires word { word < shelf_words domain.now.shape.blocks }
         ensures most { result ≤ count }
         ensures unshelved { Unshelved result self.old self.new }
         ensures same { result ≡ 0 → self.new ≡ self.old }
         ensures cleared { IsSole self.old → result < count
-            → (b : ℕ) → b < 65536 → b / 64 ≡ word → on_shelf (state_of self.new) b ≡ 0 }
+            → (b : ℕ) → b / 64 ≡ word → on_shelf (state_of self.new) b ≡ 0 }
     {
         let mut bits = self.look_on_shelf(domain, word);
         let mut taken = 0;
@@ -100,7 +102,7 @@ impl<V: Drop> Desk<V> {
             if taken == count {
                 return taken;
             }
-            let block = Block(64 * word + bits.trailing_zeros() as u16);
+            let block = Block::numbered(64 * word + bits.trailing_zeros());
             bits &= !shelf_bit(block);
             taken += u32::from(self.unshelve_block(domain, block));
         }
@@ -116,16 +118,18 @@ impl<V: Drop> Desk<V> {
         let Some(block) = self.store.pop() else {
             unreachable!()
         };
-        let place = domain.shelf_place(block.0 / 64);
+        let place = domain.shelf_place(block.number() / SHELF_BITS);
         let table = &domain.table.shared;
         shelf::shelve::<V, Brand>(table, &mut self.seat, place, block);
     }
 
     /// A word of the shelf.
-    fn look_on_shelf(&mut self, domain: &Domain<V>, word: u16) -> u64
+    fn look_on_shelf(&mut self, domain: &Domain<V>, word: u32) -> u64
         requires domain { Belongs self.old domain.now }
-        requires word { word < 1024 }
+        requires word { word < shelf_words domain.now.shape.blocks }
         ensures told { IsSole self.old → IsShelfWord word result (state_of self.old) }
+        ensures inside { HasBlocks domain.now.shape.blocks word result }
+        ensures few { domain.now.shape.blocks ≤ most_blocks }
         ensures same { self.new ≡ self.old }
     {
         let place = domain.shelf_place(word);
@@ -135,11 +139,12 @@ impl<V: Drop> Desk<V> {
     /// A block comes from the shelf to the store, if it is there still. It says whether it was.
     fn unshelve_block(&mut self, domain: &Domain<V>, block: Block) -> bool
         requires domain { Belongs self.old domain.now }
+        requires block { block.0 ≤ domain.now.shape.blocks }
         ensures unshelved { Unshelved (cond result 1 0) self.old self.new }
         ensures same { result ≡ false → self.new ≡ self.old }
         ensures off { IsSole self.old → on_shelf (state_of self.new) block.0 ≡ 0 }
     {
-        let word = block.0 / 64;
+        let word = block.number() / SHELF_BITS;
         let place = domain.shelf_place(word);
         let table = &domain.table.shared;
         if !shelf::unshelve::<V, Brand>(table, &mut self.seat, place, block) {

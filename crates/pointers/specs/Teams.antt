@@ -1,6 +1,7 @@
 -- What a team's desks need of a domain.
-use Rattle.std.specs.Prelude.{◌≡◌, ℕ, ◌+◌, ◌-◌, ◌*◌, ◌<◌, ◌≤◌}
+use Rattle.std.specs.Prelude.{◌≡◌, ℕ, ◌+◌, ◌-◌, ◌*◌, ◌/◌, ◌<◌, ◌≤◌, min, max}
 use Rattle.control_word.specs.Layout.{IsWithinLimits}
+use Rattle.control_word.specs.Limits.{most_allowance, most_blocks, most_free_cells, most_members, most_number}
 use Rattle.control_word.specs.declared.shape.Shape.{Shape}
 use Rattle.pointers.specs.declared.program.not_run.NotRun.{NotRun}
 use Rattle.pointers.specs.declared.program.not_run.NotRun.TheVariants.{Large, Memory, Small}
@@ -40,14 +41,18 @@ least_of t Weaks = 1
 least_of t Allowance = handles_of t
 least_of t _ = 0
 
--- and may be at most
+-- so many handles may be on one block besides those in members
+abbrev pub other_handles : Shape → ℕ
+other_handles s = 2 * s.allowance + (s.shared_cells + s.weak_cells)
+
+-- and may be at most: of blocks, what leaves room for the funds of all handles
 abbrev pub most_of : Shape → Number → ℕ
-most_of s Blocks = 65535
-most_of s Owners = 8
-most_of s Weaks = 9 - s.owners
-most_of s SharedCells = 256
-most_of s WeakCells = 256 - s.shared_cells
-most_of s Allowance = 4194304
+most_of s Blocks = min most_blocks ((most_number - other_handles s) / max s.owners s.weaks)
+most_of s Owners = most_members - 1
+most_of s Weaks = most_members - s.owners
+most_of s SharedCells = most_free_cells
+most_of s WeakCells = most_free_cells - s.shared_cells
+most_of s Allowance = most_allowance
 
 -- the number is below a limit that it must reach, or above the limit
 abbrev pub IsMisfit : Shape → Team → NotRun → Type 0

@@ -17,6 +17,7 @@ use crate::domain::Domain;
 use crate::fault::Fault;
 use crate::fault::call::Call;
 use crate::weak::Weak;
+use control_word::shape::MOST_BLOCKS;
 use control_word::{Block, Place};
 use std::marker::Model;
 use std::sync::Wait;
@@ -270,7 +271,10 @@ fn is_pointer(place: Option<Place>) -> bool
 {
     match place {
         None => true,
-        Some(place) => place.block.0 > 0 && place.field < 4,
+        Some(place) => {
+            let block = place.block.number();
+            block > 0 && block <= MOST_BLOCKS && place.field < 4
+        }
     }
 }
 
@@ -284,11 +288,11 @@ pub(crate) fn comes_before(one: Option<Block>, other: Option<Block>) -> bool
 
 /// A block's number, 0 where there is none.
 #[inline(always)]
-fn number_of(block: Option<Block>) -> u16
+fn number_of(block: Option<Block>) -> u32
     ensures { result ≡ number_of_block block }
 {
     match block {
-        Some(block) => block.0,
+        Some(block) => block.number(),
         None => 0,
     }
 }

@@ -1,19 +1,21 @@
 -- What a desk's own handles tell of what it finds.
-use Rattle.std.proofs.Common.{◌≡◌, ◌<◌, Bool, true, not, ◌&&◌, ◌⊎◌, ◌++◌, nat_lt, Some, None}
-use Rattle.std.proofs.Common.{Option, sym, refl, ap, ◌∙◌, subst, ⊎_elim, arith, lt-ltb, ne_eqb}
+use Rattle.std.proofs.Common.{◌≡◌, ◌<◌, Bool, true, not, ◌&&◌, ◌⊎◌, ◌++◌, nat_lt, nat_le, Some, None}
+use Rattle.std.proofs.Common.{Option, sym, refl, ap, ◌∙◌, subst, ⊎_elim, arith, le-leb, lt-ltb, ne_eqb}
 use Rattle.shared_handle.proofs.Prelude
 use Prelude.{AddsEvent, Block, cond-true, DeskNow, handle, HasOwner, HoldsHandle, InShape, IsLegal}
 use Prelude.{IsPointer, latest_of, leads, on_latest, opening_of, Owner, Place, Standing, Weak}
+use Rattle.control_word.proofs.history.Allowances.{opened}
 use Rattle.control_word.proofs.history.Formation.{are_formed}
 use Rattle.control_word.proofs.history.Given.{legal_seen, names_an_object}
 use Rattle.control_word.proofs.history.Kept.{has_same, same_kept}
 use Rattle.control_word.proofs.history.Moving.{owner_counted}
 use Rattle.control_word.specs.Events.{place_at}
+use Rattle.control_word.specs.Limits.{most_blocks}
 use Rattle.control_word.specs.State.{count}
 use Rattle.control_word.specs.declared.model.event.Event.TheVariants.{Lock}
 use Rattle.control_block.proofs.Bags.{shown_held}
 use Rattle.control_block.specs.Handles.{IsProper}
-use Rattle.shared_handle.specs.Calls.{IsOfThis, MayGive, pointed}
+use Rattle.shared_handle.specs.Calls.{is_field, IsOfThis, MayGive, pointed}
 
 -- a field of a block is taken as it is
 as_it_is : (q : Option Place) → IsPointer q → pointed q ≡ q
@@ -22,7 +24,8 @@ as_it_is (Some q) points =
     let low = points.0 in
     let block : nat_lt 0 q.block.0 ≡ true = lt-ltb 0 q.block.0 (omega arith) in
     let field : nat_lt q.field 4 ≡ true = lt-ltb q.field 4 points.2 in
-    cond-true (nat_lt 0 q.block.0 && nat_lt q.field 4) (Some q) None (ap (λ t. t && nat_lt q.field 4) block ∙ field)
+    let most : nat_le q.block.0 most_blocks ≡ true = le-leb q.block.0 most_blocks points.1 in
+    cond-true (is_field q) (Some q) None (λ i. block i && most i && field i)
 
 module _ {V : Type 0} where
   -- a lock of an object that the desk has an owner of finds one
@@ -47,18 +50,17 @@ module _ {V : Type 0} where
       ((are_formed z d.seen stands.legal).0 d.name (handle Owner (Some (latest_of d b.0)) p) mine.0).0
 
   -- it is in a block, if it owns something
-  this_low : (d : DeskNow V) (b : Block) (p : Option Place) → Standing d → HoldsHandle d Owner (Some b) p → 0 < b.0
-  this_low d b p stands has =
+  this_points : (d : DeskNow V) (b : Block) (p : Option Place) → Standing d → HoldsHandle d Owner (Some b) p → IsPointer (place_at b.0)
+  this_points d b p stands has =
       let z = opening_of d.shape in
       let mine = shown_held z d.seen d.name Owner p b.0 stands.legal has in
       let named = names_an_object z d.seen stands.legal d.name Owner (handle Owner (Some (latest_of d b.0)) p) (mine.0, refl, refl) in
-      let inside = subst (InShape z) mine.1 named.3 in let low = inside.0 in omega arith
+      let inside = subst (InShape z) mine.1 named.3 in let low = inside.0 in let within = inside.1 in
+      let most = (opened z d.seen stands.legal).limits.0 in (omega arith, omega (arith, within, most), omega arith)
 
   this_as_it_is : (d : DeskNow V) (b : Option Block) (p q : Option Place) → Standing d → HoldsHandle d Owner b p → IsOfThis b q → pointed q ≡ q
   this_as_it_is d None p q stands has this = absurd this
-  this_as_it_is d (Some b) p q stands has this =
-      let block : nat_lt 0 b.0 ≡ true = lt-ltb 0 b.0 (this_low d b p stands has) in
-      subst (λ (x : Option Place). pointed x ≡ x) (sym this) (cond-true (nat_lt 0 b.0 && true) (place_at b.0) None (ap (λ t. t && true) block))
+  this_as_it_is d (Some b) p q stands has this = as_it_is q (subst IsPointer (sym this) (this_points d b p stands has))
 
   -- so is each place that an owner may give
   pub taken_as_given : (d : DeskNow V) (b : Option Block) (p q : Option Place) → Standing d → IsProper Owner b p → HoldsHandle d Owner b p

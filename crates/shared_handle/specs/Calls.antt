@@ -1,9 +1,10 @@
 -- What the calls on handles say. An empty handle has no object: it touches no word and makes no event, and is only
 -- counted.
-use Rattle.std.specs.Prelude.{◌≡◌, ◌⊎◌, ℕ, ◌+◌, ◌-◌, Bool, true, false, cond, ◌&&◌, nat_lt}
+use Rattle.std.specs.Prelude.{◌≡◌, ◌⊎◌, ℕ, ◌+◌, ◌-◌, Bool, true, false, cond, ◌&&◌, nat_lt, nat_le}
 use Rattle.std.specs.Prelude.{List, Option, None, Some}
 use Rattle.control_word.specs.Events.{origin, place_at}
 use Rattle.control_word.specs.Handles.{IsPointer, handle, owner_before}
+use Rattle.control_word.specs.Limits.{most_blocks}
 use Rattle.control_word.specs.State.{count}
 use Rattle.control_word.specs.declared.model.event.Event.TheVariants.{Count, Expired, Make, Share, WeakLeave, WeakShare}
 use Rattle.control_word.specs.declared.model.handle.NumberedHandle.{NumberedHandle}
@@ -34,10 +35,14 @@ IsOfThis (Some b) q = q ≡ place_at b.0
 abbrev pub MayGive : Option Block → Option Place → Option Place → Type 0
 MayGive b p q = (q ≡ p) ⊎ (IsOfThis b q ⊎ IsPointer q)
 
+-- the place is a field of a block
+abbrev pub is_field : Place → Bool
+is_field p = nat_lt 0 p.block.0 && nat_le p.block.0 most_blocks && nat_lt p.field 4
+
 -- where a pointer to a place points: null for what is no field of a block, which no call hands out (own)
 abbrev pub pointed : Option Place → Option Place
 pointed None = None
-pointed (Some p) = cond (nat_lt 0 p.block.0 && nat_lt p.field 4) (Some p) None
+pointed (Some p) = cond (is_field p) (Some p) None
 
 -- owner order goes by blocks, empty first ([util.smartptr.shared.obs], [util.smartptr.weak.obs]; by block: own)
 abbrev pub by_number : Option Block → NumberedHandle

@@ -38,6 +38,6 @@ pub fn owner_before<V: Drop, A: HasOwner, B: HasOwner>(
     ensures before { result ≡ comes_before (A.owned a.now) (B.owned b.now) }
     ensures same { _desk.new ≡ _desk.old }
 {
-    let number = |block: Option<Block>| block.map_or(0, |block| block.0);
+    let number = |block: Option<Block>| block.map_or(0, |block| block.number());
     number(a.owned_block()) < number(b.owned_block())
 }

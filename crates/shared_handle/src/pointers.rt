@@ -2,10 +2,11 @@
 ghost use Rattle.std.specs.Prelude.{◌≡◌};
 ghost use Rattle.control_word.specs.Handles.{IsPointer};
 ghost use Rattle.control_word.specs.declared.model.handle.Kind.TheVariants.{Owner, Weak};
-ghost use Rattle.shared_handle.specs.Calls.{IsOn, pointed};
+ghost use Rattle.shared_handle.specs.Calls.{IsOn, is_field, pointed};
 
 use control_block::handles::{self, Shared};
 use control_word::model::handle::Kind;
+use control_word::shape::MOST_BLOCKS;
 use control_word::{Handle, Place};
 
 /// What an owner is on, none where it is empty.
@@ -32,13 +33,21 @@ pub(crate) fn weak_pointer(handle: &handles::Weak) -> Option<Handle>
     })
 }
 
+/// Whether it is a field of a block.
+fn is_field(place: Place) -> bool
+    ensures { result ≡ is_field place }
+{
+    let block = place.block.number();
+    block > 0 && block <= MOST_BLOCKS && place.field < 4
+}
+
 /// Where a pointer to a place points: null for what is no field of a block, which no call hands out.
 pub(crate) fn pointed(place: Option<Place>) -> Option<Place>
     ensures place { result ≡ pointed place }
     ensures proper { IsPointer result }
 {
     match place {
-        Some(place) if place.block.0 > 0 && place.field < 4 => Some(place),
+        Some(place) if is_field(place) => Some(place),
         _ => None,
     }
 }

@@ -9,6 +9,7 @@ use Prelude.{names_an_object, NumberedHandle, opening_of, Owes, owing, Pending, 
 use Prelude.{same_number, same_place, SeatView, TableId, tells, Took}
 use Rattle.control_block.proofs.words.Seats.{added_as}
 use Rattle.control_block.proofs.cells.CellTrades.{Trades, in_bag, came_inside}
+use Rattle.control_word.specs.Limits.{cell_funds}
 
 pub not_none : (q : Option Block) → is_some q ≡ true → q ≢ None
 not_none None e n = true≢false (sym e)
@@ -80,7 +81,7 @@ module _ {V : Type 0} where
         handle = g.old;
         kind = g.kind;
         shows = subst (λ (y : SeatView V). IsWordOf y g.old x) (sym is) g.shows;
-        event = added_as v w u (debt g.old x.owned (256 - x.taken)) Idle None None (e g.old) g.event is;
+        event = added_as v w u (debt g.old x.owned (cell_funds - x.taken)) Idle None None (e g.old) g.event is;
       }
 
   -- and at once where nothing had been in the cell
@@ -90,7 +91,7 @@ module _ {V : Type 0} where
         handle = g.old;
         kind = g.kind;
         shows = g.shows;
-        event = subst (λ (y : Option Block). Added v (debt g.old y (256 - x.taken)) None (e g.old) w) none g.event;
+        event = subst (λ (y : Option Block). Added v (debt g.old y (cell_funds - x.taken)) None (e g.old) w) none g.event;
       }
 
   -- the load of a cell without an object
@@ -143,7 +144,7 @@ module _ {V : Type 0} where
       → Gave e k v x w → x.owned ≡ Some b → IsSized id v.shape → IsCounted k b id
   gave_inside e k v w x lost b id trades g is sized =
       let o = object_shown (blocks_of (known w)) g.old.object b (sym (ap (λ y. y.owned) g.shows) ∙ is) in
-      came_inside v w (debt g.old x.owned (256 - x.taken)) e lost g.old k o.0 b id trades g.event g.kind o.1 o.2 sized
+      came_inside v w (debt g.old x.owned (cell_funds - x.taken)) e lost g.old k o.0 b id trades g.event g.kind o.1 o.2 sized
 
   pub gave_counted : (e : NumberedHandle → Event V) (k : Kind) (v w : SeatView V) (x : CellWord) (lost : NumberedHandle) (id : TableId) → Trades e lost
       → Gave e k v x w

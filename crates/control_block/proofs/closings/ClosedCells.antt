@@ -16,19 +16,26 @@ use Rattle.control_word.specs.Words.{cell_spot, packed, place_bits}
 use Rattle.control_block.specs.Holders.{owned_by}
 use Rattle.control_block.specs.Rule.{members_of}
 use Rattle.control_block.proofs.closings.Closing.{all_idle, all_seen}
+use Rattle.control_word.specs.Limits.{most_blocks, most_members, one_taken, taken_limit}
+use Rattle.control_word.specs.Packing.{owned_in, cell_bits}
+use Rattle.control_word.specs.Handles.{IsPointer, handle, rank}
+use Rattle.control_word.specs.Words.{shown}
+use Rattle.control_word.proofs.history.Formation.{formed}
+use Rattle.control_word.proofs.words.Decoding.{cell_shown}
 
-low_part : (n : ℕ) (p : Option Place) (t : ℕ) → n < 65536 → (n + place_bits p + 17179869184 * t) % 65536 ≡ n
-low_part n None t lt = omega arith
-low_part n (Some p) t lt = omega arith
-
--- the low part of a cell's word is the block of the handle's object
-low_of : (f : ℕ → ℕ) (h : NumberedHandle) (t : ℕ) → owned_bits f h.object < 65536 → (packed f h + 17179869184 * t) % 65536 ≡ owned_bits f h.object
-unfolding packed
-low_of f h t lt = low_part (owned_bits f h.object) h.place t lt
-
-bits_fit : (f : ℕ → ℕ) (o : Option ℕ) → ((r : ℕ) → o ≡ Some r → f r ≤ 65535) → owned_bits f o < 65536
-bits_fit f None fit = omega arith
-bits_fit f (Some o) fit = let t = fit o refl in omega arith
+-- the owned block in a cell's word is that of the handle's object
+owned_of : (f : ℕ → ℕ) (h : NumberedHandle) (t : ℕ) → t < taken_limit → IsPointer h.place
+    → ((r : ℕ) → h.object ≡ Some r → f r ≤ most_blocks)
+    → owned_in (packed f h + one_taken * t) ≡ rank f h
+owned_of f h t few formed fit =
+    ap owned_in (cell_shown f h t) ∙ go h.object h.place formed fit
+  where
+    go : (o : Option ℕ) (p : Option Place) → IsPointer p → ((r : ℕ) → o ≡ Some r → f r ≤ most_blocks)
+        → owned_in (cell_bits (shown f (handle h.kind o p) t)) ≡ rank f (handle h.kind o p)
+    go None None formed fit = omega (arith, few)
+    go None (Some p) formed fit = let b = formed.1 in let c = formed.2 in omega (arith, few, b, c)
+    go (Some o) None formed fit = let a = fit o refl in omega (arith, few, a)
+    go (Some o) (Some p) formed fit = let a = fit o refl in let b = formed.1 in let c = formed.2 in omega (arith, few, a, b, c)
 
 module _ {V : Type 0} where
   module _ (z : Opening) (words : List ℕ) (views : List (View V)) (h : List (Entry V)) (stands : Stands z words views h)
@@ -40,24 +47,25 @@ module _ {V : Type 0} where
       total_none (λ (v : View V). pays v.pending k) views (λ i v e. ap (λ q. pays q k) (idle i v e)),
     )
 
-    busy_fits : (r : ℕ) → IsBusy (leads z h) r → blocks_of (leads z h) r ≤ 65535
+    busy_fits : (r : ℕ) → IsBusy (leads z h) r → blocks_of (leads z h) r ≤ most_blocks
     busy_fits r busy =
         let p = ((sound z h stands.legal).placed r busy).1 in let l = (opened z h stands.legal).limits.0 in let p1 = p.1 in omega arith
 
-    pub free_word : (c : ℕ) → c < z.cells → slice_index words (cell_spot z c) % 65536 ≡ owned_by (leads z h) ((leads z h).cell c)
+    pub free_word : (c : ℕ) → c < z.cells → owned_in (slice_index words (cell_spot z c)) ≡ owned_by (leads z h) ((leads z h).cell c)
     free_word c lt =
         let s = leads z h in let fine = sound z h stands.legal in let k = cell_spot z c in
         let none = none_half k in let n1 = none.1 in let n2 = none.2 in
         let bank = bank_none z s fine stands.taken k
         (λ m o busy e. let p = (fine.placed o busy).1 in let l = slot_low m in
         let f = spot_fits z (s.object o).block (slot m) p (omega arith) in omega arith) in
-        let word : slice_index words k ≡ packed (blocks_of s) (s.cell c) + 17179869184 * stands.taken k = let w = stands.shows.free c lt in omega arith in
-        ap (λ n. n % 65536) word
-        ∙ low_of (blocks_of s) (s.cell c) (stands.taken k)
-        (bits_fit (blocks_of s) (s.cell c).object (λ r e. busy_fits r (cell_busy z s fine c r (let q = cells_led z h in omega arith) e)))
+        let word : slice_index words k ≡ packed (blocks_of s) (s.cell c) + one_taken * stands.taken k = let w = stands.shows.free c lt in omega arith in
+        ap owned_in word
+        ∙ owned_of (blocks_of s) (s.cell c) (stands.taken k) (let q = stands.most k in omega arith)
+        ((formed z h stands.legal).frees c (let q = cells_led z h in omega arith)).0.0
+        (λ r e. busy_fits r (cell_busy z s fine c r (let q = cells_led z h in omega arith) e))
 
-    pub member_at : (b m : ℕ) → InShape z b → m < 9
-        → slice_index words (spot b (7 + m)) % 65536 ≡ owned_by (leads z h) (((leads z h).object ((leads z h).latest b)).member m)
+    pub member_at : (b m : ℕ) → InShape z b → m < most_members
+        → owned_in (slice_index words (spot b (7 + m))) ≡ owned_by (leads z h) (((leads z h).object ((leads z h).latest b)).member m)
     member_at b m inside lt =
         let s = leads z h in let fine = sound z h stands.legal in let k = spot b (7 + m) in let o = s.latest b in let x = (s.object o).member m in
         let none = none_half k in let n0 = none.0 in let n1 = none.1 in let n2 = none.2 in
@@ -65,11 +73,11 @@ module _ {V : Type 0} where
         (λ j q busy e. let p = (fine.placed q busy).1 in let l = slot_low j in
         let t = spot_apart b (7 + m) (s.object q).block (slot j) inside.0 p.0 (omega arith) (omega arith) e in let t1 = t.1 in omega arith) in
         let same = member_word s b o m lt refl in
-        let word : slice_index words k ≡ packed (blocks_of s) x + 17179869184 * stands.taken k =
+        let word : slice_index words k ≡ packed (blocks_of s) x + one_taken * stands.taken k =
         ⊎_elim (λ l. absurd (let l1 = l.1 in omega arith)) (λ t. omega arith) (stands.shows.blocks b (7 + m) inside (omega arith)) in
-        ap (λ n. n % 65536) word
-        ∙ low_of (blocks_of s) x (stands.taken k)
-        (bits_fit (blocks_of s) x.object (λ r e. busy_fits r (member_busy z s fine o m r (let q = fine.latest_made b in omega arith) lt e)))
+        ap owned_in word
+        ∙ owned_of (blocks_of s) x (stands.taken k) (let q = stands.most k in omega arith) ((formed z h stands.legal).members o m).0.0
+        (λ r e. busy_fits r (member_busy z s fine o m r (let q = fine.latest_made b in omega arith) lt e))
 
 abbrev pub census_of : Shape → List ℕ → CensusNow
 census_of k l = record { blocks = k.blocks; members = members_of k; owners = k.owners; shared_cells = k.shared_cells; weak_cells = k.weak_cells; words = l }

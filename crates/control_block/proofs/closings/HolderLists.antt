@@ -5,6 +5,7 @@ use Rattle.control_block.proofs.Prelude.{block_holders, CellAt, CensusNow, cond-
 use Rattle.control_block.proofs.Prelude.{free_cell, free_holders, if_holds, member_holders}
 use Rattle.control_block.proofs.Prelude.{owned_at, site_place}
 use Rattle.control_block.specs.Holders.{member_cell, some_members}
+use Rattle.control_word.specs.Packing.{owned_in}
 
 none_right : {A : Type 0} → (l : List A) → l ++ [] ≡ l
 none_right [] = refl
@@ -16,15 +17,15 @@ join (u ∷ us) y z = ap (λ l. u ∷ l) (join us y z)
 
 module _ (c : CensusNow) (b : ℕ) where
   pub one_more : (x : CellAt) (w : ℕ) (old next : List CellAt) → w ≡ slice_index c.words (site_place c.blocks x.site)
-      → w % 65536 ≡ b → next ≡ old ++ x ∷ [] → next ≡ old ++ if_holds c b x
+      → owned_in w ≡ b → next ≡ old ++ x ∷ [] → next ≡ old ++ if_holds c b x
   one_more x w old next word is e =
-      let t : owned_at c x.site ≡ b = ap (λ n. n % 65536) (sym word) ∙ is in
+      let t : owned_at c x.site ≡ b = ap owned_in (sym word) ∙ is in
       e ∙ ap (λ l. old ++ l) (sym (cond-true (owned_at c x.site == b) (x ∷ []) [] (eq-eqb (owned_at c x.site) b t)))
 
   pub none_more : (x : CellAt) (w : ℕ) (old : List CellAt) → w ≡ slice_index c.words (site_place c.blocks x.site)
-      → w % 65536 ≢ b → old ≡ old ++ if_holds c b x
+      → owned_in w ≢ b → old ≡ old ++ if_holds c b x
   none_more x w old word isnt =
-      let t : owned_at c x.site ≢ b = λ e. isnt (ap (λ n. n % 65536) word ∙ e) in
+      let t : owned_at c x.site ≢ b = λ e. isnt (ap owned_in word ∙ e) in
       sym (none_right old)
       ∙ ap (λ l. old ++ l) (sym (cond-false (owned_at c x.site == b) (x ∷ []) [] (ne_eqb (owned_at c x.site) b t)))
 

@@ -8,11 +8,12 @@ use Prelude.{block_holders, blocks_of, by_block, cases_eq, cases_lt, cell_busy, 
 use Prelude.{common, cond-false, cond-true, empty, filter, filter-append, free_cell, free_holders}
 use Prelude.{frees_in, handle, Has, Held, holders_of, if_holds, in_cells, InShape, IsBusy, Kind}
 use Prelude.{kind_of_free, kind_of_member, many_of, member_busy, member_holders, NumberedHandle}
-use Prelude.{Object, Opening, owned_at, owned_bits, Owner, Place, same_kind, Sound, State, sum_all}
+use Prelude.{Object, Opening, owned_at, Owner, Place, same_kind, Sound, State, sum_all}
 use Prelude.{sum_below, sum_set, sum_zero, tally, tally_append, TellsCells, Weak, weak_number}
 use Rattle.control_word.proofs.history.Soundness.{Formed}
 use Rattle.control_word.proofs.lists.Tallies.{tally_cons, tally_upto_empty}
 use Rattle.control_word.specs.State.{members, upto}
+use Rattle.control_word.specs.Handles.{rank}
 use Rattle.control_block.specs.Holders.{member_cell, some_members}
 
 -- lists of one or none
@@ -84,7 +85,7 @@ module _ (z : Opening) (s : State) (fine : Sound z s) (b : ℕ) where
 
   -- a cell counts as the handle that it holds
   one_cell : (k : Kind) (c : CensusNow) (x : CellAt) (m : Kind) (n : Option ℕ) (p : Option Place) → 0 < b → x.kind ≡ m
-      → owned_at c x.site ≡ owned_bits (blocks_of s) n → ((q : ℕ) → n ≡ Some q → IsBusy s q)
+      → owned_at c x.site ≡ rank (blocks_of s) (handle m n p) → ((q : ℕ) → n ≡ Some q → IsBusy s q)
       → many_of k (if_holds c b x) ≡ tally k (s.latest b) (handle m n p ∷ [])
   one_cell k c x m None p pos kind owned busy =
       let e : (owned_at c x.site == b) ≡ false = ne_eqb (owned_at c x.site) b (λ e. let o = owned in omega arith) in

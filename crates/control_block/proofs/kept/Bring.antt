@@ -9,15 +9,16 @@ use Rattle.control_word.proofs.steps.Bring as law
 use Rattle.control_block.specs.FundStepKinds.{brought}
 use Rattle.control_block.proofs.Passage.{held_there, point, ready}
 use Rattle.control_block.proofs.words.Still.{allows_move}
+use Rattle.control_word.specs.Limits.{cell_funds}
 
-adds_funds : (n f : ℕ) → f ≤ 256 → n + 1099511627776 < 18446744073709551616 → (n + f * 4294967296) % 2 ^ 64 ≡ n + 4294967296 * f
+adds_funds : (n f : ℕ) → f ≤ cell_funds → n + 1099511627776 < 18446744073709551616 → (n + f * 4294967296) % 2 ^ 64 ≡ n + 4294967296 * f
 adds_funds n f few room = omega arith
 
 pub whole_funds : (f : ℕ) → f * 4294967296 / 4294967296 ≡ f
 whole_funds f = omega arith
 
 module _ {V : Type 0} where
-  pub allows_bring : (k : Shape) (slots id b o i f : ℕ) (m : Kind) (p : Option Place) (me : At V) → Rests me → HoldingInBlock me.0 m o p b → f ≤ 256
+  pub allows_bring : (k : Shape) (slots id b o i f : ℕ) (m : Kind) (p : Option Place) (me : At V) → Rests me → HoldingInBlock me.0 m o p b → f ≤ cell_funds
       → i ≡ spot b (slot m)
       → Allows (Ruled k) slots id me i (λ n. (n + f * 4294967296) % 2 ^ 64) (brought m o p (step slots i (f * 4294967296) 0 none) me)
   allows_bring k slots id b o i f m p me rests holds few e =

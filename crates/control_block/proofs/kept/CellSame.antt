@@ -12,6 +12,7 @@ use Rattle.control_block.proofs.CellWords.{is_open, opened}
 use Rattle.control_block.proofs.Passage.{allows_event, plain, point, ready}
 use Rattle.control_block.proofs.kept.Look.{looked}
 use Rattle.control_block.proofs.words.Hands.{hand_block, hand_there}
+use Rattle.control_word.specs.Packing.{without_taken}
 
 -- a handle's word goes by its object's block alone
 pub packed_by : (f g : ℕ → ℕ) (h : NumberedHandle) → block_of f h.object ≡ block_of g h.object → packed f h ≡ packed g h
@@ -29,14 +30,14 @@ module _ {V : Type 0} where
       → InHand (known me.0) me.0.view.name (kind_in me.0.shape c) h
       → Allows (Ruled k) slots id me i (λ n. n) (told_same c h (step slots i 0 0 none) me)
   allows_same k slots id i c h me rests cell hand =
-      allows_event k slots id i me (λ n. n) (λ n. Same c h (n % 17179869184 == packed (blocks_of (known me.0)) h)) Idle rests.awake rests.empty
+      allows_event k slots id i me (λ n. n) (λ n. Same c h (without_taken n == packed (blocks_of (known me.0)) h)) Idle rests.awake rests.empty
       (λ n. (plain (λ s d. refl) (λ s d. refl) (λ s f. refl)))
       (λ s r at small.
       let v = me.0 in let z = opening_of k in let t = leads z r.history in let views = map view_of s.views in
       let is = opened k s r id v at rests.awake c i cell in let p = point k s r id v in
       let word = packed_by (blocks_of t) (blocks_of (known v)) h (sym (hand_block k s r id v at rests.awake (kind_in v.shape c) h hand)) in
       let told : ℕ → ℕ → List (Entry V) =
-      λ x n. entry v.view.name (Same c h (get_or s.words x 0 % 17179869184 == n)) ∷ r.history in
+      λ x n. entry v.view.name (Same c h (without_taken (get_or s.words x 0) == n)) ∷ r.history in
       looked z s.words i _ _ (subst (λ (y : ℕ × ℕ). Stands z s.words (set views id (sees_as v.view Idle (told y.0 y.1))) (told y.0 y.1))
       (λ j. (is.there j, word j))
       (law.tells_same p c h (ready k s r id v at rests.awake Idle rests.idle) (is_open k s r id v at rests.awake c i cell)

@@ -21,6 +21,8 @@ use Rattle.control_block.proofs.Passage.{adds, point, quiet_clear, quiet_next, r
 use Rattle.control_block.proofs.Passage.{still_room}
 use Rattle.control_block.proofs.words.Still.{unmoved}
 use Rattle.control_block.proofs.kept.Swap.{gives}
+use Rattle.control_word.specs.Limits.{one_taken}
+use Rattle.control_word.specs.Limits.{cell_funds}
 
 -- the word of a member that holds nothing
 abbrev no_cell : CellWord
@@ -64,8 +66,8 @@ module _ {V : Type 0} where
         omega arith
 
     told : (taken : ℕ) → Rests (v, []) → HasRoomFor v → (let t = leads (opening_of k) r.history in let old = (t.object o).member m in
-        get_or s.words i 0 ≡ packed (blocks_of t) old + 17179869184 * taken
-        → Adds (point k s r id v) (cell_word (point k s r id v) (Member o m)) 0 (ClearMember o m old) (purse (blocks_of t) old (256 - taken)))
+        get_or s.words i 0 ≡ packed (blocks_of t) old + one_taken * taken
+        → Adds (point k s r id v) (cell_word (point k s r id v) (Member o m)) 0 (ClearMember o m old) (purse (blocks_of t) old (cell_funds - taken)))
     told taken rests more found =
         let t = leads (opening_of k) r.history in let old = (t.object o).member m in
         law.clears' (point k s r id v) o m (ready k s r id v at awake Idle rests.idle) phase
@@ -113,7 +115,8 @@ module _ {V : Type 0} where
       let adds' = told k s r id v at rests.awake o b m i ends lt e d.taken rest more (d.bits ∙ sym (cell_shown (blocks_of t) old d.taken)) in
       let now : Stands z (set s.words i 0) (set (map view_of s.views) id (sees_as v.view Idle hist)) hist =
       subst (λ y. Stands z (set s.words y 0) (set (map view_of s.views) id (sees_as v.view Idle hist)) hist) is.there
-      (subst (λ h. Adds (point k s r id v) (cell_word (point k s r id v) c) 0 (ClearMember o m h) (purse (blocks_of t) h (256 - d.taken))) nothing adds') in (
+      (subst (λ h. Adds (point k s r id v) (cell_word (point k s r id v) c) 0 (ClearMember o m h)
+      (purse (blocks_of t) h (cell_funds - d.taken))) nothing adds') in (
         seeing v Idle None hist,
         keeps,
         tt,

@@ -16,6 +16,7 @@ use Rattle.control_block.proofs.words.Hands.{hand_block, hand_there, room_swappe
 use Rattle.control_block.proofs.Passage.{point, quiet_compare}
 use Rattle.control_block.proofs.words.Still.{allows_exchange}
 use Rattle.control_block.proofs.kept.Swap.{gives, packs_new, ready_new}
+use Rattle.control_word.specs.Limits.{cell_funds}
 
 -- handles with one object and one place are equivalent
 pub equivalent_to : (x y : NumberedHandle) → x.object ≡ y.object → x.place ≡ y.place → equivalent x y ≡ true
@@ -37,7 +38,7 @@ module _ {V : Type 0} where
       (same_object k s r id v at awake expected.kind expected hand old.object (cell_keeps k s r id v at awake c i is) block) place
 
   pub allows_compare_swap : (k : Shape) (slots id i found n : ℕ) (c : Cell) (expected new : NumberedHandle) (weak' : Bool) (x y : CellWord) (me : At V)
-      → Owes (debt new y.owned 256) me
+      → Owes (debt new y.owned cell_funds) me
       → IsCellAt me.0 c i → IsCellWord x → found ≡ cell_bits x → IsWordOf me.0 expected x
       → InHand (known me.0) me.0.view.name (kind_in me.0.shape c) expected → IsWordOf me.0 new y → y.taken ≡ 0
       → InHand (known me.0) me.0.view.name (kind_in me.0.shape c) new → (new.object ≡ None → HasRoomFor me.0) → n ≡ cell_bits y
@@ -65,7 +66,7 @@ module _ {V : Type 0} where
       let g = gives k s r id i c v at owes.awake owes.empty (λ h. Compare c expected new h true weak')
       (λ h. quiet_compare c expected new h true weak') is d n x same
       (subst (λ m. Adds (point k s r id v) (cell_word (point k s r id v) c) m (Compare c expected new old true weak')
-      (purse (blocks_of t) old (256 - d.taken)))
+      (purse (blocks_of t) old (cell_funds - d.taken)))
       (sym (bits ∙ packs_new k s r id v at owes.awake new y is_new full own)) told) in (
         g.0,
         g.1,

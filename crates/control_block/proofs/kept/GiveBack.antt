@@ -9,8 +9,9 @@ use Rattle.atomic_table.specs.Table as Table
 use Rattle.control_word.proofs.steps.GiveBack as law
 use Rattle.control_block.proofs.Passage.{point, ready}
 use Rattle.control_block.proofs.words.Still.{allows_move}
+use Rattle.control_word.specs.Limits.{cell_funds}
 
-takes_funds : (n f : ℕ) → f ≤ 256 → 4294967296 * f ≤ n → n < 18446744073709551616
+takes_funds : (n f : ℕ) → f ≤ cell_funds → 4294967296 * f ≤ n → n < 18446744073709551616
     → (n + (2 ^ 64 - f * 4294967296)) % 2 ^ 64 ≡ n - 4294967296 * f
 takes_funds n f few enough lt = omega arith
 
@@ -19,7 +20,7 @@ module _ {V : Type 0} where
   pub owed_there : (k : Shape) (s : Table.State (Option V) (SeatView V)) (r : Ruled k s) (id : ℕ) (v : SeatView V) → get_elem? s.views id ≡ some v
       → v.view.spent ≡ false → (m : Kind) (o : ℕ) (p : Option Place) (j f l : ℕ) → v.view.pending ≡ Paying m o p j f l
       → let t = leads (opening_of k) r.history in
-      Has (held v.view.name (handle m (Some o) p)) t.hands × (j ≡ counts_at (blocks_of t) m o) × (f ≤ 256)
+      Has (held v.view.name (handle m (Some o) p)) t.hands × (j ≡ counts_at (blocks_of t) m o) × (f ≤ cell_funds)
       × Ready (point k s r id v) (Paying m o p (counts_at (blocks_of t) m o) f l)
   owed_there k s r id v at awake m o p j f l is =
       let z = opening_of k in let t = leads z r.history in

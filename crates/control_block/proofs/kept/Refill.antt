@@ -16,11 +16,12 @@ use Rattle.control_block.proofs.words.Hands.{same_number}
 use Rattle.control_block.proofs.Passage.{point}
 use Rattle.control_block.proofs.words.Still.{allows_exchange, moved_on}
 use Rattle.control_block.proofs.kept.GiveBack.{owed_there}
+use Rattle.control_word.specs.Limits.{one_taken}
 
 module _ {V : Type 0} where
   module _ (k : Shape) (slots id i found new : ℕ) (c : Cell) (x : CellWord) (o : ℕ) (p : Option Place) (b : Block) (me : At V)
       (owes : Owes (owing (kind_in me.0.shape c) o p b.0 x.taken 0) me) (cell : IsCellAt me.0 c i) (valid : IsCellWord x)
-      (is_found : found ≡ cell_bits x) (owned : x.owned ≡ Some b) (less : new + 17179869184 * x.taken ≡ found) where
+      (is_found : found ≡ cell_bits x) (owned : x.owned ≡ Some b) (less : new + one_taken * x.taken ≡ found) where
     refilling : (s : Table.State (Option V) (SeatView V)) (r : Ruled k s) (at : get_elem? s.views id ≡ some me.0)
         (is : Opened k s r id me.0 at owes.awake c i) → Decoded k s r id me.0 at owes.awake c i is → get_or s.words i 0 ≡ found
         → (q : Option ℕ) → (cell_of (leads (opening_of k) r.history) c).object ≡ q
@@ -40,14 +41,14 @@ module _ {V : Type 0} where
         let one = (same_counts z t fine kk kk o q (held_busy z t v.view.name o kk p fine mine.0) (cell_keeps k s r id v at owes.awake c i is q has)
         (sym mine.1 ∙ ap (λ n. spot n (slot kk)) there)).1 in
         let it : handle kk (Some o) x.place ≡ old = λ j. record { kind = sym d.kind j; object = (ap Some one ∙ sym has) j; place = (same j).place } in
-        let bits : get_or s.words i 0 ≡ packed (blocks_of t) (handle kk (Some o) x.place) + 17179869184 * x.taken =
+        let bits : get_or s.words i 0 ≡ packed (blocks_of t) (handle kk (Some o) x.place) + one_taken * x.taken =
         d.bits ∙ (sym (cell_shown (blocks_of t) old d.taken)
-        ∙ (λ j. packed (blocks_of t) (sym it j) + 17179869184 * sym (ap (λ y. y.taken) same) j)) in
+        ∙ (λ j. packed (blocks_of t) (sym it j) + one_taken * sym (ap (λ y. y.taken) same) j)) in
         let told = law.refills (point k s r id v) c kk o x.taken p x.place mine.3 (is_open k s r id v at owes.awake c i cell) it
         (ap (λ y. get_or s.words y 0) is.there ∙ bits) in
-        let stands = subst (λ y. Stands z (set s.words y (get_or s.words y 0 - 17179869184 * x.taken))
+        let stands = subst (λ y. Stands z (set s.words y (get_or s.words y 0 - one_taken * x.taken))
         (set (map view_of s.views) id (sees_as v.view Idle r.history)) r.history) is.there told in
-        let value : get_or s.words i 0 - 17179869184 * x.taken ≡ new = omega arith in
+        let value : get_or s.words i 0 - one_taken * x.taken ≡ new = omega arith in
         moved_on k s r id v (set s.words i new) Idle at owes.awake owes.empty record { single = λ d q. q; both = λ d seen. tt }
         (subst (λ n. Stands z (set s.words i n) (set (map view_of s.views) id (sees_as v.view Idle r.history)) r.history) value stands)
 

@@ -16,6 +16,7 @@ use Rattle.control_block.proofs.cells.CellRetries.{rested}
 use Rattle.control_block.proofs.Passage.{adds, allows_event, knows, plain, point, quiet_next}
 use Rattle.control_block.proofs.Passage.{ready, still_stored}
 use Rattle.control_block.proofs.words.Still.{moved_on, unmoved}
+use Rattle.control_word.specs.Layout.{shelf_words}
 
 pub told_set : (n j a : ℕ) → a ≡ 2 ^ j → not (bit_and n a == 0) ≡ true → bit_at n j ≡ 1
 told_set n j a is e =
@@ -47,15 +48,17 @@ module _ {V : Type 0} where
     there : (i b : ℕ) → i ≡ shelf_at v.shape (b / 64) → shelf_spot (opening_of k) b ≡ i
     there i b e = sym (e ∙ ap (λ y. shelf_at y (b / 64)) (r.shapes id v at awake))
 
-    shown : (i : ℕ) (b : ℕ) → i ≡ shelf_at v.shape (b / 64) → b < 65536
+    shown : (i : ℕ) (b : ℕ) → i ≡ shelf_at v.shape (b / 64) → b / 64 < shelf_words v.shape.blocks
         → bit_at (get_or s.words i 0) (b % 64) ≡ Rattle.control_word.specs.State.on_shelf (leads (opening_of k) r.history) b
     shown i b e low =
         ap (λ y. bit_at (get_or s.words y 0) (b % 64)) (sym (there i b e))
-        ∙ law.shelf_shows (point k s r id v) v.view.pending b (ready k s r id v at awake v.view.pending refl) low
+        ∙ law.shelf_shows (point k s r id v) v.view.pending b (ready k s r id v at awake v.view.pending refl)
+        (let same = ap (λ (y : Shape). shelf_words y.blocks) (r.shapes id v at awake) in omega arith)
 
   pub allows_shelf_look : (k : Shape) (slots id i j : ℕ) (me : At V) → Rests me → i ≡ shelf_at me.0.shape j
+      → j < shelf_words me.0.shape.blocks
       → Allows (Ruled k) slots id me i (λ n. n) (told_shelf j (step slots i 0 0 none) me)
-  allows_shelf_look k slots id i j me rests e s r sized at small =
+  allows_shelf_look k slots id i j me rests e low s r sized at small =
       let v = me.0 in (
         v,
         keeps,
@@ -64,7 +67,7 @@ module _ {V : Type 0} where
         (
           refl,
           so_now k s r id v at rests.awake (IsShelfWord j (get_or s.words i 0))
-              (λ b low q. shown k s r id v at rests.awake i b (e ∙ ap (shelf_at v.shape) (sym q)) low),
+              (λ b q. shown k s r id v at rests.awake i b (e ∙ ap (shelf_at v.shape) (sym q)) (omega arith)),
         ),
       )
 
@@ -84,8 +87,11 @@ module _ {V : Type 0} where
 
   -- a bit is cleared, by what it was
   module _ (k : Shape) (slots id i a : ℕ) (b : Block) (me : At V) (rests : Rests me) (e : i ≡ shelf_at me.0.shape (b.0 / 64))
-      (is : a ≡ bit_not w64 (bit_of b.0)) (low : b.0 < 65536) (s : Table.State (Option V) (SeatView V)) (r : Ruled k s)
+      (is : a ≡ bit_not w64 (bit_of b.0)) (low : b.0 / 64 < shelf_words me.0.shape.blocks) (s : Table.State (Option V) (SeatView V)) (r : Ruled k s)
       (at : get_elem? s.views id ≡ some me.0) where
+    low_here : b.0 / 64 < shelf_words k.blocks
+    low_here = let same = ap (λ (y : Shape). shelf_words y.blocks) (r.shapes id me.0 at rests.awake) in omega arith
+
     abbrev Cleared : Type 0
     Cleared = (w : SeatView V) × Ruled k record { words = set s.words i (bit_and (get_or s.words i 0) a); homes = s.homes; views = set s.views id w }
         × unshelved b (step slots i a 0 none) me (get_or s.words i 0) (w, me.1)
@@ -94,7 +100,7 @@ module _ {V : Type 0} where
     was_set one =
         let v = me.0 in let h = entry v.view.name (Unshelve b) ∷ r.history in
         let here = there k s r id v at rests.awake i b.0 e in
-        let now = (law.unshelves' (point k s r id v) b (ready k s r id v at rests.awake Idle rests.idle) low).0
+        let now = (law.unshelves' (point k s r id v) b (ready k s r id v at rests.awake Idle rests.idle) (low_here)).0
         (ap (λ y. bit_at (get_or s.words y 0) (b.0 % 64)) here ∙ one) in
         let stands = subst (λ (y : ℕ × ℕ). Stands (opening_of k) (set s.words y.0 (bit_and (get_or s.words y.0 0) y.1))
         (set (map view_of s.views) id (sees_as v.view Idle h)) h) (λ j. (here j, sym is j)) now in (
@@ -110,7 +116,7 @@ module _ {V : Type 0} where
     was_clear none' =
         let v = me.0 in
         let here = there k s r id v at rests.awake i b.0 e in
-        let now = (law.unshelves' (point k s r id v) b (ready k s r id v at rests.awake Idle rests.idle) low).1
+        let now = (law.unshelves' (point k s r id v) b (ready k s r id v at rests.awake Idle rests.idle) (low_here)).1
         (ap (λ y. bit_at (get_or s.words y 0) (b.0 % 64)) here ∙ none') in
         let stands = subst (λ (y : ℕ × ℕ). Stands (opening_of k) (set s.words y.0 (bit_and (get_or s.words y.0 0) y.1))
         (set (map view_of s.views) id (sees_as v.view Idle r.history)) r.history) (λ j. (here j, sym is j)) now in (
@@ -130,7 +136,7 @@ module _ {V : Type 0} where
         (cases_eq (bit_at (get_or s.words i 0) (b.0 % 64)) 0)
 
   pub allows_unshelve : (k : Shape) (slots id i a : ℕ) (b : Block) (me : At V) → Rests me → i ≡ shelf_at me.0.shape (b.0 / 64)
-      → a ≡ bit_not w64 (bit_of b.0) → b.0 < 65536
+      → a ≡ bit_not w64 (bit_of b.0) → b.0 / 64 < shelf_words me.0.shape.blocks
       → Allows (Ruled k) slots id me i (λ n. bit_and n a) (unshelved b (step slots i a 0 none) me)
   allows_unshelve k slots id i a b me rests e is low s r sized at small =
       let t = cleared k slots id i a b me rests e is low s r at in (t.0, keeps, tt, t.1, t.2)

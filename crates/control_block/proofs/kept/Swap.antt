@@ -14,6 +14,7 @@ use Rattle.control_block.specs.CellStepKinds.{swapped}
 use Rattle.control_block.proofs.CellWords.{Decoded, Opened, decoded, found_is, is_open, opened}
 use Rattle.control_block.proofs.words.Hands.{debt_purse, hand_block, hand_there, room_swapped}
 use Rattle.control_block.proofs.Passage.{IsQuiet, adds, point, quiet_next, quiet_swap, ready}
+use Rattle.control_word.specs.Limits.{cell_funds}
 
 module _ {V : Type 0} where
   module _ (k : Shape) (s : Table.State (Option V) (SeatView V)) (r : Ruled k s) (id : ℕ) (v : SeatView V) (at : get_elem? s.views id ≡ some v)
@@ -31,23 +32,24 @@ module _ {V : Type 0} where
         let t = leads (opening_of k) r.history in let a = cell_shown (blocks_of t) new 0 in let b = ap cell_bits shows_new in omega arith
 
     -- the call is ready, with its funds brought
-    pub ready_new : v.view.pending ≡ debt new y.owned 256 → Ready (point k s r id v) (purse (blocks_of (leads (opening_of k) r.history)) new 256)
+    pub ready_new : v.view.pending ≡ debt new y.owned cell_funds → Ready (point k s r id v) (purse (blocks_of (leads (opening_of k) r.history)) new cell_funds)
     ready_new owes =
         let t = leads (opening_of k) r.history in
-        ready k s r id v at awake (purse (blocks_of t) new 256)
-        (owes ∙ (ap (λ x. debt new x.owned 256) shows_new ∙ debt_purse (blocks_of t) new 256))
+        ready k s r id v at awake (purse (blocks_of t) new cell_funds)
+        (owes ∙ (ap (λ x. debt new x.owned cell_funds) shows_new ∙ debt_purse (blocks_of t) new cell_funds))
 
   module _ (k : Shape) (s : Table.State (Option V) (SeatView V)) (r : Ruled k s) (id i : ℕ) (c : Cell) (v : SeatView V) (at : get_elem? s.views id ≡ some v)
       (awake : v.view.spent ≡ false) (free : v.hand ≡ None) (e : NumberedHandle → Event V) (quiet : (h : NumberedHandle) → IsQuiet (e h))
       (is : Opened k s r id v at awake c i) (d : Decoded k s r id v at awake c i is) (n : ℕ) where
     -- what a swap gives, by the law of its kind
     pub gives : (x : CellWord) → let t = leads (opening_of k) r.history in let old = cell_of t c in x ≡ shown (blocks_of t) old d.taken
-        → Adds (point k s r id v) (cell_word (point k s r id v) c) n (e old) (purse (blocks_of t) old (256 - d.taken))
+        → Adds (point k s r id v) (cell_word (point k s r id v) c) n (e old) (purse (blocks_of t) old (cell_funds - d.taken))
         → (w : SeatView V) × Ruled k record { words = set s.words i n; homes = s.homes; views = set s.views id w } × Gave e (kind_in v.shape c) v x w
     gives x same told =
-        let z = opening_of k in let t = leads z r.history in let old = cell_of t c in let p = purse (blocks_of t) old (256 - d.taken) in
+        let z = opening_of k in let t = leads z r.history in let old = cell_of t c in let p = purse (blocks_of t) old (cell_funds - d.taken) in
         let hist = entry v.view.name (e old) ∷ r.history in let w = seeing v p None hist in
-        let owed : debt old x.owned (256 - x.taken) ≡ p = ap (λ y. debt old y.owned (256 - y.taken)) same ∙ debt_purse (blocks_of t) old (256 - d.taken) in
+        let owed : debt old x.owned (cell_funds - x.taken) ≡ p = ap (λ y. debt old y.owned (cell_funds - y.taken)) same
+        ∙ debt_purse (blocks_of t) old (cell_funds - d.taken) in
         let blocks : blocks_of (known w) ≡ blocks_of t =
         ap (λ y. blocks_of (leads (opening_of y) hist)) (r.shapes id v at awake) ∙ fun_ext (λ o. (quiet old).blocks t v.view.name o) in
         let stands = subst (λ y. Stands z (set s.words y n) (set (map view_of s.views) id (sees_as v.view p hist)) hist) is.there told in (
@@ -61,7 +63,7 @@ module _ {V : Type 0} where
           },
         )
 
-  pub allows_swap : (k : Shape) (slots id i n : ℕ) (c : Cell) (new : NumberedHandle) (y : CellWord) (me : At V) → Owes (debt new y.owned 256) me
+  pub allows_swap : (k : Shape) (slots id i n : ℕ) (c : Cell) (new : NumberedHandle) (y : CellWord) (me : At V) → Owes (debt new y.owned cell_funds) me
       → IsCellAt me.0 c i → IsWordOf me.0 new y → y.taken ≡ 0 → InHand (known me.0) me.0.view.name (kind_in me.0.shape c) new
       → (new.object ≡ None → HasRoomFor me.0) → n ≡ cell_bits y
       → Allows (Ruled k) slots id me i (λ _. n) (swapped c (λ h. Swap c new h) (step slots i n 0 none) me)
@@ -77,7 +79,8 @@ module _ {V : Type 0} where
       (ap (λ j. get_or s.words j 0) is.there ∙ (d.bits ∙ sym (cell_shown (blocks_of t) (cell_of t c) d.taken))) in
       let g = gives k s r id i c v at owes.awake owes.empty (λ h. Swap c new h)
       (λ h. quiet_swap c new h) is d n x refl
-      (subst (λ m. Adds (point k s r id v) (cell_word (point k s r id v) c) m (Swap c new (cell_of t c)) (purse (blocks_of t) (cell_of t c) (256 - d.taken)))
+      (subst (λ m. Adds (point k s r id v) (cell_word (point k s r id v) c) m (Swap c new (cell_of t c))
+      (purse (blocks_of t) (cell_of t c) (cell_funds - d.taken)))
       (sym (bits ∙ packs_new k s r id v at owes.awake new y is_new full own)) told) in (
         g.0,
         keeps,

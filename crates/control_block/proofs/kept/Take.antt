@@ -18,11 +18,14 @@ use Rattle.control_block.proofs.words.Hands.{hand_block, hand_there}
 use Rattle.control_block.proofs.Passage.{IsQuiet, adds, plain, point, quiet_next, ready}
 use Rattle.control_block.proofs.Passage.{still_room}
 use Rattle.control_block.proofs.words.Still.{allows_exchange}
+use Rattle.control_word.specs.Limits.{one_taken}
+use Rattle.control_word.specs.Limits.{cell_funds}
+use Rattle.control_word.specs.Packing.{taken_in}
+use Rattle.control_word.proofs.packing.Cells.{cell_taken_in}
 
 -- of a word that shows less than 256 taken a fund is left
-left_over : (x : CellWord) → IsCellWord x → x.taken < 256 → cell_bits x < 4398046511104
-left_over x h lt =
-    let o = owned_fits x.owned h.owned in let b = block_fits x.place h.place in let f = field_fits x.place h.place in omega arith
+left_over : (x : CellWord) → IsCellWord x → x.taken < cell_funds → taken_in (cell_bits x) < cell_funds
+left_over x h lt = let t = cell_taken_in x h in omega arith
 
 -- handles that are not of one object and one place are not equivalent
 pub not_equivalent : (x y : NumberedHandle) → (x.object ≡ y.object → x.place ≡ y.place → ⊥) → false ≡ equivalent x y
@@ -42,12 +45,12 @@ module _ {V : Type 0} where
       (is : Opened k s r id me.0 at rests.awake c i) (o : ℕ) → let t = leads (opening_of k) r.history in
       let h = handle (kind_in me.0.shape c) (Some o) x.place in
       h ≡ cell_of t c → get_or s.words i 0 ≡ cell_bits x
-      → Adds (point k s r id me.0) (cell_word (point k s r id me.0) c) (get_or s.words (cell_word (point k s r id me.0) c) 0 + 17179869184) (e h)
+      → Adds (point k s r id me.0) (cell_word (point k s r id me.0) c) (get_or s.words (cell_word (point k s r id me.0) c) 0 + one_taken) (e h)
       (Paying (kind_in me.0.shape c) o x.place (counts_at (blocks_of t) (kind_in me.0.shape c) o) 1 1)) where
     taking : (s : Table.State (Option V) (SeatView V)) (r : Ruled k s) (at : get_elem? s.views id ≡ some me.0)
         (is : Opened k s r id me.0 at rests.awake c i) → Decoded k s r id me.0 at rests.awake c i is → get_or s.words i 0 ≡ found
         → (q : Option ℕ) → (cell_of (leads (opening_of k) r.history) c).object ≡ q
-        → (w : SeatView V) × Ruled k record { words = set s.words i (found + 17179869184); homes = s.homes; views = set s.views id w }
+        → (w : SeatView V) × Ruled k record { words = set s.words i (found + one_taken); homes = s.homes; views = set s.views id w }
         × Took e (kind_in me.0.shape c) me.0 x w
     taking s r at is d q None bare =
         let t = leads (opening_of k) r.history in let same = found_is k s r id me.0 at rests.awake c i is d x valid (q ∙ is_found) in
@@ -59,11 +62,11 @@ module _ {V : Type 0} where
         let it : h ≡ old = λ j. record { kind = sym d.kind j; object = sym has j; place = (same j).place } in
         let p : Pending V = Paying kk o x.place (counts_at (blocks_of t) kk o) 1 1 in let hist = entry v.view.name (e h) ∷ r.history in
         let told = law s r at is o it (q ∙ is_found) in
-        let stands = subst (λ n. Stands z (set s.words i (n + 17179869184)) (set (map view_of s.views) id (sees_as v.view p hist)) hist) q
-        (subst (λ y. Stands z (set s.words y (get_or s.words y 0 + 17179869184)) (set (map view_of s.views) id (sees_as v.view p hist)) hist) is.there
+        let stands = subst (λ n. Stands z (set s.words i (n + one_taken)) (set (map view_of s.views) id (sees_as v.view p hist)) hist) q
+        (subst (λ y. Stands z (set s.words y (get_or s.words y 0 + one_taken)) (set (map view_of s.views) id (sees_as v.view p hist)) hist) is.there
         told) in (
           seeing v p None hist,
-          quiet_next k s r id v (set s.words i (found + 17179869184)) (e h) p at rests.awake rests.empty (quiet h) stands,
+          quiet_next k s r id v (set s.words i (found + one_taken)) (e h) p at rests.awake rests.empty (quiet h) stands,
           record {
             object = o;
             block = record { 0 = blocks_of t o };
@@ -74,10 +77,10 @@ module _ {V : Type 0} where
           },
         )
 
-    pub allows_take : Allows (Ruled k) slots id me i (λ n. either (n == found) (found + 17179869184) n)
-        (took c e (step slots i found (found + 17179869184) none) me)
+    pub allows_take : Allows (Ruled k) slots id me i (λ n. either (n == found) (found + one_taken) n)
+        (took c e (step slots i found (found + one_taken) none) me)
     allows_take =
-        allows_exchange k slots id i found (found + 17179869184) me (took c e (step slots i found (found + 17179869184) none) me)
+        allows_exchange k slots id i found (found + one_taken) me (took c e (step slots i found (found + one_taken) none) me)
         (λ s r at q.
         let is = opened k s r id me.0 at rests.awake c i cell in let d = decoded k s r id me.0 at rests.awake c i is in
         (λ m. absurd (q m), λ _. (record { cell = _; valid = d.valid; bits = d.bits }, refl)))
@@ -94,29 +97,31 @@ module _ {V : Type 0} where
 
   pub allows_load : (k : Shape) (slots id i found : ℕ) (c : Cell) (x : CellWord) (me : At V) → Rests me → IsCellAt me.0 c i → IsCellWord x
       → found ≡ cell_bits x
-      → x.owned ≢ None → x.taken < 256 → HasRoomFor me.0
-      → Allows (Ruled k) slots id me i (λ n. either (n == found) (found + 17179869184) n)
-      (took c (λ h. Load c h) (step slots i found (found + 17179869184) none) me)
+      → x.owned ≢ None → x.taken < cell_funds → HasRoomFor me.0
+      → Allows (Ruled k) slots id me i (λ n. either (n == found) (found + one_taken) n)
+      (took c (λ h. Load c h) (step slots i found (found + one_taken) none) me)
   allows_load k slots id i found c x me rests cell valid is_found holds left more =
       allows_take k slots id i found c x (λ h. Load c h) me rests cell valid is_found holds
       (λ h. (plain (λ s d. refl) (λ s d. refl) (λ s f. refl)))
       (λ s r at is o same bits.
-      let low = subst (λ y. get_or s.words y 0 < 4398046511104) (sym is.there) (subst (λ n. n < 4398046511104) (sym bits) (left_over x valid left)) in
+      let low = subst (λ y. taken_in (get_or s.words y 0) < cell_funds) (sym is.there)
+      (subst (λ n. taken_in n < cell_funds) (sym bits) (left_over x valid left)) in
       (law.takes (point k s r id me.0) c (kind_in me.0.shape c) o x.place (ready k s r id me.0 at rests.awake Idle rests.idle) same
       (still_room k s r id me.0 at rests.awake more) low).0 (is_open k s r id me.0 at rests.awake c i cell))
 
   pub allows_differ : (k : Shape) (slots id i found : ℕ) (c : Cell) (expected new : NumberedHandle) (weak' : Bool) (x : CellWord) (me : At V) → Rests me
-      → IsCellAt me.0 c i → IsCellWord x → found ≡ cell_bits x → x.owned ≢ None → x.taken < 256 → HasRoomFor me.0
+      → IsCellAt me.0 c i → IsCellWord x → found ≡ cell_bits x → x.owned ≢ None → x.taken < cell_funds → HasRoomFor me.0
       → InHand (known me.0) me.0.view.name (kind_in me.0.shape c) expected → InHand (known me.0) me.0.view.name (kind_in me.0.shape c) new
       → (IsWordOf me.0 expected x → ⊥) ⊎ (weak' ≡ true)
-      → Allows (Ruled k) slots id me i (λ n. either (n == found) (found + 17179869184) n)
-      (took c (λ h. Compare c expected new h false weak') (step slots i found (found + 17179869184) none) me)
+      → Allows (Ruled k) slots id me i (λ n. either (n == found) (found + one_taken) n)
+      (took c (λ h. Compare c expected new h false weak') (step slots i found (found + one_taken) none) me)
   allows_differ k slots id i found c expected new weak' x me rests cell valid is_found holds left more he hn why =
       allows_take k slots id i found c x (λ h. Compare c expected new h false weak') me rests cell valid is_found holds
       (λ h. (plain (λ s d. refl) (λ s d. refl) (λ s f. refl)))
       (λ s r at is o same bits.
       let v = me.0 in let t = leads (opening_of k) r.history in let kk = kind_in v.shape c in let h = handle kk (Some o) x.place in
-      let low = subst (λ y. get_or s.words y 0 < 4398046511104) (sym is.there) (subst (λ n. n < 4398046511104) (sym bits) (left_over x valid left)) in
+      let low = subst (λ y. taken_in (get_or s.words y 0) < cell_funds) (sym is.there)
+      (subst (λ n. taken_in n < cell_funds) (sym bits) (left_over x valid left)) in
       let shows = found_is k s r id v at rests.awake c i is (decoded k s r id v at rests.awake c i is) x valid bits in
       let other : (false ≡ equivalent h expected) ⊎ (weak' ≡ true) =
       ⊎_elim (λ n. inl (not_equivalent h expected (λ e p. n (λ j. record {

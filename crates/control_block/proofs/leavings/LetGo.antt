@@ -11,6 +11,7 @@ use Rattle.control_block.proofs.cells.CellRetries.{added_owes, came_object, give
 use Rattle.control_block.proofs.cells.CellRetries.{object_shown}
 use Rattle.control_block.proofs.words.Seats.{added_as}
 use Rattle.control_block.proofs.cells.CellTrades.{Trades, came_in_shape, came_inside}
+use Rattle.control_word.specs.Limits.{cell_funds}
 
 module _ {V : Type 0} where
   pub owes_rests : (me : At V) → Owes Idle me → Rests me
@@ -22,9 +23,9 @@ module _ {V : Type 0} where
 
   -- what owes its funds may leave
   pub may_go : (k : Kind) (x : CellWord) (me : At V) (b : Block) (o : ℕ) (p : Option Place) (f : ℕ) → OwesFor k x me → x.owned ≡ Some b
-      → o ≡ (known me.0).latest b.0 → p ≡ x.place → f ≡ 256 - x.taken → MayLeave me k o p b.0 f
+      → o ≡ (known me.0).latest b.0 → p ≡ x.place → f ≡ cell_funds - x.taken → MayLeave me k o p b.0 f
   may_go k x me b o p f owes is object place left =
-      let now = subst (λ q. Owes (debt (handle k (object_by (known me.0).latest q) x.place) q (256 - x.taken)) me) is owes in
+      let now = subst (λ q. Owes (debt (handle k (object_by (known me.0).latest q) x.place) q (cell_funds - x.taken)) me) is owes in
       inr (subst (λ (y : ℕ × Option Place × ℕ). Owes (owing k y.0 y.1 b.0 y.2 0) me) (λ i. (sym object i, sym place i, sym left i)) now)
 
   pub meant_out : (k : Kind) (v : SeatView V) (x : CellWord)
@@ -39,7 +40,7 @@ module _ {V : Type 0} where
   -- an empty handle owes nothing
   pub none_owed : (k : Kind) (x : CellWord) (me : At V) → OwesFor k x me → x.owned ≡ None → Rests me
   none_owed k x me owes is =
-      owes_rests me (subst (λ q. Owes (debt (handle k (object_by (known me.0).latest q) x.place) q (256 - x.taken)) me) is owes)
+      owes_rests me (subst (λ q. Owes (debt (handle k (object_by (known me.0).latest q) x.place) q (cell_funds - x.taken)) me) is owes)
 
   pub none_gone : (k : Kind) (v : SeatView V) (x : CellWord) (r : Released V) → x.owned ≡ None → r ≡ nothing → LetGo k v x.owned x.place r v
   none_gone k v x r is none = subst (λ q. LetGo k v q x.place r v) (sym is) (none, refl)
@@ -70,22 +71,22 @@ module _ {V : Type 0} where
     pub gave_owes : (me : At V) → Gave e k v x me.0 → v.view.spent ≡ false → me.1 ≡ [] → OwesFor k x me
     gave_owes me g awake none = go x.owned refl
       where
-        go : (q : Option Block) → x.owned ≡ q → Owes (debt (handle k (object_by (known me.0).latest q) x.place) q (256 - x.taken)) me
+        go : (q : Option Block) → x.owned ≡ q → Owes (debt (handle k (object_by (known me.0).latest q) x.place) q (cell_funds - x.taken)) me
         go None is =
-            added_owes v me Idle (e g.old) (subst (λ q. Added v (debt g.old q (256 - x.taken)) None (e g.old) me.0) is g.event) awake none
+            added_owes v me Idle (e g.old) (subst (λ q. Added v (debt g.old q (cell_funds - x.taken)) None (e g.old) me.0) is g.event) awake none
         go (Some b) is =
             let w = me.0 in
             let c : CameOut e k v x (goes_on w) = record {
               handle = g.old;
               kind = g.kind;
               shows = g.shows;
-              event = added_as v w (goes_on w) (debt g.old x.owned (256 - x.taken)) Idle None None (e g.old) g.event refl;
+              event = added_as v w (goes_on w) (debt g.old x.owned (cell_funds - x.taken)) Idle None None (e g.old) g.event refl;
             } in
             let o = (came_object e k v (goes_on w) x lost b trades c is).0 in
             let object : object_of g.old ≡ (known w).latest b.0 = ap (λ (q : Option ℕ). object_of (handle k q None)) o in
             let place : g.old.place ≡ x.place = sym (ap (λ y. y.place) g.shows) in
-            let now = added_owes v me _ (e g.old) (subst (λ q. Added v (debt g.old q (256 - x.taken)) None (e g.old) w) is g.event) awake none in
-            subst (λ (y : Kind × ℕ × Option Place). Owes (owing y.0 y.1 y.2 b.0 (256 - x.taken) 0) me) (λ i. (g.kind i, object i, place i)) now
+            let now = added_owes v me _ (e g.old) (subst (λ q. Added v (debt g.old q (cell_funds - x.taken)) None (e g.old) w) is g.event) awake none in
+            subst (λ (y : Kind × ℕ × Option Place). Owes (owing y.0 y.1 y.2 b.0 (cell_funds - x.taken) 0) me) (λ i. (g.kind i, object i, place i)) now
 
     -- and its block and count are the table's
     pub gave_there : (w : SeatView V) (id : TableId) → Gave e k v x w → IsSized id v.shape → IfSome x.owned (λ b. IsCounted k b id × (b.0 ≤ id.slots))
@@ -95,7 +96,7 @@ module _ {V : Type 0} where
         go None is = tt
         go (Some b) is =
             let o = object_shown (blocks_of (known w)) g.old.object b (sym (ap (λ y. y.owned) g.shows) ∙ is) in
-            let p = debt g.old x.owned (256 - x.taken) in
+            let p = debt g.old x.owned (cell_funds - x.taken) in
             let inside = came_in_shape v w p e lost g.old k o.0 b trades g.event g.kind o.1 o.2 in let low = inside.1 in let slots = sized.slots in
             (came_inside v w p e lost g.old k o.0 b id trades g.event g.kind o.1 o.2 sized, omega arith)
 
@@ -110,7 +111,7 @@ module _ {V : Type 0} where
   module _ (e : NumberedHandle → Event V) (k : Kind) (v w : SeatView V) (x : CellWord) (g : Gave e k v x w) (is : x.owned ≡ None) where
     none_over : goes_on w ≡ w
     none_over =
-        let now = subst (λ q. Added v (debt g.old q (256 - x.taken)) None (e g.old) w) is g.event in
+        let now = subst (λ q. Added v (debt g.old q (cell_funds - x.taken)) None (e g.old) w) is g.event in
         over_already w (ap (λ (u : SeatView V). u.view.pending) now.now) (ap (λ (u : SeatView V). u.hand) now.now)
 
   again : (v u : SeatView V) (a : Event V) → Added v Idle None a u → Added (goes_on v) Idle None a u

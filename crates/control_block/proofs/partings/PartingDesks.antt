@@ -11,6 +11,7 @@ use Prelude.{sound, State, stock, stored, sum_at, times}
 use Rattle.control_word.proofs.history.Kept.{Same}
 use Rattle.control_word.proofs.history.Soundness.{Allowed}
 use Rattle.control_block.proofs.partings.PartingStates.{StoredThere, stored_there}
+use Rattle.control_word.specs.Limits.{most_allowance}
 
 -- a handle goes to its block and back to the object last made there
 to_block : (s : State) (k : Kind) (o : Option ℕ) (p : Option Place) → has_object (handle k o p) ≡ true
@@ -106,7 +107,7 @@ allowance_within z s n al =
     ⊎_elim (λ (lt : n < s.names). let t = sum_at s.names n s.allowance lt in omega arith)
     (λ (le : s.names ≤ n). let t = al.beyond n le in omega arith) (cases_lt n s.names)
 
-pub allowance_most : {V : Type 0} (d : Inside V) → IsDesk d → d.allowance ≤ 4194304
+pub allowance_most : {V : Type 0} (d : Inside V) → IsDesk d → d.allowance ≤ most_allowance
 allowance_most d h =
     let v = d.seat.me.0 in let z = opening_of v.shape in
     let t = allowance_within z (known v) v.view.name (allowed z v.view.seen h.legal) in

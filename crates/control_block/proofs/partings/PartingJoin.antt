@@ -20,6 +20,7 @@ use Rattle.control_block.proofs.partings.PartingMerge.{both_parts, filter_map, i
 use Rattle.control_block.proofs.partings.PartingMerge.{tallies_join}
 use Rattle.control_block.proofs.partings.PartingStates.{own_tally}
 use Rattle.control_block.proofs.words.Stores.{stock_few}
+use Rattle.control_word.specs.Limits.{most_allowance, most_blocks}
 
 module _ {V : Type 0} where
   -- two desks of a domain have its shape
@@ -124,7 +125,7 @@ module _ {V : Type 0} where
         let e : many_ending v.shape.blocks then n ≡ d.endings = one.count ∙ sym h.ended in
         omega arith
 
-    pub endings_few : d.endings + o.endings ≤ 65535
+    pub endings_few : d.endings + o.endings ≤ most_blocks
     endings_few = let t = few_ending u.shape.blocks (known u) n in let e = endings_after in let a = h.limits.blocks in
         let s = ap (λ (y : Shape). y.blocks) shape in omega arith
 
@@ -135,7 +136,7 @@ module _ {V : Type 0} where
         ∙ (put_same then.allowance n (then.allowance n + then.allowance m) n refl ∙ (λ k. one.same.may_hold k + two.same.may_hold k)))
 
     -- allowances together are no more than there is
-    pub allowance_few : d.allowance + o.allowance ≤ 4194304
+    pub allowance_few : d.allowance + o.allowance ≤ most_allowance
     allowance_few =
         let t = allowance_within (opening_of v.shape) (known u) n (allowed_now) in let a = h.limits.allowance in let e = allowance_after in
         let x = h.allowed in let y = i.allowed in omega arith

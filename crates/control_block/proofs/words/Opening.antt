@@ -12,15 +12,22 @@ use Rattle.control_word.proofs.steps.Standing.{begins}
 use Rattle.control_word.specs.Layout.{table_size}
 use Rattle.control_word.specs.State.{IsOpening, start}
 use Rattle.control_word.specs.Views.{fresh}
+use Rattle.control_word.specs.Limits.{HasRoomForFunds}
+use Rattle.std.proofs.Common.{◌+◌}
 
 -- a shape within the limits has a proper opening
 pub proper : (k : Shape) → IsWithinLimits k → IsOpening (opening_of k)
 proper k fine =
     let b = fine.blocks in let c = fine.cells in let a = fine.allowance in let s = fine.some_handle in
+    let weaks_are : k.weaks ≡ k.owners + k.weaks - k.owners = omega arith in
     record {
       limits = (b, c, a);
       members = let m = fine.members in let o = m.0 in let w = m.1 in let n = m.2 in (omega arith, omega arith);
       owners = let m = fine.members in let o = m.0 in let w = m.1 in (o, omega arith);
+      room = (
+        fine.owners_room,
+        subst (λ n. HasRoomForFunds k.allowance n k.blocks (k.shared_cells + k.weak_cells)) weaks_are fine.weaks_room,
+      );
       holders = λ n. omega arith;
       shares = omega arith;
       positive = λ d lt. let e : d ≡ 0 = omega arith in subst (λ (x : ℕ). 0 < cond (x == 0) k.allowance 0) (sym e) s;

@@ -10,7 +10,7 @@ ghost use Rattle.control_block.specs.Holders.{many_of, member_holders};
 use crate::cell_calls::CellAt;
 use crate::census::Census;
 use control_word::model::handle::Kind;
-use control_word::packed::cell::OWNED_MASK;
+use control_word::packed::cell::owned_number;
 use control_word::packed::layout::site_word;
 use control_word::{Block, Counts, Refusal, Site};
 use std::alloc::{AllocError, Global};
@@ -115,7 +115,7 @@ impl<V: Drop> Census<V> {
         ensures { OnOk result (cells.new.items ≡ cells.old.items ++ if_holds self.now block.0 cell) }
     {
         let word = self.closed.word(site_word(self.shape.blocks, cell.site));
-        if word & OWNED_MASK == u64::from(block.0) {
+        if owned_number(word) == u64::from(block.number()) {
             cells.push(cell)?;
         }
         Ok(())
@@ -154,7 +154,7 @@ impl<V: Drop> Census<V> {
             (cells.new.items ≡ cells.old.items ++ member_holders self.now block.0 self.now.blocks) }
     {
         for before in 0..self.shape.blocks {
-            self.add_members(Block((before + 1) as u16), block, cells)?;
+            self.add_members(Block::numbered(before + 1), block, cells)?;
         }
         Ok(())
     }

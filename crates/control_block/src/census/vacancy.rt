@@ -21,7 +21,7 @@ impl<V: Drop> Census<V> {
     {
         let mut vacant = 0;
         for number in 0..self.shape.blocks {
-            if self.is_free(Block((number + 1) as u16)) {
+            if self.is_free(Block::numbered(number + 1)) {
                 vacant += 1;
             }
         }

@@ -39,7 +39,7 @@ fn pass_least(store: &mut Vec<Block>, count: usize, to: &mut Vec<Block>)
     ensures same { (b : ℕ) → times b to.new.items + times b store.new.items ≡ times b store.old.items }
     ensures least { (b c : Block) → Has b to.new.items → Has c store.new.items → b.0 ≤ c.0 }
 {
-    store.sort_unstable_by(|a, b| b.0.cmp(&a.0));
+    store.sort_unstable_by(|a, b| b.number().cmp(&a.number()));
     let left = store.len() - count;
     append_all(to, &store.as_slice()[left..]);
     store.truncate(left);

@@ -11,6 +11,7 @@ ghost use Rattle.control_block.specs.CellRetries.{CameOut, IsCounted};
 ghost use Rattle.control_block.specs.FundStepKinds.{Owes};
 ghost use Rattle.control_block.specs.Inside.{IsSized};
 ghost use Rattle.control_block.specs.StepKinds.{HasRoomFor, HoldingInBlock, Rests, goes_on, in_call, known};
+ghost use Rattle.control_word.specs.Limits.{cell_funds};
 
 use crate::step_kinds::cells::CellArgs;
 use crate::steps::{cells, funds};
@@ -33,8 +34,8 @@ pub(crate) fn bring_for<V, A: CellArgs>(
     requires holds { (A.new.kind ≡ kind)
         × IfSome block (λ b. HoldingInBlock seat.old.me.0 A.new.kind (object_of A.new) A.new.place b.0) }
     ensures seat { (seat.new.table_id ≡ seat.old.table_id) × (seat.new.id ≡ seat.old.id) }
-    ensures brought { seat.new.me.0 ≡ in_call seat.old.me.0 (debt A.new block 256) }
-    ensures owes { Owes (debt A.new block 256) seat.new.me }
+    ensures brought { seat.new.me.0 ≡ in_call seat.old.me.0 (debt A.new block cell_funds) }
+    ensures owes { Owes (debt A.new block cell_funds) seat.new.me }
 {
     if let Some(block) = block {
         funds::bring::<V, Brand>(table, seat, kind, block, CELL_FUNDS);
@@ -115,7 +116,7 @@ pub fn swap<V, A: CellArgs>(
     ensures swapped { CameOut (λ h. Swap A.cell A.new h) kind seat.old.me.0 result seat.new.me.0 }
 {
     let old = swap_in::<V, A>(table, seat, word, kind, new);
-    let left = CELL_FUNDS - u32::from(old.taken);
+    let left = CELL_FUNDS.saturating_sub(old.taken);
     settle(table, seat, kind, old.owned, left);
     old
 }

@@ -7,6 +7,7 @@ ghost use Rattle.control_word.specs.declared.model.event.Event.TheVariants.{Comp
 ghost use Rattle.control_block.specs.CellStepKinds.{IsWordOf};
 ghost use Rattle.control_block.specs.CellRetries.{IsAim, IsOffer, IsOut};
 ghost use Rattle.control_block.specs.StepKinds.{HasRoomFor, known};
+ghost use Rattle.control_word.specs.Limits.{cell_funds};
 
 use crate::pause::Pause;
 use crate::retries::cells::{bring_for, settle};
@@ -40,7 +41,7 @@ fn take_out<V, A: CellArgs, R: Wait>(
     seen: CellWord,
 ) -> bool
     requires aim { IsAim A.cell kind word table.now.table_id seat.old.table_id seat.old.me }
-    requires seen { IsCellWord seen × (seen.owned ≡ Some block) × (seen.taken < 256) }
+    requires seen { IsCellWord seen × (seen.owned ≡ Some block) × (seen.taken < cell_funds) }
     requires room { HasRoomFor seat.old.me.0 }
     requires hands { InHand (known seat.old.me.0) seat.old.me.0.view.name kind A.expected
         × InHand (known seat.old.me.0) seat.old.me.0.view.name kind A.new }
@@ -78,7 +79,7 @@ fn try_swap<V, A: CellArgs>(
 {
     bring_for::<V, A>(table, seat, kind, new.owned);
     if cells::compare_and_swap::<V, A>(table, seat, word, seen, new) {
-        let left = CELL_FUNDS - u32::from(seen.taken);
+        let left = CELL_FUNDS.saturating_sub(seen.taken);
         settle(table, seat, kind, seen.owned, left);
         return true;
     }
@@ -118,7 +119,7 @@ fn try_compare<V, A: CellArgs, R: Wait>(
     let Some(block) = seen.owned else {
         return Some((false, seen));
     };
-    if u32::from(seen.taken) >= CELL_FUNDS {
+    if seen.taken >= CELL_FUNDS {
         pause.give_way();
         return None;
     }

@@ -1,9 +1,10 @@
 //! The steps of a load of a cell, and of the refill by which it puts back what was taken of the cell's funds.
-ghost use Rattle.std.specs.Prelude.{◌≡◌, ◌<◌, true, false, None, Some, IfErr, IfOk, IfSome, OnOk};
+ghost use Rattle.std.specs.Prelude.{◌≡◌, ◌<◌, ◌≤◌, true, false, None, Some, IfErr, IfOk, IfSome, OnOk};
 ghost use Rattle.control_word.specs.Packing.{IsCellWord};
 ghost use Rattle.control_word.specs.declared.model.event.Event.TheVariants.{Load};
 ghost use Rattle.control_block.specs.CellRetries.{IsAim, IsCounted, IsOut};
 ghost use Rattle.control_block.specs.StepKinds.{HasRoomFor, HoldingInBlock, known};
+ghost use Rattle.control_word.specs.Limits.{cell_funds};
 
 use crate::pause::Pause;
 use crate::step_kinds::StepArgs;
@@ -17,13 +18,15 @@ use std::marker::Brand;
 use std::sync::Wait;
 
 /// A load puts the funds back once so many are taken.
-const MANY_TAKEN: u16 = 128;
+const MANY_TAKEN: u32 = 128;
 
 /// Whether a cell shows a handle in the block with this place, and many of its funds are taken.
 fn is_drained(seen: CellWord, block: Block, place: Option<Place>) -> bool
-    ensures { result ≡ true → seen.owned ≡ Some block }
+    ensures { result ≡ true → (seen.owned ≡ Some block) × (seen.taken ≤ cell_funds) }
 {
-    seen.owned == Some(block) && seen.place == place && seen.taken >= MANY_TAKEN
+    seen.owned == Some(block)
+        && seen.place == place
+        && (MANY_TAKEN..=CELL_FUNDS).contains(&seen.taken)
 }
 
 /// One try at a refill: where a cell holds what a handle of the desk's holds, and many of its funds are taken, as many
@@ -47,7 +50,7 @@ fn try_refill<V, A: CellArgs, M: StepArgs>(
     if !is_drained(seen, block, place) {
         return true;
     }
-    let taken = u32::from(seen.taken);
+    let taken = seen.taken;
     funds::bring::<V, M>(table, seat, kind, block, taken);
     if cells::refill::<V, A>(table, seat, word, seen) {
         return true;
@@ -96,7 +99,7 @@ pub(crate) fn top_up<V, A: CellArgs, R: Wait>(
     seen: CellWord,
 )
     requires aim { IsAim A.cell kind word table.now.table_id seat.old.table_id seat.old.me }
-    requires seen { seen.taken < 256 }
+    requires seen { seen.taken < cell_funds }
     requires holds { HoldingInBlock seat.old.me.0 kind ((known seat.old.me.0).latest block.0) seen.place block.0 }
     requires count { IsCounted kind block table.now.table_id }
     ensures table { seat.new.table_id ≡ seat.old.table_id }
@@ -110,9 +113,9 @@ pub(crate) fn top_up<V, A: CellArgs, R: Wait>(
 
 /// The block of a cell that shows an object and has a fund of its left.
 fn with_fund(seen: CellWord) -> Option<Block>
-    ensures { IfSome result (λ b. (seen.owned ≡ Some b) × (seen.taken < 256)) }
+    ensures { IfSome result (λ b. (seen.owned ≡ Some b) × (seen.taken < cell_funds)) }
 {
-    if u32::from(seen.taken) < CELL_FUNDS {
+    if seen.taken < CELL_FUNDS {
         seen.owned
     } else {
         None
@@ -179,7 +182,7 @@ fn load_with_retries<V, A: CellArgs, R: Wait>(
             Ok(loaded) => return loaded,
             Err(found) => seen = found,
         }
-        if u32::from(seen.taken) >= CELL_FUNDS {
+        if seen.taken >= CELL_FUNDS {
             pause.give_way();
         }
     }

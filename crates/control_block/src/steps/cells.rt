@@ -11,6 +11,7 @@ ghost use Rattle.control_word.specs.declared.place.Block.{Block};
 ghost use Rattle.control_word.specs.declared.place.Place.{Place};
 ghost use Rattle.control_block.specs.FundStepKinds.{Owes, owing};
 ghost use Rattle.control_block.specs.CellStepKinds.{Gave, IsCellAt, IsHeld, IsWordOf, Took, debt, kind_in};
+ghost use Rattle.control_word.specs.Limits.{cell_funds};
 
 use crate::step_kinds::cells::{
     CellArgs, CompareSwaps, DiffersEmpty, LoadsEmpty, Peeks, Refills, Swaps, TakesToCompare,
@@ -19,7 +20,7 @@ use crate::step_kinds::cells::{
 use crate::steps::words;
 use crate::table::{Seat, Table};
 use control_word::CellWord;
-use control_word::packed::cell::{ONE_TAKEN, pack, unpack};
+use control_word::packed::cell::{ONE_TAKEN, pack, unpack, with_none_taken};
 
 /// Look: what a cell holds at this step, and no event (own).
 pub fn peek<V, A: CellArgs>(table: &Table<V>, seat: &mut Seat<V>, word: usize) -> CellWord
@@ -99,9 +100,9 @@ pub fn holds<V, A: CellArgs>(
     ensures event { tells (Same A.cell A.expected result) seat.old.me.0 seat.new.me.0 }
 {
     // The desk's handle keeps its object's block from being vacant, so that no other object is there: where both words
-    // show one block, both handles own one object. Funds that others took meanwhile lie above block and place, and say
-    // only how often the handle in the cell was loaded.
-    words::load::<V, TellsSame<A>>(table, seat, word) % ONE_TAKEN == pack(expected)
+    // show one block, both handles own one object. The funds that others took meanwhile say only how often the
+    // handle in the cell was loaded.
+    with_none_taken(words::load::<V, TellsSame<A>>(table, seat, word)) == pack(expected)
 }
 
 /// Take a fund, where the cell still shows what was seen: the load of a cell with an object
@@ -117,7 +118,7 @@ pub fn take<V, A: CellArgs>(
     requires rests { Rests seat.old.me }
     requires word { word < table.now.table_id.words }
     requires cell { IsCellAt seat.old.me.0 A.cell word }
-    requires seen { IsCellWord seen × (seen.owned ≢ None) × (seen.taken < 256) }
+    requires seen { IsCellWord seen × (seen.owned ≢ None) × (seen.taken < cell_funds) }
     requires room { HasRoomFor seat.old.me.0 }
     ensures seat { (seat.new.table_id ≡ seat.old.table_id) × (seat.new.id ≡ seat.old.id)
         × (seat.new.me.1 ≡ []) }
@@ -153,7 +154,7 @@ pub fn take_differing<V, A: CellArgs>(
     requires rests { Rests seat.old.me }
     requires word { word < table.now.table_id.words }
     requires cell { IsCellAt seat.old.me.0 A.cell word }
-    requires seen { IsCellWord seen × (seen.owned ≢ None) × (seen.taken < 256) }
+    requires seen { IsCellWord seen × (seen.owned ≢ None) × (seen.taken < cell_funds) }
     requires room { HasRoomFor seat.old.me.0 }
     requires expected { InHand (known seat.old.me.0) seat.old.me.0.view.name
         (kind_in seat.old.me.0.shape A.cell) A.expected }
@@ -208,7 +209,7 @@ pub fn swap<V, A: CellArgs>(
     requires cell { IsCellAt seat.old.me.0 A.cell word }
     requires new { IsCellWord new × (new.taken ≡ 0) × IsWordOf seat.old.me.0 A.new new }
     requires hand { InHand (known seat.old.me.0) seat.old.me.0.view.name (kind_in seat.old.me.0.shape A.cell) A.new }
-    requires owes { Owes (debt A.new new.owned 256) seat.old.me }
+    requires owes { Owes (debt A.new new.owned cell_funds) seat.old.me }
     requires room { A.new.object ≡ None → HasRoomFor seat.old.me.0 }
     ensures seat { (seat.new.table_id ≡ seat.old.table_id) × (seat.new.id ≡ seat.old.id)
         × (seat.new.me.1 ≡ []) }
@@ -236,7 +237,7 @@ pub fn compare_and_swap<V, A: CellArgs>(
         (kind_in seat.old.me.0.shape A.cell) A.expected }
     requires new { IsCellWord new × (new.taken ≡ 0) × IsWordOf seat.old.me.0 A.new new }
     requires hand { InHand (known seat.old.me.0) seat.old.me.0.view.name (kind_in seat.old.me.0.shape A.cell) A.new }
-    requires owes { Owes (debt A.new new.owned 256) seat.old.me }
+    requires owes { Owes (debt A.new new.owned cell_funds) seat.old.me }
     requires room { A.new.object ≡ None → HasRoomFor seat.old.me.0 }
     ensures seat { (seat.new.table_id ≡ seat.old.table_id) × (seat.new.id ≡ seat.old.id)
         × (seat.new.me.1 ≡ []) }

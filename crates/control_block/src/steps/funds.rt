@@ -5,6 +5,7 @@ ghost use Rattle.control_word.specs.Words.{slot};
 ghost use Rattle.control_word.specs.declared.place.Place.{Place};
 ghost use Rattle.control_block.specs.StepKinds.{HoldingInBlock, Rests, goes_on, in_call};
 ghost use Rattle.control_block.specs.FundStepKinds.{Owes, owing};
+ghost use Rattle.control_word.specs.Limits.{cell_funds};
 
 use crate::step_kinds::StepArgs;
 use crate::step_kinds::funds::{Brings, Settles};
@@ -28,7 +29,7 @@ pub fn bring<V, M: StepArgs>(
     requires rests { Rests seat.old.me }
     requires word { (0 < block.0) × (spot block.0 (slot kind) < table.now.table_id.words) }
     requires holds { (M.kind ≡ kind) × HoldingInBlock seat.old.me.0 M.kind M.object M.place block.0 }
-    requires few { funds ≤ 256 }
+    requires few { funds ≤ cell_funds }
     ensures seat { (seat.new.table_id ≡ seat.old.table_id) × (seat.new.id ≡ seat.old.id)
         × (seat.new.me.1 ≡ []) }
     ensures brought { seat.new.me.0 ≡ in_call seat.old.me.0 (owing M.kind M.object M.place block.0 funds 0) }

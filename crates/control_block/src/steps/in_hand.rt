@@ -14,7 +14,7 @@ pub fn fill<V: Drop>(table: &Table<V>, seat: &mut Seat<V>, block: Block, value: 
     ensures seat { (seat.new.table_id ≡ seat.old.table_id) × (seat.new.id ≡ seat.old.id) }
     ensures filled { seat.new.me ≡ (seat.old.me.0, (block.0 - 1, Some value) ∷ []) }
 {
-    let slot = seat.slot_mut(table, usize::from(block.0) - 1);
+    let slot = seat.slot_mut(table, block.number() as usize - 1);
     slot.fill(value);
 }
 
@@ -26,7 +26,7 @@ pub fn remember<V: Drop>(table: &Table<V>, seat: &mut Seat<V>, block: Block) -> 
     ensures same { seat.new.me ≡ seat.old.me }
     ensures value { seat.old.me.1 ≡ (block.0 - 1, Some result) ∷ [] }
 {
-    let slot = seat.slot_mut(table, usize::from(block.0) - 1);
+    let slot = seat.slot_mut(table, block.number() as usize - 1);
     slot.remember()
 }
 
@@ -39,7 +39,7 @@ pub fn take<V: Drop>(table: &Table<V>, seat: &mut Seat<V>, block: Block) -> V
     ensures value { seat.old.me.1 ≡ (block.0 - 1, Some result) ∷ [] }
     ensures emptied { seat.new.me ≡ (seat.old.me.0, (block.0 - 1, None) ∷ []) }
 {
-    let slot = seat.slot_mut(table, usize::from(block.0) - 1);
+    let slot = seat.slot_mut(table, block.number() as usize - 1);
     slot.take()
 }
 
@@ -58,6 +58,6 @@ pub fn visit<V: Drop, R, F: FnOnce(&mut V) -> R>(
         × FnOnceReturnsAtMut F.FnOnce f was result becomes
         × (seat.new.me ≡ (seat.old.me.0, (block.0 - 1, Some becomes) ∷ [])) }
 {
-    let slot = seat.slot_mut(table, usize::from(block.0) - 1);
+    let slot = seat.slot_mut(table, block.number() as usize - 1);
     slot.visit(f)
 }

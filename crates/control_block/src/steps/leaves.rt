@@ -128,6 +128,6 @@ pub fn let_go<V: Drop, M: StepArgs>(
         block,
         place: out.place,
     };
-    let left = CELL_FUNDS - u32::from(out.taken);
+    let left = CELL_FUNDS.saturating_sub(out.taken);
     leave::<V, M>(table, seat, of, left)
 }

@@ -1,9 +1,10 @@
 //! The shelf: vacant blocks that any desk may take. Each block has a bit of a word, which is 1 while it is there.
-ghost use Rattle.std.specs.Prelude.{◌≡◌, ◌<◌, ◌/◌, true, false};
+ghost use Rattle.std.specs.Prelude.{◌≡◌, ◌<◌, ◌≤◌, ◌/◌, true, false};
 ghost use Rattle.control_word.specs.State.{Has, stored};
 ghost use Rattle.control_word.specs.declared.model.event.Event.TheVariants.{Shelve, Unshelve};
 ghost use Rattle.control_block.specs.StepKinds.{Rests, known, tells};
 ghost use Rattle.control_block.specs.ShelfStepKinds.{IsOff, IsShelfWord, IsSo, shelf_at};
+ghost use Rattle.control_word.specs.Layout.{shelf_words};
 
 use crate::step_kinds::StepArgs;
 use crate::step_kinds::shelf::{LooksOnShelf, Shelves, Unshelves};
@@ -17,6 +18,7 @@ pub fn look<V, M: StepArgs>(table: &Table<V>, seat: &mut Seat<V>, place: usize) 
     requires table { seat.old.table_id ≡ table.now.table_id }
     requires rests { Rests seat.old.me }
     requires place { (place ≡ shelf_at seat.old.me.0.shape M.word) × (place < table.now.table_id.words) }
+    requires word { M.word < shelf_words seat.old.me.0.shape.blocks }
     ensures seat { (seat.new.table_id ≡ seat.old.table_id) × (seat.new.id ≡ seat.old.id)
         × (seat.new.me ≡ seat.old.me) }
     ensures told { IsSo seat.old.me.0 (IsShelfWord M.word result) }
@@ -52,6 +54,7 @@ pub fn unshelve<V, M: StepArgs>(
     requires place { (place ≡ shelf_at seat.old.me.0.shape (block.0 / 64))
         × (place < table.now.table_id.words) }
     requires meant { M.block ≡ block }
+    requires inside { block.0 ≤ seat.old.me.0.shape.blocks }
     ensures seat { (seat.new.table_id ≡ seat.old.table_id) × (seat.new.id ≡ seat.old.id)
         × (seat.new.me.1 ≡ seat.old.me.1) }
     ensures event { result ≡ true → tells (Unshelve block) seat.old.me.0 seat.new.me.0 }

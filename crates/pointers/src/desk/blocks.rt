@@ -6,10 +6,11 @@ use crate::desk::Desk;
 use crate::domain::Domain;
 use crate::fault::Fault;
 use crate::fault::call::Call;
+use control_word::shape::MOST_BLOCKS;
 use std::sync::Wait;
 
 /// How many rounds of ends one borrow of the desk makes at most: four for each object that a domain can have.
-pub(super) const ROUNDS: u32 = 4 * 65_535;
+pub(super) const ROUNDS: u32 = 4 * MOST_BLOCKS;
 
 impl<'d, D: Domain> Desk<'d, D> {
     /// Vacant blocks above the reserve go to the shelf.

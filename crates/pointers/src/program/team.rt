@@ -1,10 +1,13 @@
 //! How many workers there are, and what each gets.
 ghost use Rattle.std.specs.Prelude.{◌≡◌, ◌+◌, ◌<◌, ◌≤◌, ◌^◌, IfNone, IfSome};
-ghost use Rattle.pointers.specs.Teams.{Fits, IsMisfit, handles_of};
+ghost use Rattle.control_word.specs.Limits.{most_allowance, most_free_cells};
+ghost use Rattle.pointers.specs.Teams.{Fits, IsMisfit, handles_of, most_of};
 
 use crate::program::not_run::{Limit, NotRun, Number};
 use control_word::Shape;
-use control_word::shape::{MOST_ALLOWANCE, MOST_BLOCKS, MOST_FREE_CELLS, MOST_MEMBERS};
+use control_word::shape::{
+    MOST_ALLOWANCE, MOST_BLOCKS, MOST_FREE_CELLS, MOST_MEMBERS, MOST_NUMBER,
+};
 
 /// Handles that a desk may have above its team's pointers: an empty one on its way into a place, and what a compare
 /// copies before that which lay there leaves. Pointers that a program has beyond its team's take this room.
@@ -57,6 +60,7 @@ impl Team {
     }
 
     /// Which number doesn't fit: of a shape that no domain can have, or that has no room for the team.
+    #[tactic(auto, using(crate::proofs::ShapeRooms::within_limits))]
     pub(crate) fn misfit(&self, shape: &Shape) -> Option<NotRun>
         ensures fits { IfNone result (Fits shape.now self.now) }
         ensures misfit { IfSome result (IsMisfit shape.now self.now) }
@@ -65,9 +69,6 @@ impl Team {
         let cells = MOST_FREE_CELLS.saturating_sub(shape.shared_cells);
         if shape.blocks < 1 {
             return Some(small(Number::Blocks, shape.blocks, 1));
-        }
-        if shape.blocks > MOST_BLOCKS {
-            return Some(large(Number::Blocks, shape.blocks, MOST_BLOCKS));
         }
         if shape.owners < 2 {
             return Some(small(Number::Owners, shape.owners, 2));
@@ -97,8 +98,25 @@ impl Team {
         if u64::from(shape.allowance) < handles {
             return Some(small(Number::Allowance, shape.allowance, handles));
         }
+        let blocks = blocks_beside(shape);
+        if shape.blocks > blocks {
+            return Some(large(Number::Blocks, shape.blocks, blocks));
+        }
         None
     }
+}
+
+/// How many blocks a domain may have that has the shape's other numbers: the funds of all handles that may be on one
+/// block must fit its count.
+fn blocks_beside(shape: &Shape) -> u32
+    requires members { 0 < shape.now.owners }
+    requires cells { shape.now.shared_cells + shape.now.weak_cells ≤ most_free_cells }
+    requires allowance { shape.now.allowance ≤ most_allowance }
+    ensures { result ≡ most_of shape.now Number.Blocks }
+{
+    let others = 2 * shape.allowance + (shape.shared_cells + shape.weak_cells);
+    let members = shape.owners.max(shape.weaks);
+    MOST_BLOCKS.min((MOST_NUMBER - others) / members)
 }
 
 /// A number is below what it must be at least.

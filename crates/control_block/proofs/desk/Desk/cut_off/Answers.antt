@@ -69,7 +69,8 @@ invariant_of-other g c =
     let id = ap (λ z. z.domain) c.self.view_is ∙ (c.requires.domain.table ∙ sym (ap (λ z. z.id) c.domain.view_is)) in
     let slots : d.seat.table_id.slots ≡ c.domain.inside.table.shared.table_id.slots = ap (λ z. z.slots) id in
     new_desk d c.self.invariant hs holds c.args.allowance bs w u p _ c.part-seat.ensures.other.0
-    (λ i. (u, c.part-seat.ensures.other.1 i)) refl (sym size) refl (omega arith) refl
+    (λ i. (u, c.part-seat.ensures.other.1 i)) refl (sym size) refl
+    (let few = (c.gives.ensures.gives c.if-not-gives.false).1 in omega (arith, size, few)) refl
     (omega (arith, c.in-Ok.ensures.capacity, c.pass_least.ensures.room.1, c.self.invariant.sized.slots, c.domain.invariant.sized.slots))
 
 pub invariant_of-self : goal.invariant_of-self

@@ -1,5 +1,5 @@
 use Rattle.std.proofs.Common.{◌/◌, length, None, sym, refl, ap, ◌∙◌, arith}
-use Rattle.control_block.proofs.Prelude.{Idle, Shelve, stock_of}
+use Rattle.control_block.proofs.Prelude.{Idle, opening_of, shelf_at, Shelve, sound, stock_of}
 use Rattle.control_block.proofs.desks.DeskBags.{calm}
 use Rattle.control_block.proofs.desks.DeskSteps.{as_many, came, desk_after, ending_same}
 use Rattle.control_block.proofs.desks.DeskStores.{last_stored, popped, stock_shrinks}
@@ -18,9 +18,14 @@ shelve-requires-clause-stored g c =
 
 pub shelve-requires-clause-place : goal.shelve-requires-clause-place
 shelve-requires-clause-place g c =
+    let v = c.self.inside.seat.me.0 in let h = c.self.invariant in
+    let mine = last_stored c.self.inside h c.pop.new.self.items c.in-Some.block c.in-Some.ensures.items in
+    let inside = ((sound (opening_of v.shape) v.view.seen h.legal).stores v.view.name c.in-Some.block.0 mine).1 in let low = inside.1 in
+    let same = ap (λ z. z.shape.blocks) c.self.view_is ∙ ap (λ y. y.blocks) c.requires.domain.shape in
     shelf_inside c.self.inside c.domain.inside.table.shared.table_id c.args.domain.now.shape c.shelf_place-place.result (c.in-Some.block.0 / 64)
     c.self.invariant (ap (λ z. z.domain) c.self.view_is ∙ (c.requires.domain.table ∙ sym (ap (λ z. z.id) c.domain.view_is)))
-    (ap (λ z. z.shape) c.self.view_is ∙ c.requires.domain.shape) c.shelf_place-place.ensures (omega arith)
+    (ap (λ z. z.shape) c.self.view_is ∙ c.requires.domain.shape)
+    (c.shelf_place-place.ensures ∙ ap (λ b. shelf_at c.args.domain.now.shape (b / 64)) c.number.ensures) (omega (arith, low, same))
 
 pub invariant_of-self : goal.invariant_of-self
 invariant_of-self g c =

@@ -9,7 +9,7 @@ loop-word-init g c =
       few = omega arith;
       passed = unshelved_none _;
       same = λ z. refl;
-      cleared = λ sole lt b low from below. absurd (omega (arith, from, below));
+      cleared = λ sole lt b from below. absurd (omega (arith, from, below));
     }
 
 pub loop-word-preserved : goal.loop-word-preserved

@@ -10,5 +10,5 @@ invariant-loop-word g l =
       passed : Unshelved l.taken l.initial.self l.self;
       same : l.taken ≡ 0 → l.self ≡ l.initial.self;
       cleared : IsSole l.initial.self → l.taken < l.count
-          → (b : ℕ) → b < 65536 → l.from ≤ b / 64 → b / 64 < l.word → on_shelf (state_of l.self) b ≡ 0;
+          → (b : ℕ) → l.from ≤ b / 64 → b / 64 < l.word → on_shelf (state_of l.self) b ≡ 0;
     }

@@ -56,6 +56,11 @@ pub unshelve-requires-clause-table : goal.unshelve-requires-clause-table
 unshelve-requires-clause-table g c =
     ap (λ z. z.domain) c.self.view_is ∙ (c.requires.domain.table ∙ sym (ap (λ z. z.id) c.domain.view_is))
 
+pub unshelve-requires-clause-inside : goal.unshelve-requires-clause-inside
+unshelve-requires-clause-inside g c =
+    let shape = ap (λ z. z.shape.blocks) c.self.view_is ∙ ap (λ y. y.blocks) c.requires.domain.shape in
+    let low = c.requires.block in omega (arith, shape, low)
+
 pub unshelve-requires-clause-rests : goal.unshelve-requires-clause-rests
 unshelve-requires-clause-rests g c = c.self.invariant.rests
 

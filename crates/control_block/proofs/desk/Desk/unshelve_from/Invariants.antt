@@ -1,5 +1,6 @@
 use Rattle.std.proofs.Common.{◌≡◌, ℕ, ◌/◌, ◌%◌, ◌<◌, ◌≤◌}
 use Rattle.control_block.proofs.Prelude.{Belongs, bit_at, IsSole, on_shelf, state_of, Unshelved}
+use Rattle.control_block.specs.ShelfStepKinds.{HasBlocks}
 use Rattle.control_block.proofs.desk.Desk.unshelve_from.Given as goal
 
 abbrev pub invariant-loop-bits : goal.invariant-loop-bits
@@ -9,8 +10,9 @@ invariant-loop-bits g l =
       few : l.taken ≤ l.count;
       passed : Unshelved l.taken l.initial.self l.self;
       same : l.taken ≡ 0 → l.self ≡ l.initial.self;
+      inside : HasBlocks l.domain.shape.blocks l.word l.bits;
       rest : IsSole l.initial.self
-          → (b : ℕ) → b < 65536 → b / 64 ≡ l.word → bit_at l.bits (b % 64) ≡ 0 → on_shelf (state_of l.self) b ≡ 0;
+          → (b : ℕ) → b / 64 ≡ l.word → bit_at l.bits (b % 64) ≡ 0 → on_shelf (state_of l.self) b ≡ 0;
     }
 
 abbrev pub decreases-loop-bits : goal.decreases-loop-bits

@@ -46,7 +46,7 @@ settle-requires-clause-owes g c =
     let t = c.swap_in-old.ensures.gave in let x = c.swap_in-old.result in let me = c.swap_in-old.new.seat.me in (
       t.old,
       t.kind,
-      subst (λ n. Owes (debt t.old x.owned (256 - n)) me) (sym c.from-left.ensures)
+      subst (λ n. Owes (debt t.old x.owned n) me) (sym c.saturating_sub-left.ensures)
           (added_owes c.args.seat.now.me.0 me _ _ t.event c.requires.rests.awake c.swap_in-old.ensures.seat.2),
     )
 

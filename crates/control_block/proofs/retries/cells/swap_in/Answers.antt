@@ -4,11 +4,12 @@ use Rattle.control_block.proofs.Prelude.{SeatView, Shape, Swap}
 use Rattle.control_block.proofs.cells.CellRetries.{hand_in_call, cell_in_call}
 use Rattle.control_block.proofs.leavings.LetGo.{gave_from}
 use Rattle.control_block.proofs.retries.cells.swap_in.Goals as goal
+use Rattle.control_word.specs.Limits.{cell_funds}
 
 pub swap-requires-clause-hand : goal.swap-requires-clause-hand
 swap-requires-clause-hand g c =
     let a = g.A.CellArgs in
-    hand_in_call c.args.seat.now.me.0 c.bring_for.new.seat.me.0 (debt a.new c.args.new.owned 256) a.cell c.args.kind a.new c.bring_for.ensures.brought
+    hand_in_call c.args.seat.now.me.0 c.bring_for.new.seat.me.0 (debt a.new c.args.new.owned cell_funds) a.cell c.args.kind a.new c.bring_for.ensures.brought
     c.requires.cell.1 c.requires.hand
 
 pub returns-clause-gave : goal.returns-clause-gave
@@ -16,7 +17,7 @@ returns-clause-gave g c =
     let a = g.A.CellArgs in let r = c.requires in let v = c.bring_for.new.seat.me.0 in let w = c.swap.new.seat.me.0 in let x = c.swap.result in
     let shape = ap (λ (y : Rattle.control_block.specs.declared.table.SeatView.SeatView g.row.V.Denot). y.shape) c.bring_for.ensures.brought in
     let kind = r.cell.1 ∙ ap (λ (y : Shape). kind_in y a.cell) (sym shape) in
-    gave_from (λ h. Swap a.cell a.new h) c.args.kind c.args.seat.now.me.0 v w (debt a.new c.args.new.owned 256) x c.bring_for.ensures.brought
+    gave_from (λ h. Swap a.cell a.new h) c.args.kind c.args.seat.now.me.0 v w (debt a.new c.args.new.owned cell_funds) x c.bring_for.ensures.brought
     (subst (λ (y : Kind). Gave (λ h. Swap a.cell a.new h) y v x w) (sym kind) c.swap.ensures.gave)
 
 pub bring_for-requires-clause-table : goal.bring_for-requires-clause-table
@@ -41,7 +42,7 @@ pub swap-requires-clause-cell : goal.swap-requires-clause-cell
 swap-requires-clause-cell g c =
     let a = g.A.CellArgs in
     subst (λ (y : SeatView g.row.V.Denot). IsCellAt y a.cell c.args.word) (sym c.bring_for.ensures.brought)
-    (cell_in_call c.args.seat.now.me.0 (debt a.new c.args.new.owned 256) a.cell c.args.word c.requires.cell.0)
+    (cell_in_call c.args.seat.now.me.0 (debt a.new c.args.new.owned cell_funds) a.cell c.args.word c.requires.cell.0)
 
 pub swap-requires-clause-new : goal.swap-requires-clause-new
 swap-requires-clause-new g c =

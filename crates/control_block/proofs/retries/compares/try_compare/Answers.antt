@@ -92,16 +92,16 @@ pub returns-in_default-clause-missed : goal.returns-in_default-clause-missed
 returns-in_default-clause-missed g c =
     λ none. absurd (cc none)
 
-pub returns-then-from-ge-CELL_FUNDS-clause-table : goal.returns-then-from-ge-CELL_FUNDS-clause-table
-returns-then-from-ge-CELL_FUNDS-clause-table g c =
+pub returns-then-seen-ge-CELL_FUNDS-clause-table : goal.returns-then-seen-ge-CELL_FUNDS-clause-table
+returns-then-seen-ge-CELL_FUNDS-clause-table g c =
     c.look_differing-seen.ensures.seat.0
 
-pub returns-then-from-ge-CELL_FUNDS-clause-compared : goal.returns-then-from-ge-CELL_FUNDS-clause-compared
-returns-then-from-ge-CELL_FUNDS-clause-compared g c =
+pub returns-then-seen-ge-CELL_FUNDS-clause-compared : goal.returns-then-seen-ge-CELL_FUNDS-clause-compared
+returns-then-seen-ge-CELL_FUNDS-clause-compared g c =
     tt
 
-pub returns-then-from-ge-CELL_FUNDS-clause-missed : goal.returns-then-from-ge-CELL_FUNDS-clause-missed
-returns-then-from-ge-CELL_FUNDS-clause-missed g c =
+pub returns-then-seen-ge-CELL_FUNDS-clause-missed : goal.returns-then-seen-ge-CELL_FUNDS-clause-missed
+returns-then-seen-ge-CELL_FUNDS-clause-missed g c =
     λ _. c.look_differing-seen.ensures.same (none_shown c.in-Some.is)
 
 pub take_out-requires-clause-aim : goal.take_out-requires-clause-aim
@@ -111,7 +111,7 @@ take_out-requires-clause-aim g c =
 
 pub take_out-requires-clause-seen : goal.take_out-requires-clause-seen
 take_out-requires-clause-seen g c =
-    (c.look_differing-seen.ensures.cell, c.in-Some.is, subst (λ n. n < 256) c.from.ensures c.if-from-ge-CELL_FUNDS.false)
+    (c.look_differing-seen.ensures.cell, c.in-Some.is, c.if-seen-ge-CELL_FUNDS.false)
 
 pub take_out-requires-clause-room : goal.take_out-requires-clause-room
 take_out-requires-clause-room g c =

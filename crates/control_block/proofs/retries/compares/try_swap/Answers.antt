@@ -6,6 +6,7 @@ use Rattle.control_block.proofs.cells.CellRetries.{gave_counted, hand_in_call}
 use Rattle.control_block.proofs.cells.CellTrades.{compare_trades}
 use Rattle.control_block.proofs.cells.CellTries.{swapped_at}
 use Rattle.control_block.proofs.retries.compares.try_swap.Goals as goal
+use Rattle.control_word.specs.Limits.{cell_funds}
 
 pub bring_for-requires-clause-table : goal.bring_for-requires-clause-table
 bring_for-requires-clause-table g c =
@@ -35,7 +36,7 @@ pub compare_and_swap-requires-clause-cell : goal.compare_and_swap-requires-claus
 compare_and_swap-requires-clause-cell g c =
     let a = g.A.CellArgs in
     subst (λ (y : SeatView g.row.V.Denot). IsCellAt y a.cell c.args.word) (sym c.bring_for.ensures.brought)
-    (cell_in_call c.args.seat.now.me.0 (debt a.new c.args.new.owned 256) a.cell c.args.word c.requires.aim.cell)
+    (cell_in_call c.args.seat.now.me.0 (debt a.new c.args.new.owned cell_funds) a.cell c.args.word c.requires.aim.cell)
 
 pub compare_and_swap-requires-clause-seen : goal.compare_and_swap-requires-clause-seen
 compare_and_swap-requires-clause-seen g c =
@@ -45,7 +46,8 @@ compare_and_swap-requires-clause-seen g c =
 pub compare_and_swap-requires-clause-expected : goal.compare_and_swap-requires-clause-expected
 compare_and_swap-requires-clause-expected g c =
     let a = g.A.CellArgs in
-    hand_in_call c.args.seat.now.me.0 c.bring_for.new.seat.me.0 (debt a.new c.args.new.owned 256) a.cell c.args.kind a.expected c.bring_for.ensures.brought
+    hand_in_call c.args.seat.now.me.0 c.bring_for.new.seat.me.0 (debt a.new c.args.new.owned cell_funds) a.cell c.args.kind a.expected
+    c.bring_for.ensures.brought
     c.requires.aim.kind c.requires.offer.expected_hand
 
 pub compare_and_swap-requires-clause-new : goal.compare_and_swap-requires-clause-new
@@ -57,7 +59,7 @@ pub compare_and_swap-requires-clause-hand : goal.compare_and_swap-requires-claus
 compare_and_swap-requires-clause-hand g c =
     let a = g.A.CellArgs in
     hand_in_call c.args.seat.now.me.0 c.bring_for.new.seat.me.0
-    (debt a.new c.args.new.owned 256) a.cell c.args.kind a.new c.bring_for.ensures.brought c.requires.aim.kind
+    (debt a.new c.args.new.owned cell_funds) a.cell c.args.kind a.new c.bring_for.ensures.brought c.requires.aim.kind
     c.requires.offer.new_hand
 
 pub compare_and_swap-requires-clause-owes : goal.compare_and_swap-requires-clause-owes
@@ -89,7 +91,7 @@ settle-requires-clause-owes g c =
     let t = subst (λ (y : Kind). Gave (λ h. Compare a.cell a.expected a.new h true a.weak) y v x w) (sym kind) (c.if-compare_and_swap.ensures.gave refl) in
     let awake = ap (λ (y : SeatView g.row.V.Denot). y.view.spent) c.bring_for.ensures.brought ∙ r.aim.rests.awake in
     let owes = added_owes v c.compare_and_swap.new.seat.me _ _ t.event awake c.compare_and_swap.ensures.seat.2 in
-    (t.old, t.kind, subst (λ n. Owes (debt t.old x.owned (256 - n)) c.compare_and_swap.new.seat.me) (sym c.from-left.ensures) owes)
+    (t.old, t.kind, subst (λ n. Owes (debt t.old x.owned n) c.compare_and_swap.new.seat.me) (sym c.saturating_sub-left.ensures) owes)
 
 pub returns-then-compare_and_swap-clause-table : goal.returns-then-compare_and_swap-clause-table
 returns-then-compare_and_swap-clause-table g c =
@@ -102,7 +104,7 @@ returns-then-compare_and_swap-clause-swapped g c =
     let kind = r.aim.kind ∙ ap (λ (y : Shape). kind_in y a.cell) (sym shape) in
     let t = subst (λ (y : Kind). Gave (λ h. Compare a.cell a.expected a.new h true a.weak) y v x w) (sym kind) (c.if-compare_and_swap.ensures.gave refl) in
     swapped_at (λ h. Compare a.cell a.expected a.new h true a.weak) c.args.kind c.args.seat.now.me.0 v w c.settle.new.seat.me
-    (debt a.new c.args.new.owned 256) x r.seen.0 c.bring_for.ensures.brought t c.settle.ensures.settled c.settle.ensures.seat.2
+    (debt a.new c.args.new.owned cell_funds) x r.seen.0 c.bring_for.ensures.brought t c.settle.ensures.settled c.settle.ensures.seat.2
 
 pub settle-requires-2-clause-table : goal.settle-requires-2-clause-table
 settle-requires-2-clause-table g c =
@@ -117,7 +119,7 @@ settle-requires-2-clause-owes g c =
     let a = g.A.CellArgs in (
       a.new,
       c.requires.offer.new_hand.0,
-      subst (λ (y : At g.row.V.Denot). Owes (debt a.new c.args.new.owned 256) y)
+      subst (λ (y : At g.row.V.Denot). Owes (debt a.new c.args.new.owned cell_funds) y)
           (sym (c.compare_and_swap.ensures.missed c.if-compare_and_swap.false)) c.bring_for.ensures.owes,
     )
 
@@ -128,6 +130,6 @@ returns-clause-table g c =
 pub returns-clause-missed : goal.returns-clause-missed
 returns-clause-missed g c =
     λ _. let e = c.settle-2.ensures in
-    back_again c.args.seat.now.me c.bring_for.new.seat.me c.settle-2.new.seat.me (debt g.A.CellArgs.new c.args.new.owned 256) c.requires.aim.rests
+    back_again c.args.seat.now.me c.bring_for.new.seat.me c.settle-2.new.seat.me (debt g.A.CellArgs.new c.args.new.owned cell_funds) c.requires.aim.rests
     c.bring_for.ensures.brought (e.settled ∙ ap (λ (y : At g.row.V.Denot). goes_on y.0) (c.compare_and_swap.ensures.missed c.if-compare_and_swap.false))
     e.seat.2.none

@@ -1,4 +1,4 @@
-use Rattle.std.proofs.Common.{◌≡◌, ◌≤◌, sym, ◌∙◌, subst}
+use Rattle.std.proofs.Common.{◌≡◌, sym, refl, ◌∙◌, subst}
 use Rattle.control_block.proofs.Prelude.{At, IsCellAt, Kind, Owes, owing, Rests, SeatView}
 use Rattle.control_block.proofs.cells.CellRetries.{back_again, brought_owes, cell_in_call}
 use Rattle.control_block.proofs.cells.CellRetries.{refill_owes}
@@ -31,7 +31,7 @@ pub bring-requires-clause-holds : goal.bring-requires-clause-holds
 bring-requires-clause-holds g c = (c.requires.holds.0, holding_at c.requires.holds.1 c.peek-seen.ensures.seat.2)
 
 pub bring-requires-clause-few : goal.bring-requires-clause-few
-bring-requires-clause-few g c = subst (λ n. n ≤ 256) (sym c.from-taken.ensures) c.peek-seen.ensures.cell.taken
+bring-requires-clause-few g c = (c.is_drained.ensures c.if-not-is_drained.false).1
 
 pub refill-requires-clause-table : goal.refill-requires-clause-table
 refill-requires-clause-table g c = c.bring.ensures.seat.0 ∙ (c.peek-seen.ensures.seat.0 ∙ c.requires.aim.table)
@@ -54,8 +54,8 @@ refill-requires-clause-owes g c =
     let r = c.requires in let m = g.M.StepArgs in let same = c.peek-seen.ensures.seat.2 in
     let aim = aim_at r.aim c.peek-seen.ensures.seat.0 same in
     refill_owes c.peek-seen.new.seat.me c.bring.new.seat.me m.kind c.args.kind m.object m.place c.args.block c.peek-seen.result
-    c.from-taken.result g.A.CellArgs.cell aim.rests r.holds.0 aim.kind
-    (c.is_drained.ensures c.if-not-is_drained.false) c.from-taken.ensures c.bring.ensures.brought c.bring.ensures.seat.2
+    c.peek-seen.result.taken g.A.CellArgs.cell aim.rests r.holds.0 aim.kind
+    (c.is_drained.ensures c.if-not-is_drained.false).0 refl c.bring.ensures.brought c.bring.ensures.seat.2
 
 pub returns-then-refill-clause-table : goal.returns-then-refill-clause-table
 returns-then-refill-clause-table g c = c.refill.ensures.seat.0 ∙ (c.bring.ensures.seat.0 ∙ c.peek-seen.ensures.seat.0)
@@ -76,7 +76,7 @@ give_back-requires-clause-word g c = c.requires.count
 pub give_back-requires-clause-owes : goal.give_back-requires-clause-owes
 give_back-requires-clause-owes g c =
     let r = c.requires in let m = g.M.StepArgs in let aim = aim_at r.aim c.peek-seen.ensures.seat.0 c.peek-seen.ensures.seat.2 in
-    let b = c.args.block.0 in let n = c.from-taken.result in (
+    let b = c.args.block.0 in let n = c.peek-seen.result.taken in (
       m.object,
       m.place,
       subst (λ (y : Kind × At g.row.V.Denot). Owes (owing y.0 m.object m.place b n 0) y.1)

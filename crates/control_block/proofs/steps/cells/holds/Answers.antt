@@ -2,6 +2,7 @@ use Rattle.std.proofs.Common.{◌%◌, ◌==◌, sym, ◌∙◌, subst}
 use Rattle.control_block.proofs.Prelude.{blocks_of, known, Same, tells}
 use Rattle.control_block.proofs.kept.CellSame.{allows_same, shown_bits}
 use Rattle.control_block.proofs.steps.cells.holds.Goals as goal
+use Rattle.std.proofs.Common.{ℕ, ◌≡◌}
 
 pub load-requires : goal.load-requires
 load-requires g c =
@@ -15,4 +16,5 @@ pub returns-clause-event : goal.returns-clause-event
 returns-clause-event g c =
     let v = c.args.seat.now.me.0 in let a = g.A.CellArgs in let r = c.requires.expected in
     let word = shown_bits (blocks_of (known v)) a.expected c.args.expected r.2 r.1 ∙ sym c.pack.ensures in
-    subst (λ n. tells (Same a.cell a.expected (c.load.result % 17179869184 == n)) v c.load.new.seat.me.0) word c.load.ensures.2.0
+    subst (λ (n : ℕ × ℕ). tells (Same a.cell a.expected (n.0 == n.1)) v c.load.new.seat.me.0) (λ i. (sym c.with_none_taken.ensures i, word i))
+    c.load.ensures.2.0

@@ -2,6 +2,7 @@ use Rattle.std.proofs.Common.{◌≡◌, ℕ, ◌<◌, ◌≤◌, sym, ap, ◌�
 use Rattle.control_block.proofs.Prelude.{in_call, Paying, slot, spot}
 use Rattle.control_block.proofs.kept.Bring.{allows_bring, whole_funds}
 use Rattle.control_block.proofs.steps.funds.bring.Goals as goal
+use Rattle.control_word.specs.Limits.{cell_funds}
 
 pub fetch_add-requires : goal.fetch_add-requires
 fetch_add-requires g c =
@@ -11,7 +12,7 @@ fetch_add-requires g c =
       record {
         allows = allows_bring table.key table.table_id.slots seat.id c.args.block.0 m.object c.count_word.result c.from.result m.kind m.place seat.me
             r.rests r.holds.1
-            (subst (λ x. x ≤ 256) (sym c.from.ensures) r.few) (e ∙ ap (λ y. spot c.args.block.0 (slot y)) (sym r.holds.0));
+            (subst (λ x. x ≤ cell_funds) (sym c.from.ensures) r.few) (e ∙ ap (λ y. spot c.args.block.0 (slot y)) (sym r.holds.0));
       },
     )
 

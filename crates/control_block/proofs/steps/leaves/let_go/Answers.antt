@@ -14,7 +14,7 @@ leave-requires-clause-may g c =
     let m = g.M.StepArgs in let r = c.requires in let me = c.args.seat.now.me in
     let t = subst (λ q. IfSome q (λ b. (m.block ≡ b) × (m.object ≡ (known me.0).latest b.0))) c.in-Some.is r.meant.1 in (
       t.0,
-      may_go c.args.kind c.args.out me c.in-Some.block m.object m.place _ r.owes c.in-Some.is t.1 r.meant.0 (ap (λ (n : ℕ). 256 - n) c.from-left.ensures),
+      may_go c.args.kind c.args.out me c.in-Some.block m.object m.place _ r.owes c.in-Some.is t.1 r.meant.0 c.saturating_sub-left.ensures,
     )
 
 pub returns-in_default-clause-seat : goal.returns-in_default-clause-seat

@@ -6,5 +6,5 @@ load-requires g c =
     let r = c.requires in let table = c.args.table.now in let seat = c.args.seat.now in (
       r.table,
       r.place.1,
-      record { allows = allows_shelf_look table.key table.table_id.slots seat.id c.args.place g.M.StepArgs.word seat.me r.rests r.place.0 },
+      record { allows = allows_shelf_look table.key table.table_id.slots seat.id c.args.place g.M.StepArgs.word seat.me r.rests r.place.0 r.word },
     )

@@ -1,13 +1,14 @@
-use Rattle.std.proofs.Common.{◌%◌, ◌<◌, bit_and, sym, ap, subst, arith}
+use Rattle.std.proofs.Common.{◌/◌, ◌%◌, ◌<◌, bit_and, sym, ap, subst, arith}
 use Rattle.control_block.proofs.Prelude.{Allows, bit_not, Block, none, Ruled, step, unshelved, w64}
 use Rattle.control_block.proofs.kept.Shelf.{allows_unshelve, seats_kept, told_clear, told_set}
 use Rattle.control_block.proofs.steps.shelf.unshelve.Goals as goal
+use Rattle.control_word.specs.Layout.{shelf_words}
 
 pub fetch_and-requires : goal.fetch_and-requires
 fetch_and-requires g c =
     let r = c.requires in let table = c.args.table.now in let seat = c.args.seat.now in let i = c.args.place in
     let a = bit_not w64 c.shelf_bit-bit.result in
-    let low : c.args.block.0 < 65536 = omega arith in (
+    let within = c.requires.inside in let low : c.args.block.0 / 64 < shelf_words seat.me.0.shape.blocks = omega arith in (
       r.table,
       r.place.1,
       record {
