@@ -127,8 +127,8 @@ impl<R: Threads + Wait + Sync> Program<Value, R> for Crowd {
 /// How many objects of a census have owners.
 fn living(ran: &Ran<Value>) -> u32 {
     let mut living = 0u32;
-    for number in 1..=u16::MAX {
-        let owners = ran.census.counts(Block(number)).owners;
+    for before in 0..ran.census.blocks() {
+        let owners = ran.census.counts(Block::numbered(before + 1)).owners;
         living = living.saturating_add(u32::from(owners > 0));
     }
     living

@@ -21,13 +21,25 @@ impl<R: Threads + Wait + Sync> Program<u64, R> for Idle {
 
 /// Blocks, shared cells, weak cells, allowance; members for owners and weak ones; workers, pointers; and why no program
 /// is run so.
-const ROWS: [([u32; 4], (u32, u32), (usize, u32), &str); 16] = [
+const ROWS: [([u32; 4], (u32, u32), (usize, u32), &str); 18] = [
     ([0, 0, 0, 9], (2, 1), (1, 4), "blocks 0, at least 1"),
     (
-        [65_536, 0, 0, 9],
+        [4_000_001, 0, 0, 9],
         (2, 1),
         (1, 4),
-        "blocks 65536, at most 65535",
+        "blocks 4000001, at most 4000000",
+    ),
+    (
+        [2_097_152, 0, 0, 7],
+        (8, 1),
+        (1, 4),
+        "blocks 2097152, at most 2097150",
+    ),
+    (
+        [1_200_000, 65_536, 0, 4_194_304],
+        (2, 7),
+        (1, 4),
+        "blocks 1200000, at most 1189010",
     ),
     ([1, 0, 0, 9], (1, 1), (1, 4), "owners 1, at least 2"),
     ([1, 0, 0, 9], (9, 0), (1, 4), "owners 9, at most 8"),
@@ -35,12 +47,17 @@ const ROWS: [([u32; 4], (u32, u32), (usize, u32), &str); 16] = [
     ([1, 0, 0, 9], (2, 8), (1, 4), "weaks 8, at most 7"),
     ([1, 0, 0, 9], (8, 2), (1, 4), "weaks 2, at most 1"),
     (
-        [1, 300, 0, 9],
+        [1, 65_537, 0, 9],
         (2, 1),
         (1, 4),
-        "shared_cells 300, at most 256",
+        "shared_cells 65537, at most 65536",
     ),
-    ([1, 200, 57, 9], (2, 1), (1, 4), "weak_cells 57, at most 56"),
+    (
+        [1, 60_000, 5_537, 9],
+        (2, 1),
+        (1, 4),
+        "weak_cells 5537, at most 5536",
+    ),
     ([1, 0, 0, 0], (2, 1), (1, 4), "allowance 0, at least 1"),
     (
         [1, 0, 0, 4_194_305],
@@ -50,7 +67,7 @@ const ROWS: [([u32; 4], (u32, u32), (usize, u32), &str); 16] = [
     ),
     ([1, 0, 0, 6], (2, 1), (1, 4), "allowance 6, at least 7"),
     ([1, 0, 0, 18], (2, 1), (3, 4), "allowance 18, at least 19"),
-    ([65_535, 256, 0, 7], (2, 1), (1, 4), ""),
+    ([65_535, 65_536, 0, 7], (2, 1), (1, 4), ""),
     ([1, 0, 0, 7], (8, 1), (1, 4), ""),
     ([1, 0, 0, 7], (2, 7), (1, 4), ""),
 ];

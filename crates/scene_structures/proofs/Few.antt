@@ -7,6 +7,7 @@ use Rattle.scene_structures.proofs.Prelude.{IsLegal, IsPruned, live, NumberedHan
 use Rattle.scene_structures.proofs.Prelude.{opening_of, put, put_cases, put_other, Sound, sound}
 use Rattle.scene_structures.proofs.Prelude.{State, state_of, sum_below, sum_ones}
 use Rattle.control_word.proofs.lists.Sums.{sum_put, sum_zero}
+use Rattle.control_word.specs.Limits.{most_blocks}
 use Rattle.scene_structures.proofs.Frames.{AllLive, chain_live}
 use Rattle.scene_structures.proofs.Sought.{not_below}
 
@@ -77,7 +78,7 @@ module _ {V : Type 0} where
 
   -- so the number that a prune answers is exact where the cell's nodes are a list
   pub exactly : (d e : DeskNow V) (m n count : ℕ) → IsLegal (opening_of d.shape) d.seen → m < (opening_of d.shape).cells
-      → (opening_of d.shape).blocks ≤ 65535 → count ≡ n % 2 ^ 32 → IsPruned d (Free m) n e → IsPruned d (Free m) count e
+      → (opening_of d.shape).blocks ≤ most_blocks → count ≡ n % 2 ^ 32 → IsPruned d (Free m) n e → IsPruned d (Free m) count e
   exactly d e m n count legal lt limit is pruned os list =
       let z = opening_of d.shape in let s = state_of d in let fine = sound z d.seen legal in
       let cells = cells_led z d.seen in

@@ -82,31 +82,33 @@ fn a_refused_run_leaves_its_world(rt: HostRuntime) -> Result<(), Fail> {
 }
 
 /// Acts with the largest numbers.
-const ACTS: [Said; 4] = [
-    Said {
-        statement: 3,
-        answer: Some(Answer::Place(Some(Place {
-            block: Block(65_535),
-            field: 3,
-        }))),
-        ended: None,
-    },
-    Said {
-        statement: 4,
-        answer: Some(Answer::Refused(Refusal::Full)),
-        ended: None,
-    },
-    Said {
-        statement: 5,
-        answer: None,
-        ended: Some(Ended::Fields([1, 2, 0, 18_446_744_073_709_551_615])),
-    },
-    Said {
-        statement: 0,
-        answer: None,
-        ended: Some(Ended::Null),
-    },
-];
+fn acts() -> [Said; 4] {
+    [
+        Said {
+            statement: 3,
+            answer: Some(Answer::Place(Some(Place {
+                block: Block::numbered(65_535),
+                field: 3,
+            }))),
+            ended: None,
+        },
+        Said {
+            statement: 4,
+            answer: Some(Answer::Refused(Refusal::Full)),
+            ended: None,
+        },
+        Said {
+            statement: 5,
+            answer: None,
+            ended: Some(Ended::Fields([1, 2, 0, 18_446_744_073_709_551_615])),
+        },
+        Said {
+            statement: 0,
+            answer: None,
+            ended: Some(Ended::Null),
+        },
+    ]
+}
 
 const TOLD: &[u8] =
     b"16.3 place 65535.3\n16.4 refused 3\n16.5 end 1 2 0 18446744073709551615\n16.end end null\n";
@@ -115,11 +117,12 @@ const TOLD: &[u8] =
 #[test]
 fn refused_lines_are_not_begun(rt: HostRuntime) -> Result<(), Fail> {
     let mut taken = Vec::with_capacity(rt.alloc(), 100)?;
+    let acts = acts();
     let mut sink = Output::new(&mut taken);
-    if let Err(fault) = write_lines(rt.alloc(), 16, &ACTS, &mut sink) {
+    if let Err(fault) = write_lines(rt.alloc(), 16, &acts, &mut sink) {
         same(&rt, fault, Fault::Memory);
         assert!(rt; !sink.failed());
-        write_lines(rt.alloc(), 16, &ACTS, &mut sink)?;
+        write_lines(rt.alloc(), 16, &acts, &mut sink)?;
     }
     same(&rt, taken.as_slice(), TOLD);
     Ok(())

@@ -5,10 +5,12 @@ use crate::shapes::shape_with_cells;
 use control_word::{Block, Place};
 
 /// The second field of the block in which the first object is made.
-const ELSEWHERE: Option<Place> = Some(Place {
-    block: Block(1),
-    field: 1,
-});
+fn elsewhere() -> Option<Place> {
+    Some(Place {
+        block: Block::numbered(1),
+        field: 1,
+    })
+}
 
 /// Place and object, both as the cell has them; a load takes a fund meanwhile. Slot 5 has the owner of the object whose
 /// members are cells.
@@ -32,7 +34,7 @@ fn owners(cell: Cell) -> [(Call, Answer); 17] {
         (Call::Load(cell, 2), Answer::Done),
         (Call::Holds(cell, 2), Answer::Is(true)),
         (Call::Holds(cell, 5), Answer::Is(false)),
-        (Call::Come(0, Way::Alias(ELSEWHERE), 2), Answer::Done),
+        (Call::Come(0, Way::Alias(elsewhere()), 2), Answer::Done),
         (Call::Holds(cell, 2), Answer::Is(false)),
         (Call::Store(2, cell), Answer::Left(Outcome::Others)),
         (Call::Holds(cell, 0), Answer::Is(false)),

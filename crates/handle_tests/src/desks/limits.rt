@@ -21,11 +21,11 @@ fn answer(alloc: Global, shape: Shape) -> u8 {
 fn a_domain_has_limits(rt: HostRuntime) {
     let alloc = rt.alloc();
     let answers = [
-        answer(alloc, shape_with_cells(65_535, 200, 56, 4_194_304)),
+        answer(alloc, shape_with_cells(4_000_000, 60_000, 5_536, 4_194_304)),
         answer(alloc, shape(1, 1)),
-        answer(alloc, shape(65_536, 1)),
+        answer(alloc, shape(4_000_001, 1)),
         answer(alloc, shape(0, 1)),
-        answer(alloc, shape_with_cells(1, 200, 57, 1)),
+        answer(alloc, shape_with_cells(1, 60_000, 5_537, 1)),
         answer(alloc, shape(1, 4_194_305)),
         answer(alloc, shape(1, 0)),
     ];

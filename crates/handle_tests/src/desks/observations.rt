@@ -21,7 +21,7 @@ fn words(domain: &Domain<u64>, desk: &mut Desk<u64>) -> Words
     requires blocks { 0 < domain.now.shape.blocks }
     ensures same { desk.new ≡ desk.old }
 {
-    let block = Block(1);
+    let block = Block::numbered(1);
     [
         desk.observe(domain, block_word(block, OWNERS)),
         desk.observe(domain, block_word(block, WEAKS)),
@@ -40,7 +40,7 @@ fn owners_for_two(
     requires domain { Belongs desk.old domain.now × Belongs other domain.now }
     requires blocks { 0 < domain.now.shape.blocks }
 {
-    let word = block_word(Block(1), OWNERS);
+    let word = block_word(Block::numbered(1), OWNERS);
     let (none, other) = desk.observe_with(domain, other, word);
     let Ok(owner) = make(domain, desk, [1, 2, 3, 4], true, 9) else {
         desk.join(domain, other);

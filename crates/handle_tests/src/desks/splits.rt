@@ -108,10 +108,10 @@ pub(crate) fn vacant_blocks(domain: Domain<u64>, desk: Desk<u64>) -> Option<[boo
     match closed(domain, desk) {
         Some(census) => {
             Some([
-                census.is_vacant(Block(1)),
-                census.is_vacant(Block(2)),
-                census.is_vacant(Block(3)),
-                census.is_vacant(Block(4)),
+                census.is_vacant(Block::numbered(1)),
+                census.is_vacant(Block::numbered(2)),
+                census.is_vacant(Block::numbered(3)),
+                census.is_vacant(Block::numbered(4)),
             ])
         }
         None => None,

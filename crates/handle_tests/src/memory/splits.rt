@@ -148,7 +148,7 @@ fn parted(alloc: Global) -> Result<Told, Refusal> {
 #[test]
 fn a_refused_split_hands_its_handles_back_in_order(rt: HostRuntime) -> Result<(), Fail> {
     let at = Some(Place {
-        block: Block(1),
+        block: Block::numbered(1),
         field: 0,
     });
     let both = [Some((false, at)), Some((true, at))];

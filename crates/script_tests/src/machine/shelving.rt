@@ -1,5 +1,6 @@
 //! Programs that move blocks to the shelf and from it, as no script does: one actor's blocks serve another.
-ghost use Rattle.std.specs.Prelude.{◌<◌, length};
+ghost use Rattle.std.specs.Prelude.{◌<◌, ◌≤◌, length};
+ghost use Rattle.control_word.specs.Limits.{most_blocks};
 
 use crate::same::same;
 use control_word::{Block, Refusal, Shape};
@@ -23,8 +24,10 @@ fn make(target: Name) -> Call {
     Call::Make { target, fields }
 }
 
-fn unshelve(block: u16) -> Call {
-    let block = Block(block);
+fn unshelve(number: u32) -> Call
+    requires { (0 < number) × (number ≤ most_blocks) }
+{
+    let block = Block::numbered(number);
     Call::Unshelve { block }
 }
 

@@ -128,13 +128,13 @@ impl Pair {
     /// A turn of the first actor, and how many owners and weak pointers the first object has then.
     fn turn(&mut self) -> Option<Counts> {
         self.world.turn(1);
-        self.world.counts(Block(1))
+        self.world.counts(Block::numbered(1))
     }
 
     /// The same of a step of the second.
     fn step(&mut self) -> Option<Counts> {
         self.world.step(2);
-        self.world.counts(Block(1))
+        self.world.counts(Block::numbered(1))
     }
 
     /// Whether a load of the second actor has a fund that isn't turned.
@@ -188,7 +188,7 @@ fn a_make_under_way_is_none(rt: HostRuntime) -> Result<(), Fail> {
     for _ in 0..6 {
         let is_quiet = matches!(pair.first_step(), Stepped::Quiet(_));
         let is_making = matches!(pair.world.pending_call(1), PendingCall::Making { .. });
-        let told = (is_quiet, is_making, pair.world.counts(Block(1)));
+        let told = (is_quiet, is_making, pair.world.counts(Block::numbered(1)));
         same(&rt, told, (true, true, None));
     }
     Ok(())
@@ -226,7 +226,7 @@ fn what_is_left_is_told(rt: HostRuntime) -> Result<(), Fail> {
     let mut pair = Pair::new(rt.alloc(), &OWNS, &[])?;
     pair.run(rt.alloc())?;
     pair.world.assert_invariant_at_end();
-    let block = Block(1);
+    let block = Block::numbered(1);
     same(&rt, pair.world.census(block), counts(1, 0));
     same(&rt, pair.world.fields(block), Some([5, 6, 7, 8]));
     same(&rt, (pair.world.made(), pair.world.ended()), (2, 0));

@@ -70,14 +70,14 @@ fn a_shelved_block_is_taken_once(rt: HostRuntime) -> Result<(), Fail> {
         allowance: 80,
     };
     let mut table = Table::new(rt.alloc(), &Extent { shape, actors: 2 })?;
-    table.shelve(0, Block(1));
-    table.shelve(1, Block(3));
+    table.shelve(0, Block::numbered(1));
+    table.shelve(1, Block::numbered(3));
     let taken = [
-        table.unshelve(0, Block(2)),
-        table.unshelve(1, Block(1)),
-        table.unshelve(0, Block(1)),
-        table.unshelve(0, Block(3)),
-        table.unshelve(1, Block(3)),
+        table.unshelve(0, Block::numbered(2)),
+        table.unshelve(1, Block::numbered(1)),
+        table.unshelve(0, Block::numbered(1)),
+        table.unshelve(0, Block::numbered(3)),
+        table.unshelve(1, Block::numbered(3)),
     ];
     same(&rt, taken, [false, true, false, true, false]);
     Ok(())

@@ -1,6 +1,6 @@
 //! Words and lines that texts are made of.
 use crate::same::same;
-use control_word::Counts;
+use control_word::{Block, Counts};
 use script_stepper::{put_block, put_lines, put_totals};
 use script_text::{Cause, member_text, put_number, put_numbers};
 use std::alloc::{AllocError, Global};
@@ -34,7 +34,7 @@ fn census(alloc: Global) -> Result<String, AllocError> {
     put_lines(&mut text, 1, &[])?;
     put_block(
         &mut text,
-        3,
+        Block::numbered(3),
         Counts {
             owners: 2,
             weaks: 1,

@@ -10,12 +10,13 @@ use control_word::shape::{self, Shape};
 
 #[test]
 fn words_lie_where_the_layout_says(rt: HostRuntime) {
-    let first = Block(1);
+    let first = Block::numbered(1);
     let of_blocks = [
         block_word(first, OWNERS),
         block_word(first, MEMBERS + 2),
-        block_word(Block(2), WEAKS),
-        block_word(Block(65_535), MEMBERS + 2),
+        block_word(Block::numbered(2), WEAKS),
+        block_word(Block::numbered(65_535), MEMBERS + 2),
+        block_word(Block::numbered(4_000_000), MEMBERS + 8),
     ];
     let shape = Shape {
         blocks: 4,
@@ -28,11 +29,15 @@ fn words_lie_where_the_layout_says(rt: HostRuntime) {
     let of_cells = [cell_word(65_535, 0), cell_word(4, 0), cell_word(4, 2)];
     let all = table_words(&shape);
     words_lie_apart();
-    // 16 for each block, 8 for each cell, and the shelf's
+    // 16 for each block, 8 for each cell, a word of the shelf and one of its summary
     same(
         &rt,
         (of_blocks, of_cells, all),
-        ([0, 9, 17, 1_048_553], [1_048_560, 64, 80], 88 + 1_024),
+        (
+            [0, 9, 17, 1_048_553, 63_999_999],
+            [1_048_560, 64, 80],
+            88 + 2,
+        ),
     );
     let words = [OWNERS, WEAKS, FLAGS, FIELDS, MEMBERS];
     same(
@@ -45,14 +50,14 @@ fn words_lie_where_the_layout_says(rt: HostRuntime) {
 /// Blocks, free cells of both kinds and allowance of a shape, and whether it is within the limits.
 const SHAPES: [(u32, u32, u32, u32, bool); 13] = [
     (1, 0, 0, 1, true),
-    (65_535, 256, 0, 4_194_304, true),
-    (65_535, 0, 256, 4_194_304, true),
-    (4, 128, 128, 8, true),
+    (4_000_000, 65_536, 0, 4_194_304, true),
+    (4_000_000, 0, 65_536, 4_194_304, true),
+    (4, 32_768, 32_768, 8, true),
     (0, 0, 0, 1, false),
-    (65_536, 0, 0, 1, false),
-    (1, 257, 0, 1, false),
-    (1, 0, 257, 1, false),
-    (1, 128, 129, 1, false),
+    (4_000_001, 0, 0, 1, false),
+    (1, 65_537, 0, 1, false),
+    (1, 0, 65_537, 1, false),
+    (1, 32_768, 32_769, 1, false),
     (1, u32::MAX, 1, 1, false),
     (1, u32::MAX, u32::MAX, 1, false),
     (1, 0, 0, 0, false),
@@ -103,6 +108,34 @@ fn a_shape_has_so_many_members(rt: HostRuntime) {
     }
 }
 
+/// Blocks, owner and weak members, free cells and allowance of a shape, and whether the funds of all handles that may
+/// be on one block fit its count.
+const FULL_SHAPES: [(u32, u32, u32, u32, u32, bool); 8] = [
+    (2_097_151, 8, 1, 5, 1, true),
+    (2_097_151, 8, 1, 6, 1, false),
+    (2_097_152, 8, 1, 0, 1, false),
+    (2_396_744, 2, 7, 5, 1, true),
+    (2_396_744, 2, 7, 6, 1, false),
+    (1_040_384, 8, 1, 65_535, 4_194_304, true),
+    (1_040_384, 8, 1, 65_536, 4_194_304, false),
+    (4_000_000, 3, 1, 0, 2_388_608, false),
+];
+
+#[test]
+fn the_funds_of_all_handles_fit(rt: HostRuntime) {
+    for (blocks, owners, weaks, shared_cells, allowance, within) in FULL_SHAPES {
+        let shape = Shape {
+            blocks,
+            owners,
+            weaks,
+            shared_cells,
+            weak_cells: 0,
+            allowance,
+        };
+        same(&rt, (shape, shape.is_within_limits()), (shape, within));
+    }
+}
+
 /// Owner members, a member, and the kind of its handles.
 const KINDS: [(u32, u8, Kind); 12] = [
     (2, 0, Kind::Owner),
@@ -142,13 +175,12 @@ fn limits_have_their_numbers(rt: HostRuntime) {
         shape::MOST_MEMBERS,
         shape::MOST_FREE_CELLS,
         shape::MOST_ALLOWANCE,
-        shape::MOST_OWNERS,
-        shape::MOST_WEAKS,
+        shape::MOST_NUMBER,
         shape::CELL_FUNDS,
     ];
     same(
         &rt,
         of_domains,
-        [65_535, 9, 256, 4_194_304, 4_784_375, 4_784_376, 256],
+        [4_000_000, 9, 65_536, 4_194_304, 16_777_215, 256],
     );
 }
