@@ -8,7 +8,7 @@ With `--reason` nothing runs: a run with these words was refused so, and why its
 said, or what a line of its file means. What was its standard input is file 3 then.
 `--explain` stands before the program's own words or among them. With it, more is told on standard error once
 the run has ended: what the numbers of refused statements mean, and which statement made each block that is
-left. Below `never` it is said what a statement tells that can't tell the line. Standard output and the first
+left. Below the refusal of a line it is said what its statement tells. Standard output and the first
 line of a refusal are the program's, and so is the exit status."""
 
 import errno
@@ -181,7 +181,7 @@ def main(program, *words):
         asked.acts = before_part(program, words, options, asked)
     lines = explanation(refusal, asked) if ran.returncode == 1 else []
     lines += meanings(ran.stdout) if watched else []
-    if finds and ran.stdout.startswith(b"never\n"):
+    if finds and refusal.startswith("refused 14: "):
         lines += filter(None, [misfit(options["--find"], asked.script)])
     if explains and command == "left" and ran.returncode != 1:
         lines += made.of_blocks(program, [f"{name}={value}" for name, value in options.items()], asked.script)

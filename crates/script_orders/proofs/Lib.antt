@@ -5,3 +5,4 @@ pub mod Differing
 pub mod Distinct
 pub mod Looking
 pub mod Numbering
+pub mod Telling

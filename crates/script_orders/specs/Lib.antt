@@ -4,3 +4,4 @@ pub mod Found
 pub mod Orders
 pub mod Outcomes
 pub mod Sorting
+pub mod Tellings

@@ -1,14 +1,15 @@
 -- What is told of a script's orders. All of it is own.
-use Rattle.std.specs.Prelude.{◌≡◌, ℕ, suc, ◌++◌, Bool, true, cond, Contains, List, [], ◌∷◌, length, codes}
+use Rattle.std.specs.Prelude.{◌≡◌, ℕ, suc, ◌++◌, Bool, true, false, cond, Contains, List, [], ◌∷◌, length, codes}
 use Rattle.std.specs.Prelude.{decimal, Option, Some, None, Result, Ok, Err}
 use Rattle.script_text.specs.declared.fault.Fault.{Fault}
 use Rattle.script_text.specs.Grammar.{Refuses}
 use Rattle.script_orders.specs.declared.orders.Answer.{Answer}
-use Rattle.script_orders.specs.declared.orders.Answer.TheVariants.{Told, Found, TooMany}
+use Rattle.script_orders.specs.declared.orders.Answer.TheVariants.{Told, Found, TooMany, CannotTell}
 use Rattle.script_orders.specs.Differences.{IsDifferLine}
 use Rattle.script_orders.specs.Coverage.{IsComplete}
 pub use Rattle.script_orders.specs.Outcomes.{AllDiffer, AreOutcomes, BeginsAlone, IsAdded, IsOutcome, Outcome, texts_of}
 use Rattle.script_orders.specs.Sorting.{lines_in}
+use Rattle.script_orders.specs.Tellings.{CanTell}
 
 -- a list behind a word
 abbrev pub list_after : List ℕ → List ℕ
@@ -94,14 +95,24 @@ pub record IsNeverText (script line text : List ℕ) : Type 0 where
   pub none : is_complete ≡ true → (list : List ℕ) → TellsLine script line list → ⊥
   pub says : text ≡ codes "never\n" ++ coverage_line is_complete
 
--- what is told where all outcomes are asked for, or those that tell a line
+-- what is told where a line is looked for that the script can tell
+abbrev pub IsSoughtText : List ℕ → Answer → List ℕ → List ℕ → Type 0
+IsSoughtText line Told script text = IsNeverText script line text
+IsSoughtText line Found script text = IsFoundText script line text
+IsSoughtText line TooMany script text = text ≡ []
+IsSoughtText line CannotTell script text = ⊥
+
+-- what is told where all outcomes are asked for, or those that tell a line: nothing where there are too many states, or
+-- else just where the script can't tell the line
 abbrev pub IsAnswerText : Option (List ℕ) → Answer → List ℕ → List ℕ → Type 0
 IsAnswerText None Told script text = IsOrdersText script text
 IsAnswerText None Found script text = ⊥
 IsAnswerText None TooMany script text = text ≡ []
-IsAnswerText (Some line) Told script text = IsNeverText script line text
-IsAnswerText (Some line) Found script text = IsFoundText script line text
+IsAnswerText None CannotTell script text = ⊥
+IsAnswerText (Some line) Told script text = CanTell script line true × IsSoughtText line Told script text
+IsAnswerText (Some line) Found script text = CanTell script line true × IsSoughtText line Found script text
 IsAnswerText (Some line) TooMany script text = text ≡ []
+IsAnswerText (Some line) CannotTell script text = CanTell script line false × (text ≡ [])
 
 -- the same of what came of the query, which a failed output doesn't tell
 abbrev pub IsAnswered : Option (List ℕ) → Result Answer Fault → List ℕ → List ℕ → Type 0

@@ -3,9 +3,11 @@
 ghost use Rattle.std.specs.Prelude.{◌≡◌, ◌&&◌, ◌++◌, ◌∷◌, [], Some, IfErr, IfOk, IfSome, IsTrue, codes};
 ghost use Rattle.script_text.specs.declared.fault.Fault.TheVariants.{Memory};
 ghost use Rattle.script_text.specs.Grammar.{ReadsAs, Refuses};
-ghost use Rattle.script_orders.specs.declared.orders.Answer.TheVariants.{Told, Found, TooMany};
+ghost use Rattle.script_orders.specs.declared.orders.Answer.TheVariants.{CannotTell, Told, Found, TooMany};
 ghost use Rattle.script_orders.specs.Found.{outcomes_in};
-ghost use Rattle.script_orders.specs.Orders.{IsAnswerText, IsNeverText, NoneTells, coverage_line, found_list};
+ghost use Rattle.script_orders.specs.Orders.{IsAnswerText, IsNeverText, IsSoughtText, NoneTells, coverage_line};
+ghost use Rattle.script_orders.specs.Orders.{found_list};
+ghost use Rattle.script_orders.specs.Tellings.{CanTell};
 
 use crate::answers::{Reply, coverage_line, given_up};
 use crate::coverage::{FoundOutcomes, is_complete};
@@ -13,6 +15,7 @@ use crate::lists::next_list;
 use crate::orders::Answer;
 use crate::outcomes::{Outcomes, outcome_text};
 use crate::search::Search;
+use crate::tellings::can_tell;
 use crate::threads::has_line;
 use indexmap::IndexMap;
 use script_text::{Fault, Script, parse};
@@ -115,7 +118,7 @@ fn try_list(
     list: Vec<u8>,
 ) -> Result<Option<Reply>, Fault>
     ensures is { IfOk result (λ tried. IfSome tried
-        (λ reply. IsAnswerText (Some sought.now.line.now) reply.answer sought.now.bytes.now reply.text.items)) }
+        (λ reply. IsSoughtText sought.now.line.now reply.answer sought.now.bytes.now reply.text.items)) }
     ensures refused { IfErr result (λ fault. Refuses fault sought.now.bytes.now) }
 {
     let told = outcome_text(alloc, sought.bytes, list.as_slice())?;
@@ -141,7 +144,7 @@ fn try_next(
 ) -> Result<Option<Reply>, Fault>
     requires { ReadsAs sought.now.bytes.now sought.now.script.now }
     ensures is { IfOk result (λ tried. IfSome tried
-        (λ reply. IsAnswerText (Some sought.now.line.now) reply.answer sought.now.bytes.now reply.text.items)) }
+        (λ reply. IsSoughtText sought.now.line.now reply.answer sought.now.bytes.now reply.text.items)) }
     ensures refused { IfErr result (λ fault. Refuses fault sought.now.bytes.now) }
 {
     match next_list(alloc, search) {
@@ -166,7 +169,7 @@ fn turns_found(
 ) -> Result<Reply, Fault>
     requires { ReadsAs sought.now.bytes.now sought.now.script.now }
     ensures is { IfOk result (λ reply.
-        IsAnswerText (Some sought.now.line.now) reply.answer sought.now.bytes.now reply.text.items) }
+        IsSoughtText sought.now.line.now reply.answer sought.now.bytes.now reply.text.items) }
     ensures refused { IfErr result (λ fault. Refuses fault sought.now.bytes.now) }
 {
     let mut outcomes = Outcomes {
@@ -183,6 +186,45 @@ fn turns_found(
     never(alloc, sought, &outcomes)
 }
 
+/// That the script can't tell the line.
+fn cannot_tell(alloc: Global) -> Reply
+    ensures answer { result.answer ≡ CannotTell }
+    ensures text { result.text.items ≡ [] }
+{
+    Reply {
+        answer: Answer::CannotTell,
+        text: Vec::new(alloc),
+    }
+}
+
+/// Whether the script can tell the line.
+fn is_tellable(alloc: Global, sought: &Sought<'_>) -> Result<bool, Fault>
+    requires { ReadsAs sought.now.bytes.now sought.now.script.now }
+    ensures can { IfOk result (λ can. CanTell sought.now.bytes.now sought.now.line.now can) }
+    ensures memory { IfErr result (λ fault. fault ≡ Memory) }
+{
+    can_tell(alloc, sought.script, sought.line)
+}
+
+/// The same, where the script can tell the line.
+fn turns_sought(
+    alloc: Global,
+    sought: &Sought<'_>,
+    most: u32,
+    search: &mut Search,
+) -> Result<Reply, Fault>
+    requires { ReadsAs sought.now.bytes.now sought.now.script.now }
+    ensures is { IfOk result (λ reply.
+        IsAnswerText (Some sought.now.line.now) reply.answer sought.now.bytes.now reply.text.items) }
+    ensures refused { IfErr result (λ fault. Refuses fault sought.now.bytes.now) }
+{
+    let can = is_tellable(alloc, sought)?;
+    if !can {
+        return Ok(cannot_tell(alloc));
+    }
+    turns_found(alloc, sought, most, search)
+}
+
 /// The least turns by which a line is told.
 pub(crate) fn turns_to(alloc: Global, script: &[u8], line: &[u8], most: u32) -> Result<Reply, Fault>
     ensures is { IfOk result (λ reply. IsAnswerText (Some line.now) reply.answer script.now reply.text.items) }
@@ -196,7 +238,7 @@ pub(crate) fn turns_to(alloc: Global, script: &[u8], line: &[u8], most: u32) -> 
         line,
     };
     match Search::new(alloc, &parsed, most) {
-        Ok(mut search) => turns_found(alloc, &sought, most, &mut search),
+        Ok(mut search) => turns_sought(alloc, &sought, most, &mut search),
         Err(why) => given_up(alloc, why),
     }
 }

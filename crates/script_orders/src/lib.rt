@@ -13,6 +13,7 @@ mod outcomes;
 mod report;
 mod search;
 mod states;
+mod tellings;
 mod threads;
 
 pub use all_orders::{AllOutcomes, all_outcomes};

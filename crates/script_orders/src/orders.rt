@@ -34,6 +34,8 @@ pub enum Answer {
     Found,
     /// Nothing was told, as there are more states.
     TooMany,
+    /// Nothing was told, as no statement of the script can tell the line.
+    CannotTell,
 }
 
 /// What is told of a script's orders.
@@ -58,7 +60,9 @@ fn reply_to(alloc: Global, query: Query<'_>) -> Result<Reply, Fault>
 /// were seen, and, where outcomes differ, `differ` with the statements whose lines aren't the same in all.
 ///
 /// Where a line is asked for, only the list of the first order is written in which it is told, and the answer is
-/// `Found`; or `never`, where there is none.
+/// `Found`; or `never`, where there is none. Nothing is written, and the answer is `CannotTell`, just where no answer,
+/// refusal or end that a statement of the script may tell is this line, nor one of a thread's end, of a block that is
+/// left or of the totals.
 ///
 /// Where there are more states than are to be seen, as there are where that is 0, nothing is written, and the answer is
 /// `TooMany`. Refused, in this order: by 1 where a growth was refused, by 10 just where a line of the script is faulty,

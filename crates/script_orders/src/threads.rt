@@ -37,7 +37,8 @@ fn put_beginning(sorted: &mut Vec<u8>, text: &[u8], start: &[u8]) -> Result<(), 
     Ok(())
 }
 
-fn is_digit(b: u8) -> bool
+/// Whether a byte is a decimal digit.
+pub(crate) fn is_digit(b: u8) -> bool
     ensures { result ≡ is_digit b }
 {
     matches!(b, b'0'..=b'9')

@@ -43,10 +43,19 @@ fn the_first_order_of_a_line_is_found(rt: HostRuntime) -> Result<(), Fail> {
 
 #[test]
 fn a_line_of_no_order_is_never_told(rt: HostRuntime) -> Result<(), Fail> {
-    let line: &[u8] = b"2.2 lock both";
+    let line: &[u8] = b"1.4 end 2 0 0 0";
     let (answer, text) = answered(rt.alloc(), LOCK, Some(line), MOST_STATES)?;
     assert_eq!(rt; answer, Answer::Told);
     assert_eq!(rt; text.as_slice(), b"never\ncomplete\n".as_slice());
+    Ok(())
+}
+
+#[test]
+fn a_line_of_no_statement_is_refused(rt: HostRuntime) -> Result<(), Fail> {
+    let line: &[u8] = b"2.2 lock both";
+    let (answer, text) = answered(rt.alloc(), LOCK, Some(line), MOST_STATES)?;
+    assert_eq!(rt; answer, Answer::CannotTell);
+    assert_eq!(rt; text.as_slice(), b"".as_slice());
     Ok(())
 }
 

@@ -63,6 +63,7 @@ answer_back : (answer : Answer) → orders_answer (Ok (orders_outcome answer)) �
 answer_back orders.Told = refl
 answer_back orders.Found = refl
 answer_back orders.TooMany = refl
+answer_back orders.CannotTell = refl
 
 module _ (line : Option (List ℕ)) (bytes : List ℕ) (answer : Answer) (a b c : Option (List ℕ))
     (h : (text : List ℕ) × TellsOrders line (Ok answer) bytes (Ok text) × Appends a b text)

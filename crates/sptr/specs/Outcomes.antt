@@ -10,7 +10,7 @@ use Rattle.script_orders.specs.declared.orders.Answer.{Answer}
 use Rattle.script_orders.specs.declared.orders.Answer.TheVariants as orders
 use Rattle.sptr.specs.declared.answers.Outcome.{Outcome}
 use Rattle.sptr.specs.declared.answers.Outcome.TheVariants.{Done, Found, Leaks, NoGraph, NoOrders}
-use Rattle.sptr.specs.declared.answers.Outcome.TheVariants.{NoPicture}
+use Rattle.sptr.specs.declared.answers.Outcome.TheVariants.{NoLine, NoPicture}
 use Rattle.sptr.specs.declared.command.Asked.{Asked}
 use Rattle.sptr.specs.declared.command.Asked.TheVariants.{Draw, Left, Orders, OrdersPage, Owners}
 
@@ -37,6 +37,7 @@ is_found (Ok NoPicture) = Ok true
 is_found (Ok (NoGraph line cause)) = Ok true
 is_found (Ok Found) = Ok true
 is_found (Ok NoOrders) = Ok true
+is_found (Ok NoLine) = Ok true
 is_found (Err fault) = Err fault
 
 -- what comes of a script's orders
@@ -44,6 +45,7 @@ abbrev pub orders_outcome : Answer → Outcome
 orders_outcome orders.Told = Done
 orders_outcome orders.Found = Found
 orders_outcome orders.TooMany = NoOrders
+orders_outcome orders.CannotTell = NoLine
 
 -- of which answer that comes
 abbrev pub orders_answer : Result Outcome Fault → Result Answer Fault
@@ -53,6 +55,7 @@ orders_answer (Ok NoPicture) = Ok orders.Told
 orders_answer (Ok (NoGraph line cause)) = Ok orders.Told
 orders_answer (Ok Found) = Ok orders.Found
 orders_answer (Ok NoOrders) = Ok orders.TooMany
+orders_answer (Ok NoLine) = Ok orders.CannotTell
 orders_answer (Err fault) = Err fault
 
 -- the line that is to be found, if one is
@@ -60,7 +63,7 @@ abbrev pub line_found : Bool → List ℕ → Option (List ℕ)
 line_found finds line = cond finds (Some line) None
 
 -- only `left` and `owners` find something leaked, only `draw` draws nothing, only `owners` has a
--- graph without an answer, and only `orders` finds a line, or has too many states
+-- graph without an answer, and only `orders` finds a line, can't, or has too many states
 abbrev pub MayCome : Outcome → Asked → Type 0
 MayCome Done asked = Unit {0}
 MayCome Leaks (Left draws) = Unit {0}
@@ -75,6 +78,8 @@ MayCome Found _ = ⊥
 MayCome NoOrders (Orders finds most) = Unit {0}
 MayCome NoOrders (OrdersPage most) = Unit {0}
 MayCome NoOrders _ = ⊥
+MayCome NoLine (Orders finds most) = Unit {0}
+MayCome NoLine _ = ⊥
 
 abbrev pub FindsAsAsked : Asked → Result Outcome Fault → Type 0
 FindsAsAsked asked answer = IfOk answer (λ outcome. MayCome outcome asked)
@@ -87,4 +92,5 @@ exit_status (Ok NoPicture) = 1
 exit_status (Ok (NoGraph line cause)) = 1
 exit_status (Ok Found) = 3
 exit_status (Ok NoOrders) = 1
+exit_status (Ok NoLine) = 1
 exit_status (Err fault) = 1

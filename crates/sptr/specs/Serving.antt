@@ -25,13 +25,13 @@ use Rattle.sptr.specs.CommandLine.{AsksFor, faults_of, names_list, names_text, t
 use Rattle.script_picture.specs.Pictures.{IsPictureText}
 use Rattle.script_picture.specs.declared.part.Part.{Part}
 use Rattle.script_orders.specs.Orders.{TellsOrders}
-use Rattle.sptr.specs.Lines.{limit_line, ok_line, picture_line}
+use Rattle.sptr.specs.Lines.{limit_line, no_line, ok_line, picture_line}
 use Rattle.sptr.specs.OutcomePages.{TellsPage}
 use Rattle.sptr.specs.Outcomes.{FindsAsAsked, exit_status, is_found, line_found, orders_answer}
 use Rattle.sptr.specs.Sources.{OfBytes, OfList, known_unless}
 use Rattle.sptr.specs.declared.answers.Outcome.{Outcome}
 use Rattle.sptr.specs.declared.answers.Outcome.TheVariants.{Done, Found, Leaks, NoGraph, NoOrders}
-use Rattle.sptr.specs.declared.answers.Outcome.TheVariants.{NoPicture}
+use Rattle.sptr.specs.declared.answers.Outcome.TheVariants.{NoLine, NoPicture}
 use Rattle.sptr.specs.declared.command.Asked.{Asked}
 use Rattle.sptr.specs.declared.command.Asked.TheVariants.{Check, Convert, Draw, Fine, Left, Orders}
 use Rattle.sptr.specs.declared.command.Asked.TheVariants.{OrdersPage, Owners, Run, Step}
@@ -94,6 +94,7 @@ IsGraphText draws bytes (Ok (NoGraph line cause)) text =
     graph.Refuses (line_fault.Syntax line cause) bytes × (text ≡ [])
 IsGraphText draws bytes (Ok Found) text = ⊥
 IsGraphText draws bytes (Ok NoOrders) text = ⊥
+IsGraphText draws bytes (Ok NoLine) text = ⊥
 IsGraphText draws bytes (Err fault) text = (leaks : Bool) × IsOwnersText draws bytes leaks text
 
 abbrev pub TellsGraph : Bool → List ℕ → Result Outcome Fault → Result (List ℕ) Fault → Type 0
@@ -169,6 +170,7 @@ ReportsOutcome (Ok NoPicture) r = IsReported picture_line r
 ReportsOutcome (Ok (NoGraph line cause)) r = IsReported (faulty_line line (cause_words cause)) r
 ReportsOutcome (Ok Found) r = IsUntouched r
 ReportsOutcome (Ok NoOrders) r = IsReported limit_line r
+ReportsOutcome (Ok NoLine) r = IsReported no_line r
 ReportsOutcome (Err fault) r = IsReported (fault_line fault) r
 
 -- a command's answer to this list of turns and these bytes of a script or a graph, where it is known

@@ -45,6 +45,8 @@ pub(crate) enum Outcome {
     /// Nothing was told of a script's orders: there are more states than are to be seen, or it isn't
     /// said by a number how many.
     NoOrders,
+    /// Nothing was: the script can't tell the line.
+    NoLine,
 }
 
 /// All that an input has.

@@ -26,6 +26,7 @@ fn outcome_of(answer: Answer) -> Outcome
         Answer::Told => Outcome::Done,
         Answer::Found => Outcome::Found,
         Answer::TooMany => Outcome::NoOrders,
+        Answer::CannotTell => Outcome::NoLine,
     }
 }
 

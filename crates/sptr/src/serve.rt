@@ -7,7 +7,7 @@ ghost use Rattle.sptr.specs.CommandLine.{AsksHelp, AsksPlainly, AsksVersion, Nam
 ghost use Rattle.sptr.specs.Serving.{IsAnswered, IsMistaken, IsReported, IsShownText, IsTurnedAway};
 ghost use Rattle.sptr.specs.Serving.{ReportsOutcome, Serves, report};
 ghost use Rattle.sptr.specs.Sources.{known_unless};
-ghost use Rattle.sptr.specs.Lines.{limit_line, picture_line};
+ghost use Rattle.sptr.specs.Lines.{limit_line, no_line, picture_line};
 ghost use Rattle.sptr.specs.Outcomes.{exit_status};
 ghost use Rattle.owner_text.specs.Faults.{cause_words};
 ghost use Rattle.script_text.specs.Faults.{fault_line, faulty_line};
@@ -136,6 +136,24 @@ fn refuse_orders<F: Write>(faults: &mut Output<F>) -> u8
     1
 }
 
+/// Writes the line of a line that is never told, as the script can't tell it, and answers the exit
+/// status 1.
+fn refuse_line<F: Write>(faults: &mut Output<F>) -> u8
+    ensures status { result ≡ 1 }
+    ensures line { IsReported no_line
+        (report (F.contents faults.old.writer) faults.old.has_failed
+        (F.contents faults.new.writer) faults.new.has_failed) }
+{
+    if faults.failed() {
+        return 1;
+    }
+    let _ = write_all(
+        faults,
+        b"refused 14: line: no statement of the script can tell it\n",
+    );
+    1
+}
+
 /// Writes the line that tells of a faulty line of a graph, and answers the exit status 1.
 fn refuse_graph<F: Write>(line: usize, cause: Cause, faults: &mut Output<F>) -> u8
     ensures status { result ≡ 1 }
@@ -163,6 +181,7 @@ fn conclude<F: Write>(outcome: Outcome, faults: &mut Output<F>) -> u8
         Outcome::NoGraph { line, cause } => refuse_graph(line, cause, faults),
         Outcome::Found => 3,
         Outcome::NoOrders => refuse_orders(faults),
+        Outcome::NoLine => refuse_line(faults),
     }
 }
 

@@ -6,4 +6,4 @@ use Rattle.script_orders.proofs.finding.turns_to.Goals as goal
 
 pub returns-in-Ok-clause-none : goal.returns-in-Ok-clause-none
 returns-in-Ok-clause-none c =
-    zero_none c.args.most (λ (reply : Reply). reply.answer ≡ TooMany) c.turns_found.result c.in-Ok.ensures.some
+    zero_none c.args.most (λ (reply : Reply). reply.answer ≡ TooMany) c.turns_sought.result c.in-Ok.ensures.some
