@@ -10,7 +10,7 @@ use std::sync::{Mutex, Wait};
 use std::thread::Threads;
 
 /// So many texts are kept, each in the shared map by a number.
-const SIZE: u16 = 400;
+const SIZE: u32 = 400;
 
 /// A text, or none in the map's own objects.
 type Object = Option<String>;
@@ -81,7 +81,7 @@ impl<R: Threads + Wait + Sync + AllocGlobal> Program<Object, R> for Cache {
 }
 
 fn main(rt: HostRuntime) -> io::Result<()> {
-    let size = NonZeroUsize::new(usize::from(SIZE)).unwrap_or(NonZeroUsize::MIN);
+    let size = NonZeroUsize::new(SIZE as usize).unwrap_or(NonZeroUsize::MIN);
     let cache = Cache {
         numbers: Mutex::new(LruCache::new(rt.alloc(), size)?),
     };

@@ -12,7 +12,7 @@ use std::thread::Threads;
 /// So many keys there are, in so many buckets.
 const KEYS: u64 = 10_000;
 
-const BUCKETS: u16 = 16_384;
+const BUCKETS: u32 = 16_384;
 
 /// Each worker asks so often, and has so many values at a time, the last ones.
 const TURNS: usize = 100_000;

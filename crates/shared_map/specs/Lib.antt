@@ -1,3 +1,4 @@
 pub mod Maps
 pub mod Refusals
 pub mod Sweeps
+pub mod Openings

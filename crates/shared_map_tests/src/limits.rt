@@ -14,7 +14,7 @@ const FULL: Fault = Fault::Refused(Call::Make, Refusal::Full);
 #[derive(Drop)]
 struct Filled {
     alloc: Global,
-    buckets: u16,
+    buckets: u32,
     keys: u64,
 }
 
@@ -26,6 +26,7 @@ impl<R: Threads + Wait> Program<u64, R> for Filled {
         desk: &Desk<D>,
     ) -> Result<(), Fault> {
         let mut map = SharedMap::open(rt, desk, self.alloc, MAP, self.buckets)?;
+        row(8, map.buckets() == self.buckets as usize)?;
         let one = desk.new(1)?;
         for key in 0..self.keys {
             row(1, map.insert(rt, key, one.share()?)?.is_none())?;
@@ -62,17 +63,17 @@ fn a_small_domain_is_full(rt: HostRuntime) {
 }
 
 #[test]
-fn the_largest_domain_is_full(rt: HostRuntime) {
+fn a_map_of_70_000_buckets_is_full(rt: HostRuntime) {
     let size = Size {
         workers: 1,
-        pointers: 60_010,
-        blocks: 65_535,
-        kept: 65_534,
+        pointers: 70_010,
+        blocks: 80_000,
+        kept: 79_999,
     };
     let play = Filled {
         alloc: rt.alloc(),
-        buckets: 60_000,
-        keys: 5_534,
+        buckets: 70_000,
+        keys: 9_999,
     };
     plays(&rt, rt.alloc(), size, &play);
 }

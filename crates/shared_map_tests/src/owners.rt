@@ -112,7 +112,7 @@ impl<R: Threads + Wait> Program<u64, R> for Owners {
         _number: usize,
         desk: &Desk<D>,
     ) -> Result<(), Fault> {
-        let mut map = SharedMap::open(rt, desk, self.alloc, MAP, self.buckets)?;
+        let mut map = SharedMap::open(rt, desk, self.alloc, MAP, u32::from(self.buckets))?;
         row(20, map.buckets() == usize::from(self.buckets))?;
         comes_and_goes(rt, desk, &mut map)?;
         is_retained(rt, &mut map)?;

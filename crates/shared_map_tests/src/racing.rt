@@ -14,7 +14,7 @@ const WORKERS: u32 = 4;
 /// So many keys, over so many buckets.
 const KEYS: u64 = 100;
 
-const BUCKETS: u16 = 16;
+const BUCKETS: u32 = 16;
 
 /// So many rounds.
 const ROUNDS: u64 = 30;
