@@ -4,7 +4,9 @@ use Rattle.std.proofs.Common.{Result, sym, ap, subst, inl, inr, arith}
 use Rattle.script_runner.proofs.Prelude.{All-from_recursion, AllByRecursion, AllZip, Assignment}
 use Rattle.script_runner.proofs.Prelude.{HasAssignment, HasScriptMembers, HasTextCells, IsFitting, Refusal, Shape}
 use Rattle.script_runner.proofs.Prelude.{shape_for, Share, TableId, TableNow, Worker}
+use Rattle.control_word.specs.Layout.{IsWithinLimits}
 use Rattle.control_word.specs.declared.refusal.Refusal.TheVariants as refusal
+use Rattle.script_stepper.proofs.Beginning.{few_blocks, shape_fits}
 use Rattle.script_runner.specs.Parting.{IsNew}
 use Rattle.script_runner.specs.Staffs.{HasShares, IsLent, MeetsNeeds}
 use Rattle.script_runner.proofs.Assigning.{Needs}
@@ -48,6 +50,23 @@ has_shares shape share blocks threads n is allowance each many some =
     let part = ap {B = ℕ} (λ k. threads * k) each in
     let taken = ap {B = ℕ} (λ k. n * k) allowance in
     (omega (arith, allowance), omega (arith, all, taken, many, some), omega (arith, own, need, part))
+
+-- it is within the limits
+pub workers_fit : (blocks threads : ℕ) → 64 ≤ blocks → blocks ≤ 65535 → 1 ≤ threads → threads ≤ 64
+    → IsWithinLimits (record (shape_for blocks threads) { allowance = 65536 * threads })
+workers_fit blocks threads least most some many =
+    let fits = shape_fits blocks threads least most some many in
+    let few = few_blocks blocks threads most in
+    record {
+      some_block = fits.some_block;
+      blocks = fits.blocks;
+      members = fits.members;
+      cells = fits.cells;
+      some_handle = omega (arith, some);
+      allowance = omega (arith, many);
+      owners_room = omega (arith, few, many);
+      weaks_room = omega (arith, few, many);
+    }
 
 -- so a run is refused for want of memory alone, where the shape is within the limits and no worker keeps an allowance
 pub only_memory : {A P : Type 0} (r : Result A Refusal) → P → IfErr r (λ why. why ≡ refusal.Shape ↔ (P → ⊥))
