@@ -1,6 +1,7 @@
 pub mod Layout
 pub mod Limits
 pub mod Packing
+pub mod Blocks
 pub mod CellRows
 pub mod Refusal
 pub mod Handles
