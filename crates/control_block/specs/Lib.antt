@@ -17,6 +17,8 @@ pub mod Handles
 pub mod Inside
 pub mod Census
 pub mod Holders
+pub mod AllHolders
+pub mod EachBlock
 pub mod Parting
 pub mod Leaving
 pub mod Storing
