@@ -12,5 +12,6 @@ pub mod Words
 pub mod Views
 pub mod Steps
 pub mod CellSteps
+pub mod SummarySteps
 pub mod Laws
 pub mod Worked
