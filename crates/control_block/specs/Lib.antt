@@ -6,6 +6,7 @@ pub mod LockCalls
 pub mod DoorStepKinds
 pub mod FundStepKinds
 pub mod ShelfStepKinds
+pub mod SummaryStepKinds
 pub mod ObservationStepKinds
 pub mod CellStepKinds
 pub mod CellRetries
