@@ -1,5 +1,6 @@
 pub mod DeskSteps
 pub mod DeskBags
+pub mod DeskSummaries
 pub mod DeskLocks
 pub mod DeskStores
 pub mod StoreBlocks

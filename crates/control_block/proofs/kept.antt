@@ -25,3 +25,4 @@ pub mod Join
 pub mod Observation
 pub mod Peek
 pub mod Shelf
+pub mod Summary

@@ -6,6 +6,7 @@ pub mod LockCalls
 pub mod DoorStepKinds
 pub mod FundStepKinds
 pub mod ShelfStepKinds
+pub mod SummaryStepKinds
 pub mod ObservationStepKinds
 pub mod CellStepKinds
 pub mod CellRetries
@@ -17,6 +18,8 @@ pub mod Handles
 pub mod Inside
 pub mod Census
 pub mod Holders
+pub mod AllHolders
+pub mod EachBlock
 pub mod Parting
 pub mod Leaving
 pub mod Storing

@@ -3,6 +3,8 @@ ghost use Rattle.std.specs.Prelude.{◌≡◌, ◌<◌, ◌≤◌, ◌↔◌, Is
 ghost use Rattle.control_word.specs.Limits.{most_blocks};
 ghost use Rattle.control_block.specs.Census.{owners_in, weaks_in, HasBlock};
 
+mod all_holders;
+mod each;
 mod holders;
 mod vacancy;
 
@@ -12,6 +14,7 @@ use atomic_table::Closed;
 use control_word::packed::counts::unpack_count;
 use control_word::packed::layout::{OWNERS, WEAKS, block_word};
 use control_word::{Block, Counts, Shape};
+pub use each::EachBlock;
 pub use holders::Holders;
 use std::alloc::Global;
 use std::marker::Model;

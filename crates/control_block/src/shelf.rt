@@ -8,6 +8,8 @@ ghost use Rattle.control_block.specs.ShelfStepKinds.{HasBlocks, IsShelfWord, she
 ghost use Rattle.control_word.specs.Layout.{shelf_words};
 ghost use Rattle.control_word.specs.Limits.{most_blocks};
 
+mod summary;
+
 use crate::desk::Desk;
 use crate::domain::Domain;
 use crate::steps::shelf;
@@ -17,7 +19,7 @@ use std::marker::Brand;
 
 impl<V: Drop> Domain<V> {
     /// How many words of the shelf have a block's bit.
-    fn shelf_words(&self) -> u32
+    pub(crate) fn shelf_words(&self) -> u32
         ensures { result ≡ shelf_words self.now.shape.blocks }
     {
         shelf_length(self.shape.blocks)
@@ -44,16 +46,39 @@ impl<V: Drop> Desk<V> {
         let most = count.min(self.stock());
         let mut shelved = 0;
         while shelved < most {
+            let word = self.last_word();
             self.shelve_last(domain);
+            self.note_word(domain, word);
             shelved += 1;
         }
         shelved
     }
 
+    /// The word of the shelf that the store's last block has its bit in.
+    fn last_word(&self) -> u32 {
+        match self.store.last() {
+            Some(block) => block.number() / SHELF_BITS,
+            None => 0,
+        }
+    }
+
     /// Up to `count` blocks of the shelf come to the desk's store (own). It says how many: a sole desk gets the lesser
-    /// of `count` and how many there are. It goes over each word of the shelf once, first where it found a block last,
-    /// waits for nobody, and takes no memory. Condition: the desk is the domain's.
+    /// of `count` and how many there are. It looks where the shelf's summary tells of blocks, first where it found one
+    /// last. Where these are too few it goes over each word of the shelf once. It waits for nobody, and takes no
+    /// memory. Condition: the desk is the domain's.
     pub fn unshelve(&mut self, domain: &Domain<V>, count: u32) -> u32
+        requires domain { Belongs self.old domain.now }
+        ensures most { result ≤ count }
+        ensures unshelved { Unshelved result self.old self.new }
+        ensures same { result ≡ 0 → self.new ≡ self.old }
+        ensures sole { IsSole self.old → result ≡ min count (shelved_of self.old) }
+    {
+        let taken = self.unshelve_told(domain, count);
+        taken + self.unshelve_any(domain, count - taken)
+    }
+
+    /// The same by each word of the shelf.
+    fn unshelve_any(&mut self, domain: &Domain<V>, count: u32) -> u32
         requires domain { Belongs self.old domain.now }
         ensures most { result ≤ count }
         ensures unshelved { Unshelved result self.old self.new }
@@ -87,7 +112,7 @@ impl<V: Drop> Desk<V> {
     }
 
     /// The same of one word: one look at it, and one step for each block that the look told.
-    fn unshelve_from(&mut self, domain: &Domain<V>, word: u32, count: u32) -> u32
+    pub(crate) fn unshelve_from(&mut self, domain: &Domain<V>, word: u32, count: u32) -> u32
         requires domain { Belongs self.old domain.now }
         requires word { word < shelf_words domain.now.shape.blocks }
         ensures most { result ≤ count }
@@ -124,7 +149,7 @@ impl<V: Drop> Desk<V> {
     }
 
     /// A word of the shelf.
-    fn look_on_shelf(&mut self, domain: &Domain<V>, word: u32) -> u64
+    pub(crate) fn look_on_shelf(&mut self, domain: &Domain<V>, word: u32) -> u64
         requires domain { Belongs self.old domain.now }
         requires word { word < shelf_words domain.now.shape.blocks }
         ensures told { IsSole self.old → IsShelfWord word result (state_of self.old) }

@@ -18,6 +18,7 @@ pub mod funds;
 pub mod locks;
 pub mod observation;
 pub mod shelf;
+pub mod summary;
 
 use crate::slot::Slot;
 use crate::table::SeatView;

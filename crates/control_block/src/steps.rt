@@ -23,6 +23,7 @@ pub mod makes;
 pub mod observation;
 pub mod seats;
 pub mod shelf;
+pub mod summary;
 mod words;
 
 use crate::handles::{self, Shared};

@@ -21,4 +21,5 @@ pub mod Open
 pub mod Split
 pub mod Join
 pub mod Shelf
+pub mod Summary
 pub mod Standing

@@ -1,6 +1,7 @@
 pub mod Layout
 pub mod Limits
 pub mod Packing
+pub mod Blocks
 pub mod CellRows
 pub mod Refusal
 pub mod Handles
@@ -11,5 +12,6 @@ pub mod Words
 pub mod Views
 pub mod Steps
 pub mod CellSteps
+pub mod SummarySteps
 pub mod Laws
 pub mod Worked

@@ -1,6 +1,7 @@
 //! Packed words, limits, and the definitions of the shared-ownership runtime.
 #![tactic(auto)]
 
+pub mod blocks;
 pub mod handle;
 pub mod laws;
 pub mod model;
@@ -10,6 +11,7 @@ pub mod refusal;
 pub mod shape;
 pub mod site;
 
+pub use blocks::Blocks;
 pub use handle::Handle;
 pub use packed::cell::CellWord;
 pub use packed::counts::{Count, Counts};

@@ -6,7 +6,7 @@ use pointer_calls::{
     ByLink, Cell, Form, Hands, Look, New, Pair, Step, Told, Value, Way, answer, ended, made,
     new_ends, row,
 };
-use pointers::{Block, Desk, Domain, Fault, Program, Ran, Team, run};
+use pointers::{Desk, Domain, Fault, Program, Ran, Team, run};
 use std::alloc::Global;
 use std::sync::Wait;
 use std::thread::Threads;
@@ -127,9 +127,8 @@ impl<R: Threads + Wait + Sync> Program<Value, R> for Crowd {
 /// How many objects of a census have owners.
 fn living(ran: &Ran<Value>) -> u32 {
     let mut living = 0u32;
-    for before in 0..ran.census.blocks() {
-        let owners = ran.census.counts(Block::numbered(before + 1)).owners;
-        living = living.saturating_add(u32::from(owners > 0));
+    for (_, counts) in ran.census.each() {
+        living = living.saturating_add(u32::from(counts.owners > 0));
     }
     living
 }

@@ -2,7 +2,9 @@
 
 use crate::players::same;
 use pointer_calls::{Told, Value, begin, ended, new_ends, object, order, row};
-use pointers::{Call, Desk, Domain, Fault, Program, Refusal, Shared, Team, run};
+use pointers::{
+    Call, Desk, Domain, Fault, Holders, Program, Ran, Refusal, Shared, SharedCell, Team, run,
+};
 use std::alloc::Global;
 use std::sync::Wait;
 use std::thread::Threads;
@@ -90,6 +92,72 @@ impl<R: Threads + Wait + Sync> Program<Value, R> for Forgetful {
     }
 }
 
+/// Three objects are left: the first in a cell, the second in its first member and forgotten too, and the third only
+/// forgotten.
+#[derive(Drop)]
+struct Leaving {
+    told: Told,
+}
+
+impl<R: Threads + Wait + Sync> Program<Value, R> for Leaving {
+    fn work<D: Domain<Value = Value>>(
+        &self,
+        _rt: &R,
+        _number: usize,
+        desk: &Desk<D>,
+    ) -> Result<(), Fault> {
+        let one = object(desk, &self.told, 1)?;
+        let two = object(desk, &self.told, 2)?;
+        one.first().store(Some(two.share()?))?;
+        std::mem::forget(two);
+        std::mem::forget(object(desk, &self.told, 3)?);
+        one.store(SharedCell(0))
+    }
+}
+
+/// How many cells hold an object, and how many owners and weak handles of it are in none.
+fn counts_of(holders: &Holders) -> (usize, u32, u32) {
+    let forgotten = holders.forgotten;
+    (holders.cells.len(), forgotten.owners, forgotten.weaks)
+}
+
+/// Of how many blocks the census tells this.
+fn told_so(all: &[Holders], wanted: (usize, u32, u32)) -> usize {
+    all.iter().filter(|it| counts_of(it) == wanted).count()
+}
+
+/// Whether all holders are told as those of each block alone.
+fn told_alike(alloc: Global, ran: &Ran<Value>, all: &[Holders]) -> bool {
+    for ((block, _), holders) in ran.census.each().zip(all) {
+        match ran.census.holders(alloc, block) {
+            Ok(alone) if counts_of(&alone) == counts_of(holders) => {}
+            _ => return false,
+        }
+    }
+    true
+}
+
+/// Of a run that leaves three objects: of how many of its eight blocks a cell alone is told, a cell beside a forgotten
+/// owner, a forgotten owner alone, and nothing; and whether each is told so alone.
+fn left<R: Threads + Wait + Sync>(rt: &R, alloc: Global) -> Result<([usize; 4], bool), Fault> {
+    let ends = new_ends(alloc)?;
+    let leaving = Leaving {
+        told: ends.clone()?,
+    };
+    let team = Team {
+        workers: 1,
+        pointers: 6,
+    };
+    let Ok(ran) = run(rt, alloc, team.shape(8, 1, 0), team, &leaving) else {
+        return Err(Fault::Other(0));
+    };
+    let Ok(all) = ran.census.all_holders(alloc) else {
+        return Err(Fault::Other(1));
+    };
+    let rows = [(1, 0, 0), (1, 1, 0), (0, 1, 0), (0, 0, 0)].map(|row| told_so(&all, row));
+    Ok((rows, told_alike(alloc, &ran, &all)))
+}
+
 /// What is told of a run by one worker with four pointers: its fault, how many blocks are vacant of eight, and how many
 /// values ended.
 fn told<R: Threads + Wait + Sync, P: Program<Value, R> + Sync>(
@@ -137,6 +205,11 @@ mod tests {
     #[test]
     fn pointers_end_where_they_lie(rt: HostRuntime) {
         same(&rt, kept(&rt, rt.alloc()), Ok((None, 8, 0)));
+    }
+
+    #[test]
+    fn all_holders_are_told_at_once(rt: HostRuntime) {
+        same(&rt, left(&rt, rt.alloc()), Ok(([1, 1, 1, 5], true)));
     }
 
     /// The first object lives on, and the other one's block is kept.

@@ -37,5 +37,5 @@ pub use crate::program::{Failed, Program, Ran, run};
 pub use crate::shared::Shared;
 pub use crate::shared::optional::OptionalPointer;
 pub use crate::weak::Weak;
-pub use control_block::census::Census;
+pub use control_block::census::{Census, EachBlock, Holders};
 pub use control_word::{Block, Place, Refusal, Shape, Site};

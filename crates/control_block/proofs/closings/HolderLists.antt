@@ -1,5 +1,5 @@
 -- The cells that hold an object, one after another.
-use Rattle.std.proofs.Common.{◌≡◌, ℕ, suc, ◌+◌, ◌%◌, ◌≢◌, List, [], ◌∷◌, ◌++◌, ◌==◌, slice_index}
+use Rattle.std.proofs.Common.{◌≡◌, ℕ, suc, ◌+◌, ◌≢◌, List, [], ◌∷◌, ◌++◌, ◌==◌, slice_index}
 use Rattle.std.proofs.Common.{sym, refl, ap, ◌∙◌, arith, eq-eqb, ne_eqb}
 use Rattle.control_block.proofs.Prelude.{block_holders, CellAt, CensusNow, cond-false, cond-true}
 use Rattle.control_block.proofs.Prelude.{free_cell, free_holders, if_holds, member_holders}
@@ -7,7 +7,7 @@ use Rattle.control_block.proofs.Prelude.{owned_at, site_place}
 use Rattle.control_block.specs.Holders.{member_cell, some_members}
 use Rattle.control_word.specs.Packing.{owned_in}
 
-none_right : {A : Type 0} → (l : List A) → l ++ [] ≡ l
+pub none_right : {A : Type 0} → (l : List A) → l ++ [] ≡ l
 none_right [] = refl
 none_right (x ∷ xs) = ap (λ l. x ∷ l) (none_right xs)
 

@@ -80,14 +80,14 @@ impl<V: Drop> Census<V> {
     }
 
     /// How many free cells there are.
-    fn frees(&self) -> u32
+    pub(crate) fn frees(&self) -> u32
         ensures { result ≡ frees_in self.now }
     {
         self.shape.shared_cells + self.shape.weak_cells
     }
 
     /// A free cell.
-    fn free(&self, number: u32) -> CellAt
+    pub(crate) fn free(&self, number: u32) -> CellAt
         ensures { result ≡ free_cell self.now number }
     {
         let site = Site::Free { number };
@@ -100,7 +100,7 @@ impl<V: Drop> Census<V> {
     }
 
     /// A member of the object in a block.
-    fn member(&self, of: Block, member: u8) -> CellAt
+    pub(crate) fn member(&self, of: Block, member: u8) -> CellAt
         ensures { result ≡ member_cell self.now of.0 member }
     {
         CellAt {

@@ -14,6 +14,7 @@ ghost use Rattle.control_word.specs.CellSteps.{CompareSwaps, Clears};
 ghost use Rattle.control_word.specs.Steps.{MergesViews, Joins, Begins, HasHeadroom};
 ghost use Rattle.control_word.specs.Steps.{Shelves, ShelfShows, Unshelves};
 ghost use Rattle.control_word.specs.CellSteps.{CellsShow};
+ghost use Rattle.control_word.specs.SummarySteps.{WritesSummary};
 
 /// How a block is made: what is written into it, and the claim.
 pub fn making<V>()
@@ -117,6 +118,12 @@ pub fn shelf<V>()
     ensures shelve { Shelves V }
     // Unshelve: a bit is cleared, and the block is the desk's just where the bit was found set.
     ensures unshelve { Unshelves V }
+{}
+
+/// The shelf's summary, which tells desks where to look first.
+pub fn summary<V>()
+    // Write: a summary word becomes any number.
+    ensures write_summary { WritesSummary V }
 {}
 
 /// The words themselves, at the start and between any two steps.

@@ -80,7 +80,7 @@ fn there_and_back(alloc: Global, blocks: u32) -> Option<[u32; 3]> {
 
 #[test]
 fn the_blocks_at_the_ends_of_words_come_back(rt: HostRuntime) {
-    for blocks in [1, 63, 64, 65, 128, 65_535] {
+    for blocks in [1, 63, 64, 65, 128, 4_095, 4_096, 65_535] {
         same(&rt, there_and_back(rt.alloc(), blocks), Some([blocks; 3]));
     }
 }
