@@ -1,4 +1,4 @@
-//! Searches for knots, and for what ends. Nothing is proved of them: what they find is a
+//! Searches for knots, for what ends, and for cuts. Nothing is proved of them: what they find is a
 //! certificate, which is checked.
 pub(crate) mod backs;
 pub(crate) mod components;

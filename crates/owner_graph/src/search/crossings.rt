@@ -6,10 +6,10 @@ use crate::search::components::{at, put_at, zeros};
 use crate::search::detours::{Detours, Placed};
 use std::alloc::{AllocError, Global};
 
-/// Handles on vertices by which rings lead by detours: two such of the detours that lead forth
-/// along a ring, and two of one each that leads back. Of each vertex whether an owner of the ring in
-/// it is passed by none; and of each knot, by its least vertex, the numbers of its first stage and
-/// of that after its last.
+/// Ways back by which rings take detours: in turn those that lead forth along a ring, and of those
+/// that lead back the one to the greatest place, and the one from the least. Of each vertex whether
+/// the ring's owner in it is passed by no detour; of each knot, by its least vertex, the numbers of
+/// its first stage and of that after its last; and how many stages there are.
 #[derive(Drop)]
 pub(crate) struct Crossings {
     pub(crate) forth: Backs,
@@ -22,9 +22,9 @@ pub(crate) struct Crossings {
     stages: usize,
 }
 
-/// A sweep along a ring from its last place: the least place of a detour that leads to what is
-/// behind, and where it leads to; the place from which the detour comes that was taken last; and
-/// which of two the next one is.
+/// A sweep along a ring from its last place: the least place from which a detour leads to a vertex
+/// behind, and that vertex; the place from which the detour leads that was taken last; and which of
+/// two ways back takes the next one.
 #[derive(Clone, Copy, Drop)]
 struct Sweep {
     low: usize,
@@ -33,7 +33,7 @@ struct Sweep {
     is_second: bool,
 }
 
-/// Leads a ring by the detour to a vertex.
+/// Takes the detour to a vertex.
 fn lead(backs: &mut Backs, detour: &Backs, placed: &Placed, end: usize) {
     let mut vertex = end;
     for _step in 0..placed.places.of.len() {
@@ -45,7 +45,7 @@ fn lead(backs: &mut Backs, detour: &Backs, placed: &Placed, end: usize) {
     }
 }
 
-/// Leads a ring by the detour from a vertex.
+/// Takes the detour from a vertex.
 fn lead_from(backs: &mut Backs, detours: &Detours, placed: &Placed, start: usize) {
     let mut vertex = start;
     for _step in 0..placed.places.of.len() {
@@ -76,7 +76,7 @@ impl Crossings {
         })
     }
 
-    /// An owner of a ring, in the vertex at this place, is passed by a detour or by none.
+    /// The ring's owner in the vertex at this place is passed by a detour, or by none.
     fn pass(&mut self, placed: &Placed, detours: &Detours, sweep: Sweep, place: usize) -> Sweep {
         if sweep.passed > 0 && place >= sweep.passed {
             return sweep;
@@ -130,8 +130,8 @@ impl Crossings {
         }
     }
 
-    /// Leads rings by the detours that lead back to the greatest place and from the least, and
-    /// sweeps along what is between.
+    /// Takes the detours that lead back to the greatest place and from the least, and sweeps along
+    /// what is between.
     fn cross(&mut self, placed: &Placed, detours: &Detours, knot: usize) {
         let first = at(placed.places.firsts.as_slice(), knot);
         let last = at(placed.places.lasts.as_slice(), knot);
@@ -159,7 +159,7 @@ impl Crossings {
     }
 }
 
-/// Searches the rings of all knots that have a place from which to start.
+/// Searches along the rings of all knots that are open.
 pub(crate) fn find_crossings(
     alloc: Global,
     vertices: u32,

@@ -5,7 +5,7 @@ use crate::index::Index;
 use crate::rings::Ring;
 use crate::search::backs::{Backs, is_inner};
 use crate::search::components::{at, put_at, zeros};
-use crate::search::crossings::find_crossings;
+use crate::search::crossings::{Crossings, find_crossings};
 use crate::search::detours::{Detours, Placed};
 use crate::search::places::Places;
 use crate::search::ring::find_ring;
@@ -84,7 +84,7 @@ fn marks_of(alloc: Global, vertices: u32, order: &[usize]) -> Result<Vec<usize>,
     Ok(marks)
 }
 
-/// Where owners beside a knot's ring lead round, these are the ways back from there.
+/// Where owners beside a knot's ring lead round by themselves, the way back is along these.
 fn lead_round(
     handles: &[Holding],
     index: &Index,
@@ -106,6 +106,26 @@ fn lead_round(
         put_at(&mut found.starts, at(knots, to), to);
         found.close(at(knots, to));
     }
+}
+
+/// The rings that lead by detours.
+fn detoured(
+    alloc: Global,
+    vertices: u32,
+    knots: &[usize],
+    crossings: &Crossings,
+    starts: &[usize],
+) -> Result<Vec<Ring>, AllocError> {
+    let mut rings = Vec::new(alloc);
+    for backs in [
+        &crossings.forth,
+        &crossings.forth_again,
+        &crossings.back,
+        &crossings.back_again,
+    ] {
+        rings.push(find_ring(alloc, vertices, knots, backs, starts)?)?;
+    }
+    Ok(rings)
 }
 
 /// Searches for the rings and stages of all knots.
@@ -142,16 +162,7 @@ pub(crate) fn find_rings(
     let open = found.are_open.as_slice();
     let crossings = find_crossings(alloc, vertices, &round, &placed, &detours, open)?;
     let stages = find_stages(alloc, vertices, handles, index, knots, &placed, &crossings)?;
-    let mut rings = Vec::new(alloc);
-    let starts = found.starts.as_slice();
-    for backs in [
-        &crossings.forth,
-        &crossings.forth_again,
-        &crossings.back,
-        &crossings.back_again,
-    ] {
-        rings.push(find_ring(alloc, vertices, knots, backs, starts)?)?;
-    }
+    let mut rings = detoured(alloc, vertices, knots, &crossings, found.starts.as_slice())?;
     rings.push(placed.ring)?;
     Ok(Found { rings, stages })
 }
