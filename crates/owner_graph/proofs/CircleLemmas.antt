@@ -22,7 +22,7 @@ leads_to_end hs a (x ∷ xs) b e p = before x (leads_to_end hs x xs b e p.1) p.0
     before : (y : ℕ) → EndsWithOwners hs y → Owns hs a y → EndsWithOwners hs a
     before _ (Ended y ne f) o = f a o
 
-place_of : (h t : Holding) → h.from ≡ t.from → h.slot ≡ t.slot → same_place h t ≡ true
+pub place_of : (h t : Holding) → h.from ≡ t.from → h.slot ≡ t.slot → same_place h t ≡ true
 place_of h t from slot = both (h.from == t.from) (h.slot == t.slot) (eq-eqb h.from t.from from)
     (eq-eqb h.slot t.slot slot)
   where

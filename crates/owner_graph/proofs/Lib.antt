@@ -14,8 +14,10 @@ pub mod Marks
 pub mod MoreEdges
 pub mod OneKnot
 pub mod OwnerLemmas
+pub mod RingLemmas
 pub mod RowLemmas
 pub mod Searches
+pub mod StageLemmas
 pub mod Steps
 pub mod TieLemmas
 pub mod WeakeningLemmas

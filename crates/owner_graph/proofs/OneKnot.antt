@@ -153,7 +153,7 @@ module _ (vertices : ℕ) (hs : List Holding) (knots : List ℕ) (are : KnotsAre
         out (knot_label hs vertices knots are least y some le one
         within (then_one hs least a y k.0 o, leads) ∙ own)
 
-    outer_ends : (y : ℕ) → EndsWithOwners (without gone hs) y → at knots y ≢ least
+    pub outer_ends : (y : ℕ) → EndsWithOwners (without gone hs) y → at knots y ≢ least
         → OwnersLead hs y least → y ≤ vertices
         → EndsWithOwners hs y
     outer_ends _ (Ended y ne f) out leads within =

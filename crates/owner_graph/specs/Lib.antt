@@ -12,7 +12,9 @@ pub mod Members
 pub mod OneKnot
 pub mod Owners
 pub mod Paths
+pub mod Rings
 pub mod Rows
 pub mod Searches
+pub mod Stages
 pub mod Ties
 pub mod Weakenings

@@ -8,7 +8,9 @@ ghost use Rattle.owner_graph.specs.Indices.{IsIndex};
 ghost use Rattle.owner_graph.specs.Knots.{KnotsAre};
 ghost use Rattle.owner_graph.specs.Labels.{at};
 ghost use Rattle.owner_graph.specs.Owners.{IsAmong, IsKept};
+ghost use Rattle.owner_graph.specs.Rings.{IsRing};
 ghost use Rattle.owner_graph.specs.Rows.{handle_listed, held_in, row_at};
+ghost use Rattle.owner_graph.specs.Stages.{IsStaged};
 ghost use Rattle.owner_graph.specs.Ties.{is_tie};
 ghost use Rattle.owner_graph.specs.Weakenings.{AreWeakenings, knot_ties, labels_of};
 
@@ -66,6 +68,11 @@ fn is_cut_tie(
     requires circles { IsTrue lookup.now.are_circles
         → All (IsLinked lookup.now.index.stays.items knots.now lookup.now.circles) handles.now }
     requires index { IsIndex vertices handles.now knots.now lookup.now.index }
+    requires rings { All (IsRing vertices lookup.now.index knots.now)
+        lookup.now.knot_rings.rings.items }
+    requires stages { IsTrue lookup.now.knot_rings.are_stages
+        → All (IsStaged lookup.now.index.stays.items knots.now lookup.now.knot_rings.stages)
+        handles.now }
     requires handle { IsAmong vertices handle }
     ensures { IfOk result (λ is. IsTrue is ↔ ((is_tie kept.now knots.now handle ≡ true)
         × EndsWhenCut vertices handles.now (at knots.now handle.from) handle)) }
@@ -97,6 +104,11 @@ fn cuts_of(
     requires circles { IsTrue lookup.now.are_circles
         → All (IsLinked lookup.now.index.stays.items knots.now lookup.now.circles) handles.now }
     requires index { IsIndex vertices handles.now knots.now lookup.now.index }
+    requires rings { All (IsRing vertices lookup.now.index knots.now)
+        lookup.now.knot_rings.rings.items }
+    requires stages { IsTrue lookup.now.knot_rings.are_stages
+        → All (IsStaged lookup.now.index.stays.items knots.now lookup.now.knot_rings.stages)
+        handles.now }
     ensures { IfOk result (λ v. (i : ℕ) → i < length handles.now → marked v.items i ≡ true
         ↔ ((is_tie kept.now knots.now (handle_listed handles.now i) ≡ true)
         × EndsWhenCut vertices handles.now (at knots.now (handle_listed handles.now i).from)

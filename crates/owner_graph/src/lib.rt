@@ -11,13 +11,16 @@ mod ends;
 mod findings;
 mod holding;
 mod index;
+mod knot_rings;
 mod label_pairs;
 mod labels;
 mod lookups;
 mod one_knot;
 mod reachability;
+mod rings;
 mod rows;
 mod search;
+mod stages;
 mod tie;
 mod weakening;
 

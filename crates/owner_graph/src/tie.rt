@@ -7,12 +7,16 @@ ghost use Rattle.owner_graph.specs.Indices.{IsIndex};
 ghost use Rattle.owner_graph.specs.Knots.{KnotsAre};
 ghost use Rattle.owner_graph.specs.Labels.{at};
 ghost use Rattle.owner_graph.specs.Owners.{IsAmong};
+ghost use Rattle.owner_graph.specs.Rings.{IsRing};
+ghost use Rattle.owner_graph.specs.Stages.{IsStaged};
 ghost use Rattle.owner_graph.specs.Ties.{AreCuts, IsTied, is_tie, ties, ties_by};
 
 use crate::circles::{Circles, are_circles, find_circles, is_on_circle};
 use crate::holding::{Holding, as_index};
 use crate::index::Index;
+use crate::knot_rings::{KnotRings, leads_from_stage, look_for_rings};
 use crate::one_knot::ends_without;
+use crate::rings::is_beside_one;
 use crate::search::components::at;
 use crate::search::walk::Walk;
 use crate::weakening::Weakening;
@@ -81,12 +85,13 @@ pub fn ties(
     Ok(ties)
 }
 
-/// What was looked up, and circles, where their check passes.
+/// What was looked up; circles, where their check passes; and rings and stages of other knots.
 #[derive(Drop)]
 pub(crate) struct Lookup {
     pub(crate) index: Index,
     pub(crate) circles: Circles,
     pub(crate) are_circles: bool,
+    pub(crate) knot_rings: KnotRings,
 }
 
 /// Looks up what is asked again and again, and searches for circles.
@@ -101,15 +106,21 @@ pub(crate) fn look_up(
     ensures index { IfOk result (λ l. IsIndex vertices handles.now knots.now l.index) }
     ensures circles { IfOk result (λ l. IsTrue l.are_circles
         → All (IsLinked l.index.stays.items knots.now l.circles) handles.now) }
+    ensures rings { IfOk result (λ l. All (IsRing vertices l.index knots.now)
+        l.knot_rings.rings.items) }
+    ensures stages { IfOk result (λ l. IsTrue l.knot_rings.are_stages
+        → All (IsStaged l.index.stays.items knots.now l.knot_rings.stages) handles.now) }
 {
     let index = Index::new(alloc, vertices, handles, knots)?;
     let stays = index.stays.as_slice();
     let circles = find_circles(alloc, vertices, handles, knots, stays)?;
     let are_circles = are_circles(handles, knots, stays, &circles);
+    let knot_rings = look_for_rings(alloc, vertices, handles, knots, &index, &circles)?;
     Ok(Lookup {
         index,
         circles,
         are_circles,
+        knot_rings,
     })
 }
 
@@ -136,6 +147,11 @@ pub(crate) fn is_cut_by(
     requires circles { IsTrue lookup.now.are_circles
         → All (IsLinked lookup.now.index.stays.items knots.now lookup.now.circles) handles.now }
     requires index { IsIndex vertices handles.now knots.now lookup.now.index }
+    requires rings { All (IsRing vertices lookup.now.index knots.now)
+        lookup.now.knot_rings.rings.items }
+    requires stages { IsTrue lookup.now.knot_rings.are_stages
+        → All (IsStaged lookup.now.index.stays.items knots.now lookup.now.knot_rings.stages)
+        handles.now }
     requires vertex { (1 ≤ tie.to) × (tie.to ≤ vertices) }
     requires tie { IsAmong vertices tie }
     requires tied { IsTied knots.now tie }
@@ -144,8 +160,20 @@ pub(crate) fn is_cut_by(
     if is_known_cut(vertices, knots, lookup, tie) {
         return Ok(true);
     }
-    let weakening = Weakening::One { handle: tie };
+    if leads_from_stage(&lookup.knot_rings, tie) {
+        return Ok(true);
+    }
     let index = &lookup.index;
+    if is_beside_one(
+        vertices,
+        index,
+        knots,
+        lookup.knot_rings.rings.as_slice(),
+        tie,
+    ) {
+        return Ok(false);
+    }
+    let weakening = Weakening::One { handle: tie };
     ends_without(
         alloc, vertices, handles, knots, index, walk, tie.to, weakening,
     )
@@ -166,6 +194,11 @@ fn cuts_by(
     requires circles { IsTrue lookup.now.are_circles
         → All (IsLinked lookup.now.index.stays.items knots.now lookup.now.circles) handles.now }
     requires index { IsIndex vertices handles.now knots.now lookup.now.index }
+    requires rings { All (IsRing vertices lookup.now.index knots.now)
+        lookup.now.knot_rings.rings.items }
+    requires stages { IsTrue lookup.now.knot_rings.are_stages
+        → All (IsStaged lookup.now.index.stays.items knots.now lookup.now.knot_rings.stages)
+        handles.now }
     requires vertices { All (λ h. (1 ≤ h.to) × (h.to ≤ vertices)) ties.now }
     requires ties { All (IsAmong vertices) ties.now }
     requires tied { All (IsTied knots.now) ties.now }
