@@ -65,7 +65,7 @@ impl<'p, 't, D: Domain> SharedVec<'p, 't, D> {
         }
     }
 
-    /// The pointer takes the place of the element at an index, in C++ `v[i].store(p)`, and that lets go (waits): `None`.
+    /// The pointer takes the place of the element at an index, in C++ `v[i].store(p)`, which lets go (waits): `None`.
     /// From the end on nothing is put in, and the pointer comes back, as it does at a fault.
     pub fn set<R: Wait>(
         &self,
