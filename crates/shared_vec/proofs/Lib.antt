@@ -1,0 +1,6 @@
+pub mod EndSteps
+pub mod Growth
+pub mod Numbers
+pub mod Reasons
+pub mod Slots
+pub mod Ways

@@ -1,0 +1,11 @@
+//! A vector of pointers that threads share, in the objects of a domain.
+#![tactic(auto)]
+
+mod ends;
+mod index;
+mod leaf;
+mod node;
+mod slot;
+mod vector;
+
+pub use crate::vector::SharedVec;
