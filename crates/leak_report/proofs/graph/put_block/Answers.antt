@@ -9,4 +9,5 @@ returns c =
     let found = c.args.found.now in
     node_then (state_in (abstraction c.args.world.now)) found.findings found.held.items c.args.number
     c.in-Some.fields c.color_of-color.result.now (string_bytes c.args.text.now) (string_bytes c.put_node.new.text)
-    (c.in-Some.ensures ∙ ap (fields_of (state_in (abstraction c.args.world.now))) (c.numbered.ensures ∙ c.from.ensures)) c.color_of-color.ensures c.in_ok-put_node.ensures
+    (c.in-Some.ensures ∙ ap (fields_of (state_in (abstraction c.args.world.now))) (c.numbered.ensures ∙ c.from.ensures))
+    c.color_of-color.ensures c.in_ok-put_node.ensures
