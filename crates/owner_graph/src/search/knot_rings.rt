@@ -145,7 +145,7 @@ pub(crate) fn find_rings(
         &found.backs,
         found.starts.as_slice(),
     )?;
-    let places = Places::new(alloc, vertices, &ring)?;
+    let places = Places::new(alloc, vertices, knots, &ring)?;
     let placed = Placed { ring, places };
     let detours = Detours::new(alloc, vertices, handles, index, knots, &placed)?;
     let marks = marks_of(alloc, vertices, detours.order.as_slice())?;

@@ -24,7 +24,7 @@ pub(crate) fn is_of_ring(ring: &Ring, handle: Holding) -> bool {
 impl Places {
     /// Gives the vertices of a knot's ring the places up to this one, and answers the last that is
     /// free.
-    fn add(&mut self, ring: &Ring, knot: usize, last: usize) -> usize {
+    fn add(&mut self, knots: &[usize], ring: &Ring, knot: usize, last: usize) -> usize {
         let first = at(ring.firsts.as_slice(), knot);
         put_at(&mut self.lasts, knot, last);
         let mut vertex = first;
@@ -35,7 +35,7 @@ impl Places {
             put_at(&mut self.firsts, knot, place);
             place = place.saturating_sub(1);
             vertex = at(ring.sources.as_slice(), vertex);
-            if vertex == first || vertex == 0 {
+            if vertex == first || at(knots, vertex) != knot {
                 break;
             }
         }
@@ -43,7 +43,12 @@ impl Places {
     }
 
     /// Gives the vertices of all rings places.
-    pub(crate) fn new(alloc: Global, vertices: u32, ring: &Ring) -> Result<Places, AllocError> {
+    pub(crate) fn new(
+        alloc: Global,
+        vertices: u32,
+        knots: &[usize],
+        ring: &Ring,
+    ) -> Result<Places, AllocError> {
         let size = as_index(vertices) + 1;
         let mut places = Places {
             of: zeros(alloc, size)?,
@@ -54,7 +59,7 @@ impl Places {
         let mut last = as_index(vertices);
         for knot in 0..size {
             if at(ring.firsts.as_slice(), knot) > 0 {
-                last = places.add(ring, knot, last);
+                last = places.add(knots, ring, knot, last);
             }
         }
         Ok(places)
