@@ -101,7 +101,7 @@ impl Racing {
             if let Some(there) = vector.get(rt, index as usize)? {
                 row(8, there.read()? % 1_000 == index)?;
             }
-            let new = desk.make([index + 1_000 * number, 0, 0, 0], 0)?;
+            let new = desk.make([number.wrapping_mul(1_000).wrapping_add(index), 0, 0, 0], 0)?;
             drop(vector.set(rt, index as usize, new)?);
         }
         Ok(())
