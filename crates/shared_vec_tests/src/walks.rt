@@ -15,7 +15,7 @@ struct Walked {
 }
 
 /// A walk of all elements, or up to so many, which ends by this fault.
-fn walked<'t, D: Domain<Value = u64>, R: Wait>(
+fn walk<'t, D: Domain<Value = u64>, R: Wait>(
     rt: &R,
     vector: &SharedVec<'_, 't, D>,
     most: u64,
@@ -59,7 +59,7 @@ fn shows<'t, D: Domain<Value = u64>, R: Wait>(
     count: u64,
     sum: u64,
 ) -> Result<bool, Fault> {
-    let (walked, ended) = walked(rt, vector, 0)?;
+    let (walked, ended) = walk(rt, vector, 0)?;
     let all = Walked {
         count,
         in_order: true,
@@ -88,16 +88,16 @@ impl<R: Threads + Wait> Program<u64, R> for Walks {
         row(4, shows(rt, &vector, 65, 2_080)?)?;
         fill(rt, desk, &mut vector, 65, 600)?;
         row(5, shows(rt, &vector, 600, 179_700)?)?;
-        let (told, ended) = walked(rt, &vector, 10)?;
+        let (told, ended) = walk(rt, &vector, 10)?;
         row(6, told.count == 10 && told.in_order && told.sum == 45)?;
         row(7, ended == Err(Fault::Other(77)))?;
         let new = desk.make([1_000, 0, 0, 0], 0)?;
         drop(vector.set(rt, 0, new)?);
-        let (told, ended) = walked(rt, &vector, 0)?;
+        let (told, ended) = walk(rt, &vector, 0)?;
         row(8, told.count == 600 && !told.in_order && ended == Ok(()))?;
         row(9, told.sum == 180_700)?;
         vector.truncate(rt, 3)?;
-        let (told, _) = walked(rt, &vector, 0)?;
+        let (told, _) = walk(rt, &vector, 0)?;
         row(10, told.count == 3 && told.sum == 1_003)?;
         desk.clear(VECTOR)
     }
@@ -127,7 +127,7 @@ impl<R: Threads + Wait> Program<u64, R> for Narrow {
     ) -> Result<(), Fault> {
         let mut vector = SharedVec::at(desk, desk.cell(VECTOR));
         fill(rt, desk, &mut vector, 0, 2)?;
-        let (told, ended) = walked(rt, &vector, 0)?;
+        let (told, ended) = walk(rt, &vector, 0)?;
         row(1, told.count == 2 && told.in_order)?;
         row(2, ended == Err(Fault::Member(Call::Load(Spot::Owner(2)))))?;
         desk.clear(VECTOR)
