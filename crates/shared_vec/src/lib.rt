@@ -7,5 +7,7 @@ mod leaf;
 mod node;
 mod slot;
 mod vector;
+mod walk;
 
 pub use crate::vector::SharedVec;
+pub use crate::walk::Shown;

@@ -1,7 +1,7 @@
 //! Workers on one vector.
 
 use crate::plays::{Size, VECTOR, plays, row};
-use pointers::{Desk, Domain, Fault, Program};
+use pointers::{Desk, Domain, Fault, Program, Shared};
 use shared_vec::SharedVec;
 use std::sync::Wait;
 use std::sync::atomic::{AtomicU32, AtomicU64, Ordering};
@@ -75,8 +75,22 @@ impl Racing {
         row(5, sum == self.sum.load(Ordering::SeqCst))
     }
 
-    /// The first worker pops and pushes, the others read and set: what is at an index has its number in its first
-    /// field's low part.
+    /// A walk shows the elements in order.
+    fn walk<D: Domain<Value = u64>, R: Wait>(
+        rt: &R,
+        vector: &SharedVec<'_, '_, D>,
+    ) -> Result<(), Fault> {
+        let mut index = 0u64;
+        vector.each(rt, |there: &Shared<D>| {
+            row(10, there.read()? % 1_000 == index)?;
+            index = index.saturating_add(1);
+            Ok(())
+        })?;
+        row(11, index >= 500)
+    }
+
+    /// The first worker pops and pushes, the others read and set, and the last one walks too: what is at an index has
+    /// its number in its first field's low part.
     fn write_and_set<'t, D: Domain<Value = u64>, R: Wait>(
         &self,
         rt: &R,
@@ -96,6 +110,9 @@ impl Racing {
                     )?;
                 }
                 continue;
+            }
+            if number == 3 && round % 100 == 0 {
+                Racing::walk(rt, vector)?;
             }
             let index = round.wrapping_mul(number) % 700;
             if let Some(there) = vector.get(rt, index as usize)? {
