@@ -46,14 +46,22 @@ outcome_told script given list told text is same h =
 
 -- what is told of outcomes is an answer
 pub all_told : (script : List ℕ) (outcomes : List Outcome) (states : ℕ) (result : Result Reply Fault)
-    → AreOutcomes script outcomes → BeginsAlone outcomes → AllDiffer (texts_of outcomes)
+    → AreOutcomes script outcomes → BeginsAlone outcomes → AllDiffer (texts_of outcomes) → length outcomes ≤ states
     → IfOk result (λ reply. reply.answer ≡ Told)
     → IfOk result (λ reply. TellsOutcomes script outcomes states reply.text.items)
     → IfOk result (λ reply. IsAnswerText None reply.answer script reply.text.items)
-all_told script outcomes states (Ok reply) each first once is tells =
+all_told script outcomes states (Ok reply) each first once seen is tells =
     subst (λ (a : Answer). IsAnswerText None a script reply.text.items) (sym is)
-    (record { outcomes = outcomes; each = each; first = first; once = once; states = states; tells = tells })
-all_told script outcomes states (Err fault) each first once is tells = tt
+    (record {
+      outcomes = outcomes;
+      each = each;
+      first = first;
+      once = once;
+      states = states;
+      seen = seen;
+      tells = tells;
+    })
+all_told script outcomes states (Err fault) each first once seen is tells = tt
 
 -- the one outcome that is there first
 pub one_outcome : (script text list : List ℕ) (os : List Outcome) → os ≡ (text, list) ∷ [] → IsOutcome script list text

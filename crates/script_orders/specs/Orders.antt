@@ -1,5 +1,5 @@
 -- What is told of a script's orders. All of it is own.
-use Rattle.std.specs.Prelude.{◌≡◌, ℕ, suc, ◌++◌, Bool, true, false, cond, Contains, List, [], ◌∷◌, length, codes}
+use Rattle.std.specs.Prelude.{◌≡◌, ◌≤◌, ℕ, suc, ◌++◌, Bool, true, false, cond, Contains, List, [], ◌∷◌, length, codes}
 use Rattle.std.specs.Prelude.{decimal, Option, Some, None, Result, Ok, Err}
 use Rattle.script_text.specs.declared.fault.Fault.{Fault}
 use Rattle.script_text.specs.Grammar.{Refuses}
@@ -58,13 +58,14 @@ pub record TellsOutcomes (script : List ℕ) (outcomes : List Outcome) (states :
   pub none_missing : is_complete ≡ true → IsComplete script outcomes
   pub says : text ≡ told ++ coverage_line is_complete
 
--- the text tells outcomes of the script, each once, and first that of the run that goes by itself
+-- the text tells outcomes of the script, each once, and first that of the run that goes by itself; and no fewer states
 pub record IsOrdersText (script text : List ℕ) : Type 0 where
   pub outcomes : List Outcome
   pub each : AreOutcomes script outcomes
   pub first : BeginsAlone outcomes
   pub once : AllDiffer (texts_of outcomes)
   pub states : ℕ
+  pub seen : length outcomes ≤ states
   pub tells : TellsOutcomes script outcomes states text
 
 -- the run with this list of turns tells the line

@@ -1,12 +1,13 @@
 //! The first turns by which a line is told.
 
-ghost use Rattle.std.specs.Prelude.{◌≡◌, ◌&&◌, ◌++◌, ◌∷◌, [], Some, IfErr, IfOk, IfSome, IsTrue, codes};
+ghost use Rattle.std.specs.Prelude.{◌≡◌, ◌&&◌, ◌++◌, ◌∷◌, ◌≤◌, [], None, Some, IfErr, IfOk, IfSome, IsTrue, codes};
 ghost use Rattle.script_text.specs.declared.fault.Fault.TheVariants.{Memory};
 ghost use Rattle.script_text.specs.Grammar.{ReadsAs, Refuses};
 ghost use Rattle.script_orders.specs.declared.orders.Answer.TheVariants.{CannotTell, Told, Found, TooMany};
 ghost use Rattle.script_orders.specs.Found.{outcomes_in};
 ghost use Rattle.script_orders.specs.Orders.{IsAnswerText, IsNeverText, IsSoughtText, NoneTells, coverage_line};
 ghost use Rattle.script_orders.specs.Orders.{found_list};
+ghost use Rattle.script_orders.specs.Seen.{seen};
 ghost use Rattle.script_orders.specs.Tellings.{CanTell};
 
 use crate::answers::{Reply, coverage_line, given_up};
@@ -142,7 +143,9 @@ fn try_next(
     outcomes: &mut Outcomes,
     search: &mut Search,
 ) -> Result<Option<Reply>, Fault>
-    requires { ReadsAs sought.now.bytes.now sought.now.script.now }
+    requires reads { ReadsAs sought.now.bytes.now sought.now.script.now }
+    requires within { seen search.old.states ≤ search.old.most }
+    ensures within { IfOk result (λ tried. tried ≡ None → seen search.new.states ≤ search.new.most) }
     ensures is { IfOk result (λ tried. IfSome tried
         (λ reply. IsSoughtText sought.now.line.now reply.answer sought.now.bytes.now reply.text.items)) }
     ensures refused { IfErr result (λ fault. Refuses fault sought.now.bytes.now) }
@@ -167,7 +170,8 @@ fn turns_found(
     most: u32,
     search: &mut Search,
 ) -> Result<Reply, Fault>
-    requires { ReadsAs sought.now.bytes.now sought.now.script.now }
+    requires reads { ReadsAs sought.now.bytes.now sought.now.script.now }
+    requires within { seen search.old.states ≤ search.old.most }
     ensures is { IfOk result (λ reply.
         IsSoughtText sought.now.line.now reply.answer sought.now.bytes.now reply.text.items) }
     ensures refused { IfErr result (λ fault. Refuses fault sought.now.bytes.now) }
@@ -213,7 +217,8 @@ fn turns_sought(
     most: u32,
     search: &mut Search,
 ) -> Result<Reply, Fault>
-    requires { ReadsAs sought.now.bytes.now sought.now.script.now }
+    requires reads { ReadsAs sought.now.bytes.now sought.now.script.now }
+    requires within { seen search.old.states ≤ search.old.most }
     ensures is { IfOk result (λ reply.
         IsAnswerText (Some sought.now.line.now) reply.answer sought.now.bytes.now reply.text.items) }
     ensures refused { IfErr result (λ fault. Refuses fault sought.now.bytes.now) }

@@ -1,5 +1,9 @@
 //! The states of a script's runs, each once.
 
+ghost use Rattle.std.specs.Prelude.{◌≡◌, ◌+◌, ◌<◌, IfErr, IfOk};
+ghost use Rattle.control_word.specs.declared.refusal.Refusal.TheVariants.{Memory};
+ghost use Rattle.script_orders.specs.Seen.{one_where, seen};
+
 use crate::machine::heap::{Heap, Objects, narrow};
 use crate::machine::line::{Line, Told};
 use crate::machine::plan::Plan;
@@ -44,7 +48,9 @@ fn set_number(key: &mut Key, at: usize, number: u32) {
 }
 
 impl States {
-    pub fn new(alloc: Global) -> Result<States, Refusal> {
+    pub fn new(alloc: Global) -> Result<States, Refusal>
+        ensures none { IfOk result (λ states. seen states ≡ 0) }
+    {
         Ok(States {
             objects: Objects::new(alloc)?,
             heaps: IndexSet::new(alloc),
@@ -56,12 +62,16 @@ impl States {
     }
 
     /// How many states were seen.
-    pub fn count(&self) -> usize {
+    pub fn count(&self) -> usize
+        ensures { result ≡ seen self.now }
+    {
         self.keys.len()
     }
 
     /// The first state of a script's run.
-    pub fn first(&mut self, alloc: Global, plan: &Plan) -> Result<Key, Refusal> {
+    pub fn first(&mut self, alloc: Global, plan: &Plan) -> Result<Key, Refusal>
+        ensures none { seen self.new ≡ seen self.old }
+    {
         let mut key = Vec::new(alloc);
         let heap = plan.first_heap(alloc)?;
         key.push(self.heap_number(heap)?)?;
@@ -79,17 +89,23 @@ impl States {
         Ok(key)
     }
 
-    fn heap_number(&mut self, heap: Heap) -> Result<u32, Refusal> {
+    fn heap_number(&mut self, heap: Heap) -> Result<u32, Refusal>
+        ensures none { seen self.new ≡ seen self.old }
+    {
         let (number, _) = self.heaps.insert_full(heap)?;
         narrow(number)
     }
 
-    fn standing_number(&mut self, standing: Standing) -> Result<u32, Refusal> {
+    fn standing_number(&mut self, standing: Standing) -> Result<u32, Refusal>
+        ensures none { seen self.new ≡ seen self.old }
+    {
         let (number, _) = self.standings.insert_full(standing)?;
         narrow(number)
     }
 
-    fn told_number(&mut self, before: u32, told: Option<(u32, Line)>) -> Result<u32, Refusal> {
+    fn told_number(&mut self, before: u32, told: Option<(u32, Line)>) -> Result<u32, Refusal>
+        ensures none { seen self.new ≡ seen self.old }
+    {
         let Some((statement, line)) = told else {
             return Ok(before);
         };
@@ -102,7 +118,11 @@ impl States {
     }
 
     /// A state's number, and whether it wasn't seen before.
-    pub fn visit(&mut self, key: Key) -> Result<(usize, bool), Refusal> {
+    pub fn visit(&mut self, key: Key) -> Result<(usize, bool), Refusal>
+        ensures sees { IfOk result (λ visit. seen self.new ≡ seen self.old + one_where visit.1) }
+        ensures there { IfOk result (λ visit. visit.0 < seen self.new) }
+        ensures memory { IfErr result (λ why. why ≡ Memory) }
+    {
         Ok(self.keys.insert_full(key)?)
     }
 
@@ -132,7 +152,9 @@ impl States {
         plan: &Plan,
         state: usize,
         thread: usize,
-    ) -> Result<Option<Key>, Refusal> {
+    ) -> Result<Option<Key>, Refusal>
+        ensures none { seen self.new ≡ seen self.old }
+    {
         let Some(key) = self.keys.get_index(state) else {
             return Ok(None);
         };
@@ -168,7 +190,9 @@ impl States {
     }
 
     /// Whether no end before this one told the same, and left as many pointers on each block.
-    pub fn is_new_end(&mut self, alloc: Global, state: usize) -> Result<bool, Refusal> {
+    pub fn is_new_end(&mut self, alloc: Global, state: usize) -> Result<bool, Refusal>
+        ensures none { seen self.new ≡ seen self.old }
+    {
         let Some(key) = self.keys.get_index(state) else {
             return Ok(false);
         };

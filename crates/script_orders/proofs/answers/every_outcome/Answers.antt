@@ -1,6 +1,7 @@
-use Rattle.std.proofs.Common.{◌≡◌}
+use Rattle.std.proofs.Common.{◌≡◌, length}
 use Rattle.script_orders.specs.Found.{outcomes_in}
 use Rattle.script_orders.specs.Orders.{AllDiffer, AreOutcomes, BeginsAlone, texts_of}
+use Rattle.script_orders.specs.Seen.{IsCount}
 use Rattle.script_orders.proofs.Adding.{all_told, in_some, some_seen}
 use Rattle.script_orders.specs.declared.answers.Reply.{Reply}
 use Rattle.script_orders.specs.declared.orders.Answer.TheVariants.{TooMany}
@@ -18,6 +19,9 @@ returns-in-Some-clause-is c =
     c.in-Some.is c.in_ok-found.ensures.first)
     (in_some c.in_ok-found.found all (λ (a : AllOutcomes). AllDiffer (texts_of (outcomes_in a.outcomes.found.entries)))
     c.in-Some.is c.in_ok-found.ensures.once)
+    (in_some c.in_ok-found.found all
+    (λ (a : AllOutcomes). IsCount (length (outcomes_in a.outcomes.found.entries)) c.args.most a.states)
+    c.in-Some.is c.in_ok-found.ensures.states).0
     c.told.ensures.answer c.told.ensures.text
 
 pub returns-in-Some-clause-none : goal.returns-in-Some-clause-none
