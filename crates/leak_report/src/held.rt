@@ -139,7 +139,12 @@ fn add_blocks(
         (AddsAmong world.now.ghost_state.extent.shape.blocks holdings.old.items holdings.new.items) }
 {
     for before in 0..blocks {
-        add_members(world, shared, Block::numbered(u32::from(before + 1)), holdings)?;
+        add_members(
+            world,
+            shared,
+            Block::numbered(u32::from(before + 1)),
+            holdings,
+        )?;
     }
     Ok(())
 }

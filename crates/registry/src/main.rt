@@ -50,7 +50,10 @@ impl<R: Threads + Wait + Sync + AllocGlobal> Program<Object, R> for Registry {
             }
         }
         for turn in 0..LIVE / 40 {
-            if live.remove(rt, number_of(me, turn.wrapping_mul(10)))?.is_some() {
+            if live
+                .remove(rt, number_of(me, turn.wrapping_mul(10)))?
+                .is_some()
+            {
                 self.closed.fetch_add(1, Ordering::SeqCst);
             }
         }
