@@ -15,7 +15,7 @@ on_by_one : (n i : ℕ) → (n ≡ i) ⊎ (suc n ≤ i) → (suc n ≡ suc i) �
 on_by_one n i (inl same) = inl (ap suc same)
 on_by_one n i (inr over) = inr (omega (arith, over))
 
-here_or_on : (n i : ℕ) → n ≤ i → (n ≡ i) ⊎ (suc n ≤ i)
+pub here_or_on : (n i : ℕ) → n ≤ i → (n ≡ i) ⊎ (suc n ≤ i)
 here_or_on zero zero most = inl refl
 here_or_on zero (suc i) most = inr (omega arith)
 here_or_on (suc n) zero most = absurd (omega (arith, most))

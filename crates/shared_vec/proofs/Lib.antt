@@ -1,7 +1,10 @@
+pub mod Cursors
 pub mod EndSteps
 pub mod Growth
+pub mod Moves
 pub mod Numbers
 pub mod Reasons
 pub mod Slots
 pub mod Walks
 pub mod Ways
+pub mod WeakSteps

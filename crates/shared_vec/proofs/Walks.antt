@@ -1,7 +1,7 @@
 -- A walk goes on by one index.
-use Rattle.std.proofs.Common.{◌≡◌, ◌+◌, ◌≤◌, ℕ, add-one, arith, inl, inr, refl, subst, sym}
+use Rattle.std.proofs.Common.{◌≡◌, ◌+◌, ◌≤◌, ℕ, add-one, arith, inl, inr, subst, sym}
 use Rattle.std.proofs.Common.{Option, None, Some, Result, Ok, Err, Bor}
-use Rattle.std.specs.Fn.{Called, CalledAt, Mut}
+use Rattle.std.specs.Fn.{CalledAt, Mut}
 use Rattle.control_block.specs.Desks.{DeskNow}
 use Rattle.pointers.specs.Sites.{Site}
 use Rattle.pointers.specs.declared.fault.Fault.{Fault}

@@ -1,3 +1,6 @@
+pub mod Changes
+pub mod Cursors
 pub mod Refusals
 pub mod Vectors
 pub mod Walks
+pub mod WeakVectors
