@@ -237,6 +237,8 @@ int main(int count, char **words) {
             standard_nodes.rows("libstdc++ shared_ptr", threads);
             version_rows(threads);
             map_rows(threads);
+            vector_rows<NoDoor>("libstdc++ shared_ptr", threads);
+            vector_rows<std::mutex>("libstdc++, a mutex", threads);
 #ifdef WITH_BOOST
             boosted.rows("Boost shared_ptr", threads);
             boosted_nodes.rows("Boost shared_ptr", threads);

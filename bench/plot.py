@@ -23,6 +23,7 @@ MARKS = {
     "this runtime, cached": ("own", "ring"),
     "this runtime, structures": ("own", "cross"),
     "libstdc++, by a version": ("version", "plus"),
+    "libstdc++, a mutex": ("version", "square"),
     "Boost shared_ptr": ("boost", "square"),
     "Rust Arc": ("arc", "triangle"),
     "Rust arc-swap": ("swap", "diamond"),

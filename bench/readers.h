@@ -1,4 +1,4 @@
-// Rows of a cell that is read, and of a cache by keys.
+// Rows of a cell that is read, of a cache by keys, and of a vector.
 #pragma once
 
 #include <type_traits>
@@ -96,6 +96,70 @@ void map_rows(int threads) {
              [&](int t, std::uint64_t n) {
                  while (n--) cache.insert(next(t), living[t]);
              }, short_chunk);
+}
+
+// A door that is always open.
+struct NoDoor {
+    void lock() {}
+    void unlock() {}
+};
+
+// A vector of owners behind a door.
+template <class Door> struct Vector {
+    Door door;
+    std::vector<std::shared_ptr<Object>> all;
+
+    void push(std::shared_ptr<Object> value) {
+        std::lock_guard<Door> guard(door);
+        all.push_back(std::move(value));
+    }
+
+    std::shared_ptr<Object> get(std::uint64_t index) {
+        std::lock_guard<Door> guard(door);
+        return all[index];
+    }
+
+    void set(std::uint64_t index, std::shared_ptr<Object> value) {
+        std::lock_guard<Door> guard(door);
+        all[index].swap(value);
+    }
+};
+
+// The rows of a vector. Without a lock its readers alone may be several.
+template <class Door> void vector_rows(char const *peer, int threads) {
+    bool writes = threads == 1 || !std::is_same_v<Door, NoDoor>;
+    Apart<std::shared_ptr<Object>> own[most_threads];
+    for (auto &it : own) it.value = std::make_shared<Object>();
+    Apart<std::uint64_t> random[most_threads] = {{0}, {1}, {2}, {3}};
+    auto next = [&random](int t) {
+        random[t].value = random[t].value * 6'364'136'223'846'793'005 + 1'442'695'040'888'963'407;
+        return (random[t].value >> 33) % elements;
+    };
+    Vector<Door> grown;
+    auto push = [&](int t, std::uint64_t n) {
+        while (n--) grown.push(own[t].value);
+    };
+    if (writes) {
+        auto spent = run(threads, elements / threads, push, std::chrono::milliseconds(0));
+        tell("vector, push of a copy, up to 30,000", peer, spent, 0, threads);
+    }
+    Vector<Door> vector;
+    std::vector<std::shared_ptr<Object>> living;
+    for (std::uint64_t index = 0; index < elements; index++) {
+        living.push_back(std::make_shared<Object>());
+        vector.push(living.back());
+    }
+    time_row("vector of 30,000, get + release at random", peer, threads, [&](int t, std::uint64_t n) {
+        while (n--) keep(vector.get(next(t)).get());
+    }, short_chunk);
+    Apart<std::uint64_t> last[most_threads] = {{0}, {7'500}, {15'000}, {22'500}};
+    time_row("vector of 30,000, get + release in order", peer, threads, [&](int t, std::uint64_t n) {
+        while (n--) keep(vector.get(last[t].value = (last[t].value + 1) % elements).get());
+    }, short_chunk);
+    if (!writes) return;
+    time_row("vector of 30,000, set of a copy at random", peer, threads, [&](int t, std::uint64_t n) {
+        while (n--) vector.set(next(t), own[t].value);
+    }, short_chunk);
 }
 
 // The row of a cell for weak pointers, where there is one.

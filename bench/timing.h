@@ -23,6 +23,7 @@ constexpr int most_threads = 4;
 constexpr int most_observers = 1000;
 constexpr int chain_length = 4095;
 constexpr std::uint64_t keys = 10'000;
+constexpr std::uint64_t elements = 30'000;
 // How long a writer waits from one store to the next, where it doesn't store all the time.
 constexpr auto pause_between = std::chrono::microseconds(10);
 
@@ -54,15 +55,16 @@ double processor_time() {
     return t.tv_sec * 1e9 + t.tv_nsec;
 }
 
-// The threads meet, and work in chunks until a common moment.
-template <class Work> std::vector<Spent> run(int threads, std::uint64_t count, Work work) {
+// The threads meet, and work in chunks until a common moment; in one chunk each, where they have no time for more.
+template <class Work>
+std::vector<Spent> run(int threads, std::uint64_t count, Work work, std::chrono::milliseconds time = span) {
     std::atomic<int> ready{0};
     std::atomic<std::int64_t> end{0};
     std::vector<Spent> spent(threads);
     std::vector<std::thread> workers;
     for (int thread = 0; thread < threads; thread++) {
         workers.emplace_back([&, thread] {
-            if (++ready == threads) end = (Clock::now() + span).time_since_epoch().count();
+            if (++ready == threads) end = (Clock::now() + time).time_since_epoch().count();
             while (end == 0) __builtin_ia32_pause();
             auto start = Clock::now();
             double before = processor_time(), operations = 0;
