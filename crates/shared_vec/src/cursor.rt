@@ -65,8 +65,8 @@ impl<'v, 'p, 't, D: Domain> Cursor<'v, 'p, 't, D> {
         }
     }
 
-    /// The pointer takes the place of the element at an index, which lets go (waits): `None`. From the end on nothing is
-    /// put in, and the pointer comes back, as it does at a fault.
+    /// The pointer takes the place of the element at an index, which lets go (waits): `None`. From the end on nothing
+    /// is put in, and the pointer comes back, as it does at a fault.
     pub fn set<R: Wait>(
         &mut self,
         rt: &R,

@@ -9,8 +9,8 @@ use pointers::{Desk, Domain, Fault, Member, Refused, Shared, Weak};
 use std::sync::Wait;
 
 /// A vector of weak pointers in a place, in C++ a member `std::vector<std::atomic<std::weak_ptr<T>>>`, as one worker
-/// has it. Each weak pointer lies in the member `up` of an object of its own, its *holder*, and a `SharedVec` has these.
-/// So it wants objects as that does, and stands beside it in one domain.
+/// has it. Each weak pointer lies in the member `up` of an object of its own, its *holder*, and a `SharedVec` has the
+/// holders. So it wants objects as that does, and stands beside it in one domain.
 pub struct WeakVec<'p, 't, D: Domain> {
     pub(crate) holders: SharedVec<'p, 't, D>,
 }
