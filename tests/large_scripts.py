@@ -90,6 +90,20 @@ def run_sixteen_threads_publish():
     return pattern
 
 
+def orders_of_one_long_thread():
+    """A thread alone has one order, however many acts it has."""
+    acts = 60_000
+    told = ["outcome 1 turns", "made 0 ended 0 left 0", f"outcomes 1 states {acts + 1}", "complete"]
+    return case(["orders"], acts * "empty a\n", lines(told))
+
+
+def orders_of_two_long_threads():
+    """The orders are more than are all gone through."""
+    acts = 700
+    told = ["outcome 1 turns", "made 0 ended 0 left 0", f"outcomes 1 states {(acts + 1) ** 2}", "searched"]
+    return case(["orders"], "thread\n".join(2 * [acts * "empty a\n"]), lines(told))
+
+
 VERSION_2 = "version 2 blocks 65535\n"
 CASES = {
     "most_statements": lambda: counted("empty a\n", STATEMENTS),
@@ -106,6 +120,8 @@ CASES = {
             all_blocks_and_one_more,
             run_fifteen_threads_full,
             run_sixteen_threads_publish,
+            orders_of_one_long_thread,
+            orders_of_two_long_threads,
         )
     },
 }

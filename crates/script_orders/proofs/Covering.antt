@@ -1,38 +1,30 @@
 -- Orders by their beginnings: where each way on is covered, so is the beginning.
 use Rattle.std.specs.Prelude.{◌⊎◌}
-use Rattle.std.proofs.Common.{◌≡◌, ℕ, ◌+◌, ◌-◌, ◌<◌, ◌≤◌, Bool, true, false, ◌&&◌, List, [], ◌∷◌, ◌++◌, length}
+use Rattle.std.proofs.Common.{◌≡◌, ℕ, suc, ◌+◌, ◌-◌, ◌<◌, ◌≤◌, Bool, true, false, List, [], ◌∷◌, ◌++◌, length}
 use Rattle.std.proofs.Common.{All, Contains, Ok, Option, Result, None, Some, ap, ap₂, append_assoc, append-nil, arith}
-use Rattle.std.proofs.Common.{drop, get_or, inl, inr, is_some, refl, replicate, subst, sym, ◌∙◌}
+use Rattle.std.proofs.Common.{get_or, inl, inr, is_some, refl, replicate, subst, sym, ◌∙◌}
 use Rattle.std.proofs.lemmas.Bool.{cases_lt}
-use Rattle.std.proofs.lemmas.List.{drop_all, drop_more, length-map}
-use Rattle.std.proofs.lemmas.List.Elements.{All-append, All-head, All-nil, All-replicate, All-tail, All-weaker}
+use Rattle.std.proofs.lemmas.List.Elements.{All-append, All-contains, All-from_get_or, All-head, All-nil}
+use Rattle.std.proofs.lemmas.List.Elements.{All-replicate, All-tail, All-weaker}
 use Rattle.script_text.specs.Beginnings.{script_abstraction}
 use Rattle.script_text.specs.Drafts.{ScriptView}
 use Rattle.script_text.specs.Grammar.{ReadsAs, ended}
-use Rattle.script_text.specs.Scripts.{part_in, program_in}
 use Rattle.script_text.specs.Traces.{Item, TakesTurn, TakeTurns, in_order}
 use Rattle.script_text.proofs.OneReading.{reads_answer}
 use Rattle.script_stepper.specs.Lines.{run_lines}
 use Rattle.script_stepper.specs.Runs.{IsRunText, IsScriptRun, IsTurnText}
 use Rattle.script_stepper.specs.TurnLists.{list_at}
-use Rattle.script_stepper.specs.Running.{heard}
-use Rattle.script_stepper.proofs.OneTurn.{Turn}
-use Rattle.script_stepper.proofs.Plays.{play, plays}
 use Rattle.script_stepper.proofs.RunLemmas.{takes_then}
 use Rattle.script_stepper.proofs.Takings.{turns_are}
-use Rattle.script_stepper.proofs.TraceLemmas.{done_past, plays_size}
+use Rattle.script_stepper.proofs.TraceLemmas.{done_past}
 use Rattle.script_stepper.proofs.TurnBounds.{Names, listed_named}
-use Rattle.step_core.specs.Starts.{first_frame}
 use Rattle.step_core.specs.Worlds.{WorldState, abstraction}
-use Rattle.step_threads.specs.declared.said.Said.{Said}
 use Rattle.step_threads.specs.AbstractStates.{AbstractState, frame_of, next}
 use Rattle.step_threads.specs.declared.programs.act.Task.{Task}
-use Rattle.script_orders.specs.Coverage.{Covers, EndsActing, IsKnown, IsOver, WasFound, is_idle}
-use Rattle.script_orders.specs.Coverage.{is_unknown, sorted_text}
+use Rattle.script_orders.specs.Coverage.{Covers, IsAfter, IsOver, WasFound, acting_in, sorted_text}
 use Rattle.script_orders.specs.Outcomes.{Outcome, texts_of}
 use Rattle.script_orders.specs.Sorting.{by_threads}
-use Rattle.script_orders.specs.declared.coverage.Coverage.{Coverage}
-use Rattle.script_orders.specs.declared.coverage.Coverage.TheVariants.{Covered, Idle, Unknown}
+use Rattle.script_orders.proofs.Going.{acting_over, acting_there}
 
 -- ---- turns in two parts
 
@@ -84,91 +76,6 @@ left_out xs ys t c items last p idle =
     subst (λ (l : List Item). TakeTurns (xs ++ ys) c l last) (sym same)
     (takes_then xs ys c s.middle last s.first e.1 s.begins rest)
 
--- ---- whether the last turn is an act
-
-abbrev pub acted_from : AbstractState → Bool → List ℕ → Bool
-acted_from c b [] = b
-acted_from c b (t ∷ ts) = acted_from (play (t - 1) c) (is_some (next (frame_of c (t - 1)))) ts
-
-acted_last : (before : List ℕ) (t : ℕ) (c : AbstractState) (b : Bool)
-    → acted_from c b (before ++ t ∷ []) ≡ is_some (next (frame_of (plays before c) (t - 1)))
-acted_last [] t c b = refl
-acted_last (x ∷ xs) t c b = acted_last xs t (play (x - 1) c) (is_some (next (frame_of c (x - 1))))
-
-pub acted_next : (turns : List ℕ) (i : ℕ) (z c c' : AbstractState) (items : List Item) (b b' : Bool) → i < length turns
-    → acted_from z true turns ≡ acted_from c b (drop i turns)
-    → TakeTurns (get_or turns i 0 ∷ []) c items c' → b' ≡ is_some (next (frame_of c (get_or turns i 0 - 1)))
-    → acted_from z true turns ≡ acted_from c' b' (drop (i + 1) turns)
-acted_next turns i z c c' items b b' lt h takes acted =
-    let x = get_or turns i 0 in
-    let went : c' ≡ play (x - 1) c = (turns_are (x ∷ []) c items c' takes).1 in
-    h ∙ ap (acted_from c b) (drop_more turns i 0 lt)
-    ∙ ap₂ (λ (a : AbstractState) (d : Bool). acted_from a d (drop (i + 1) turns)) (sym went) (sym acted)
-
-pub acted_all : (script : ScriptView) (turns : List ℕ) (i : ℕ) (c : AbstractState) (b : Bool) → length turns ≤ i
-    → acted_from (script_abstraction script) true turns ≡ acted_from c b (drop i turns)
-    → (before : List ℕ) (t : ℕ) (items : List Item) (m : AbstractState) → turns ≡ before ++ t ∷ []
-    → TakeTurns before (script_abstraction script) items m → b ≡ is_some (next (frame_of m (t - 1)))
-acted_all script turns i c b all h before t items m same takes =
-    let z = script_abstraction script in
-    let e : acted_from z true turns ≡ b = h ∙ ap (acted_from c b) (drop_all i turns all) in
-    let went : m ≡ plays before z = (turns_are before z items m takes).1 in
-    sym e ∙ ap (acted_from z true) same ∙ acted_last before t z true
-    ∙ ap (λ (a : AbstractState). is_some (next (frame_of a (t - 1)))) (sym went)
-
--- a turn of a world
-pub one_taken : (thread : ℕ) (u u' : WorldState) (x : Option Said) → Turn thread u u' x
-    → (items : List Item) × TakeTurns (thread ∷ []) (abstraction u) items (abstraction u')
-one_taken thread u u' x t = (
-  heard thread x,
-  (heard thread x, [], abstraction u', t.takes, (refl, refl), sym (append-nil (heard thread x))),
-)
-
--- ---- the ways on that were tried
-
-abbrev Way : ScriptView → List Outcome → List ℕ → Type 0
-Way script outcomes turns = EndsActing script false turns ⊎ (EndsActing script true turns × Covers script outcomes turns)
-
--- a turn of each thread up to this one; and where some thread has an act left, one has
-pub record Tried (script : ScriptView) (outcomes : List Outcome) (turns : List ℕ) (count : ℕ) (is_over : Bool) : Type 0 where
-  pub each : (thread : ℕ) → 1 ≤ thread → thread ≤ count → Way script outcomes (turns ++ thread ∷ [])
-  pub some : is_over ≡ false → (thread : ℕ) × EndsActing script true (turns ++ thread ∷ [])
-
-pub tried_none : (script : ScriptView) (outcomes : List Outcome) (turns : List ℕ) → Tried script outcomes turns 0 true
-tried_none script outcomes turns =
-    record { each = λ thread one none. absurd (omega (arith, one, none)); some = λ e. absurd cc }
-
-way_of : (script : ScriptView) (outcomes : List Outcome) (turns : List ℕ) (known : Coverage)
-    → IsKnown script outcomes turns known → is_unknown known ≡ false → Way script outcomes turns
-way_of script outcomes turns Idle h e = inl h
-way_of script outcomes turns Covered h e = inr h
-way_of script outcomes turns Unknown h e = absurd cc
-
-some_next : (script : ScriptView) (outcomes : List Outcome) (turns : List ℕ) (count thread : ℕ) (b : Bool) (known : Coverage)
-    → Tried script outcomes turns count b → IsKnown script outcomes (turns ++ thread ∷ []) known → is_unknown known ≡ false
-    → (b && is_idle known) ≡ false → (other : ℕ) × EndsActing script true (turns ++ other ∷ [])
-some_next script outcomes turns count thread b Covered t h e over = (thread, h.0)
-some_next script outcomes turns count thread true Idle t h e over = absurd cc
-some_next script outcomes turns count thread false Idle t h e over = t.some refl
-some_next script outcomes turns count thread b Unknown t h e over = absurd cc
-
-pub tried_next : (script : ScriptView) (outcomes : List Outcome) (turns more : List ℕ) (i : ℕ) (b b' : Bool) (known : Coverage)
-    → Tried script outcomes turns i b → more ≡ turns ++ (i + 1) ∷ [] → IsKnown script outcomes more known
-    → is_unknown known ≡ false → b' ≡ (b && is_idle known) → Tried script outcomes turns (i + 1) b'
-tried_next script outcomes turns more i b b' known t is h e over =
-    let k : IsKnown script outcomes (turns ++ (i + 1) ∷ []) known =
-    subst (λ (l : List ℕ). IsKnown script outcomes l known) is h in
-    record {
-      each = λ thread one le. elim (cases_lt thread (i + 1)) [
-        | inl lt ↦ t.each thread one (omega (arith, lt))
-        | inr ge ↦
-            let same : i + 1 ≡ thread = omega (arith, ge, le) in
-            subst (λ (n : ℕ). Way script outcomes (turns ++ n ∷ [])) same
-            (way_of script outcomes (turns ++ (i + 1) ∷ []) known k e)
-      ];
-      some = λ is_false. some_next script outcomes turns i (i + 1) b known t k e (sym over ∙ is_false);
-    }
-
 -- ---- what a beginning has
 
 same_script : (bytes : List ℕ) (s t : ScriptView) → ReadsAs bytes s → ReadsAs bytes t → s ≡ t
@@ -181,11 +88,8 @@ none_of : (o : Option Task) → false ≡ is_some o → o ≡ None
 none_of None e = refl
 none_of (Some t) e = absurd cc
 
-threads_there : (script : ScriptView) → length (script_abstraction script).frame_views ≡ length script.threads
-threads_there script = length-map (program_in script.threads) first_frame ∙ length-map script.threads part_in
-
 -- the run with these turns, after which all threads are at their ends
-found_text : (bytes : List ℕ) (script : ScriptView) (outcomes : List Outcome) (turns : List ℕ) (n : ℕ) (items : List Item)
+pub found_text : (bytes : List ℕ) (script : ScriptView) (outcomes : List Outcome) (turns : List ℕ) (n : ℕ) (items : List Item)
     (last : AbstractState) → ReadsAs bytes script → n ≡ length script.threads → WasFound bytes n outcomes turns
     → TakeTurns turns (script_abstraction script) items last → IsOver last
     → Contains (texts_of outcomes) (sorted_text items last)
@@ -211,51 +115,62 @@ found_text bytes script outcomes turns n items last reads all f takes over =
     ∙ ap₂ (λ (i : List Item) (l : AbstractState). ended (run_lines i l)) says (idle.1 ∙ here)))
     f.there
 
-module _ (bytes : List ℕ) (script : ScriptView) (outcomes : List Outcome) (turns : List ℕ) (n : ℕ) (b : Bool)
-    (reads : ReadsAs bytes script) (all : n ≡ length script.threads) (tried : Tried script outcomes turns n b)
-    (end : b ≡ true → WasFound bytes n outcomes turns) where
+-- whichever turns come after these and one of a thread, the outcome was found
+abbrev pub CoversBy : ScriptView → List Outcome → List ℕ → ℕ → Type 0
+CoversBy script outcomes turns thread = Covers script outcomes (turns ++ thread ∷ [])
+
+module _ (script : ScriptView) (outcomes : List Outcome) (turns : List ℕ) (u : WorldState) (here : IsAfter script turns u)
+    (each : All (CoversBy script outcomes turns) (acting_in (abstraction u) (length script.threads)))
+    (end : acting_in (abstraction u) (length script.threads) ≡ [] → (items : List Item) (last : AbstractState)
+    → TakeTurns turns (script_abstraction script) items last → IsOver last
+    → Contains (texts_of outcomes) (sorted_text items last)) where
   abbrev Going : ℕ → Type 0
   Going thread =
       ((is : List Item) (m : AbstractState) → TakeTurns turns (script_abstraction script) is m
       → next (frame_of m (thread - 1)) ≡ None)
       ⊎ Covers script outcomes (turns ++ thread ∷ [])
 
+  same_place : (is : List Item) (m : AbstractState) → TakeTurns turns (script_abstraction script) is m
+      → m ≡ abstraction u
+  same_place is m p =
+      (turns_are turns (script_abstraction script) is m p).1
+      ∙ sym (turns_are turns (script_abstraction script) here.items (abstraction u) here.takes).1
+
+  idle : (thread : ℕ) → next (frame_of (abstraction u) (thread - 1)) ≡ None → Going thread
+  idle thread none =
+      inl (λ is m p. ap (λ (c : AbstractState). next (frame_of c (thread - 1))) (same_place is m p) ∙ none)
+
   -- past the threads there is none
-  past : (thread : ℕ) → n < thread → (is : List Item) (m : AbstractState)
-      → TakeTurns turns (script_abstraction script) is m → next (frame_of m (thread - 1)) ≡ None
-  past thread lt is m p =
-      let size : length m.frame_views ≡ n =
-      ap (λ (c : AbstractState). length c.frame_views) (turns_are turns (script_abstraction script) is m p).1
-      ∙ plays_size turns (script_abstraction script) ∙ threads_there script ∙ sym all in
-      done_past m (thread - 1) (omega (arith, size, lt))
+  past : (thread : ℕ) → length script.threads < thread → Going thread
+  past thread lt =
+      let size = here.threads in
+      idle thread (done_past (abstraction u) (thread - 1) (omega (arith, size, lt)))
+
+  by_act : (thread : ℕ) → 1 ≤ thread → thread ≤ length script.threads → (b : Bool)
+      → is_some (next (frame_of (abstraction u) (thread - 1))) ≡ b → Going thread
+  by_act thread one le false e = idle thread (none_of (next (frame_of (abstraction u) (thread - 1))) (sym e))
+  by_act thread one le true e =
+      let n = length script.threads in
+      let c = abstraction u in
+      let same : suc (thread - 1) ≡ thread = omega (arith, one) in
+      inr (All-contains (CoversBy script outcomes turns) (acting_in c n) thread each
+      (subst (λ (t : ℕ). Contains (acting_in c n) t) same (acting_there c n (thread - 1) (omega (arith, one, le)) e)))
 
   going : (thread : ℕ) → 1 ≤ thread → Going thread
   going thread one =
-      elim (cases_lt n thread) [
-        | inl lt ↦ inl (past thread lt)
-        | inr le ↦ elim (tried.each thread one le) [
-          | inl idle ↦ inl (λ is m p. none_of (next (frame_of m (thread - 1))) (idle turns thread is m refl p))
-          | inr h ↦ inr h.1
-        ]
+      elim (cases_lt (length script.threads) thread) [
+        | inl lt ↦ past thread lt
+        | inr le ↦ by_act thread one le (is_some (next (frame_of (abstraction u) (thread - 1)))) refl
       ]
-
-  ended_here : (b' : Bool) → b ≡ b' → (items : List Item) (last : AbstractState)
-      → TakeTurns turns (script_abstraction script) items last → IsOver last
-      → Contains (texts_of outcomes) (sorted_text items last)
-  ended_here true is items last takes over =
-      found_text bytes script outcomes turns n items last reads all (end is) takes over
-  ended_here false is items last takes over =
-      let s = tried.some is in
-      let acts : true ≡ is_some (next (frame_of last (s.0 - 1))) = s.1 turns s.0 items last refl takes in
-      let none : next (frame_of last (s.0 - 1)) ≡ None = over (s.0 - 1) in
-      absurd (let clash : true ≡ false = acts ∙ ap is_some none in cc)
 
   pub covers : (more : List ℕ) (items : List Item) (last : AbstractState) → All (λ thread. 1 ≤ thread) more
       → TakeTurns (turns ++ more) (script_abstraction script) items last → IsOver last
       → Contains (texts_of outcomes) (sorted_text items last)
   covers [] items last named takes over =
-      ended_here b refl items last
-      (subst (λ (l : List ℕ). TakeTurns l (script_abstraction script) items last) (append-nil turns) takes) over
+      let p : TakeTurns turns (script_abstraction script) items last =
+      subst (λ (l : List ℕ). TakeTurns l (script_abstraction script) items last) (append-nil turns) takes in
+      end (acting_over (abstraction u) (length script.threads) (subst IsOver (same_place items last p) over)) items last p
+      over
   covers (t ∷ more) items last named takes over =
       let rest = All-tail (λ (k : ℕ). 1 ≤ k) t more named in
       elim (going t (All-head (λ (k : ℕ). 1 ≤ k) t more named)) [
@@ -267,6 +182,30 @@ module _ (bytes : List ℕ) (script : ScriptView) (outcomes : List Outcome) (tur
             (subst (λ (l : List ℕ). TakeTurns l (script_abstraction script) items last)
             (sym (append_assoc turns (t ∷ []) more)) takes) over
       ]
+
+-- ---- the ways on that were tried
+
+none_clash : {A : Type 0} (l : List A) → l ≡ [] → 0 < length l → ⊥
+none_clash l none some = let n : length l ≡ 0 = ap length none in omega (arith, n, some)
+
+-- each thread that has an act left was tried
+pub covers_each : (script : ScriptView) (outcomes : List Outcome) (turns acting : List ℕ) (u : WorldState)
+    → IsAfter script turns u → acting ≡ acting_in (abstraction u) (length script.threads) → 0 < length acting
+    → All (CoversBy script outcomes turns) acting → Covers script outcomes turns
+covers_each script outcomes turns acting u here is some each =
+    covers script outcomes turns u here (subst (All (CoversBy script outcomes turns)) is each)
+    (λ none items last takes over. absurd (none_clash acting (is ∙ none) some))
+
+-- one alone has
+pub covers_one : (script : ScriptView) (outcomes : List Outcome) (turns acting : List ℕ) (t d : ℕ) (u : WorldState)
+    → IsAfter script turns u → acting ≡ acting_in (abstraction u) (length script.threads) → length acting ≡ 1
+    → t ≡ get_or acting 0 d → Covers script outcomes (turns ++ t ∷ []) → Covers script outcomes turns
+covers_one script outcomes turns acting t d u here is one same h =
+    covers_each script outcomes turns acting u here is (omega (arith, one))
+    (All-from_get_or (CoversBy script outcomes turns) acting d
+    (λ i lt. let zero' : 0 ≡ i = omega (arith, one, lt) in
+    subst (λ (k : ℕ). CoversBy script outcomes turns (get_or acting k d)) zero'
+    (subst (CoversBy script outcomes turns) same h)))
 
 -- ---- the whole
 

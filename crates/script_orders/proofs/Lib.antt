@@ -3,6 +3,8 @@ pub mod Covering
 pub mod Cutting
 pub mod Differing
 pub mod Distinct
+pub mod Forking
+pub mod Going
 pub mod Looking
 pub mod Numbering
 pub mod Telling

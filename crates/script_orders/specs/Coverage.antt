@@ -1,18 +1,18 @@
 -- That no outcome is missing, and which orders were run to know it. All of it is own.
-use Rattle.std.specs.Prelude.{◌≡◌, ◌≤◌, ◌-◌, ◌++◌, ℕ, Bool, true, false, All, Contains, List, [], ◌∷◌, is_some}
+use Rattle.std.specs.Prelude.{◌≡◌, ◌≤◌, ◌++◌, ℕ, zero, suc, All, Contains, List, [], ◌∷◌, cond, is_some, length}
 use Rattle.std.specs.Prelude.{None, Ok}
 use Rattle.script_stepper.specs.Lines.{run_lines}
+use Rattle.script_stepper.specs.Running.{AllRest}
 use Rattle.script_stepper.specs.Runs.{IsRunText, IsScriptRun}
 use Rattle.script_stepper.specs.TurnLists.{list_at}
 use Rattle.script_text.specs.Beginnings.{script_abstraction}
 use Rattle.script_text.specs.Drafts.{ScriptView}
 use Rattle.script_text.specs.Grammar.{ended}
 use Rattle.script_text.specs.Traces.{Item, TakeTurns}
+use Rattle.step_core.specs.Worlds.{WorldState, abstraction}
 use Rattle.step_threads.specs.AbstractStates.{AbstractState, frame_of, next}
 use Rattle.script_orders.specs.Outcomes.{IsOutcome, Outcome, texts_of}
 use Rattle.script_orders.specs.Sorting.{by_threads}
-use Rattle.script_orders.specs.declared.coverage.Coverage.{Coverage}
-use Rattle.script_orders.specs.declared.coverage.Coverage.TheVariants.{Idle, Covered, Unknown}
 
 -- none is missing: whichever list of turns a run of the script has, its text, sorted by threads, is among these
 abbrev pub IsComplete : List ℕ → List Outcome → Type 0
@@ -27,34 +27,12 @@ sorted_text items last = by_threads (ended (run_lines items last))
 abbrev pub IsOver : AbstractState → Type 0
 IsOver c = (d : ℕ) → next (frame_of c d) ≡ None
 
--- these turns were taken, and the last of them was an act of its thread, or wasn't
-abbrev pub EndsActing : ScriptView → Bool → List ℕ → Type 0
-EndsActing script acts turns =
-    (before : List ℕ) (thread : ℕ) (items : List Item) (c : AbstractState) → turns ≡ before ++ thread ∷ []
-    → TakeTurns before (script_abstraction script) items c → acts ≡ is_some (next (frame_of c (thread - 1)))
-
 -- whichever turns come after these, the outcome is among those that were found
 abbrev pub Covers : ScriptView → List Outcome → List ℕ → Type 0
 Covers script outcomes turns =
     (more : List ℕ) (items : List Item) (last : AbstractState) → All (λ thread. 1 ≤ thread) more
     → TakeTurns (turns ++ more) (script_abstraction script) items last → IsOver last
     → Contains (texts_of outcomes) (sorted_text items last)
-
--- what is known of the orders that begin with these turns
-abbrev pub IsKnown : ScriptView → List Outcome → List ℕ → Coverage → Type 0
-IsKnown script outcomes turns Idle = EndsActing script false turns
-IsKnown script outcomes turns Covered = EndsActing script true turns × Covers script outcomes turns
-IsKnown script outcomes turns Unknown = Unit {0}
-
-abbrev pub is_idle : Coverage → Bool
-is_idle Idle = true
-is_idle Covered = false
-is_idle Unknown = false
-
-abbrev pub is_unknown : Coverage → Bool
-is_unknown Idle = false
-is_unknown Covered = false
-is_unknown Unknown = true
 
 -- the outcome of the run with these turns was found
 pub record WasFound (bytes : List ℕ) (threads : ℕ) (outcomes : List Outcome) (turns : List ℕ) : Type 0 where
@@ -67,3 +45,16 @@ pub record WasFound (bytes : List ℕ) (threads : ℕ) (outcomes : List Outcome)
 -- the turns name threads, of which there are so many
 abbrev pub NameThreads : ℕ → List ℕ → Type 0
 NameThreads threads turns = All (λ thread. (1 ≤ thread) × (thread ≤ threads)) turns
+
+-- a world after these turns of a script's threads, none of which is within an act
+pub record IsAfter (script : ScriptView) (turns : List ℕ) (u : WorldState) : Type 0 where
+  pub named : NameThreads (length script.threads) turns
+  pub rests : AllRest u
+  pub threads : length u.frame_views ≡ length script.threads
+  pub items : List Item
+  pub takes : TakeTurns turns (script_abstraction script) items (abstraction u)
+
+-- those of the first n threads that have an act left
+abbrev pub acting_in : AbstractState → ℕ → List ℕ
+acting_in c zero = []
+acting_in c (suc n) = acting_in c n ++ cond (is_some (next (frame_of c n))) (suc n ∷ []) []

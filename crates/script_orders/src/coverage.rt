@@ -1,11 +1,10 @@
 //! Whether the outcomes that were found are all: each order is run, where there are few.
 
-ghost use Rattle.std.specs.Prelude.{◌≡◌, ◌≤◌, ◌-◌, ◌++◌, ◌∷◌, ◌&&◌, [], List, true, length, is_some};
-ghost use Rattle.std.specs.Prelude.{Contains, IfErr, IfOk, IsTrue};
-ghost use Rattle.script_orders.specs.Coverage.{EndsActing, IsComplete, IsKnown, NameThreads, WasFound};
-ghost use Rattle.script_orders.specs.Coverage.{is_idle, is_unknown};
+ghost use Rattle.std.specs.Prelude.{◌≡◌, ◌<◌, ◌≤◌, ◌-◌, ◌++◌, ◌∷◌, [], ℕ, List, length, is_some, true};
+ghost use Rattle.std.specs.Prelude.{Contains, IfErr, IfOk, IfSome, IsTrue, OnOk};
+ghost use Rattle.script_orders.specs.Coverage.{Covers, IsAfter, IsComplete, NameThreads, WasFound, acting_in};
 ghost use Rattle.script_orders.specs.Found.{outcomes_in};
-ghost use Rattle.script_orders.specs.Outcomes.{texts_of};
+ghost use Rattle.script_orders.specs.Outcomes.{Outcome, texts_of};
 ghost use Rattle.script_stepper.specs.Running.{AllRest, IsThread};
 ghost use Rattle.script_text.specs.declared.fault.Fault.TheVariants.{Memory};
 ghost use Rattle.script_text.specs.Grammar.{ReadsAs, Refuses};
@@ -18,11 +17,15 @@ use crate::outcomes::{Outcomes, outcome_text};
 use script_stepper::turns::turns_of;
 use script_stepper::{Start, start_of};
 use script_text::{Fault, Script};
-use std::alloc::{AllocError, Global};
-use step_core::{Turned, World};
+use std::alloc::Global;
+use step_core::World;
 
 /// Most beginnings of orders, each of acts alone, that are gone on from to know whether outcomes are all.
-const MOST_BEGINNINGS: u32 = 20_000;
+const MOST_BEGINNINGS: u32 = 100_000;
+
+/// Most forks in one order, each a beginning after which several threads have an act left: a walk nests so deep. An
+/// order with more comes of a script with more beginnings than are gone on from, since from each fork two ways go on.
+const MOST_FORKS: u16 = 500;
 
 /// A script, as it was written and as it reads, and the outcomes of it that were found.
 #[derive(Drop)]
@@ -32,38 +35,29 @@ pub(crate) struct FoundOutcomes<'a> {
     pub outcomes: &'a Outcomes,
 }
 
-/// What is known of the orders that begin with some turns.
-#[derive(Clone, Copy)]
-pub(crate) enum Coverage {
-    /// The last of these turns is no act, as its thread was at its end.
-    Idle,
-    /// It is one, and the outcome of each such order was found.
-    Covered,
-    /// There are too many of them, or an outcome wasn't found.
-    Unknown,
+/// How many beginnings of orders may still be gone on from, and how many forks may still come in one.
+#[derive(Drop)]
+struct Left {
+    beginnings: u32,
+    forks: u16,
 }
 
-/// One turn of a thread. Answers whether it was an act.
-fn take_turn(world: &mut World, thread: u8) -> bool
+/// One turn of a thread.
+fn take_turn(world: &mut World, thread: u8)
     requires rests { AllRest world.old }
     requires thread { IsThread world.old thread }
     ensures rests { AllRest world.new }
     ensures size { length world.new.frame_views ≡ length world.old.frame_views }
     ensures takes { (items : List Item)
         × TakeTurns (thread ∷ []) (abstraction world.old) items (abstraction world.new) }
-    ensures acted { result ≡ is_some (next (frame_of (abstraction world.old) (thread - 1))) }
 {
-    match world.turn(thread) {
-        Turned::Acted(_said) => true,
-        Turned::Done => false,
-        Turned::Waited => unreachable!(),
-    }
+    let _said = world.turn(thread);
 }
 
-/// Whether the last of these turns is an act.
-fn ends_acting(alloc: Global, script: &Script, turns: &[u8]) -> Result<bool, Fault>
+/// The world after these turns.
+fn world_after(alloc: Global, script: &Script, turns: &[u8]) -> Result<World, Fault>
     requires { NameThreads (length script.now.threads) turns.now }
-    ensures acts { IfOk result (λ acts. EndsActing script.now acts turns.now) }
+    ensures after { IfOk result (λ world. IsAfter script.now turns.now world) }
     ensures memory { IfErr result (λ fault. fault ≡ Memory) }
 {
     let Start {
@@ -71,11 +65,77 @@ fn ends_acting(alloc: Global, script: &Script, turns: &[u8]) -> Result<bool, Fau
         threads: _,
         blocks: _,
     } = start_of(alloc, script)?;
-    let mut acts = true;
     for thread in turns {
-        acts = take_turn(&mut world, *thread);
+        take_turn(&mut world, *thread);
     }
-    Ok(acts)
+    Ok(world)
+}
+
+/// Whether a thread has an act left.
+fn has_act(world: &World, thread: u8) -> bool
+    requires { IsThread world.now thread }
+    ensures { result ≡ is_some (next (frame_of (abstraction world.now) (thread - 1))) }
+{
+    world.has_ending(thread) || world.next_act(thread).is_some()
+}
+
+/// Adds a turn.
+fn put(turns: &mut Vec<u8>, thread: u8) -> Result<(), Fault>
+    ensures turns { OnOk result (turns.new.items ≡ turns.old.items ++ thread ∷ []) }
+    ensures memory { IfErr result (λ fault. fault ≡ Memory) }
+{
+    match turns.push(thread) {
+        Ok(()) => Ok(()),
+        Err(_) => Err(Fault::Memory),
+    }
+}
+
+/// The threads that have an act left.
+fn acting(alloc: Global, world: &World, threads: u8) -> Result<Vec<u8>, Fault>
+    requires { threads ≡ length world.now.frame_views }
+    ensures acting { IfOk result (λ acting. acting.items ≡ acting_in (abstraction world.now) threads) }
+    ensures memory { IfErr result (λ fault. fault ≡ Memory) }
+{
+    let mut acting = Vec::new(alloc);
+    for before in 0..threads {
+        if has_act(world, before + 1) {
+            put(&mut acting, before + 1)?;
+        }
+    }
+    Ok(acting)
+}
+
+/// Goes on while one thread alone has an act left. Answers which threads have one then, if so many beginnings may be
+/// gone on from.
+fn follow(
+    alloc: Global,
+    script: &Script,
+    turns: &mut Vec<u8>,
+    world: &mut World,
+    left: &mut u32,
+) -> Result<Option<Vec<u8>>, Fault>
+    requires { IsAfter script.now turns.old.items world.old }
+    ensures after { IfOk result (λ found. IsAfter script.now turns.new.items world.new) }
+    ensures acting { IfOk result (λ found. IfSome found (λ acting.
+        acting.items ≡ acting_in (abstraction world.new) (length script.now.threads))) }
+    ensures covers { IfOk result (λ found. (outcomes : List Outcome)
+        → Covers script.now outcomes turns.new.items → Covers script.now outcomes turns.old.items) }
+    ensures longer { IfOk result (λ found. (more : List ℕ) × (turns.new.items ≡ turns.old.items ++ more)) }
+    ensures less { IfOk result (λ found. IfSome found (λ acting. left.new < left.old)) }
+    ensures few { left.new ≤ left.old }
+    ensures memory { IfErr result (λ fault. fault ≡ Memory) }
+{
+    while *left > 0 {
+        *left -= 1;
+        let acting = acting(alloc, world, script.threads() as u8)?;
+        if acting.len() != 1 {
+            return Ok(Some(acting));
+        }
+        let thread = acting[0];
+        take_turn(world, thread);
+        put(turns, thread)?;
+    }
+    Ok(None)
 }
 
 /// Whether this is the text of an outcome that was found.
@@ -131,98 +191,99 @@ fn was_found(alloc: Global, found: &FoundOutcomes<'_>, turns: &[u8]) -> Result<b
     }
 }
 
-/// These turns, and one more.
-fn with_turn(alloc: Global, turns: &[u8], thread: u8) -> Result<Vec<u8>, Fault>
-    ensures turns { IfOk result (λ more. more.items ≡ turns.now ++ thread ∷ []) }
+/// The world after these turns: the one at hand, or one that is run anew.
+fn world_here(
+    alloc: Global,
+    script: &Script,
+    turns: &[u8],
+    here: Option<World>,
+) -> Result<World, Fault>
+    requires here { IfSome here (λ world. IsAfter script.now turns.now world) }
+    requires named { NameThreads (length script.now.threads) turns.now }
+    ensures after { IfOk result (λ world. IsAfter script.now turns.now world) }
     ensures memory { IfErr result (λ fault. fault ≡ Memory) }
 {
-    let Ok(mut more) = Vec::from_slice(alloc, turns) else {
-        return Err(Fault::Memory);
-    };
-    match more.push(thread) {
-        Ok(()) => Ok(more),
-        Err(_) => Err(Fault::Memory),
+    match here {
+        Some(world) => Ok(world),
+        None => world_after(alloc, script, turns),
     }
 }
 
-fn is_unknown(known: Coverage) -> bool
-    ensures { result ≡ is_unknown known }
-{
-    matches!(known, Coverage::Unknown)
-}
-
-/// Whether no thread had an act so far, and none has by this one.
-fn still_over(is_over: bool, known: Coverage) -> bool
-    ensures { result ≡ (is_over && is_idle known) }
-{
-    is_over && matches!(known, Coverage::Idle)
-}
-
-/// What is known where each way on is: where no thread has an act left, the outcome is looked for.
-fn at_end(
+/// The world after these turns and one more. The turns may be those of the world at hand.
+fn after_act(
     alloc: Global,
-    found: &FoundOutcomes<'_>,
+    script: &Script,
     turns: &[u8],
-    is_over: bool,
-) -> Result<bool, Fault>
-    ensures found { IfOk result (λ is. IsTrue is → is_over ≡ true → WasFound found.now.bytes.now
-        (length found.now.script.now.threads) (outcomes_in found.now.outcomes.now.found.entries) turns.now) }
-    ensures refused { IfErr result (λ fault. Refuses fault found.now.bytes.now) }
+    here: Option<World>,
+    thread: u8,
+) -> Result<World, Fault>
+    requires here { IfSome here (λ world. IsAfter script.now turns.now world) }
+    requires named { NameThreads (length script.now.threads) turns.now }
+    requires thread { (1 ≤ thread) × (thread ≤ length script.now.threads) }
+    ensures after { IfOk result (λ world. IsAfter script.now (turns.now ++ thread ∷ []) world) }
+    ensures memory { IfErr result (λ fault. fault ≡ Memory) }
 {
-    if is_over {
-        return was_found(alloc, found, turns);
-    }
-    Ok(true)
+    let mut world = world_here(alloc, script, turns, here)?;
+    take_turn(&mut world, thread);
+    Ok(world)
 }
 
-/// What is known of the orders that begin with these turns, where so many beginnings are gone on from at most.
+/// Whether the outcome of each order that begins with these turns was found. The turns are more afterwards.
 fn walk(
     alloc: Global,
     found: &FoundOutcomes<'_>,
-    turns: &[u8],
-    left: &mut u32,
-) -> Result<Coverage, Fault>
+    turns: &mut Vec<u8>,
+    mut world: World,
+    left: &mut Left,
+) -> Result<bool, Fault>
     requires reads { ReadsAs found.now.bytes.now found.now.script.now }
-    requires threads { NameThreads (length found.now.script.now.threads) turns.now }
-    ensures known { IfOk result (λ known. IsKnown found.now.script.now
-        (outcomes_in found.now.outcomes.now.found.entries) turns.now known) }
-    ensures less { left.new ≤ left.old }
+    requires after { IsAfter found.now.script.now turns.old.items world }
+    ensures covers { IfOk result (λ is. is ≡ true → Covers found.now.script.now
+        (outcomes_in found.now.outcomes.now.found.entries) turns.old.items) }
+    ensures longer { IfOk result (λ is. (more : List ℕ) × (turns.new.items ≡ turns.old.items ++ more)) }
+    ensures few { left.new.beginnings ≤ left.old.beginnings }
     ensures refused { IfErr result (λ fault. Refuses fault found.now.bytes.now) }
 {
-    if !ends_acting(alloc, found.script, turns)? {
-        return Ok(Coverage::Idle);
+    let now = follow(alloc, found.script, turns, &mut world, &mut left.beginnings)?;
+    let Some(acting) = now else {
+        return Ok(false);
+    };
+    if acting.is_empty() {
+        let is_found = was_found(alloc, found, turns.as_slice())?;
+        return Ok(is_found);
     }
-    if *left == 0 {
-        return Ok(Coverage::Unknown);
+    if left.forks == 0 {
+        return Ok(false);
     }
-    *left -= 1;
-    let mut is_over = true;
-    for before in 0..found.script.threads() as u8 {
-        let more = with_turn(alloc, turns, before + 1)?;
-        let known = walk(alloc, found, more.as_slice(), left)?;
-        if is_unknown(known) {
-            return Ok(Coverage::Unknown);
+    left.forks -= 1;
+    let length = turns.len();
+    let mut here = Some(world);
+    for thread in acting.as_slice() {
+        let next = after_act(alloc, found.script, turns.as_slice(), here.take(), *thread)?;
+        put(turns, *thread)?;
+        if !walk(alloc, found, turns, next, left)? {
+            return Ok(false);
         }
-        is_over = still_over(is_over, known);
+        turns.truncate(length);
     }
-    if at_end(alloc, found, turns, is_over)? {
-        Ok(Coverage::Covered)
-    } else {
-        Ok(Coverage::Unknown)
-    }
+    left.forks = left.forks.saturating_add(1);
+    Ok(true)
 }
 
-/// Whether the outcomes that were found are known to be all. No more than 20,000 beginnings of orders are gone on from.
+/// Whether the outcomes that were found are known to be all. No more than 100,000 beginnings of orders are gone on
+/// from.
 pub(crate) fn is_complete(alloc: Global, found: &FoundOutcomes<'_>) -> Result<bool, Fault>
     requires { ReadsAs found.now.bytes.now found.now.script.now }
     ensures complete { IfOk result (λ is. is ≡ true
         → IsComplete found.now.bytes.now (outcomes_in found.now.outcomes.now.found.entries)) }
     ensures refused { IfErr result (λ fault. Refuses fault found.now.bytes.now) }
 {
-    let mut left = MOST_BEGINNINGS;
-    let none: &[u8] = b"";
-    match walk(alloc, found, none, &mut left)? {
-        Coverage::Covered => Ok(true),
-        Coverage::Idle | Coverage::Unknown => Ok(false),
-    }
+    let mut turns = Vec::new(alloc);
+    let first = world_after(alloc, found.script, turns.as_slice())?;
+    let mut left = Left {
+        beginnings: MOST_BEGINNINGS,
+        forks: MOST_FORKS,
+    };
+    let is_all = walk(alloc, found, &mut turns, first, &mut left)?;
+    Ok(is_all)
 }

@@ -1,13 +1,12 @@
-use Rattle.std.proofs.Common.{[], subst}
-use Rattle.script_orders.specs.Coverage.{IsKnown}
+use Rattle.std.proofs.Common.{[], List, rules, subst, ◌≡◌, ◌∙◌, ℕ}
+use Rattle.script_orders.specs.Coverage.{Covers}
 use Rattle.script_orders.specs.Found.{outcomes_in}
-use Rattle.script_orders.specs.declared.coverage.Coverage.{Coverage}
 use Rattle.script_orders.proofs.Covering.{complete}
 use Rattle.script_orders.proofs.coverage.is_complete.Goals as goal
 
-pub returns-in-Covered-clause-complete : goal.returns-in-Covered-clause-complete
-returns-in-Covered-clause-complete c is =
+pub returns-clause-complete : goal.returns-clause-complete
+returns-clause-complete c = λ is.
+    let script = c.args.found.now.script.now in
     let os = outcomes_in c.args.found.now.outcomes.now.found.entries in
-    let known =
-    subst (λ (k : Coverage). IsKnown c.args.found.now.script.now os [] k) c.in-Covered.is c.in_ok-walk.ensures.known in
-    complete c.args.found.now.bytes.now c.args.found.now.script.now os c.requires known.1
+    complete c.args.found.now.bytes.now script os c.requires
+    (subst (λ (l : List ℕ). Covers script os l) {y = []} (search rules) (c.in_ok-is_all.ensures.covers is))
