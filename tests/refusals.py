@@ -65,8 +65,8 @@ def stands_in(functions: Functions, crate: str, file: str, line: int) -> bool:
     """Whether a line of a file belongs to one of these functions, or to its proof."""
     if file.startswith("src/"):
         return any(file == function.file and line in function.lines for function in functions)
-    # (proofs/MODULE/OWNER/NAME/Answers.antt and such)
-    name = "::".join([crate, *file.split("/")[1:-1]])
+    # (proofs/MODULE/OWNER/NAME/Answers.antt and such, and +NAME where the function calls itself)
+    name = "::".join([crate, *(part.removeprefix("+") for part in file.split("/")[1:-1])])
     return file.startswith("proofs/") and any(function.pattern.match(name) for function in functions)
 
 
