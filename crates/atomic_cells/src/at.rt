@@ -87,7 +87,7 @@ impl<'a, S: CellSite> At<'a, S> {
 
     /// Whether the cell holds a pointer equivalent to this one: the same place, and the same object or none. That is
     /// `load() == p`, told by one look, which changes nothing, takes no room in the allowance, and waits for nobody.
-    #[inline]
+    #[inline(always)]
     pub fn holds<V: Drop>(&self, domain: &Domain<V>, desk: &mut Desk<V>, handle: &S::Handle) -> bool
         requires domain { Belongs desk.old domain.now }
         requires cell { S.is_open _ desk.old self.now.site }
@@ -104,7 +104,7 @@ impl<'a, S: CellSite> At<'a, S> {
 
     /// The pointer goes into the cell, and what the cell held comes out, in one step on the cell. It waits for nobody,
     /// and refuses nothing.
-    #[inline]
+    #[inline(always)]
     pub fn exchange<V: Drop>(
         &self,
         domain: &Domain<V>,

@@ -35,7 +35,7 @@ impl CellSite for SharedSite {
 
     ghost cell_of = { λ V d s. shared_cell d s };
 
-    #[inline]
+    #[inline(always)]
     fn cell<V: Drop>(self, domain: &Domain<V>) -> CellAt {
         domain.assert_invariant();
         let site = match self {
@@ -53,23 +53,22 @@ impl CellSite for SharedSite {
         }
     }
 
-    #[inline]
+    #[inline(always)]
     fn content(handle: &Shared) -> Content {
         Content {
             kind: Kind::Owner,
-            block: handle.block(),
-            place: handle.place(),
+            word: handle.word(),
         }
     }
 
-    #[inline]
+    #[inline(always)]
     fn spend(handle: Shared) {
-        handle.into_parts();
+        handle.into_word();
     }
 
-    #[inline]
+    #[inline(always)]
     fn of_content(content: Content) -> Shared {
-        Shared::of_parts(content.block, content.place)
+        Shared::of_word(content.word)
     }
 }
 
@@ -122,6 +121,6 @@ impl<'a> SharedAt<'a> {
         SharedSite::spend(handle);
         let site = self.site.cell(domain).site;
         let (old, released) = store_calls::store::<V, Brand>(domain, desk, site, new);
-        Left::of_parts(domain, old.block, released.value)
+        Left::of_parts(domain, old.word.block(), released.value)
     }
 }

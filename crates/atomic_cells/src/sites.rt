@@ -89,13 +89,14 @@ pub trait CellSite: Copy + Drop {
             → IsOpenAt d result.site result.kind };
 
     fn content(handle: &Self::Handle) -> Content
-        ensures { (result.kind ≡ kind) × (result.block ≡ block_of handle.now) × (result.place ≡ place_of handle.now) };
+        ensures { (result.kind ≡ kind) × (result.word.block ≡ block_of handle.now)
+            × (result.word.place ≡ place_of handle.now) };
 
     fn spend(handle: Self::Handle);
 
     fn of_content(content: Content) -> Self::Handle
         requires { content.kind ≡ kind }
-        ensures { (block_of result ≡ content.block) × (place_of result ≡ content.place) };
+        ensures { (block_of result ≡ content.word.block) × (place_of result ≡ content.word.place) };
 }
 
 /// The block of the object that the handle owns and points into: `Null` where its place is null, and `Outside` where

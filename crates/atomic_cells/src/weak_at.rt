@@ -34,7 +34,7 @@ impl CellSite for WeakSite {
 
     ghost cell_of = { λ V d s. weak_cell d s };
 
-    #[inline]
+    #[inline(always)]
     fn cell<V: Drop>(self, domain: &Domain<V>) -> CellAt {
         domain.assert_invariant();
         let site = match self {
@@ -53,23 +53,22 @@ impl CellSite for WeakSite {
         }
     }
 
-    #[inline]
+    #[inline(always)]
     fn content(handle: &handles::Weak) -> Content {
         Content {
             kind: Kind::Weak,
-            block: handle.block(),
-            place: handle.place(),
+            word: handle.word(),
         }
     }
 
-    #[inline]
+    #[inline(always)]
     fn spend(handle: handles::Weak) {
-        handle.into_parts();
+        handle.into_word();
     }
 
-    #[inline]
+    #[inline(always)]
     fn of_content(content: Content) -> handles::Weak {
-        handles::Weak::of_parts(content.block, content.place)
+        handles::Weak::of_word(content.word)
     }
 }
 
@@ -126,6 +125,6 @@ impl<'a> WeakAt<'a> {
         WeakSite::spend(handle);
         let site = self.site.cell(domain).site;
         let (old, released) = store_calls::store::<V, Brand>(domain, desk, site, new);
-        Left::of_parts(domain, old.block, released.value)
+        Left::of_parts(domain, old.word.block(), released.value)
     }
 }

@@ -12,7 +12,7 @@ use Rattle.atomic_table.specs.Table as Table
 use Rattle.control_word.proofs.history.Kept.{members_led, owners_led}
 use Rattle.control_word.proofs.history.Clearing.{was_made}
 use Rattle.control_word.proofs.packing.Cells.{same_cells}
-use Rattle.control_word.proofs.steps.Standing.{kept_show}
+use Rattle.control_word.proofs.funded.Cells.{kept_show_funded}
 use Rattle.control_word.proofs.words.Banks.{IsKept, open_kept}
 use Rattle.control_word.specs.Events.{kind_of}
 use Rattle.control_word.specs.Packing.{block_number, place_block, place_field}
@@ -81,7 +81,7 @@ module _ {V : Type 0} where
         let z = opening_of k in let shape = r.shapes id v at awake in let n = cells_led z r.history in
         let low : c < k.shared_cells + k.weak_cells = subst (λ y. c < y.shared_cells + y.weak_cells) shape cell.0 in
         record {
-          kept = open_kept (opening_of k) (leads (opening_of k) r.history) v.view.name (Free c) (sound (opening_of k) r.history r.stands.legal)
+          kept = open_kept (opening_of k) (leads (opening_of k) r.history) v.view.name (Free c) (sound (opening_of k) r.history r.stands.stands.legal)
               (is_open (Free c) i cell);
           there = sym (cell.1 ∙ ap (λ y. Rattle.control_word.specs.Layout.cell_place y.blocks c) shape);
           kind = ap (λ n. kind_of_free n c) (shared_led z r.history ∙ ap (λ y. y.shared_cells) (sym shape));
@@ -89,7 +89,7 @@ module _ {V : Type 0} where
     opened (Member o m) i cell =
         let q = cell.1 in let mine = held_there k s r id v at awake Owner o q.0 q.1 q.2 in
         record {
-          kept = open_kept (opening_of k) (leads (opening_of k) r.history) v.view.name (Member o m) (sound (opening_of k) r.history r.stands.legal)
+          kept = open_kept (opening_of k) (leads (opening_of k) r.history) v.view.name (Member o m) (sound (opening_of k) r.history r.stands.stands.legal)
               (is_open (Member o m) i cell);
           there = ap (λ b. spot b (7 + m)) mine.1 ∙ sym q.3;
           kind = ap (λ n. kind_of_member n m)
@@ -107,7 +107,7 @@ module _ {V : Type 0} where
 
       pub decoded : Decoded
       decoded =
-          let z = opening_of k in let t = kept_show (point k s r id v) v.view.pending c (ready k s r id v at awake v.view.pending refl) is.kept in
+          let z = opening_of k in let t = kept_show_funded (point k s r id v) v.view.pending c (ready k s r id v at awake v.view.pending refl) is.kept in
           record {
             taken = t.0;
             bits = ap (λ j. get_or s.words j 0) (sym is.there) ∙ t.1.0;
@@ -118,8 +118,8 @@ module _ {V : Type 0} where
         where
           well : (d : Cell) → IsKept (leads (opening_of k) r.history) d
               → (cell_of (leads (opening_of k) r.history) d).kind ≡ kind_of (leads (opening_of k) r.history) d
-          well (Free d) op = ((formed (opening_of k) r.history r.stands.legal).frees d op).1
-          well (Member o m) op = ((formed (opening_of k) r.history r.stands.legal).members o m).1
+          well (Free d) op = ((formed (opening_of k) r.history r.stands.stands.legal).frees d op).1
+          well (Member o m) op = ((formed (opening_of k) r.history r.stands.stands.legal).members o m).1
 
       -- what the cell holds is counted
       pub cell_keeps : (o : ℕ) → (cell_of (leads (opening_of k) r.history) c).object ≡ Some o → IsBusy (leads (opening_of k) r.history) o
@@ -127,9 +127,9 @@ module _ {V : Type 0} where
         where
           go : (d : Cell) → IsKept (leads (opening_of k) r.history) d → (cell_of (leads (opening_of k) r.history) d).object ≡ Some o
               → IsBusy (leads (opening_of k) r.history) o
-          go (Free d) op e = cell_busy (opening_of k) (leads (opening_of k) r.history) (sound (opening_of k) r.history r.stands.legal) d o op e
+          go (Free d) op e = cell_busy (opening_of k) (leads (opening_of k) r.history) (sound (opening_of k) r.history r.stands.stands.legal) d o op e
           go (Member q m) op e =
-              let z = opening_of k in let t = leads z r.history in let fine = sound z r.history r.stands.legal in
+              let z = opening_of k in let t = leads z r.history in let fine = sound z r.history r.stands.stands.legal in
               member_busy z t fine q m o (was_made z t q fine (λ u. let a = fine.unmade_free q u in let b = op.1 in omega arith)) op.0 e
 
       -- a word that is found is what the cell shows

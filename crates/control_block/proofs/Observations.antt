@@ -3,7 +3,7 @@ use Rattle.std.proofs.Common.{◌≡◌, ℕ, zero, suc, List, [], ◌∷◌, Al
 use Rattle.std.proofs.Common.{arith}
 use Rattle.control_block.proofs.Prelude.{desk_now, Entry, get_elem?, Inside, IsDesk, Observed}
 use Rattle.control_block.proofs.Prelude.{ObservedBoth, Opening, opening_of, ShowsOneHistory, some}
-use Rattle.control_block.proofs.Prelude.{Stands, View}
+use Rattle.control_block.proofs.Prelude.{StandsFunded, View}
 use Rattle.control_block.specs.Observations.{HasSeen}
 use Rattle.control_block.proofs.kept.Observation.{at_ease}
 
@@ -18,11 +18,11 @@ all_of_two P a b p q (suc (suc k)) x lt = absurd (omega arith)
 
 module _ {V : Type 0} where
   -- a desk whose seat is among the views of a state between two steps
-  has_seen : (k : Opening) (words : List ℕ) (views : List (View V)) (h : List (Entry V)) → Stands k words views h → (d : Inside V) → IsDesk d
+  has_seen : (k : Opening) (words : List ℕ) (views : List (View V)) (h : List (Entry V)) → StandsFunded k words views h → (d : Inside V) → IsDesk d
       → (at : (i : ℕ) × (get_elem? views i ≡ some d.seat.me.0.view)) → HasSeen views h (desk_now d)
   has_seen k words views h stands d is at = record {
     among = (at.0, at.1 ∙ ap some (sym (at_ease d.seat.me.0.view is.rests.awake is.rests.idle)));
-    beginning = (stands.team.seated at.0 d.seat.me.0.view at.1 is.rests.awake).knows d.seat.me.0.view.name (inl refl);
+    beginning = (stands.stands.team.seated at.0 d.seat.me.0.view at.1 is.rests.awake).knows d.seat.me.0.view.name (inl refl);
   }
 
   pub shows_one : (d : Inside V) → IsDesk d → (word n : ℕ) → Observed d.seat.me.0 word n

@@ -8,8 +8,8 @@ use Prelude.{Compare, empty, ending, Ends, Entry, entry, Event, get_elem?, handl
 use Prelude.{HasRoomFor, Held, held, held_made, HoldingInBlock, InShape, IsBacked, IsLegal, IsOut}
 use Prelude.{IsSlotOf, keeps, kept, Kind, kind_of_member, known, Knows, leads, legal_seen, loses}
 use Prelude.{Member, Moved, NumberedHandle, Object, Opening, opening_of, part_has, Pending, Place}
-use Prelude.{Ready, Ruled, SeatView, seeing, sees_as, set_else, Shape, some, some-injective, sound}
-use Prelude.{Stands, State, Stored, Swap, until_gone, value, valued, view_of}
+use Prelude.{ReadyFunded, Ruled, SeatView, seeing, sees_as, set_else, Shape, some, some-injective, sound}
+use Prelude.{StandsFunded, State, Stored, Swap, until_gone, value, valued, view_of}
 use mathlib.Core.Logic.{dite}
 use native.Mathlib.Decide.{ℕ_discrete}
 use Rattle.atomic_table.specs.Table as Table
@@ -39,7 +39,7 @@ module _ {V : Type 0} where
   pub next : (k : Shape) (s : Table.State (Option V) (SeatView V)) (r : Ruled k s) (id : ℕ) (v w : SeatView V) (words : List ℕ)
       (homes : List (mathlib.Core.Option.Option (Option V))) (h : List (Entry V))
       → get_elem? s.views id ≡ some v → w.view.spent ≡ false → w.shape ≡ k
-      → Stands (opening_of k) words (set (map view_of s.views) id w.view) h
+      → StandsFunded (opening_of k) words (set (map view_of s.views) id w.view) h
       → length homes ≡ length s.homes
       → IsBacked (leads (opening_of k) h) w.view.name w.view.pending w.hand
       → ((j : ℕ) (u : SeatView V) → j ≢ id → get_elem? s.views j ≡ some u → u.view.spent ≡ false
@@ -51,7 +51,7 @@ module _ {V : Type 0} where
       let z = opening_of k in
       record {
         history = h;
-        stands = subst (λ l. Stands z words l h) (sym (map_set view_of s.views id w)) stands;
+        stands = subst (λ l. StandsFunded z words l h) (sym (map_set view_of s.views id w)) stands;
         limits = r.limits;
         shapes = each_set (λ j u. u.view.spent ≡ false → u.shape ≡ k) s.views id w (λ _. shape) (λ j u n e un. r.shapes j u e un);
         sized = sized ∙ r.sized;
@@ -81,14 +81,14 @@ module _ {V : Type 0} where
 
   module _ (k : Shape) (s : Table.State (Option V) (SeatView V)) (r : Ruled k s) (id : ℕ) (v : SeatView V) (at : get_elem? s.views id ≡ some v)
       (awake : v.view.spent ≡ false) where
-    pub ready : (p : Pending V) → v.view.pending ≡ p → Ready (point k s r id v) p
+    pub ready : (p : Pending V) → v.view.pending ≡ p → ReadyFunded (point k s r id v) p
     ready p pending = record { stands = r.stands; seated = at_map view_of s.views id v at; awake = awake; pending = pending }
 
     pub knows : Knows v.view.name r.history v.view.seen
-    knows = (r.stands.team.seated id v.view (at_map view_of s.views id v at) awake).knows v.view.name (inl refl)
+    knows = (r.stands.stands.team.seated id v.view (at_map view_of s.views id v at) awake).knows v.view.name (inl refl)
 
     pub same : Same (leads (opening_of k) v.view.seen) (leads (opening_of k) r.history) v.view.name
-    same = as_seen (opening_of k) s.words (map view_of s.views) r.history r.stands id v.view (at_map view_of s.views id v at) awake
+    same = as_seen (opening_of k) r.stands.bare (map view_of s.views) r.history r.stands.stands id v.view (at_map view_of s.views id v at) awake
 
     pub known_as : known v ≡ leads (opening_of k) v.view.seen
     known_as = ap (λ z. leads (opening_of z) v.view.seen) (r.shapes id v at awake)
@@ -120,7 +120,7 @@ module _ {V : Type 0} where
         ((block_kept (opening_of k) knows.0 v.view.seen o made).0 ∙ (ap (λ (z : State). (z.object o).block) (sym known_as) ∙ e))
 
     pub legal_known : IsLegal (opening_of k) v.view.seen
-    legal_known = legal_seen (opening_of k) knows.0 v.view.seen (subst (IsLegal (opening_of k)) knows.1 r.stands.legal)
+    legal_known = legal_seen (opening_of k) knows.0 v.view.seen (subst (IsLegal (opening_of k)) knows.1 r.stands.stands.legal)
 
     pub held_there : (m : Kind) (o : ℕ) (p : Option Place) (b : ℕ) → HoldingInBlock v m o p b
         → Has (held v.view.name (handle m (Some o) p)) (leads (opening_of k) r.history).hands
@@ -141,7 +141,7 @@ module _ {V : Type 0} where
         let z = opening_of k in let shape = r.shapes id v at awake in
         let e = subst (λ (y : Opening). ((leads y v.view.seen).latest b ≡ o)
         × (((leads y v.view.seen).object o).phase ≡ ending v.view.name)) (ap opening_of shape) ends in
-        let t = still_ends z knows.0 v.view.seen b v.view.name (subst (IsLegal z) knows.1 r.stands.legal) knows.2
+        let t = still_ends z knows.0 v.view.seen b v.view.name (subst (IsLegal z) knows.1 r.stands.stands.legal) knows.2
         (ap (λ x. ((leads z v.view.seen).object x).phase) e.0 ∙ e.1) in
         let back : r.history ≡ knows.0 ++ v.view.seen = knows.1 in (
           ap (λ l. (leads z l).latest b) back ∙ (t.latest ∙ e.0),
@@ -168,7 +168,7 @@ module _ {V : Type 0} where
           between = knows.0;
           now = ap (λ l. seeing v p c l) knows.1;
           quiet = knows.2;
-          legal = subst (λ z. IsLegal (opening_of z) r.history) (sym (r.shapes id v at awake)) r.stands.legal;
+          legal = subst (λ z. IsLegal (opening_of z) r.history) (sym (r.shapes id v at awake)) r.stands.stands.legal;
         }
 
   -- the event moves no object, ends none, and changes no value
@@ -228,7 +228,7 @@ module _ {V : Type 0} where
   pub quiet_next : (k : Shape) (s : Table.State (Option V) (SeatView V)) (r : Ruled k s) (id : ℕ) (v : SeatView V) (words : List ℕ) (e : Event V)
       (p : Pending V)
       → get_elem? s.views id ≡ some v → v.view.spent ≡ false → v.hand ≡ None → IsQuiet e → let h = entry v.view.name e ∷ r.history in
-      Stands (opening_of k) words (set (map view_of s.views) id (sees_as v.view p h)) h
+      StandsFunded (opening_of k) words (set (map view_of s.views) id (sees_as v.view p h)) h
       → Ruled k record { words = words; homes = s.homes; views = set s.views id (seeing v p None h) }
   quiet_next k s r id v words e p at awake free q stands =
       let h = entry v.view.name e ∷ r.history in let t = leads (opening_of k) r.history in
@@ -244,7 +244,7 @@ module _ {V : Type 0} where
       → me.0.view.spent ≡ false → me.0.hand ≡ None → ((n : ℕ) → IsQuiet (e n))
       → ((s : Table.State (Option V) (SeatView V)) (r : Ruled k s) → get_elem? s.views id ≡ some me.0 → get_or s.words i 0 < 18446744073709551616
       → let n = get_or s.words i 0 in let h = entry me.0.view.name (e n) ∷ r.history in
-      Stands (opening_of k) (set s.words i (f n)) (set (map view_of s.views) id (sees_as me.0.view p h)) h
+      StandsFunded (opening_of k) (set s.words i (f n)) (set (map view_of s.views) id (sees_as me.0.view p h)) h
       × (Added me.0 p None (e n) (seeing me.0 p None h) → T n (seeing me.0 p None h, me.1)))
       → Allows (Ruled k) slots id me i f T
   allows_telling k slots id i me f e p T awake free quiet law s r sized at small =
@@ -253,14 +253,14 @@ module _ {V : Type 0} where
         keeps,
         tt,
         quiet_next k s r id v (set s.words i (f n)) (e n) p at awake free (quiet n) now.0,
-        now.1 (adds k s r id v at awake p None (e n) now.0.legal),
+        now.1 (adds k s r id v at awake p None (e n) now.0.stands.legal),
       )
 
   pub allows_event : (k : Shape) (slots id i : ℕ) (me : At V) (f : ℕ → ℕ) (e : ℕ → Event V) (p : Pending V)
       → me.0.view.spent ≡ false → me.0.hand ≡ None → ((n : ℕ) → IsQuiet (e n))
       → ((s : Table.State (Option V) (SeatView V)) (r : Ruled k s) → get_elem? s.views id ≡ some me.0 → get_or s.words i 0 < 18446744073709551616
       → let n = get_or s.words i 0 in let h = entry me.0.view.name (e n) ∷ r.history in
-      Stands (opening_of k) (set s.words i (f n)) (set (map view_of s.views) id (sees_as me.0.view p h)) h)
+      StandsFunded (opening_of k) (set s.words i (f n)) (set (map view_of s.views) id (sees_as me.0.view p h)) h)
       → Allows (Ruled k) slots id me i f (λ n after. Added me.0 p None (e n) after.0 × (after.1 ≡ me.1))
   allows_event k slots id i me f e p awake free quiet law =
       allows_telling k slots id i me f e p (λ n after. Added me.0 p None (e n) after.0 × (after.1 ≡ me.1)) awake free quiet

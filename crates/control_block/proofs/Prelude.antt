@@ -41,7 +41,7 @@ pub use Rattle.control_word.proofs.lists.Tallies.{same_place_true, stored_self, 
 pub use Rattle.control_word.proofs.lists.Tallies.{tally_append}
 pub use Rattle.control_word.proofs.packing.Cells.{block_fits, field_fits, owned_fits}
 pub use Rattle.control_word.proofs.steps.Look.{load_is_write}
-pub use Rattle.control_word.proofs.steps.Standing.{has_headroom}
+pub use Rattle.control_word.proofs.funded.Words.{has_headroom_funded}
 pub use Rattle.control_word.proofs.words.Banks.{sum_all, sum_set}
 pub use Rattle.control_word.proofs.words.Counting.{bag_one}
 pub use Rattle.control_word.proofs.words.Decoding.{cell_shown}
@@ -63,10 +63,11 @@ pub use Rattle.control_word.specs.State.{IsVacant, kind_of_free, kind_of_member,
 pub use Rattle.control_word.specs.State.{on_shelf, Opening, passed, Phase, put, same_held}
 pub use Rattle.control_word.specs.State.{same_stored, State, stock, Stored, stored, sum_below}
 pub use Rattle.control_word.specs.State.{tally, unmade, weak_number, without}
-pub use Rattle.control_word.specs.Steps.{Adds, cell_word, purse, Ready}
+pub use Rattle.control_word.specs.Steps.{cell_word, purse}
+pub use Rattle.control_word.specs.HandFunds.{AddsFunded, drawn, ReadyFunded, short_of, StandsFunded}
 pub use Rattle.control_word.specs.Views.{added, adds, comes, Fits, HasBoth, IsSecond, Knows}
 pub use Rattle.control_word.specs.Views.{longer, more, Names, NoneBy, owed, owes, paid, pays}
-pub use Rattle.control_word.specs.Views.{Seated, sees_as, Stands, StandsFor, total}
+pub use Rattle.control_word.specs.Views.{Seated, sees_as, StandsFor, total}
 pub use Rattle.control_word.specs.Words.{block_of, blocks_of, counts_at, flags_of, owned_bits}
 pub use Rattle.control_word.specs.Words.{shown, Shows, slot}
 pub use Rattle.control_word.specs.declared.model.event.Cell.{Cell}

@@ -6,3 +6,4 @@ pub mod HolderLists
 pub mod AllHolders
 pub mod EachBlock
 pub mod EndingNames
+pub mod ShelvedStore

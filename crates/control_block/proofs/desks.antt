@@ -1,5 +1,6 @@
 pub mod DeskSteps
 pub mod DeskBags
+pub mod DeskBlocks
 pub mod DeskSummaries
 pub mod DeskLocks
 pub mod DeskStores

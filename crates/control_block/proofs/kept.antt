@@ -1,7 +1,6 @@
 pub mod Share
 pub mod Lock
-pub mod Bring
-pub mod GiveBack
+pub mod TopUp
 pub mod Turn
 pub mod CellLook
 pub mod CellDiffer

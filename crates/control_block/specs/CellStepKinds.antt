@@ -23,8 +23,9 @@ use Rattle.control_word.specs.Layout.{cell_place, spot}
 use Rattle.control_word.specs.Packing.{IsCellWord, IsPackedCell, cell_bits, without_taken}
 use Rattle.control_word.specs.State.{kind_of_free, kind_of_member}
 use Rattle.control_word.specs.Views.{NoneBy}
-use Rattle.control_word.specs.Words.{blocks_of, packed, shown}
-use Rattle.control_block.specs.StepKinds.{At, Added, HoldingInBlock, goes_on, known, tells}
+use Rattle.control_word.specs.HandFunds.{short_of}
+use Rattle.control_word.specs.Words.{blocks_of, packed, shown, slot}
+use Rattle.control_block.specs.StepKinds.{At, Added, HoldingInBlock, in_call, known, tells}
 use Rattle.control_block.specs.FundStepKinds.{owing}
 use Rattle.control_block.specs.Rule.{members_of, opening_of}
 use Rattle.control_block.specs.declared.table.SeatView.{SeatView}
@@ -58,10 +59,10 @@ module _ {V : Type 0} where
     pub shows : let s = leads (opening_of v.shape) (between ++ v.view.seen) in
         x ≡ shown (blocks_of s) (cell_of s c) x.taken
 
-  -- so many funds are out for a handle of which the word of a cell tells the block
+  -- a handle of which the word of a cell tells the block has so many of its funds: with all of them nothing is owed
   abbrev pub debt : NumberedHandle → Option Block → ℕ → Pending V
   debt h None f = Idle
-  debt h (Some b) f = owing h.kind (object_of h) h.place b.0 f 0
+  debt h (Some b) f = short_of h.kind (object_of h) h.place (spot b.0 (slot h.kind)) f
 
   -- a load of the handle that the word showed is under way, by this event
   pub record Took (e : NumberedHandle → Event V) (k : Kind) (v : SeatView V) (x : CellWord) (w : SeatView V) : Type 0
@@ -72,7 +73,7 @@ module _ {V : Type 0} where
       pub there : ((known w).object object).block ≡ block.0
       pub event : Added v (owing k object x.place block.0 1 1) None (e (handle k (Some object) x.place)) w
 
-  -- the handle that the word showed came out, by this event, and so many of its funds are to be given back
+  -- the handle that the word showed came out, by this event, with its funds that were not taken
   pub record Gave (e : NumberedHandle → Event V) (k : Kind) (v : SeatView V) (x : CellWord) (w : SeatView V) : Type 0
     where
       pub old : NumberedHandle
@@ -141,7 +142,9 @@ module _ {V : Type 0} where
   abbrev pub cleared : ℕ → ℕ → Step (Option V) → At V → ℕ → At V → Type 0
   cleared o q st m n m' = swapped (Member o q) (λ h. ClearMember o q h) st m n m'
 
-  -- what was owed is in the cell, where its word was the one that was found, and the desk has seen no more; else
-  -- nothing changes
-  abbrev pub refilled : Step (Option V) → At V → ℕ → At V → Type 0
-  refilled st m n m' = (n ≡ st.first → (m'.0 ≡ goes_on m.0) × (m'.1 ≡ m.1)) × (n ≢ st.first → m' ≡ m)
+  -- so many funds of a handle in hand are in the cell, where its word was the one that was found, and the desk has seen
+  -- no more; else nothing changes
+  abbrev pub refilled : Kind → ℕ → Option Place → Block → ℕ → Step (Option V) → At V → ℕ → At V → Type 0
+  refilled k o p b taken st m n m' =
+      (n ≡ st.first → (m'.0 ≡ in_call m.0 (owing k o p b.0 (cell_funds - taken) 0)) × (m'.1 ≡ m.1))
+      × (n ≢ st.first → m' ≡ m)

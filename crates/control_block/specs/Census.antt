@@ -1,7 +1,8 @@
 -- What is left of a domain.
-use Rattle.std.specs.Prelude.{◌≡◌, ℕ, suc, Bool, ◌-◌, ◌<◌, ◌≤◌, ◌↔◌, ◌==◌, cond, List}
+use Rattle.std.specs.Prelude.{◌≡◌, ℕ, suc, Bool, true, ◌+◌, ◌-◌, ◌/◌, ◌%◌, ◌<◌, ◌≤◌, ◌↔◌, ◌==◌, cond, List}
 use Rattle.std.specs.Prelude.{slice_index}
-use Rattle.control_word.specs.Layout.{spot}
+use Rattle.std.specs.Int.{bit_at}
+use Rattle.control_word.specs.Layout.{shelf_place, spot}
 use Rattle.control_word.specs.Packing.{number_of}
 use Rattle.control_word.specs.State.{State, IsVacant, count, ending, sum_below, weak}
 
@@ -14,18 +15,22 @@ pub record CensusNow : Type 0 where
   pub weak_cells : ℕ
   pub words : List ℕ
 
--- owner and weak handles of a block, without the one that owners have in common
+-- the block is on the shelf, where all vacant ones are once the domain is closed
+abbrev pub is_free : CensusNow → ℕ → Bool
+is_free c b =
+    bit_at (slice_index c.words (shelf_place c.blocks (c.shared_cells + c.weak_cells) (b / 64))) (b % 64) == 1
+
+abbrev pub IsFree : CensusNow → ℕ → Type 0
+IsFree c b = is_free c b ≡ true
+
+-- owner and weak handles of a block: none of a vacant one, whose weak word may have kept a 1, and of others without the
+-- one that owners have in common
 abbrev pub owners_in : CensusNow → ℕ → ℕ
 owners_in c b = number_of (slice_index c.words (spot b 0))
 
 abbrev pub weaks_in : CensusNow → ℕ → ℕ
-weaks_in c b = number_of (slice_index c.words (spot b 1)) - cond (owners_in c b == 0) 0 1
-
-abbrev pub IsFree : CensusNow → ℕ → Type 0
-IsFree c b = number_of (slice_index c.words (spot b 1)) ≡ 0
-
-abbrev pub is_free : CensusNow → ℕ → Bool
-is_free c b = number_of (slice_index c.words (spot b 1)) == 0
+weaks_in c b =
+    cond (is_free c b) 0 (number_of (slice_index c.words (spot b 1)) - cond (owners_in c b == 0) 0 1)
 
 -- the block is one of the domain's
 abbrev pub HasBlock : CensusNow → ℕ → Type 0

@@ -21,10 +21,6 @@ module _ {V : Type 0} where
   abbrev pub owing : Kind → ℕ → Option Place → ℕ → ℕ → ℕ → Pending V
   owing k o p b funds loads = Paying k o p (spot b (slot k)) funds loads
 
-  -- the funds that were added are out on the word, and the desk has seen no more
-  abbrev pub brought : Kind → ℕ → Option Place → Step (Option V) → At V → ℕ → At V → Type 0
-  brought k o p st m n m' = (m'.0 ≡ in_call m.0 (Paying k o p st.word (st.first / 4294967296) 0)) × (m'.1 ≡ m.1)
-
   -- nothing is owed any more, and the desk has seen no more
   abbrev pub settled : Step (Option V) → At V → ℕ → At V → Type 0
   settled st m n m' = (m'.0 ≡ goes_on m.0) × (m'.1 ≡ m.1)

@@ -1,5 +1,5 @@
 -- How handles leave: by themselves, or as they came out of a cell.
-use Rattle.std.specs.Prelude.{◌≡◌, ◌⊎◌, ℕ, ◌-◌, Bool, false, cond, List, [], ◌∷◌, is_some}
+use Rattle.std.specs.Prelude.{◌≡◌, ◌⊎◌, ℕ, ◌-◌, ◌<◌, Bool, false, cond, List, [], ◌∷◌, is_some}
 use Rattle.std.specs.Prelude.{IfSome, Option, None, Some}
 use Rattle.control_word.specs.Handles.{handle}
 use Rattle.control_word.specs.Histories.{value}
@@ -31,17 +31,17 @@ freed None vacant = []
 freed (Some b) vacant = cond vacant (b ∷ []) []
 
 module _ {V : Type 0} where
-  -- a handle of the object in block b may leave: no call is half done and the desk has it, or it came out of a cell,
-  -- and the half-done call has so many funds of it to give back
+  -- a handle of the object in block b may leave with so many funds: no call is half done and the desk has it, with all
+  -- of them, or it came out of a cell, and has so many
   abbrev pub MayLeave : At V → Kind → ℕ → Option Place → ℕ → ℕ → Type 0
-  MayLeave me k o p b funds = (Rests me × HoldingInBlock me.0 k o p b × (funds ≡ 0))
-      ⊎ Owes (owing k o p b funds 0) me
+  MayLeave me k o p b funds = (Rests me × HoldingInBlock me.0 k o p b × (funds ≡ cell_funds))
+      ⊎ (Owes (owing k o p b funds 0) me × (funds < cell_funds))
 
   -- the handle that a cell's word shows, by the blocks that the seat knows
   abbrev pub shown_handle : SeatView V → Kind → CellWord → NumberedHandle
   shown_handle v k x = handle k (object_by (known v).latest x.owned) x.place
 
-  -- it came out, and the half-done call has to give back its funds that were not taken
+  -- it came out, with its funds that were not taken
   abbrev pub OwesFor : Kind → CellWord → At V → Type 0
   OwesFor k x me = Owes (debt (shown_handle me.0 k x) x.owned (cell_funds - x.taken)) me
 

@@ -7,7 +7,8 @@ use Rattle.control_word.specs.declared.model.event.Entry.{Entry}
 use Rattle.control_word.specs.declared.model.view.Pending.{Pending}
 use Rattle.control_word.specs.declared.model.view.Pending.TheVariants.{Idle, Merging}
 use Rattle.control_word.specs.declared.model.view.View.{View}
-use Rattle.control_word.specs.Views.{Stands, sees_as}
+use Rattle.control_word.specs.HandFunds.{StandsFunded}
+use Rattle.control_word.specs.Views.{sees_as}
 use Rattle.control_block.specs.Rule.{opening_of}
 use Rattle.control_block.specs.StepKinds.{At}
 use Rattle.control_block.specs.declared.table.SeatView.{SeatView}
@@ -18,7 +19,7 @@ module _ {V : Type 0} where
     pub history : List (Entry V)
     pub words : List ℕ
     pub views : List (View V)
-    pub stands : Stands (opening_of v.shape) words views history
+    pub stands : StandsFunded (opening_of v.shape) words views history
     pub found : slice_index words word ≡ n
     pub here : (i : ℕ) × (get_elem? views i ≡ some v.view)
 
@@ -31,7 +32,7 @@ module _ {V : Type 0} where
     pub history : List (Entry V)
     pub words : List ℕ
     pub views : List (View V)
-    pub stands : Stands (opening_of v.shape) words views history
+    pub stands : StandsFunded (opening_of v.shape) words views history
     pub found : slice_index words word ≡ n
     pub first : (i : ℕ) × (get_elem? views i ≡ some v.view)
     pub second : (i : ℕ) × (get_elem? views i ≡ some w.view)

@@ -6,7 +6,8 @@ use Rattle.control_word.specs.declared.model.event.Entry.{Entry}
 use Rattle.control_word.specs.declared.model.view.Pending.TheVariants.{Idle}
 use Rattle.control_word.specs.declared.model.view.View.{View}
 use Rattle.control_word.specs.declared.shape.Shape.{Shape}
-use Rattle.control_word.specs.Views.{Knows, Stands}
+use Rattle.control_word.specs.HandFunds.{StandsFunded}
+use Rattle.control_word.specs.Views.{Knows}
 use Rattle.control_block.specs.Desks.{DeskNow}
 use Rattle.control_block.specs.Rule.{opening_of}
 
@@ -26,6 +27,6 @@ module _ {V : Type 0} where
     pub history : List (Entry V)
     pub words : List ℕ
     pub views : List (View V)
-    pub stands : Stands (opening_of k) words views history
+    pub stands : StandsFunded (opening_of k) words views history
     pub found : slice_index words word ≡ n
     pub seen : All (HasSeen views history) desks

@@ -1,5 +1,5 @@
 -- The rule of the table: what holds between any two steps.
-use Rattle.std.specs.Prelude.{◌≡◌, ◌⊎◌, ℕ, ◌+◌, ◌-◌, ◌==◌, false, cond, List, [], map, length}
+use Rattle.std.specs.Prelude.{◌≡◌, ◌⊎◌, ℕ, ◌+◌, ◌-◌, ◌==◌, true, false, cond, List, [], map, length}
 use Rattle.std.specs.Prelude.{Option, Some, None}
 use mathlib.Core.Option.{some}
 use lib.ListN.{get_elem?}
@@ -13,14 +13,16 @@ use Rattle.control_word.specs.declared.model.view.View.{View}
 use Rattle.control_word.specs.Histories.{leads, value}
 use Rattle.control_word.specs.Layout.{IsWithinLimits, spot}
 use Rattle.control_word.specs.State.{Opening, State, Phase, unmade, live, gone, ending, InShape}
-use Rattle.control_word.specs.Views.{Stands, sees_as}
+use Rattle.control_word.specs.HandFunds.{StandsFunded}
+use Rattle.control_word.specs.Views.{sees_as}
 use Rattle.control_block.specs.declared.table.SeatView.{SeatView}
 
 -- how many members an object has
 abbrev pub members_of : Shape → ℕ
 members_of k = k.owners + k.weaks
 
--- a domain begins with one desk, which has all blocks and the whole allowance
+-- a domain begins with one desk, which has all blocks and the whole allowance; a block that becomes vacant may keep the
+-- 1 in its weak word
 abbrev pub opening_of : Shape → Opening
 opening_of k =
     record {
@@ -33,6 +35,7 @@ opening_of k =
       desks = 1;
       holder = λ b. 0;
       share = λ d. cond (d == 0) k.allowance 0;
+      keeps_blocks = true;
     }
 
 -- the slot in hand is that of block b
@@ -73,7 +76,7 @@ module _ {V : Type 0} where
   pub record Ruled (k : Shape) (s : Table.State (Option V) (SeatView V)) : Type 0 where
     pub history : List (Entry V)
     -- the words and what the desks know stand for the history
-    pub stands : Stands (opening_of k) s.words (map view_of s.views) history
+    pub stands : StandsFunded (opening_of k) s.words (map view_of s.views) history
     pub limits : IsWithinLimits k
     pub shapes : (j : ℕ) (u : SeatView V) → get_elem? s.views j ≡ some u → u.view.spent ≡ false → u.shape ≡ k
     pub sized : length s.homes ≡ k.blocks

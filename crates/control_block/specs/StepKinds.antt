@@ -142,6 +142,10 @@ module _ {V : Type 0} where
   began b st m n m' = (l : List ℕ) × (length l ≡ 5) × Moved m.0 (Making b l) (Some b) m'.0
       × (m'.1 ≡ (b.0 - 1, None) ∷ m.1)
 
+  -- the same by a look, where the weak word is 1 already; else nothing has changed
+  abbrev pub found_begun : Block → Step (Option V) → At V → ℕ → At V → Type 0
+  found_begun b st m n m' = (n ≡ 1 → began b st m n m') × (n ≢ 1 → m' ≡ m)
+
   -- what a make knows of its block's flags and fields
   abbrev pub prepared : Pending V → List ℕ
   prepared (Making b l) = l
@@ -162,6 +166,10 @@ module _ {V : Type 0} where
   finished o st m n m' =
       (x : V) × (value (opening_of m.0.shape) m.0.view.seen o ≡ Some x)
       × Added m.0 Idle None (Finish o (n == 1) x) m'.0 × (m'.1 ≡ [])
+
+  -- the same by a look, where the weak word is 1; else nothing has changed
+  abbrev pub found_finished : ℕ → Step (Option V) → At V → ℕ → At V → Type 0
+  found_finished o st m n m' = (n ≡ 1 → finished o st m n m') × (n ≢ 1 → m' ≡ m)
 
   -- a make that has prepared so much of the block, with this in its slot
   pub record IsPrepared (v : SeatView V) (b : Block) (me : At V) (l : List ℕ) (x : Option V) : Type 0 where

@@ -85,6 +85,9 @@ impl<V: Drop> Census<V> {
         ensures { (result.owners ≡ owners_in self.now block.0) × (result.weaks ≡ weaks_in self.now block.0) }
     {
         let owners = unpack_count(self.closed.word(block_word(block, OWNERS))).number;
+        if self.is_free(block) {
+            return Counts { owners, weaks: 0 };
+        }
         let number = unpack_count(self.closed.word(block_word(block, WEAKS))).number;
         let weaks = if owners == 0 {
             number

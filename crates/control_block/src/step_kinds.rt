@@ -8,7 +8,7 @@ ghost use Rattle.control_word.specs.declared.place.Place.{Place};
 ghost use Rattle.control_block.specs.StepKinds.{counted, found_expired, peeked, read, shared, weakly_left};
 ghost use Rattle.control_block.specs.StepKinds.{weakly_shared};
 ghost use Rattle.control_block.specs.StepKinds.{began, fetched, finished, gave_back, goes_on, left, made, parted};
-ghost use Rattle.control_block.specs.StepKinds.{wrote};
+ghost use Rattle.control_block.specs.StepKinds.{found_begun, found_finished, wrote};
 ghost use Rattle.control_block.specs.StepKinds.{comes_off, grown, over, joined};
 
 pub mod cells;
@@ -154,6 +154,13 @@ impl<V, M: StepArgs> Play<Slot<V>, SeatView<V>> for Begins<M> {
     ghost then = { began M.block };
 }
 
+/// A look that finds the weak word to be 1, so that the make has begun.
+pub struct FindsBegun<M>(PhantomData<M>);
+
+impl<V, M: StepArgs> Play<Slot<V>, SeatView<V>> for FindsBegun<M> {
+    ghost then = { found_begun M.block };
+}
+
 /// A further write of a make, or a look at a word that need not be written.
 pub struct Writes<M>(PhantomData<M>);
 
@@ -173,6 +180,13 @@ pub struct Finishes<M>(PhantomData<M>);
 
 impl<V, M: StepArgs> Play<Slot<V>, SeatView<V>> for Finishes<M> {
     ghost then = { finished M.object };
+}
+
+/// A look that finds the weak word to be 1, which ends an ending.
+pub struct FindsFinished<M>(PhantomData<M>);
+
+impl<V, M: StepArgs> Play<Slot<V>, SeatView<V>> for FindsFinished<M> {
+    ghost then = { found_finished M.object };
 }
 
 /// What a split gives away. The proof of each call picks it.

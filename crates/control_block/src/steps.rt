@@ -28,62 +28,59 @@ mod words;
 
 use crate::handles::{self, Shared};
 use crate::step_kinds::{
-    Counts, Fetches, FindsExpired, Finishes, Peeks, Reads, Shares, StepArgs, WeakShares,
+    Counts, Fetches, FindsExpired, FindsFinished, Finishes, Peeks, Reads, Shares, StepArgs,
+    WeakShares,
 };
 use crate::table::{Seat, Table};
-use control_word::packed::counts::use_count_of;
+use control_word::packed::counts::{ONE_FUNDED, use_count_of};
 use control_word::packed::layout::{FIELDS, FLAGS, OWNERS, WEAKS, block_word};
-use control_word::{Block, Handle, Place};
+use control_word::{Block, Handle, HandleWord, Place};
 pub use makes::make;
 
-/// Share: one owner more, under an owner that the desk holds ([util.smartptr.shared.const]).
+/// Share: one owner more, with its funds, under an owner that the desk holds ([util.smartptr.shared.const]).
 pub fn share<V, M: StepArgs>(
     table: &Table<V>,
     seat: &mut Seat<V>,
     of: Handle,
-    wanted: Option<Place>,
+    wanted: HandleWord,
 ) -> Shared
     requires table { seat.old.table_id ≡ table.now.table_id }
     requires rests { Rests seat.old.me }
     requires word { (0 < of.block.0) × (spot of.block.0 0 < table.now.table_id.words) }
     requires holds { HoldingInBlock seat.old.me.0 Owner M.object M.place of.block.0 }
+    requires block { wanted.block ≡ Some of.block }
     requires wanted { IsPointer M.wanted }
     requires room { HasRoomFor seat.old.me.0 }
     ensures seat { (seat.new.table_id ≡ seat.old.table_id) × (seat.new.id ≡ seat.old.id)
         × (seat.new.me.1 ≡ seat.old.me.1) }
-    ensures handle { (result.block ≡ Some of.block) × (result.place ≡ wanted) }
+    ensures handle { (result.block ≡ Some of.block) × (result.place ≡ wanted.place) }
     ensures event { tells (Share (owner M.object M.place) M.wanted) seat.old.me.0 seat.new.me.0 }
 {
-    words::fetch_add::<V, Shares<M>>(table, seat, block_word(of.block, OWNERS), 1);
-    Shared {
-        block: Some(of.block),
-        place: wanted,
-    }
+    words::fetch_add::<V, Shares<M>>(table, seat, block_word(of.block, OWNERS), ONE_FUNDED);
+    Shared::of_word(wanted)
 }
 
-/// Weak share: one weak handle more, under a handle of the desk or an ending ([util.smartptr.weak.const],
+/// Weak share: one weak handle more, with its funds, under a handle of the desk or an ending ([util.smartptr.weak.const],
 /// [util.smartptr.enab]).
 pub fn share_weak<V, M: StepArgs>(
     table: &Table<V>,
     seat: &mut Seat<V>,
     block: Block,
-    wanted: Option<Place>,
+    wanted: HandleWord,
 ) -> handles::Weak
     requires table { seat.old.table_id ≡ table.now.table_id }
     requires rests { Rests seat.old.me }
     requires word { (0 < block.0) × (spot block.0 1 < table.now.table_id.words) }
+    requires block { wanted.block ≡ Some block }
     requires may { MayShareWeakly seat.old.me.0 M.object block.0 M.wanted }
     requires room { HasRoomFor seat.old.me.0 }
     ensures seat { (seat.new.table_id ≡ seat.old.table_id) × (seat.new.id ≡ seat.old.id)
         × (seat.new.me.1 ≡ seat.old.me.1) }
-    ensures handle { (result.block ≡ Some block) × (result.place ≡ wanted) }
+    ensures handle { (result.block ≡ Some block) × (result.place ≡ wanted.place) }
     ensures event { tells (WeakShare M.object M.wanted) seat.old.me.0 seat.new.me.0 }
 {
-    words::fetch_add::<V, WeakShares<M>>(table, seat, block_word(block, WEAKS), 1);
-    handles::Weak {
-        block: Some(block),
-        place: wanted,
-    }
+    words::fetch_add::<V, WeakShares<M>>(table, seat, block_word(block, WEAKS), ONE_FUNDED);
+    handles::Weak::of_word(wanted)
 }
 
 /// Look: `use_count` ([util.smartptr.shared.obs]): the count, for a desk with the whole allowance; else 0 just at none,
@@ -147,7 +144,8 @@ pub fn peek<V, M: StepArgs>(table: &Table<V>, seat: &mut Seat<V>, block: Block, 
 }
 
 /// Finish: the value of an object that has ended comes out of its cell, and the ending gives up the owners' common weak
-/// count (own). It answers the value, and whether the block is vacant now.
+/// count (own). It answers the value, and whether the block is vacant now. Where a look finds that count alone and no
+/// funds, nobody can add to it any more: the look is the event, and the word keeps its 1 for the block's next object.
 #[inline(always)]
 pub fn finish<V: Drop, M: StepArgs>(table: &Table<V>, seat: &mut Seat<V>, block: Block) -> (V, bool)
     requires table { seat.old.table_id ≡ table.now.table_id }
@@ -166,6 +164,10 @@ pub fn finish<V: Drop, M: StepArgs>(table: &Table<V>, seat: &mut Seat<V>, block:
     let word = block_word(block, WEAKS);
     words::load::<V, Fetches<M>>(table, seat, word);
     let value = in_hand::take(table, seat, block);
+    let found = words::load::<V, FindsFinished<M>>(table, seat, word);
+    if found == 1 {
+        return (value, true);
+    }
     let found = words::fetch_sub::<V, Finishes<M>>(table, seat, word, 1);
     (value, found == 1)
 }

@@ -5,4 +5,5 @@ pub mod history
 pub mod words
 pub mod views
 pub mod steps
+pub mod funded
 pub mod worked

@@ -23,5 +23,6 @@ pub mod Others
 pub mod Names
 pub mod Values
 pub mod Sole
+pub mod Stores
 pub mod Endings
 pub mod Blocks

@@ -1,4 +1,5 @@
 pub mod Bits
 pub mod Cells
 pub mod Fields
+pub mod Handles
 pub mod Halves

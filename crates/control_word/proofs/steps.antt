@@ -1,12 +1,14 @@
 pub mod Look
 pub mod Sameness
 pub mod Write
+pub mod Begin
 pub mod Claim
 pub mod Share
 pub mod Leave
 pub mod Lock
 pub mod WeakShare
 pub mod WeakLeave
+pub mod Finish
 pub mod Bring
 pub mod GiveBack
 pub mod LeaveWithFunds

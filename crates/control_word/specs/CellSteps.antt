@@ -19,15 +19,15 @@ use Rattle.control_word.specs.State.{ending, HasRoom}
 use Rattle.control_word.specs.Events.{Asks, after, InHand, IsOpen, cell_of, kind_of}
 use Rattle.control_word.specs.Words.{blocks_of, packed, shown}
 use Rattle.control_word.specs.Steps.{Point, Ready, state, me, word, counts, Holding, HasOneMore, Adds, Tells, Moves}
-use Rattle.control_word.specs.Steps.{purse, cell_word}
+use Rattle.control_word.specs.Steps.{purse, cell_word, Standing, ReadyBy, AddsBy, TellsBy}
 use Rattle.control_word.specs.Limits.{cell_funds, one_fund, fund_turned, one_taken}
 
-module _ (V : Type 0) where
+module _ (V : Type 0) (S : Standing V) where
   -- a cell's word is the packing of what the cell holds and of how many funds were taken, none of a cell without an
   -- object
   abbrev pub CellsShow : Type 0
   CellsShow =
-      (at : Point V) (p : Pending V) (c : Cell) → Ready at p → IsOpen (state at) (me at) c
+      (at : Point V) (p : Pending V) (c : Cell) → ReadyBy S at p → IsOpen (state at) (me at) c
       → (taken : ℕ) × (let x = shown (blocks_of (state at)) (cell_of (state at) c) taken in
       (word at (cell_word at c) ≡ cell_bits x) × IsCellWord x × (taken ≤ cell_funds))
       × ((cell_of (state at) c).object ≡ None → taken ≡ 0)
@@ -35,25 +35,26 @@ module _ (V : Type 0) where
   -- a load, or a compare that differs, of a cell without an object is a look
   abbrev pub LoadsEmpty : Type 0
   LoadsEmpty =
-      (at : Point V) (c : Cell) (k : Kind) (p : Option Place) → Ready at Idle → IsOpen (state at) (me at) c
+      (at : Point V) (c : Cell) (k : Kind) (p : Option Place) → ReadyBy S at Idle → IsOpen (state at) (me at) c
       → handle k None p ≡ cell_of (state at) c
-      → Tells at (Load c (handle k None p)) Idle
+      → TellsBy S at (Load c (handle k None p)) Idle
 
   abbrev pub DiffersEmpty : Type 0
   DiffersEmpty =
       (at : Point V) (c : Cell) (k : Kind) (p : Option Place) (expected new : NumberedHandle) (weak : Bool)
-      → Ready at Idle
+      → ReadyBy S at Idle
       → handle k None p ≡ cell_of (state at) c
       → Asks {V = V} (state at) (me at) (Compare c expected new (handle k None p) false weak)
-      → Tells at (Compare c expected new (handle k None p) false weak) Idle
+      → TellsBy S at (Compare c expected new (handle k None p) false weak) Idle
 
   -- look: a cell holds what the desk has just where its word, but for the funds taken, is that handle's
   abbrev pub TellsSame : Type 0
   TellsSame =
-      (at : Point V) (c : Cell) (h : NumberedHandle) → Ready at Idle → let s = state at in
+      (at : Point V) (c : Cell) (h : NumberedHandle) → ReadyBy S at Idle → let s = state at in
       IsOpen s (me at) c → InHand s (me at) (kind_of s c) h
-      → Tells at (Same c h (without_taken (word at (cell_word at c)) == packed (blocks_of s) h)) Idle
+      → TellsBy S at (Same c h (without_taken (word at (cell_word at c)) == packed (blocks_of s) h)) Idle
 
+module _ (V : Type 0) where
   -- bring funds: up to 256, under a handle in hand
   abbrev pub Brings : Type 0
   Brings =
@@ -79,17 +80,19 @@ module _ (V : Type 0) where
       let n = one_fund * f + 1 in Ready at (Paying Weak o p i f 0)
       → (n ≤ word at i) × Adds at i (word at i - n) (WeakLeave (weak_of o p) (word at i == n)) Idle
 
+module _ (V : Type 0) (S : Standing V) where
   -- take a fund: a load, or a compare that differs, of a cell with an object of which not all funds are taken
   abbrev pub Takes : Type 0
   Takes =
-      (at : Point V) (c : Cell) (k : Kind) (o : ℕ) (p : Option Place) → Ready at Idle
+      (at : Point V) (c : Cell) (k : Kind) (o : ℕ) (p : Option Place) → ReadyBy S at Idle
       → handle k (Some o) p ≡ cell_of (state at) c → HasOneMore at
       → let i = cell_word at c in let load = Paying k o p (counts at k o) 1 1 in taken_in (word at i) < cell_funds
-      → (IsOpen (state at) (me at) c → Adds at i (word at i + one_taken) (Load c (handle k (Some o) p)) load)
+      → (IsOpen (state at) (me at) c → AddsBy S at i (word at i + one_taken) (Load c (handle k (Some o) p)) load)
       × ((expected new : NumberedHandle) (weak : Bool)
       → Asks {V = V} (state at) (me at) (Compare c expected new (handle k (Some o) p) false weak)
-      → Adds at i (word at i + one_taken) (Compare c expected new (handle k (Some o) p) false weak) load)
+      → AddsBy S at i (word at i + one_taken) (Compare c expected new (handle k (Some o) p) false weak) load)
 
+module _ (V : Type 0) where
   -- turn a fund: the load that was under way becomes a handle in the number
   abbrev pub Turns : Type 0
   Turns =

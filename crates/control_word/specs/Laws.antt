@@ -16,13 +16,14 @@ use Rattle.control_word.specs.Handles.{object_of, equivalent, owner_before, IsFo
 use Rattle.control_word.specs.Layout.{spot}
 use Rattle.control_word.specs.Limits.{most_number}
 use Rattle.control_word.specs.State.{sum_below, Opening, State, Stored, live, ending, count, weak, weak_number, common}
-use Rattle.control_word.specs.State.{Has, held, bag_size}
+use Rattle.control_word.specs.State.{Has, held, bag_size, stock, stored}
 use Rattle.control_word.specs.State.{IsActing, IsVacant, InShape, on_shelf}
 use Rattle.control_word.specs.Events.{Holds, InHand, cell_of, kind_of}
 use Rattle.control_word.specs.Histories.{leads, IsLegal, given}
 use Rattle.control_word.specs.Packing.{number_of, told}
 use Rattle.control_word.specs.Words.{blocks_of, counts_at}
-use Rattle.control_word.specs.Views.{NoneBy, Stands, IsAtRest, owed}
+use Rattle.control_word.specs.Views.{NoneBy, IsAtRest, owed}
+use Rattle.control_word.specs.Steps.{Standing}
 
 -- how often a block is in stores
 abbrev pub how_often : ℕ → List Stored → ℕ
@@ -114,6 +115,19 @@ module _ (V : Type 0) where
       (z : Opening) (h : List (Entry V)) → IsLegal z h → (b : ℕ) → InShape z b
       → let s = leads z h in (times_kept s b ≡ 1 ↔ IsVacant s b) × (times_kept s b ≤ 1)
 
+  -- a block in a store is a desk's that acts; so where a desk has the whole allowance and its store is empty, the shelf
+  -- has just the vacant blocks
+  abbrev pub StoresOfDesks : Type 0
+  StoresOfDesks =
+      (z : Opening) (h : List (Entry V)) → IsLegal z h → (d b : ℕ) → Has (stored d b) (leads z h).stores
+      → IsActing (leads z h) d
+
+  abbrev pub ShelfHasAll : Type 0
+  ShelfHasAll =
+      (z : Opening) (h : List (Entry V)) → IsLegal z h
+      → let s = leads z h in (d : ℕ) → s.allowance d ≡ z.allowance → stock s d ≡ []
+      → (b : ℕ) → InShape z b → on_shelf s b ≡ 1 ↔ IsVacant s b
+
   -- handles in bags and in cells are well formed, and those in cells are of the cells' kinds
   abbrev pub AreFormed : Type 0
   AreFormed =
@@ -155,13 +169,6 @@ module _ (V : Type 0) where
       → let block = blocks_of (leads z h) in
       ((owner_before block x y ≡ false) × (owner_before block y x ≡ false)) ↔ (x.object ≡ y.object)
 
-  -- a desk that has the whole allowance has seen all
-  abbrev pub SoleHasSeenAll : Type 0
-  SoleHasSeenAll =
-      (z : Opening) (words : List ℕ) (views : List (View V)) (h : List (Entry V)) → Stands z words views h
-      → (i : ℕ) (v : View V) → get_elem? views i ≡ some v → v.spent ≡ false
-      → (leads z v.seen).allowance v.name ≡ z.allowance → v.seen ≡ h
-
   -- nothing comes after what a desk with the whole allowance has seen, but for its own events
   abbrev pub NothingUnseen : Type 0
   NothingUnseen =
@@ -179,22 +186,32 @@ module _ (V : Type 0) where
   UnnamedIsQuiet = (z : Opening) (h : List (Entry V)) → IsLegal z h → (d : ℕ)
       → (leads z h).names ≤ d → NoneBy d h
 
+module _ (V : Type 0) (S : Standing V) where
+  -- a desk that has the whole allowance has seen all
+  abbrev pub SoleHasSeenAll : Type 0
+  SoleHasSeenAll =
+      (z : Opening) (words : List ℕ) (views : List (View V)) (h : List (Entry V)) → S z words views h
+      → (i : ℕ) (v : View V) → get_elem? views i ≡ some v → v.spent ≡ false
+      → (leads z v.seen).allowance v.name ≡ z.allowance → v.seen ≡ h
+
   -- wherever no load of an object is under way, its owner word tells exactly how many owners it has
   abbrev pub CountsExactly : Type 0
   CountsExactly =
-      (z : Opening) (words : List ℕ) (views : List (View V)) (h : List (Entry V)) → Stands z words views h
+      (z : Opening) (words : List ℕ) (views : List (View V)) (h : List (Entry V)) → S z words views h
       → (o : ℕ) → 0 < weak_number (leads z h) o
       → let i = counts_at (blocks_of (leads z h)) Owner o in
       owed views i ≡ 0 → told (slice_index words i) ≡ count (leads z h) o
 
-  -- whenever a block is at rest, its owner and weak counts are exactly the handles on it, in desks and cells together
+  -- whenever a block is at rest, its owner and weak counts are exactly the handles on it, in desks and cells together;
+  -- or it is vacant, so that there are none, and its weak word kept the 1
   abbrev pub RestsExactly : Type 0
   RestsExactly =
-      (z : Opening) (words : List ℕ) (views : List (View V)) (h : List (Entry V)) → Stands z words views h
+      (z : Opening) (words : List ℕ) (views : List (View V)) (h : List (Entry V)) → S z words views h
       → (b : ℕ) → InShape z b → IsAtRest (leads z h) views b
       → let s = leads z h in let o = s.latest b in
       (number_of (slice_index words (spot b 0)) ≡ count s o)
-      × (number_of (slice_index words (spot b 1)) ≡ weak s o + common (s.object o).phase)
+      × ((number_of (slice_index words (spot b 1)) ≡ weak s o + common (s.object o).phase)
+      ⊎ (IsVacant s b × (slice_index words (spot b 1) ≡ 1) × (z.keeps_blocks ≡ true)))
 
 -- owner order is a strict weak order, wherever the objects lie
 abbrev pub IsStrictWeakOrder : Type 0

@@ -5,6 +5,7 @@ pub mod Blocks
 pub mod CellRows
 pub mod Refusal
 pub mod Handles
+pub mod HandleWords
 pub mod State
 pub mod Events
 pub mod Histories
@@ -13,5 +14,7 @@ pub mod Views
 pub mod Steps
 pub mod CellSteps
 pub mod SummarySteps
+pub mod HandFunds
+pub mod FundedSteps
 pub mod Laws
 pub mod Worked

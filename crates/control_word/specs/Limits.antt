@@ -29,6 +29,10 @@ one_fund = 4294967296
 abbrev pub fund_turned : ℕ
 fund_turned = 4294967295
 
+-- a handle with its funds in a count's word
+abbrev pub one_funded : ℕ
+one_funded = 1099511627777
+
 -- A block with so many handles on it, each with its funds, has room on its count: the allowance twice, for handles in
 -- hand and for what half-done calls brought, the members of this kind of all blocks, and the free cells
 abbrev pub HasRoomForFunds : ℕ → ℕ → ℕ → ℕ → Type 0

@@ -75,6 +75,28 @@ taken_in word = word / one_taken % taken_limit
 abbrev pub without_taken : ℕ → ℕ
 without_taken word = word % one_taken + one_owned_high * (word / one_owned_high)
 
+-- the block of a number, none at 0
+abbrev pub block_in : ℕ → Option Block
+block_in number = cond (number == 0) None (Some record { 0 = number })
+
+-- the place of a block's number and a field, null at 0
+abbrev pub place_in : ℕ → ℕ → Option Place
+place_in number field =
+    cond (number == 0) None (Some record { block = record { 0 = number }; field = field })
+
+-- what a cell's word says
+abbrev pub cell_in : ℕ → CellWord
+cell_in word = record {
+  owned = block_in (owned_in word);
+  place = place_in (place_block_in word) (field_in word);
+  taken = taken_in word;
+}
+
+-- The word says a cell, and is its word
+pub record IsWellPacked (word : ℕ) : Type 0 where
+  pub valid : IsCellWord (cell_in word)
+  pub bits : cell_bits (cell_in word) ≡ word
+
 -- It is the word of some cell
 pub record IsPackedCell (word : ℕ) : Type 0 where
   pub cell : CellWord

@@ -18,7 +18,7 @@ sum_below zero f = 0
 sum_below (suc n) f = f n + sum_below n f
 
 -- How a domain begins: its blocks, how many members an object has, its cells, of which the first are shared, and what
--- each of its first desks has (own)
+-- each of its first desks has; and whether a block that becomes vacant may keep the 1 in its weak word (own)
 pub record Opening : Type 0 where
   pub blocks : ℕ
   pub members : ℕ
@@ -29,6 +29,7 @@ pub record Opening : Type 0 where
   pub desks : ℕ
   pub holder : ℕ → ℕ
   pub share : ℕ → ℕ
+  pub keeps_blocks : Bool
 
 -- within the limits; each block is some desk's, and the desks' shares, 1 or more, are the whole allowance
 pub record IsOpening (z : Opening) : Type 0 where

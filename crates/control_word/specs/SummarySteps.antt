@@ -2,10 +2,10 @@
 use Rattle.std.specs.Prelude.{ℕ}
 use Rattle.control_word.specs.declared.model.view.Pending.TheVariants.{Idle}
 use Rattle.control_word.specs.Layout.{summary_place}
-use Rattle.control_word.specs.Steps.{Moves, Point, Ready}
+use Rattle.control_word.specs.Steps.{MovesBy, Point, ReadyBy, Standing}
 
-module _ (V : Type 0) where
+module _ (V : Type 0) (S : Standing V) where
   -- write: a word of the summary may be any number, and stands for nothing
   abbrev pub WritesSummary : Type 0
   WritesSummary =
-      (at : Point V) (j n : ℕ) → Ready at Idle → Moves at (summary_place at.opening.blocks at.opening.cells j) n Idle
+      (at : Point V) (j n : ℕ) → ReadyBy S at Idle → MovesBy S at (summary_place at.opening.blocks at.opening.cells j) n Idle

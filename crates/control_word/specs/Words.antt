@@ -1,6 +1,6 @@
 -- How the words show a state. All of it is own.
 use Rattle.std.specs.Prelude.{◌≡◌, ℕ, zero, suc, ◌+◌, ◌-◌, ◌*◌, ◌/◌, ◌%◌, ◌<◌, ◌≤◌}
-use Rattle.std.specs.Prelude.{◌==◌, Bool, cond}
+use Rattle.std.specs.Prelude.{◌==◌, Bool, true, cond}
 use Rattle.std.specs.Prelude.{◌⊎◌, List, [], ◌∷◌, length, slice_index, Option, Some, None}
 use Rattle.std.specs.Int.{bit_at}
 use Rattle.control_word.specs.declared.model.handle.Kind.{Kind}
@@ -71,9 +71,9 @@ object_words block x =
 abbrev pub block_words : State → ℕ → List ℕ
 block_words s b = let o = s.latest b in count s o ∷ weak_number s o ∷ object_words (blocks_of s) (s.object o)
 
--- the flags and fields of a vacant block may be anything
-abbrev pub IsLoose : State → ℕ → ℕ → Type 0
-IsLoose s b k = (2 ≤ k) × (k ≤ 6) × IsVacant s b
+-- the flags and fields of a vacant block may be anything, and its weak word may be 1 where the domain keeps blocks
+abbrev pub IsLoose : Opening → State → ℕ → ℕ → ℕ → Type 0
+IsLoose z s b k n = (1 ≤ k) × (k ≤ 6) × IsVacant s b × (k ≡ 1 → (n ≡ 1) × (z.keeps_blocks ≡ true))
 
 -- the word that counts handles of this kind of the object
 abbrev pub slot : Kind → ℕ
@@ -98,8 +98,9 @@ bank z s taken i =
     + sum_below (suc s.made) (λ o. member_funds (blocks_of s) taken (s.object o) i)
 
 -- what the state says of word k of block b, less what is owed to it, with what was brought to it
-abbrev pub Says : State → (ℕ → ℕ) → (ℕ → ℕ) → ℕ → ℕ → ℕ → Type 0
-Says s owed more b k n = IsLoose s b k ⊎ (n + owed (spot b k) ≡ slice_index (block_words s b) k + more (spot b k))
+abbrev pub Says : Opening → State → (ℕ → ℕ) → (ℕ → ℕ) → ℕ → ℕ → ℕ → Type 0
+Says z s owed more b k n =
+    IsLoose z s b k n ⊎ (n + owed (spot b k) ≡ slice_index (block_words s b) k + more (spot b k))
 
 -- the word that has block b's bit
 abbrev pub shelf_spot : Opening → ℕ → ℕ
@@ -113,7 +114,7 @@ ShowsShelf z words s =
 -- each word is what the state says, but for what is owed to it and what is on it besides
 pub record Shows (z : Opening) (words : List ℕ) (owed more : ℕ → ℕ) (s : State) : Type 0 where
   pub sized : length words ≡ all_words z.blocks z.cells
-  pub blocks : (b k : ℕ) → InShape z b → k < 16 → Says s owed more b k (slice_index words (spot b k))
+  pub blocks : (b k : ℕ) → InShape z b → k < 16 → Says z s owed more b k (slice_index words (spot b k))
   pub free : (c : ℕ) → c < z.cells → slice_index words (cell_spot z c)
       ≡ packed (blocks_of s) (s.cell c) + more (cell_spot z c)
   pub shelf : ShowsShelf z words s

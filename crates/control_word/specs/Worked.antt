@@ -27,6 +27,7 @@ four_blocks =
       desks = 1;
       holder = λ b. 0;
       share = λ d. cond (d == 0) 100 0;
+      keeps_blocks = true;
     }
 
 -- the history goes on with the desk's events, told from first to last

@@ -15,6 +15,8 @@ pub use blocks::Blocks;
 pub use handle::Handle;
 pub use packed::cell::CellWord;
 pub use packed::counts::{Count, Counts};
+pub use packed::handle_word::HandleWord;
+pub use packed::packed_cell::PackedCell;
 pub use place::{Block, Place};
 pub use refusal::{Refusal, Refused};
 pub use shape::Shape;

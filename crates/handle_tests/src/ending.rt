@@ -2,6 +2,7 @@
 pub(crate) mod cascade;
 pub(crate) mod drops;
 pub(crate) mod forgotten;
+pub(crate) mod kept;
 pub(crate) mod piles;
 pub(crate) mod resets;
 pub(crate) mod this;

@@ -155,7 +155,7 @@ fn owner_of(held: Held) -> Shared
     match held {
         Held::Owner(owner) => owner,
         Held::Weak(weak) => {
-            weak.into_parts();
+            weak.into_word();
             unreachable!()
         }
     }
@@ -181,7 +181,7 @@ pub(crate) fn spent(handle: Option<Shared>)
     match handle {
         None => {}
         Some(owner) => {
-            owner.into_parts();
+            owner.into_word();
             unreachable!()
         }
     }

@@ -36,29 +36,29 @@ kind_there ss i k h (x, at, is) there = ap kind_of_held (same_Some h x (same_Som
 module _ {V : Type 0} where
   -- a handle in a slot is held
   pub content_held : (d : DeskNow V) (ss : List Slot) (i : ℕ) (h : Held) (x : Content) (k : Kind) → FitsSlots d ss → slice_get ss i ≡ Some (Some h)
-      → IsContent h x → x.kind ≡ k → HoldsHandle d k x.block x.place
+      → IsContent h x → x.kind ≡ k → HoldsHandle d k x.word.block x.word.place
   content_held d ss i h x k fits at is same =
-      by_parts (HoldsHandle d) k (kind_of_held h) x.block (block_of_held h) x.place (place_of_held h) (sym (is.0 ∙ same)) (sym is.1) (sym is.2)
+      by_parts (HoldsHandle d) k (kind_of_held h) x.word.block (block_of_held h) x.word.place (place_of_held h) (sym (is.0 ∙ same)) (sym is.1) (sym is.2)
       (held_parts d h (fits_at d ss i h fits at))
 
   -- it went into the cell, and what that held is in hand
   pub fits_swapped : (d m : DeskNow V) (ss : List Slot) (i : ℕ) (h y : Held) (x : Content) (k : Kind) (s : Bool) → FitsSlots d ss
       → slice_get ss i ≡ Some (Some h)
-      → IsContent h x → x.kind ≡ k → bag_of m ≡ with_held y (cond s (without_handle k x.block x.place (bag_of d)) (bag_of d))
+      → IsContent h x → x.kind ≡ k → bag_of m ≡ with_held y (cond s (without_handle k x.word.block x.word.place (bag_of d)) (bag_of d))
       → m.held ≡ d.held + cond s 0 1
       → s ≡ true → FitsSlots m (Some y ∷ set ss i None)
   fits_swapped d m ss i h y x k s fits at is same bag held hit =
       let l = bag_of d in
       fits_exchange d m (set ss i None) h y (fits_out d ss i h fits at)
       (bag ∙ ap (with_held y)
-      (cond-true s (without_handle k x.block x.place l) l hit ∙ sym (without_named h k x.block x.place l (is.0 ∙ same) is.1 is.2)))
+      (cond-true s (without_handle k x.word.block x.word.place l) l hit ∙ sym (without_named h k x.word.block x.word.place l (is.0 ∙ same) is.1 is.2)))
       (let z : ◌≡◌ {A = ℕ} (cond s 0 1) 0 = cond-true s 0 1 hit in omega arith)
 
   -- or it didn't, and a copy of what the cell holds is in hand
   pub fits_differs : (d m : DeskNow V) (ss : List Slot) (y : Held) (x : Content) (k : Kind) (s : Bool) → FitsSlots d ss
-      → bag_of m ≡ with_held y (cond s (without_handle k x.block x.place (bag_of d)) (bag_of d)) → m.held ≡ d.held + cond s 0 1
+      → bag_of m ≡ with_held y (cond s (without_handle k x.word.block x.word.place (bag_of d)) (bag_of d)) → m.held ≡ d.held + cond s 0 1
       → s ≡ false → FitsSlots m (Some y ∷ ss)
   fits_differs d m ss y x k s fits bag held miss =
       let l = bag_of d in
-      fits_more d m ss y fits (bag ∙ ap (with_held y) (cond-false s (without_handle k x.block x.place l) l miss))
+      fits_more d m ss y fits (bag ∙ ap (with_held y) (cond-false s (without_handle k x.word.block x.word.place l) l miss))
       (let z : ◌≡◌ {A = ℕ} (cond s 0 1) 1 = cond-false s 0 1 miss in omega arith)

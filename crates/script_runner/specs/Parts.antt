@@ -24,4 +24,5 @@ place_of_held (Weak w) = w.place
 
 -- what a cell sees of it
 abbrev pub IsContent : Held → Content → Type 0
-IsContent h x = (kind_of_held h ≡ x.kind) × (block_of_held h ≡ x.block) × (place_of_held h ≡ x.place)
+IsContent h x = (kind_of_held h ≡ x.kind) × (block_of_held h ≡ x.word.block)
+    × (place_of_held h ≡ x.word.place)

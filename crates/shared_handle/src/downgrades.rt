@@ -36,5 +36,5 @@ pub fn downgrade<V: Drop>(
     let Some(block) = handle.block() else {
         return no_object(desk);
     };
-    calls::share_weak(domain, desk, block, handle.place())
+    calls::share_weak(domain, desk, block, handle.word())
 }

@@ -12,7 +12,7 @@ use control_block::desk::Desk;
 use control_block::domain::Domain;
 use control_block::handles::Shared;
 use control_block::{handles, lock_calls};
-use control_word::Refusal;
+use control_word::{HandleWord, Refusal};
 use std::sync::Wait;
 
 /// `lock` ([util.smartptr.weak.obs]): a shared pointer that owns, just where an owner remains at its step, and points
@@ -42,12 +42,12 @@ pub fn lock<V: Drop, R: Wait>(
     ensures keeps { OnOk result (Keeps desk.old desk.new) }
 {
     let Some(of) = weak_pointer(handle) else {
-        return empty_at(desk, None);
+        return empty_at(desk, HandleWord::of(None, None));
     };
-    match lock_calls::lock(rt, domain, desk, of)? {
+    match lock_calls::lock(rt, domain, desk, of, handle.word())? {
         Some(owner) => Ok(owner),
         None => {
-            let Ok(nothing) = empty_at(desk, None) else {
+            let Ok(nothing) = empty_at(desk, HandleWord::of(None, None)) else {
                 unreachable!()
             };
             Ok(nothing)
@@ -84,7 +84,7 @@ pub fn lock_once<V: Drop>(
     let Some(of) = weak_pointer(handle) else {
         return None;
     };
-    lock_calls::lock_once(domain, desk, of)
+    lock_calls::lock_once(domain, desk, of, handle.word())
 }
 
 /// The constructor from a weak pointer ([util.smartptr.shared.const]): a shared pointer that owns, and points where the
@@ -116,7 +116,7 @@ pub fn upgrade<V: Drop, R: Wait>(
     let Some(of) = weak_pointer(handle) else {
         return Err(Refusal::BadWeak);
     };
-    match lock_calls::lock(rt, domain, desk, of)? {
+    match lock_calls::lock(rt, domain, desk, of, handle.word())? {
         Some(owner) => Ok(owner),
         None => Err(Refusal::BadWeak),
     }

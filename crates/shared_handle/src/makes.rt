@@ -14,7 +14,7 @@ use control_block::calls;
 use control_block::desk::Desk;
 use control_block::domain::Domain;
 use control_block::handles::{Shared, Weak};
-use control_word::{Place, Refusal, Refused};
+use control_word::{HandleWord, Refusal, Refused};
 
 /// An empty shared pointer with a null place ([util.smartptr.shared.const]). It touches no word. It is refused `Limit`
 /// just where the desk is at its allowance, and then nothing changes.
@@ -26,7 +26,7 @@ pub fn empty<V: Drop>(_domain: &Domain<V>, desk: &mut Desk<V>) -> Result<Shared,
     ensures counted { OnOk result (desk.new ≡ counting (desk.old.held + 1) desk.old) }
     ensures holds { IfOk result (λ h. HoldsHandle desk.new Owner h.block h.place) }
 {
-    empty_at(desk, None)
+    empty_at(desk, HandleWord::of(None, None))
 }
 
 /// An empty weak pointer ([util.smartptr.weak.const]). It touches no word. It is refused `Limit` just where the desk is
@@ -42,13 +42,13 @@ pub fn empty_weak<V: Drop>(_domain: &Domain<V>, desk: &mut Desk<V>) -> Result<We
     no_object(desk)
 }
 
-/// An empty owner that points at a place. It touches no word.
+/// An empty owner with this word, which points at a place or nowhere. It touches no word of the table.
 #[inline(always)]
-pub(crate) fn empty_at<V: Drop>(desk: &mut Desk<V>, place: Option<Place>) -> Result<Shared, Refusal>
-    requires place { IsPointer place }
+pub(crate) fn empty_at<V: Drop>(desk: &mut Desk<V>, word: HandleWord) -> Result<Shared, Refusal>
+    requires word { (word.block ≡ None) × IsPointer word.place }
     ensures limit { IsErr result ↔ (held_of desk.old ≡ allowance_of desk.old) }
     ensures refused { IfErr result (λ why. (why ≡ Refusal.Limit) × (desk.new ≡ desk.old)) }
-    ensures handle { IfOk result (λ h. (h.block ≡ None) × (h.place ≡ place)) }
+    ensures handle { IfOk result (λ h. (h.block ≡ None) × (h.place ≡ word.place)) }
     ensures counted { OnOk result (desk.new ≡ counting (desk.old.held + 1) desk.old) }
     ensures bag { OnOk result (bag_of desk.new ≡ bag_of desk.old) }
     ensures held { OnOk result (desk.new.held ≡ desk.old.held + 1) }
@@ -56,7 +56,7 @@ pub(crate) fn empty_at<V: Drop>(desk: &mut Desk<V>, place: Option<Place>) -> Res
     ensures keeps { OnOk result (Keeps desk.old desk.new) }
 {
     calls::count_empty(desk)?;
-    Ok(Shared::of_parts(None, place))
+    Ok(Shared::of_word(word))
 }
 
 /// A weak handle of no object, with a null place. It touches no word.
@@ -72,7 +72,7 @@ pub(crate) fn no_object<V: Drop>(desk: &mut Desk<V>) -> Result<Weak, Refusal>
     ensures keeps { OnOk result (Keeps desk.old desk.new) }
 {
     calls::count_empty(desk)?;
-    Ok(Weak::of_parts(None, None))
+    Ok(Weak::of_word(HandleWord::of(None, None)))
 }
 
 /// A new object with these fields and this value, and its owner, which points at it.
@@ -98,7 +98,7 @@ fn make_as<V: Drop>(
     ensures count { OnOk result (endings_of desk.new ≡ endings_of desk.old) }
 {
     match calls::make(domain, desk, enabled, null, fields, value) {
-        Ok(made) => Ok(Shared::of_parts(Some(made.block), made.place)),
+        Ok(made) => Ok(Shared::of_word(HandleWord::of(Some(made.block), made.place))),
         Err(refused) => Err(refused),
     }
 }

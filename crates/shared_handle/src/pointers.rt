@@ -1,5 +1,6 @@
 //! What a handle that isn't empty is on: the calls of control blocks go by it. Where one points.
-ghost use Rattle.std.specs.Prelude.{◌≡◌};
+ghost use Rattle.std.specs.Prelude.{◌≡◌, IfSome};
+ghost use Rattle.control_word.specs.Packing.{IsPlace};
 ghost use Rattle.control_word.specs.Handles.{IsPointer};
 ghost use Rattle.control_word.specs.declared.model.handle.Kind.TheVariants.{Owner, Weak};
 ghost use Rattle.shared_handle.specs.Calls.{IsOn, is_field, pointed};
@@ -10,6 +11,7 @@ use control_word::shape::MOST_BLOCKS;
 use control_word::{Handle, Place};
 
 /// What an owner is on, none where it is empty.
+#[inline(always)]
 pub(crate) fn owner_pointer(handle: &Shared) -> Option<Handle>
     ensures { IsOn Owner handle.now.block handle.now.place result }
 {
@@ -22,6 +24,7 @@ pub(crate) fn owner_pointer(handle: &Shared) -> Option<Handle>
 }
 
 /// What a weak handle is on, none where it is empty.
+#[inline(always)]
 pub(crate) fn weak_pointer(handle: &handles::Weak) -> Option<Handle>
     ensures { IsOn Weak handle.now.block handle.now.place result }
 {
@@ -45,6 +48,7 @@ fn is_field(place: Place) -> bool
 pub(crate) fn pointed(place: Option<Place>) -> Option<Place>
     ensures place { result ≡ pointed place }
     ensures proper { IsPointer result }
+    ensures valid { IfSome result IsPlace }
 {
     match place {
         Some(place) if is_field(place) => Some(place),

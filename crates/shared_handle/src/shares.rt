@@ -14,31 +14,33 @@ use control_block::desk::Desk;
 use control_block::domain::Domain;
 use control_block::handles::Shared;
 use control_word::model::handle::Kind;
-use control_word::{Handle, Place, Refusal};
+use control_word::{Handle, HandleWord, Place, Refusal};
 
-/// One owner more, which points at a place: the handle's own, the object's or any proper one.
+/// One owner more, with this word: it points at the handle's own place, the object's or any proper one.
+#[inline(always)]
 pub(crate) fn share_to<V: Drop>(
     domain: &Domain<V>,
     desk: &mut Desk<V>,
     handle: &Shared,
-    place: Option<Place>,
+    word: HandleWord,
 ) -> Result<Shared, Refusal>
     requires domain { Belongs desk.old domain.now }
     requires holds { HoldsHandle desk.old Owner handle.now.block handle.now.place }
-    requires place { MayGive handle.now.block handle.now.place place }
+    requires block { word.block ≡ handle.now.block }
+    requires place { MayGive handle.now.block handle.now.place word.place }
     ensures limit { IsErr result ↔ (held_of desk.old ≡ allowance_of desk.old) }
     ensures refused { IfErr result (λ why. (why ≡ Refusal.Limit) × (desk.new ≡ desk.old)) }
-    ensures handle { IfOk result (λ h. (h.block ≡ handle.now.block) × (h.place ≡ place)) }
-    ensures event { OnOk result (SharesOwner desk.old handle.now.block handle.now.place place desk.new) }
-    ensures bag { OnOk result (bag_of desk.new ≡ with_handle Owner handle.now.block place (bag_of desk.old)) }
+    ensures handle { IfOk result (λ h. (h.block ≡ handle.now.block) × (h.place ≡ word.place)) }
+    ensures event { OnOk result (SharesOwner desk.old handle.now.block handle.now.place word.place desk.new) }
+    ensures bag { OnOk result (bag_of desk.new ≡ with_handle Owner handle.now.block word.place (bag_of desk.old)) }
     ensures held { OnOk result (desk.new.held ≡ desk.old.held + 1) }
     ensures holds { IfOk result (λ h. HoldsHandle desk.new Owner h.block h.place) }
     ensures keeps { OnOk result (Keeps desk.old desk.new) }
 {
     let Some(of) = owner_pointer(handle) else {
-        return empty_at(desk, place);
+        return empty_at(desk, word);
     };
-    calls::share(domain, desk, of, place)
+    calls::share(domain, desk, of, word)
 }
 
 /// A copy: one owner more, which points where the handle does ([util.smartptr.shared.const]). A copy of an empty
@@ -61,7 +63,7 @@ pub fn share<V: Drop>(
     ensures holds { IfOk result (λ h. HoldsHandle desk.new Owner h.block h.place) }
     ensures keeps { OnOk result (Keeps desk.old desk.new) }
 {
-    share_to(domain, desk, handle, handle.place())
+    share_to(domain, desk, handle, handle.word())
 }
 
 /// The aliasing constructor ([util.smartptr.shared.const]): one owner more of what the handle owns, which points at a
@@ -89,7 +91,12 @@ pub fn alias<V: Drop>(
     ensures keeps { OnOk result (Keeps desk.old desk.new) }
 {
     desk.assert_invariant();
-    share_to(domain, desk, handle, pointed(place))
+    share_to(
+        domain,
+        desk,
+        handle,
+        handle.word().with_place(pointed(place)),
+    )
 }
 
 /// An owner leaves ([util.smartptr.shared.dest]): it was `Empty`, `Others` own the object still, or it was the `Last`,
@@ -104,15 +111,15 @@ pub fn release<V: Drop>(domain: &Domain<V>, desk: &mut Desk<V>, handle: Shared) 
     ensures count { endings_of desk.new ≡ endings_of desk.old + more_ending result }
     ensures apart { IsApart desk.old result }
 {
-    let (block, place) = handle.into_parts();
-    let Some(block) = block else {
+    let word = handle.into_word();
+    let Some(block) = word.block() else {
         calls::spend_empty(desk);
         return Left::Empty;
     };
     let of = Handle {
         kind: Kind::Owner,
         block,
-        place,
+        place: word.place(),
     };
     let released = calls::leave(domain, desk, of);
     Left::of_parts(domain, Some(block), released.value)

@@ -1,5 +1,6 @@
 //! Pointers that an object gives to itself ([util.smartptr.enab]).
 ghost use Rattle.std.specs.Prelude.{◌≡◌, ◌+◌, IfErr, IfOk, OnOk};
+ghost use Rattle.control_word.specs.Packing.{IsBlock};
 ghost use Rattle.control_word.specs.declared.model.handle.Kind.TheVariants.{Owner, Weak};
 ghost use Rattle.control_block.specs.Desks.{Belongs, Keeps, bag_of};
 ghost use Rattle.shared_handle.specs.Calls.{IsOfThis, SharesOwner, SharesWeakly};
@@ -12,7 +13,7 @@ use control_block::desk::Desk;
 use control_block::domain::Domain;
 use control_block::handles::Shared;
 use control_block::{calls, handles};
-use control_word::{Block, Place, Refusal};
+use control_word::{Block, HandleWord, Place, Refusal};
 
 /// The block of the object, if the handle points into it and the object gives pointers to itself, and the desk has room
 /// for one.
@@ -23,6 +24,7 @@ fn this_block<V: Drop>(
 ) -> Result<Block, Refusal>
     requires domain { Belongs desk.old domain.now }
     requires holds { HoldsHandle desk.old Owner handle.now.block handle.now.place }
+    ensures block { IfOk result IsBlock }
     ensures this { IsThis desk.old handle.now.block handle.now.place result }
     ensures same { desk.new ≡ desk.old }
 {
@@ -58,7 +60,8 @@ pub fn shared_from_this<V: Drop>(
     ensures keeps { OnOk result (Keeps desk.old desk.new) }
 {
     let block = this_block(domain, desk, handle)?;
-    share_to(domain, desk, handle, Some(Place { block, field: 0 }))
+    let place = Some(Place { block, field: 0 });
+    share_to(domain, desk, handle, handle.word().with_place(place))
 }
 
 /// `weak_from_this` ([util.smartptr.enab]): a weak handle of the handle's object, which points at its field 0. Refusals
@@ -81,5 +84,6 @@ pub fn weak_from_this<V: Drop>(
     ensures keeps { OnOk result (Keeps desk.old desk.new) }
 {
     let block = this_block(domain, desk, handle)?;
-    calls::share_weak(domain, desk, block, Some(Place { block, field: 0 }))
+    let place = Some(Place { block, field: 0 });
+    calls::share_weak(domain, desk, block, HandleWord::of(Some(block), place))
 }

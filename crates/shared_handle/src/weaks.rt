@@ -37,7 +37,7 @@ pub fn share_weak<V: Drop>(
     let Some(block) = handle.block() else {
         return no_object(desk);
     };
-    calls::share_weak(domain, desk, block, handle.place())
+    calls::share_weak(domain, desk, block, handle.word())
 }
 
 /// A weak pointer leaves ([util.smartptr.weak.dest]). Where it was the last handle of an object that is gone, its block
@@ -53,15 +53,15 @@ pub fn release_weak<V: Drop>(domain: &Domain<V>, desk: &mut Desk<V>, handle: han
     ensures endings { KeepsEndings desk.old desk.new }
     ensures count { endings_of desk.new ≡ endings_of desk.old }
 {
-    let (block, place) = handle.into_parts();
-    let Some(block) = block else {
+    let word = handle.into_word();
+    let Some(block) = word.block() else {
         calls::spend_empty(desk);
         return;
     };
     let of = Handle {
         kind: Kind::Weak,
         block,
-        place,
+        place: word.place(),
     };
     calls::leave(domain, desk, of);
 }

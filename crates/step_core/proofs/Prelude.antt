@@ -13,7 +13,7 @@ pub use Rattle.control_word.proofs.history.Given.{given_over, over}
 pub use Rattle.control_word.proofs.history.Legal.{sound}
 pub use Rattle.control_word.proofs.history.Soundness.{IsBusy, OwnersFit, Sound}
 pub use Rattle.control_word.proofs.lists.Tallies.{num, num_cons}
-pub use Rattle.control_word.proofs.views.Resting.{rests_exactly}
+pub use Rattle.control_word.proofs.views.Resting.{rests_unkept}
 pub use Rattle.control_word.specs.Events.{place_at}
 pub use Rattle.control_word.specs.Handles.{empty, has_object, object_of, owner, weak_of}
 pub use Rattle.control_word.specs.Histories.{ends_by, entry, given, IsLegal, leads}

@@ -1,5 +1,5 @@
 -- How a world begins: each actor has a store of blocks and a share of the allowance. All of it is own.
-use Rattle.std.specs.Prelude.{ℕ, ◌+◌, ◌-◌, ◌*◌, ◌/◌, ◌%◌, ◌≤◌, ◌==◌, cond, nat_lt}
+use Rattle.std.specs.Prelude.{ℕ, ◌+◌, ◌-◌, ◌*◌, ◌/◌, ◌%◌, ◌≤◌, ◌==◌, false, cond, nat_lt}
 use Rattle.control_word.specs.Limits.{most_allowance}
 use Rattle.control_word.specs.State.{Opening}
 use Rattle.step_table.specs.declared.memory.extent.Extent.{Extent}
@@ -16,7 +16,7 @@ abbrev pub share_of : Extent → ℕ → ℕ
 share_of x d = cond (nat_lt d x.actors)
     (x.shape.allowance / x.actors + cond (d == 0) (x.shape.allowance % x.actors) 0) 0
 
--- an object of a world has three members, of which two are owners
+-- an object of a world has three members, of which two are owners; what ends leaves 0 in its block's counts
 abbrev pub opening : Extent → Opening
 opening x =
     record {
@@ -29,6 +29,7 @@ opening x =
       desks = x.actors;
       holder = holder_of x;
       share = share_of x;
+      keeps_blocks = false;
     }
 
 -- worlds have limits of their own: blocks, and free cells

@@ -1,11 +1,12 @@
 -- What the steps of one call on a cell come to.
 use Rattle.std.proofs.Common.{◌≡◌, ℕ, ◌-◌, true, false, ◌&&◌, ◌≢◌, [], is_some, IfSome, Some, None}
-use Rattle.std.proofs.Common.{Option, sym, refl, ap, ◌∙◌, subst, true≢false, eq-eqb}
+use Rattle.std.proofs.Common.{Option, sym, refl, ap, ◌∙◌, subst, true≢false, eq-eqb, ne_eqb, arith, ◌==◌, ◌≤◌}
+use Rattle.std.proofs.lemmas.Bool.{cond-false}
 use Rattle.control_block.proofs.Prelude
 use Prelude.{Added, At, Block, block_of, blocks_of, CameOut, Cell, CellWord, debt, equivalent}
 use Prelude.{Event, Free, Gave, goes_on, handle, Has, Held, held, HoldingInBlock, Idle, in_call}
 use Prelude.{InHand, IsCellAt, IsCounted, IsLegal, IsSized, IsWordOf, Kind, kind_in, known, Member}
-use Prelude.{names_an_object, NumberedHandle, opening_of, Owes, owing, Pending, Place, Rests}
+use Prelude.{names_an_object, NumberedHandle, object_of, opening_of, Owes, owing, Paying, Pending, Place, Rests, short_of, slot, spot}
 use Prelude.{same_number, same_place, SeatView, TableId, tells, Took}
 use Rattle.control_block.proofs.words.Seats.{added_as}
 use Rattle.control_block.proofs.cells.CellTrades.{Trades, in_bag, came_inside}
@@ -74,7 +75,7 @@ module _ {V : Type 0} where
         event = added_as v w u (owing k t.object x.place t.block.0 1 1) Idle None None (e h) t.event is;
       }
 
-  -- the swap whose funds were given back is over
+  -- the swap is over when what came out has its funds
   pub given_back : (e : NumberedHandle → Event V) (k : Kind) (v w u : SeatView V) (x : CellWord) → Gave e k v x w → u ≡ goes_on w → CameOut e k v x u
   given_back e k v w u x g is =
       record {
@@ -105,7 +106,7 @@ module _ {V : Type 0} where
         event = a;
       }
 
-  -- what is so of a desk that brought funds
+  -- what is so of a desk that rests, and of one whose handle lacks funds
   pub rested : (me : At V) → Rests me → goes_on me.0 ≡ me.0
   rested me r = λ i. record {
     shape = me.0.shape;
@@ -120,22 +121,6 @@ module _ {V : Type 0} where
         pending = ap (λ (u : SeatView V). u.view.pending) is;
         empty = ap (λ (u : SeatView V). u.hand) is;
         none = none;
-      }
-
-  pub cell_in_call : (v : SeatView V) (p : Pending V) (c : Cell) (i : ℕ) → IsCellAt v c i → IsCellAt (in_call v p) c i
-  cell_in_call v p (Free c) i at = at
-  cell_in_call v p (Member o m) i at = let h = at.1.2 in (at.0, (at.1.0, at.1.1, record { has = h.has; there = h.there }, at.1.3))
-
-  -- bringing funds adds nothing to what the desk has seen
-  pub came_from : (e : NumberedHandle → Event V) (k : Kind) (v w u : SeatView V) (p : Pending V) (x : CellWord) → w ≡ in_call v p → CameOut e k w x u
-      → CameOut e k v x u
-  came_from e k v w u p x is c =
-      let d = subst (λ (y : SeatView V). CameOut e k y x u) is c in let a = d.event in
-      record {
-        handle = d.handle;
-        kind = d.kind;
-        shows = d.shows;
-        event = record { between = a.between; now = a.now; quiet = a.quiet; legal = a.legal };
       }
 
   -- a handle that a word shows is where its word is
@@ -172,21 +157,18 @@ module _ {V : Type 0} where
         (added_owes v me _ _ t.event awake none),
   )
 
-  pub refill_owes : (me me' : At V) (m k : Kind) (o : ℕ) (p : Option Place) (b : Block) (x : CellWord) (f : ℕ) (c : Cell) → Rests me → m ≡ k
-      → k ≡ kind_in me.0.shape c → x.owned ≡ Some b → f ≡ x.taken → me'.0 ≡ in_call me.0 (owing m o p b.0 f 0) → me'.1 ≡ []
-      → (o' : ℕ) × (p' : Option Place) × (b' : Block) × (x.owned ≡ Some b') × Owes (owing (kind_in me'.0.shape c) o' p' b'.0 x.taken 0) me'
-  refill_owes me me' m k o p b x f c rests is kind owned taken brought none =
-      let shape = ap (λ (u : SeatView V). u.shape) brought in
-      let kind' : m ≡ kind_in me'.0.shape c = is ∙ (kind ∙ ap (λ y. kind_in y c) (sym shape)) in (
-        o,
-        p,
-        b,
-        owned,
-        subst (λ (y : Kind × ℕ). Owes (owing y.0 o p b.0 y.1 0) me') (λ i. (kind' i, taken i))
-            (brought_owes me me' (owing m o p b.0 f 0) rests brought none),
-      )
+  -- what came out lacks the funds that were taken
+  pub out_lacks : (me : At V) (k : Kind) (h : NumberedHandle) (x : CellWord) (b : Block) (n : ℕ) → h.kind ≡ k → Owes (debt h x.owned (cell_funds - x.taken)) me
+      → x.owned ≡ Some b → n ≢ 0 → n ≤ cell_funds → cell_funds - n ≡ cell_funds - x.taken
+      → (o : ℕ) × (p : Option Place) × Owes (owing k o p b.0 (cell_funds - n) 0) me
+  out_lacks me k h x b n kind owes is some' few left =
+      let f = cell_funds - x.taken in let w = spot b.0 (slot h.kind) in
+      let now : Owes (short_of h.kind (object_of h) h.place w f) me = subst (λ q. Owes (debt h q f) me) is owes in
+      let less : f ≢ cell_funds = λ e. omega arith in
+      let short = subst (λ (q : Pending V). Owes q me) (cond-false (f == cell_funds) Idle (Paying h.kind (object_of h) h.place w f 0) (ne_eqb f cell_funds less)) now in
+      (object_of h, h.place, subst (λ (y : Kind × ℕ). Owes (owing y.0 (object_of h) h.place b.0 y.1 0) me) (λ i. (kind i, sym left i)) short)
 
-  -- all funds were given back, and nothing has changed
+  -- nothing is owed any more, and nothing has changed
   pub back_again : (me me₁ me₂ : At V) (p : Pending V) → Rests me → me₁.0 ≡ in_call me.0 p → me₂.0 ≡ goes_on me₁.0
       → me₂.1 ≡ [] → me₂ ≡ me
   back_again me me₁ me₂ p rests brought settled none =
@@ -265,10 +247,3 @@ module _ {V : Type 0} where
           let obj : h.object ≡ None = no_block _ h.object (sym (ap (λ z. z.owned) shows) ∙ e) in
           let same : x.place ≡ h.place = ap (λ z. z.place) shows in
           none e ((λ i. same_number None (obj i) && same_place (same i) h.place) ∙ place_self h.place)
-
-  -- what the desk has in hand it has while it brings funds
-  pub hand_in_call : (v w : SeatView V) (p : Pending V) (c : Cell) (k : Kind) (h : NumberedHandle) → w ≡ in_call v p → k ≡ kind_in v.shape c
-      → InHand (known v) v.view.name k h → InHand (known w) w.view.name (kind_in w.shape c) h
-  hand_in_call v w p c k h is kind hand =
-      subst (λ (y : SeatView V). InHand (known y) y.view.name (kind_in y.shape c) h) (sym is)
-      (subst (λ m. InHand (known v) v.view.name m h) kind hand)

@@ -8,7 +8,7 @@ use Prelude.{IsAim, IsCellWord, IsCounted, IsSized, IsWordOf, Kind, kind_in, kno
 use Prelude.{Pending, Place, Rests, same_number, same_number_true, same_place, same_place_true}
 use Prelude.{SeatView, State, TableId, tells, Took}
 use Rattle.control_block.specs.CellRetries.{IsOffer, IsOut}
-use Rattle.control_block.proofs.cells.CellRetries.{added_awake, came_empty, came_from, came_object}
+use Rattle.control_block.proofs.cells.CellRetries.{added_awake, came_empty, came_object}
 use Rattle.control_block.proofs.cells.CellRetries.{given_back, over_rests, took_inside, turned}
 use Rattle.control_block.proofs.cells.CellTrades.{Trades, cell_still}
 
@@ -75,11 +75,10 @@ module _ {V : Type 0} where
           absurd (differs (none ∙ (ap (block_of (blocks_of (known v))) (same_number_true None h.object t.0) ∙ sym (ap (λ z. z.owned) is)))
           (same_place_true x.place h.place t.1 ∙ sym (ap (λ z. z.place) is)))
 
-  -- funds were brought, the cell was swapped, and what came out gave its funds back
-  pub swapped_at : (e : NumberedHandle → Event V) (k : Kind) (u v w : SeatView V) (me : At V) (p : Pending V) (x : CellWord) → IsCellWord x → v ≡ in_call u p
-      → Gave e k v x w → me.0 ≡ goes_on w → Rests me → IsOut e k u x me
-  swapped_at e k u v w me p x valid brought gave settled rests =
-      record { valid = valid; rests = rests; out = came_from e k u v me.0 p x brought (given_back e k v w me.0 x gave settled) }
+  -- the cell was swapped, and what came out has its funds
+  pub swapped_at : (e : NumberedHandle → Event V) (k : Kind) (v w : SeatView V) (me : At V) (x : CellWord) → IsCellWord x
+      → Gave e k v x w → me.0 ≡ goes_on w → Rests me → IsOut e k v x me
+  swapped_at e k v w me x valid gave settled rests = record { valid = valid; rests = rests; out = given_back e k v w me.0 x gave settled }
 
   module _ (e : NumberedHandle → Event V) (c : Cell) (k : Kind) (i : ℕ) (id own : TableId) (x : CellWord) (lost : NumberedHandle) (b : Block) where
     -- the fund that was taken was turned

@@ -26,6 +26,14 @@ set_each P (x ∷ xs) (suc i) y others here zero z e = others 0 z (λ q. omega (
 set_each P (x ∷ xs) (suc i) y others here (suc k) z e =
     set_each (λ j. P (suc j)) xs i y (λ j w ne f. others (suc j) w (λ q. ne (omega (arith, q))) f) here k z e
 
+-- and with one more at the end
+pushed_each : {A : Type 0} → (P : ℕ → A → Type 0) (xs : List A) (y : A) → ((k : ℕ) (z : A) → slice_get xs k ≡ Some z → P k z) → P (length xs) y
+    → (k : ℕ) (z : A) → slice_get (xs ++ y ∷ []) k ≡ Some z → P k z
+pushed_each P [] y each here zero z e = subst (P 0) (same_Some y z e) here
+pushed_each P [] y each here (suc k) z e = absurd (none-some z e)
+pushed_each P (x ∷ xs) y each here zero z e = each 0 z e
+pushed_each P (x ∷ xs) y each here (suc k) z e = pushed_each (λ j. P (suc j)) xs y (λ j. each (suc j)) here k z e
+
 many_more : (k : Kind) (l : List CellAt) (x : CellAt) → many_of k (l ++ x ∷ []) ≡ many_of k l + many_of k (x ∷ [])
 many_more k l x =
     let p = λ (y : CellAt). same_kind k y.kind in
@@ -44,6 +52,16 @@ module _ (c : CensusNow) where
     owners = fewer (owners_in c b) _ _ (many_of Owner l) _ _ t.owners owners (many_more Owner l x);
     weaks = fewer (weaks_in c b) _ _ (many_of Weak l) _ _ t.weaks weaks (many_more Weak l x);
   }
+
+  -- one block more, of which no cell is told
+  pub told_pushed : (hs : List Holders) (n : ℕ) (x : Holders) → length hs ≡ n
+      → ((k : ℕ) (h : Holders) → slice_get hs k ≡ Some h → IsToldOf c (suc k) [] h) → x.cells.items ≡ []
+      → x.forgotten.owners ≡ owners_in c (n + 1) → x.forgotten.weaks ≡ weaks_in c (n + 1)
+      → (k : ℕ) (h : Holders) → slice_get (hs ++ x ∷ []) k ≡ Some h → IsToldOf c (suc k) [] h
+  told_pushed hs n x size each cells owners weaks =
+      let e : n + 1 ≡ suc (length hs) = omega (arith, size) in
+      let o = owners ∙ ap (owners_in c) e in let w = weaks ∙ ap (weaks_in c) e in
+      pushed_each (λ k h. IsToldOf c (suc k) [] h) hs x each (record { cells = cells; owners = omega (arith, o); weaks = omega (arith, w) })
 
   module _ (x : CellAt) (w n : ℕ) (hs : List Holders) (l : ℕ → List CellAt)
       (word : w ≡ slice_index c.words (site_place c.blocks x.site)) (owned : n ≡ owned_in w) (t : TellsEach c l hs) where

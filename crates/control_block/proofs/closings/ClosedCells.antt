@@ -5,7 +5,10 @@ use Rattle.control_block.proofs.Prelude
 use Prelude.{added, adds, blocks_of, cell_busy, cells_led, CensusNow, Entry, get_elem?, Idle}
 use Prelude.{InShape, IsBusy, known, leads, member_busy, NumberedHandle, Opening, opening_of, owed}
 use Prelude.{owes, owned_bits, paid, pays, Place, Ruled, SeatView, Shape, slot, some, sound, spot}
-use Prelude.{Stands, TellsCells, View, view_of}
+use Prelude.{TellsCells, View, view_of}
+use Rattle.control_word.proofs.funded.Apart.{behind_apart, body_apart}
+use Rattle.control_word.proofs.funded.Next.{plain_word}
+use Rattle.control_word.specs.Views.{Stands}
 use Rattle.atomic_table.specs.Table as Table
 use Rattle.control_word.proofs.history.Allowances.{opened}
 use Rattle.control_word.proofs.words.Banks.{bank_none}
@@ -89,9 +92,15 @@ module _ {V : Type 0} where
     told_by_words : TellsCells (leads (opening_of k) r.history) (census_of k s.words)
     told_by_words =
         let z = opening_of k in let h = r.history in let none = all_idle k s r id v at awake idle whole in
+        let fine = sound z h r.stands.stands.legal in
         record {
-          frees = λ i lt. free_word z s.words (map view_of s.views) h r.stands none i lt;
-          members = λ b m has lt. member_at z s.words (map view_of s.views) h r.stands none b m has (let n = r.limits.members.2 in omega arith);
+          frees = λ i lt. ap owned_in (plain_word z s.words (map view_of s.views) h r.stands (cell_spot z i)
+              (behind_apart z (leads z h) fine (cell_spot z i) (omega arith)))
+              ∙ free_word z r.stands.bare (map view_of s.views) h r.stands.stands none i lt;
+          members = λ b m has lt. let n = r.limits.members.2 in
+              ap owned_in (plain_word z s.words (map view_of s.views) h r.stands (spot b (7 + m))
+              (body_apart z (leads z h) fine b (7 + m) has.0 (omega arith) (omega arith)))
+              ∙ member_at z r.stands.bare (map view_of s.views) h r.stands.stands none b m has (omega arith);
         }
 
     -- what the cells hold where a sole desk closes its domain

@@ -7,7 +7,7 @@ use Rattle.control_block.proofs.Prelude.{handle, Idle, InHand, IsCellAt, kind_in
 use Rattle.control_block.proofs.Prelude.{none, NumberedHandle, opening_of, Rests, Ruled, SeatView}
 use Rattle.control_block.proofs.Prelude.{seeing, Shape, shown, some, step}
 use Rattle.atomic_table.specs.Table as Table
-use Rattle.control_word.proofs.steps.Look as law
+use Rattle.control_word.proofs.funded.Looks as law
 use Rattle.control_block.specs.CellStepKinds.{as_differed, differed_empty}
 use Rattle.control_block.proofs.CellWords.{Decoded, Opened, is_open}
 use Rattle.control_block.proofs.words.Hands.{hand_there}
@@ -54,7 +54,7 @@ module _ {V : Type 0} where
           let h = handle kk None old.place in
           let it : h ≡ old = λ j. record { kind = sym d.kind j; object = sym e j; place = old.place } in
           let ev : Event V = Compare c expected new h false weak' in let hist = entry v.view.name ev ∷ r.history in
-          let told = law.differs_empty (point k s r id v) c kk old.place expected new weak' (ready k s r id v at rests.awake Idle rests.idle) it (
+          let told = law.differs_empty_funded (point k s r id v) c kk old.place expected new weak' (ready k s r id v at rests.awake Idle rests.idle) it (
             is_open k s r id v at rests.awake c i cell,
             hand_there k s r id v at rests.awake kk expected he _ is.kind,
             hand_there k s r id v at rests.awake kk new hn _ is.kind,
@@ -66,7 +66,7 @@ module _ {V : Type 0} where
                 (plain (λ u q. refl) (λ u q. refl) (λ u f. refl)) (looked z s.words i _ hist told),
             (
               is_held k s r id v at rests.awake c d.taken,
-              λ _ _. (adds k s r id v at rests.awake Idle None ev told.legal, refl),
+              λ _ _. (adds k s r id v at rests.awake Idle None ev told.stands.legal, refl),
               λ n f. absurd (not_both _ f same),
               λ n. absurd (n (ap (block_of (blocks_of t)) e)),
             ),

@@ -6,7 +6,7 @@ use Prelude.{Allows, At, Block, block_of, blocks_of, Cell, cell_of, CellWord, en
 use Prelude.{get_elem?, handle, Idle, IsCellAt, IsLegal, keeps, kind_in, leads, Load, none}
 use Prelude.{NumberedHandle, opening_of, Rests, Ruled, SeatView, seeing, Shape, shown, some, step}
 use Rattle.atomic_table.specs.Table as Table
-use Rattle.control_word.proofs.steps.Look as law
+use Rattle.control_word.proofs.funded.Looks as law
 use Rattle.control_block.specs.CellStepKinds.{IsHeld, as_loaded, as_peeked, loaded_empty, of_cell}
 use Rattle.control_block.specs.CellStepKinds.{cell_peeked}
 use Rattle.control_block.proofs.CellWords.{Decoded, Opened, decoded, found_is, is_open, opened}
@@ -33,7 +33,7 @@ module _ {V : Type 0} where
       record {
         between = m.0;
         quiet = m.2;
-        legal = subst (λ l. IsLegal (opening_of v.shape) l) m.1 (subst (λ y. IsLegal (opening_of y) r.history) shape r.stands.legal);
+        legal = subst (λ l. IsLegal (opening_of v.shape) l) m.1 (subst (λ y. IsLegal (opening_of y) r.history) shape r.stands.stands.legal);
         shows = ap (λ t. shown (blocks_of t) (cell_of t c) taken) same;
       }
 
@@ -83,14 +83,14 @@ module _ {V : Type 0} where
           let v = me.0 in let z = opening_of k in let t = leads z r.history in let h = cell_of t c in let kk = kind_in v.shape c in
           let same : handle kk None h.place ≡ h = λ j. record { kind = sym d.kind j; object = sym e j; place = h.place } in
           let ev : Event V = Load c (handle kk None h.place) in let hist = entry v.view.name ev ∷ r.history in
-          let told = law.loads_empty (point k s r id v) c kk h.place (ready k s r id v at rests.awake Idle rests.idle)
+          let told = law.loads_empty_funded (point k s r id v) c kk h.place (ready k s r id v at rests.awake Idle rests.idle)
           (is_open k s r id v at rests.awake c i cell) same in (
             seeing v Idle None hist,
             quiet_next k s r id v (set s.words i (get_or s.words i 0)) ev Idle at rests.awake rests.empty
                 (plain (λ u q. refl) (λ u q. refl) (λ u f. refl)) (looked z s.words i _ hist told),
             (
               is_held k s r id v at rests.awake c d.taken,
-              λ _. (adds k s r id v at rests.awake Idle None ev told.legal, refl),
+              λ _. (adds k s r id v at rests.awake Idle None ev told.stands.legal, refl),
               λ n. absurd (n (ap (block_of (blocks_of t)) e)),
             ),
           )

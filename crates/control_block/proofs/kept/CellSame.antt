@@ -4,8 +4,8 @@ use Rattle.std.proofs.Common.{ap, subst, arith}
 use Rattle.control_block.proofs.Prelude
 use Prelude.{Allows, At, Block, block_of, blocks_of, Cell, cell_bits, cell_shown, CellWord, Entry}
 use Prelude.{entry, Idle, InHand, IsCellAt, kind_in, known, leads, none, NumberedHandle}
-use Prelude.{opening_of, Rests, Ruled, Same, sees_as, Shape, shown, Stands, step, view_of}
-use Rattle.control_word.proofs.steps.Sameness as law
+use Prelude.{opening_of, Rests, Ruled, Same, sees_as, Shape, shown, StandsFunded, step, view_of}
+use Rattle.control_word.proofs.funded.Looks as law
 use Rattle.control_word.specs.Words.{packed}
 use Rattle.control_block.specs.CellStepKinds.{told_same}
 use Rattle.control_block.proofs.CellWords.{is_open, opened}
@@ -38,7 +38,7 @@ module _ {V : Type 0} where
       let word = packed_by (blocks_of t) (blocks_of (known v)) h (sym (hand_block k s r id v at rests.awake (kind_in v.shape c) h hand)) in
       let told : ℕ → ℕ → List (Entry V) =
       λ x n. entry v.view.name (Same c h (without_taken (get_or s.words x 0) == n)) ∷ r.history in
-      looked z s.words i _ _ (subst (λ (y : ℕ × ℕ). Stands z s.words (set views id (sees_as v.view Idle (told y.0 y.1))) (told y.0 y.1))
+      looked z s.words i _ _ (subst (λ (y : ℕ × ℕ). StandsFunded z s.words (set views id (sees_as v.view Idle (told y.0 y.1))) (told y.0 y.1))
       (λ j. (is.there j, word j))
-      (law.tells_same p c h (ready k s r id v at rests.awake Idle rests.idle) (is_open k s r id v at rests.awake c i cell)
+      (law.tells_same_funded p c h (ready k s r id v at rests.awake Idle rests.idle) (is_open k s r id v at rests.awake c i cell)
       (hand_there k s r id v at rests.awake (kind_in v.shape c) h hand _ is.kind))))

@@ -2,14 +2,14 @@
 use Rattle.std.proofs.Common.{◌≡◌, ℕ, ◌+◌, ◌-◌, ◌*◌, ◌<◌, false, ◌≢◌, [], ◌∷◌, map, get_or, set}
 use Rattle.std.proofs.Common.{None, Option, sym, refl, ap, ◌∙◌, subst, ⊎_elim, arith}
 use Rattle.control_block.proofs.Prelude
-use Prelude.{Adds, after, Allows, At, blocks_of, cases_eq, cell_of, cell_shown, cell_word}
+use Prelude.{AddsFunded, after, Allows, At, blocks_of, cases_eq, cell_of, cell_shown, cell_word}
 use Prelude.{CellWord, ClearMember, common, empty, ending, Ends, entry, Event, Gave, get_elem?}
 use Prelude.{HasRoom, HasRoomFor, Idle, keeps, kind_of_member, leads, Member, none, NumberedHandle}
-use Prelude.{opening_of, purse, Rests, Ruled, SeatView, seeing, sees_as, Shape, shown, some, sound}
-use Prelude.{spot, Stands, step, view_of}
+use Prelude.{drawn, opening_of, Rests, Ruled, SeatView, seeing, sees_as, Shape, shown, some, sound}
+use Prelude.{spot, StandsFunded, step, view_of}
 use Rattle.atomic_table.specs.Table as Table
 use Rattle.control_word.proofs.history.Kept.{members_led, owners_led}
-use Rattle.control_word.proofs.steps.Clear as law
+use Rattle.control_word.proofs.funded.Cells as law
 use Rattle.control_word.specs.Words.{packed}
 use Rattle.control_block.specs.CellStepKinds.{cleared, looked_clear}
 use Rattle.control_block.specs.Rule.{members_of}
@@ -38,7 +38,7 @@ module _ {V : Type 0} where
     in_block : ((leads (opening_of k) r.history).object o).block ≡ b
     in_block =
         let z = opening_of k in let t = leads z r.history in let still = still_ending k s r id v at awake o b ends in
-        ap (λ y. (t.object y).block) (sym still.0) ∙ ends_here z t b v.view.name (sound z r.history r.stands.legal)
+        ap (λ y. (t.object y).block) (sym still.0) ∙ ends_here z t b v.view.name (sound z r.history r.stands.stands.legal)
         (ap (λ y. (t.object y).phase) still.0 ∙ phase)
 
     -- the domain uses the member
@@ -67,10 +67,10 @@ module _ {V : Type 0} where
 
     told : (taken : ℕ) → Rests (v, []) → HasRoomFor v → (let t = leads (opening_of k) r.history in let old = (t.object o).member m in
         get_or s.words i 0 ≡ packed (blocks_of t) old + one_taken * taken
-        → Adds (point k s r id v) (cell_word (point k s r id v) (Member o m)) 0 (ClearMember o m old) (purse (blocks_of t) old (cell_funds - taken)))
+        → AddsFunded (point k s r id v) (cell_word (point k s r id v) (Member o m)) 0 (ClearMember o m old) (drawn (blocks_of t) old (cell_funds - taken)))
     told taken rests more found =
         let t = leads (opening_of k) r.history in let old = (t.object o).member m in
-        law.clears' (point k s r id v) o m (ready k s r id v at awake Idle rests.idle) phase
+        law.clears_funded (point k s r id v) o m (ready k s r id v at awake Idle rests.idle) phase
         (let u = used in let w = members_led (opening_of k) r.history in omega arith) (room more old) taken
         (ap (λ j. get_or s.words j 0) there.there ∙ found)
 
@@ -113,17 +113,17 @@ module _ {V : Type 0} where
       let rest : Rests (v, []) = record { awake = rests.awake; idle = rests.idle; empty = rests.empty; none = refl } in
       let ev : Event V = ClearMember o m (empty (kind_of_member v.shape.owners m)) in let hist = entry v.view.name ev ∷ r.history in
       let adds' = told k s r id v at rests.awake o b m i ends lt e d.taken rest more (d.bits ∙ sym (cell_shown (blocks_of t) old d.taken)) in
-      let now : Stands z (set s.words i 0) (set (map view_of s.views) id (sees_as v.view Idle hist)) hist =
-      subst (λ y. Stands z (set s.words y 0) (set (map view_of s.views) id (sees_as v.view Idle hist)) hist) is.there
-      (subst (λ h. Adds (point k s r id v) (cell_word (point k s r id v) c) 0 (ClearMember o m h)
-      (purse (blocks_of t) h (cell_funds - d.taken))) nothing adds') in (
+      let now : StandsFunded z (set s.words i 0) (set (map view_of s.views) id (sees_as v.view Idle hist)) hist =
+      subst (λ y. StandsFunded z (set s.words y 0) (set (map view_of s.views) id (sees_as v.view Idle hist)) hist) is.there
+      (subst (λ h. AddsFunded (point k s r id v) (cell_word (point k s r id v) c) 0 (ClearMember o m h)
+      (drawn (blocks_of t) h (cell_funds - d.taken))) nothing adds') in (
         seeing v Idle None hist,
         keeps,
         tt,
         quiet_next k s r id v (set s.words i (get_or s.words i 0)) ev Idle at rests.awake rests.empty
             (quiet_clear o m (empty (kind_of_member v.shape.owners m)))
-            (subst (λ n. Stands z (set s.words i n) (set (map view_of s.views) id (sees_as v.view Idle hist)) hist) (sym q) now),
-        (λ _. (adds k s r id v at rests.awake Idle None ev now.legal, refl), λ n. absurd (n q)),
+            (subst (λ n. StandsFunded z (set s.words i n) (set (map view_of s.views) id (sees_as v.view Idle hist)) hist) (sym q) now),
+        (λ _. (adds k s r id v at rests.awake Idle None ev now.stands.legal, refl), λ n. absurd (n q)),
       ))
       (λ (q : get_or s.words i 0 ≢ 0). (me.0, keeps, tt, unmoved k s id i me.0 r at, (λ n. absurd (q n), λ _. refl)))
       (cases_eq (get_or s.words i 0) 0)

@@ -7,11 +7,12 @@ use Prelude.{Allows, At, at_map, Block, cases_eq, counted_live, either, entry, E
 use Prelude.{get_elem?, gives, has_value, held_busy, HoldingInBlock, Idle, InShape, IsSlotOf}
 use Prelude.{keeps, kept, leads, names_an_object, none, opened, opening_of, Owner, owner}
 use Prelude.{owner_counted, Pending, Place, put_back, put_other, put_same, rest, Rests, Ruled}
-use Prelude.{SeatView, seeing, sees_as, set_else, set_here, Shape, some, sound, spot, Stands, step}
+use Prelude.{SeatView, seeing, sees_as, set_else, set_here, Shape, some, sound, spot, StandsFunded, step}
 use Prelude.{takes, until_gone, value, View, view_of, Visit, Visiting}
 use Rattle.atomic_table.specs.Table as Table
-use Rattle.control_word.proofs.steps.Open as opening
-use Rattle.control_word.proofs.steps.Shut as shutting
+use Rattle.control_word.proofs.funded.Apart.{body_apart}
+use Rattle.control_word.proofs.funded.Next.{plain_word}
+use Rattle.control_word.proofs.funded.Words as words
 use Rattle.control_word.proofs.words.Flags.{flags_read, total_at}
 use Rattle.control_word.specs.Views.{adds as door_added}
 use Rattle.control_block.specs.DoorStepKinds.{shut}
@@ -50,21 +51,24 @@ module _ {V : Type 0} where
             × T (get_or s.words i 0) (w, Table.carried_after me.1 a)
         hit q =
             let v = me.0 in let z = opening_of k in let views = map view_of s.views in let t = leads z r.history in
-            let fine = sound z r.history r.stands.legal in
+            let fine = sound z r.history r.stands.stands.legal in
             let mine = held_there k s r id v at rests.awake Owner o p b.0 holds in
-            let n = names_an_object z r.history r.stands.legal v.view.name Owner (owner o p) (mine.0, refl, refl) in
+            let n = names_an_object z r.history r.stands.stands.legal v.view.name Owner (owner o p) (mine.0, refl, refl) in
             let alive = counted_live z t o fine (owner_counted t v.view.name o p mine.0) in
             let x = has_value z r.history o n.0 n.1 in
             let j = spot (t.object o).block 2 in let same : j ≡ i = ap (λ y. spot y 2) mine.1 ∙ sym e in
             let word : get_or s.words j 0 ≡ found = ap (λ y. get_or s.words y 0) same ∙ q in
             let low : get_or s.words j 0 < 4 = omega arith in
             let busy = held_busy z t v.view.name o Owner p fine mine.0 in
-            let told = (shutting.shuts (point k s r id v) o p x.0 (ready k s r id v at rests.awake Idle rests.idle) mine.0 x.1).1 low in
+            let told = (words.shuts_funded (point k s r id v) o p x.0 (ready k s r id v at rests.awake Idle rests.idle) mine.0 x.1).1 low in
             let call : Pending V = Visiting o p i x.0 in let w = seeing v call (Some b) r.history in
-            let stands : Stands z (set s.words i (found + 4)) (set views id (sees_as v.view call r.history)) r.history =
-            subst (λ (y : ℕ × ℕ). Stands z (set s.words y.0 (y.1 + 4)) (set views id (sees_as v.view (Visiting o p y.0 x.0) r.history)) r.history)
+            let stands : StandsFunded z (set s.words i (found + 4)) (set views id (sees_as v.view call r.history)) r.history =
+            subst (λ (y : ℕ × ℕ). StandsFunded z (set s.words y.0 (y.1 + 4)) (set views id (sees_as v.view (Visiting o p y.0 x.0) r.history)) r.history)
             (λ c. (same c, word c)) told in
-            let nobody = (flags_read z s.words views r.history r.stands id v.view (at_map view_of s.views id v at) rests.awake o p busy).1 low in
+            let plain = plain_word z s.words views r.history r.stands j
+            (body_apart z t fine (t.object o).block 2 (fine.placed o busy).1.0 (omega arith) (omega arith)) in
+            let nobody = (flags_read z r.stands.bare views r.history r.stands.stands id v.view (at_map view_of s.views id v at) rests.awake o p busy).1
+            (omega arith) in
             let inside = subst (InShape z) mine.1 n.3 in (
               w,
               takes (b.0 - 1) (Some x.0),
@@ -103,21 +107,21 @@ module _ {V : Type 0} where
       → me.0.view.pending ≡ Visiting o p i was → me.0.hand ≡ Some b → me.1 ≡ (b.0 - 1, Some becomes) ∷ [] → 1 ≤ b.0 → i ≡ spot b.0 2
       → Allows (Ruled k) slots id me i (λ n. (n + (2 ^ 64 - 4)) % 2 ^ 64) (opened b o p (step slots i 4 0 none) me)
   allows_open k slots id o i b p was becomes me awake pending hand carried low e s r sized at small =
-      let v = me.0 in let z = opening_of k in let views = map view_of s.views in let t = leads z r.history in let fine = sound z r.history r.stands.legal in
-      let fits : Fits s.words t (value z r.history) v.view.name (Visiting o p i was) =
-      subst (Fits s.words t (value z r.history) v.view.name) pending (r.stands.team.seated id v.view (at_map view_of s.views id v at) awake).fits in
-      let n = names_an_object z r.history r.stands.legal v.view.name Owner (owner o p) (fits.0, refl, refl) in
+      let v = me.0 in let z = opening_of k in let views = map view_of s.views in let t = leads z r.history in let fine = sound z r.history r.stands.stands.legal in
+      let fits : Fits r.stands.bare t (value z r.history) v.view.name (Visiting o p i was) =
+      subst (Fits r.stands.bare t (value z r.history) v.view.name) pending (r.stands.stands.team.seated id v.view (at_map view_of s.views id v at) awake).fits in
+      let n = names_an_object z r.history r.stands.stands.legal v.view.name Owner (owner o p) (fits.0, refl, refl) in
       let word : i ≡ spot (t.object o).block 2 = fits.1 in let l0 = n.3.0 in
       let here : (t.object o).block ≡ b.0 = omega arith in
       let last : t.latest b.0 ≡ o = ap t.latest (sym here) ∙ n.2 in let inside = subst (InShape z) here n.3 in
       let alive = counted_live z t o fine (owner_counted t v.view.name o p fits.0) in
       let j = spot (t.object o).block 2 in
-      let l = opening.opens' (point k s r id v) o p was becomes
+      let l = words.opens_funded (point k s r id v) o p was becomes
       (ready k s r id v at awake (Visiting o p j was) (pending ∙ ap (λ y. Visiting o p y was) word)) in
       let ev : Event V = Visit (owner o p) was becomes in let h = entry v.view.name ev ∷ r.history in
       let enough : 4 ≤ get_or s.words i 0 = subst (λ y. 4 ≤ get_or s.words y 0) (sym word) l.0 in
-      let now = subst (λ c. Stands z (set s.words i c) (set views id (sees_as v.view Idle h)) h) (sym (drops_four (get_or s.words i 0) enough small))
-      (subst (λ y. Stands z (set s.words y (get_or s.words y 0 - 4)) (set views id (sees_as v.view Idle h)) h) (sym word) l.1) in
+      let now = subst (λ c. StandsFunded z (set s.words i c) (set views id (sees_as v.view Idle h)) h) (sym (drops_four (get_or s.words i 0) enough small))
+      (subst (λ y. StandsFunded z (set s.words y (get_or s.words y 0 - 4)) (set views id (sees_as v.view Idle h)) h) (sym word) l.1) in
       let w = seeing v Idle None h in let homes = set s.homes (b.0 - 1) (some (Some becomes)) in
       let new : kept z h b.0 ≡ Some becomes =
       ap (λ q. until_gone (t.object q).phase (cond (q == o) (Some becomes) (value z r.history q))) last
@@ -142,5 +146,5 @@ module _ {V : Type 0} where
                   (λ y. q (sym (fine.latest_in c (λ f. let l3 = n.0 in omega arith)) ∙ (ap (λ f. (t.object f).block) y ∙ here)))),
               λ y. q (sym (subst (λ g. IsSlotOf g c) hand y)),
             ))) (cases_eq c b.0))),
-        (was, becomes, pending, carried, adds k s r id v at awake Idle None ev now.legal, ap rest carried),
+        (was, becomes, pending, carried, adds k s r id v at awake Idle None ev now.stands.legal, ap rest carried),
       )

@@ -4,7 +4,7 @@ use Rattle.std.proofs.Common.{◌∙◌, subst, inl, inr, ⊎_elim, length-set}
 use Rattle.control_block.proofs.Prelude
 use Prelude.{Allows, At, at_map, Block, cases_eq, Ends, fetched, get_elem?, Idle, InShape}
 use Prelude.{IsSlotOf, leads, none, opening_of, Pending, Rests, Ruled, SeatView, seeing, sees_as}
-use Prelude.{set_again, set_else, Shape, some, Stands, step, takes, value, view_of}
+use Prelude.{set_again, set_else, Shape, some, StandsFunded, step, takes, value, view_of}
 use Rattle.atomic_table.specs.Table as Table
 use Rattle.control_block.proofs.Passage.{next, still_ending}
 use Rattle.control_block.proofs.words.Slots.{ending_home, slots_apart}
@@ -21,7 +21,7 @@ module _ {V : Type 0} where
         takes (b.0 - 1) (Some x),
         ending_home k s r id v at rests.awake rests.empty b.0 o within still.0 phase ∙ ap (λ y. some (some y)) (still.2 ∙ val),
         next k s r id v w _ (set s.homes (b.0 - 1) none) r.history at rests.awake (r.shapes id v at rests.awake)
-            (looked z s.words i _ r.history (subst (λ l. Stands z s.words l r.history) (sym (same_views s at)) r.stands))
+            (looked z s.words i _ r.history (subst (λ l. StandsFunded z s.words l r.history) (sym (same_views s at)) r.stands))
             (length-set s.homes (b.0 - 1) none) (inr (ap (λ q. (t.object q).phase) still.0 ∙ phase)) (λ j u ne there un back. back)
             (λ c here. ⊎_elim (λ (q : c ≡ b.0). inr (inl (sym q)))
             (λ (q : c ≢ b.0). inr (inr (

@@ -5,11 +5,11 @@ use Rattle.control_block.proofs.Prelude
 use Prelude.{Allows, At, at_map, ending, Entry, entry, Event, get_elem?, gone, grown, handed}
 use Prelude.{HasBoth, Idle, IsBacked, IsOut, IsSecond, IsSlotOf, Join, joined, keeps, leads, live}
 use Prelude.{Merging, none, NoneBy, opening_of, Phase, Ruled, SeatView, seeing, set_else, Shape}
-use Prelude.{some, some-injective, Stands, step, unmade, until_gone, value, view_of}
+use Prelude.{some, some-injective, StandsFunded, step, unmade, until_gone, value, view_of}
 use Rattle.std.proofs.lemmas.List.{append_cancel_right}
 use Rattle.atomic_table.specs.Table as Table
 use Rattle.atomic_table.specs.Table.{Joins}
-use Rattle.control_word.proofs.steps.Join as law
+use Rattle.control_word.proofs.funded.Desks as law
 use Rattle.control_word.specs.Views.{together, used_up}
 use Rattle.control_block.specs.StepKinds.{over}
 use Rattle.control_block.proofs.words.Lists.{each_set, map_set}
@@ -33,7 +33,7 @@ module _ {V : Type 0} where
       → w.view.spent ≡ false → w.view.pending ≡ Idle → w.hand ≡ None → Joins (Ruled k) id v j w (grown v w) over
   allows_glue k id j v w awake idle free awake' idle' free' s r at ne there₀ =
       let z = opening_of k in let both = grown v w in let there : get_elem? s.views j ≡ some w = sym (set_else s.views id j both ne) ∙ there₀ in
-      let now = law.merges_views (point k s r id v) j w.view (ready k s r id v at awake Idle idle) (at_map view_of s.views j w there)
+      let now = law.merges_views_funded (point k s r id v) j w.view (ready k s r id v at awake Idle idle) (at_map view_of s.views j w there)
       (λ q. ne (sym q)) awake' idle' in
       let views : map view_of (set (set s.views id both) j over) ≡ set (set (map view_of s.views) id (together v.view w.view)) j used_up =
       map_set view_of (set s.views id both) j over ∙ ap (λ l. set l j used_up) (map_set view_of s.views id both) in
@@ -42,7 +42,7 @@ module _ {V : Type 0} where
       λ P a b rest. each_set P (set s.views id both) j over b (λ x u n e. each_set P s.views id both a (λ y t m f. rest y t f) x u e) in
       record {
         history = r.history;
-        stands = subst (λ l. Stands z s.words l r.history) (sym views) now;
+        stands = subst (λ l. StandsFunded z s.words l r.history) (sym views) now;
         limits = r.limits;
         shapes = all (λ x u. u.view.spent ≡ false → u.shape ≡ k) (λ _. r.shapes id v at awake) (λ q. absurd (cc)) r.shapes;
         sized = r.sized;
@@ -66,11 +66,11 @@ module _ {V : Type 0} where
       let v = me.0 in let z = opening_of k in let t = leads z r.history in let d = v.view.name in let e : Event V = Join other in
       let h = entry d e ∷ r.history in
       let now = ready k s r id v at awake (Merging other mine others) pending in
-      let told = law.joins (point k s r id v) other mine others now in
-      let seated = r.stands.team.seated id v.view now.seated awake in
+      let told = law.joins_funded (point k s r id v) other mine others now in
+      let seated = r.stands.stands.team.seated id v.view now.seated awake in
       let second : IsSecond v.view.pending other = subst (λ p. IsSecond p other) (sym pending) refl in
       let both : HasBoth d v.view.seen (Merging other mine others) = subst (HasBoth d v.view.seen) pending seated.both in
-      let a = adds k s r id v at awake Idle None e told.legal in
+      let a = adds k s r id v at awake Idle None e told.stands.legal in
       let quiet : NoneBy other a.between = quiet_too s r at r.history a.between second refl (ap (λ (u : SeatView V). tail_of u.view.seen) a.now) in (
         seeing v Idle None h,
         keeps,
@@ -78,9 +78,9 @@ module _ {V : Type 0} where
         next k s r id v (seeing v Idle None h) (set s.words i (get_or s.words i 0)) s.homes h at awake (r.shapes id v at awake)
             (looked z s.words i _ h told) refl
             tt
-            (others_still k s r id v at awake e told.legal.1.asks
+            (others_still k s r id v at awake e told.stands.legal.1.asks
             (λ j u n there un names. n
-            (sym (r.stands.team.names id j v.view u.view now.seated (at_map view_of s.views j u there) awake un other (inr second) (inl (sym names))))))
+            (sym (r.stands.stands.team.names id j v.view u.view now.seated (at_map view_of s.views j u there) awake un other (inr second) (inl (sym names))))))
             (λ b inside. inr (inr (
               refl,
               handed_keeps other d (t.object (t.latest b)).phase (value z r.history (t.latest b)),
@@ -92,5 +92,5 @@ module _ {V : Type 0} where
       quiet_too : (s : Table.State (Option V) (SeatView V)) (r : Ruled k s) (at : get_elem? s.views id ≡ some me.0) (h : List (Entry V)) (l : List (Entry V))
           → IsSecond me.0.view.pending other → h ≡ r.history → h ≡ l ++ me.0.view.seen → NoneBy other l
       quiet_too s r at h l second is e =
-          let f = (r.stands.team.seated id me.0.view (at_map view_of s.views id me.0 at) awake).knows other (inr second) in
+          let f = (r.stands.stands.team.seated id me.0.view (at_map view_of s.views id me.0 at) awake).knows other (inr second) in
           subst (NoneBy other) (append_cancel_right f.0 l me.0.view.seen (sym f.1 ∙ (sym is ∙ e))) f.2

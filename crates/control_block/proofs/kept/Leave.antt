@@ -8,7 +8,7 @@ use Prelude.{entry, Event, get_elem?, gives, Has, has_value, held, Idle, InShape
 use Prelude.{kept, leads, Leave, left, live, MayLeave, moved_to, names_an_object, none, opening_of}
 use Prelude.{Owner, owner, owner_counted, Pending, Place, put_back, put_same, rest, Ruled}
 use Prelude.{SeatView, seeing, sees_as, set_again, set_else, set_here, Shape, some, sound, spot}
-use Prelude.{Stands, step, stepped, takes, until_gone, Valid, value, view_of}
+use Prelude.{StandsFunded, step, stepped, takes, until_gone, Valid, value, view_of}
 use Rattle.atomic_table.specs.Table as Table
 use Rattle.control_word.proofs.lists.Tallies.{put_again}
 use Rattle.control_block.specs.StepKinds.{gave_back}
@@ -26,27 +26,27 @@ module _ {V : Type 0} where
     alive : ((leads (opening_of k) r.history).object o).phase ≡ live
     alive =
         let z = opening_of k in let t = leads z r.history in
-        counted_live z t o (sound z r.history r.stands.legal) (owner_counted t v.view.name o p mine.0)
+        counted_live z t o (sound z r.history r.stands.stands.legal) (owner_counted t v.view.name o p mine.0)
 
     named : (1 ≤ o) × (o ≤ (leads (opening_of k) r.history).made) × ((leads (opening_of k) r.history).latest b.0 ≡ o) × InShape (opening_of k) b.0
     named =
         let z = opening_of k in let t = leads z r.history in
-        let n = names_an_object z r.history r.stands.legal v.view.name Owner (owner o p) (mine.0, refl, refl) in
+        let n = names_an_object z r.history r.stands.stands.legal v.view.name Owner (owner o p) (mine.0, refl, refl) in
         (n.0, n.1, ap t.latest (sym mine.1) ∙ n.2, subst (InShape z) mine.1 n.3)
 
     -- the last owner's leave, with the words after it
     leaves_last : (words : List ℕ) → let h = entry v.view.name (Leave (owner o p) true) ∷ r.history in
-        Stands (opening_of k) words (set (map view_of s.views) id (sees_as v.view Idle h)) h
+        StandsFunded (opening_of k) words (set (map view_of s.views) id (sees_as v.view Idle h)) h
         → Ruled k record { words = words; homes = set s.homes (b.0 - 1) none; views = set s.views id (seeing v Idle (Some b) h) }
     leaves_last words stands =
         let z = opening_of k in let t = leads z r.history in let d = v.view.name in let e : Event V = Leave (owner o p) true in
         let h = entry d e ∷ r.history in
-        let x = moved_to (ending d) (t.object o) in let n = named in let fine = sound z r.history r.stands.legal in
+        let x = moved_to (ending d) (t.object o) in let n = named in let fine = sound z r.history r.stands.stands.legal in
         let there = mine.1 in
         next k s r id v (seeing v Idle (Some b) h) words (set s.homes (b.0 - 1) none) h at awake (r.shapes id v at awake) stands
         (length-set s.homes (b.0 - 1) none)
         (inr (ap (λ q. (Rattle.control_word.specs.State.put t.object o x q).phase) n.2 ∙ ap (λ y. y.phase) (put_same t.object o x o refl)))
-        (others_still k s r id v at awake e (stands.legal.1.asks) (λ _ _ _ _ _ i. i))
+        (others_still k s r id v at awake e (stands.stands.legal.1.asks) (λ _ _ _ _ _ i. i))
         (λ c inside. ⊎_elim (λ (q : c ≡ b.0). inr (inl (sym q)))
         (λ (q : c ≢ b.0). inr (inr (
           set_else s.homes (b.0 - 1) (c - 1) none (slots_apart b.0 c n.3.0 inside.0 q),
@@ -78,7 +78,7 @@ module _ {V : Type 0} where
             keeps,
             tt,
             quiet_next k s r id v _ ev Idle at awake free (plain (λ t d. put_again t.object o) (λ t d. refl) (λ t f. refl)) now,
-            (λ _. (adds k s r id v at awake Idle None ev now.legal, refl), λ q. absurd (n q)),
+            (λ _. (adds k s r id v at awake Idle None ev now.stands.legal, refl), λ q. absurd (n q)),
           )
 
       last : get_or s.words i 0 ≡ a
@@ -94,13 +94,13 @@ module _ {V : Type 0} where
             seeing v Idle (Some b) h,
             takes (b.0 - 1) (Some x.0),
             live_home k s r b.0 o n.3 n.2 mine.1 (alive k s r id v at awake free o p b mine)
-                (unvisited k s r id v at awake free o b.0 p mine.0 n.2 now.legal.1.asks.1)
+                (unvisited k s r id v at awake free o b.0 p mine.0 n.2 now.stands.legal.1.asks.1)
                 ∙ ap (λ y. some (some y)) x.1,
             leaves_last k s r id v at awake free o p b mine _ now,
             (
               λ m. absurd (m q),
               λ _. (
-                adds k s r id v at awake Idle (Some b) ev now.legal,
+                adds k s r id v at awake Idle (Some b) ev now.stands.legal,
                 (
                   x.0,
                   ap (λ y. value (opening_of y) h o) (r.shapes id v at awake) ∙ x.1,
@@ -125,7 +125,7 @@ module _ {V : Type 0} where
         tt,
         subst (λ c. Ruled k record { words = set s.words i (get_or s.words i 0); homes = put_back s.homes c; views = set s.views id w }) (sym carried)
             (next k s r id v w _ (set s.homes (b.0 - 1) (some (Some x))) r.history at awake (r.shapes id v at awake)
-            (looked z s.words i _ r.history (subst (λ l. Stands z s.words l r.history) (sym (same_views s at)) r.stands))
+            (looked z s.words i _ r.history (subst (λ l. StandsFunded z s.words l r.history) (sym (same_views s at)) r.stands))
             (length-set s.homes (b.0 - 1) (some (Some x))) tt (λ j u ne there un back. back)
             (λ c within. ⊎_elim
             (λ (q : c ≡ b.0). inl (subst (λ y. get_elem? (set s.homes (b.0 - 1) (some (Some x))) (y - 1) ≡ some (some (kept z r.history y))) (sym q)

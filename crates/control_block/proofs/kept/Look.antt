@@ -4,9 +4,9 @@ use Rattle.std.proofs.Common.{◌==◌, Some, Option, sym, refl, ap, ◌∙◌, 
 use Rattle.control_block.proofs.Prelude
 use Prelude.{Allows, At, Count, Entry, entry, Expired, get_elem?, handle, HoldingInBlock, Idle}
 use Prelude.{Kind, leads, load_is_write, none, Opening, opening_of, Owner, owner, Place, Read}
-use Prelude.{Rests, Ruled, sees_as, Shape, some, spot, Stands, step, View, view_of, Weak, weak_of}
+use Prelude.{Rests, Ruled, sees_as, Shape, some, spot, StandsFunded, step, View, view_of, Weak, weak_of}
 use Rattle.control_word.proofs.history.Sole.{alone as acts_alone}
-use Rattle.control_word.proofs.steps.Look as law
+use Rattle.control_word.proofs.funded.Looks as law
 use Rattle.control_word.proofs.views.Resting.{sole_owes}
 use Rattle.control_word.specs.State.{count}
 use Rattle.control_word.specs.Packing.{told}
@@ -22,19 +22,19 @@ low_half n = omega arith
 
 module _ {V : Type 0} where
   -- where a desk has the whole allowance, no other is left
-  pub alone : (z : Opening) (words : List ℕ) (views : List (View V)) (h : List (Entry V)) → Stands z words views h → (i : ℕ) (v : View V)
+  pub alone : (z : Opening) (words : List ℕ) (views : List (View V)) (h : List (Entry V)) → StandsFunded z words views h → (i : ℕ) (v : View V)
       → get_elem? views i ≡ some v → v.spent ≡ false → (leads z h).allowance v.name ≡ z.allowance → (j : ℕ) (u : View V)
       → get_elem? views j ≡ some u
       → u.spent ≡ false → j ≡ i
   alone z words views h stands i v at awake whole j u there un =
-      let acts = (stands.team.seated j u there un).acts u.name (inl refl) in
-      stands.team.names j i u v there at un awake v.name
-      (inl (acts_alone z h stands.legal v.name u.name whole acts)) (inl refl)
+      let acts = (stands.stands.team.seated j u there un).acts u.name (inl refl) in
+      stands.stands.team.names j i u v there at un awake v.name
+      (inl (acts_alone z h stands.stands.legal v.name u.name whole acts)) (inl refl)
 
   -- a load is a write of what is there
-  pub looked : (z : Opening) (words : List ℕ) (i : ℕ) (views : List (View V)) (h : List (Entry V)) → Stands z words views h
-      → Stands z (set words i (get_or words i 0)) views h
-  looked z words i views h stands = subst (λ l. Stands z l views h) (sym (load_is_write words i)) stands
+  pub looked : (z : Opening) (words : List ℕ) (i : ℕ) (views : List (View V)) (h : List (Entry V)) → StandsFunded z words views h
+      → StandsFunded z (set words i (get_or words i 0)) views h
+  looked z words i views h stands = subst (λ l. StandsFunded z l views h) (sym (load_is_write words i)) stands
 
   pub allows_count : (k : Shape) (slots id b o i : ℕ) (m : Kind) (p : Option Place) (me : At V) → Rests me → HoldingInBlock me.0 m o p b
       → i ≡ spot b 0
@@ -49,13 +49,13 @@ module _ {V : Type 0} where
       let j = spot ((leads z r.history).object o).block 0 in let same : j ≡ i = ap (λ x. spot x 0) mine.1 ∙ sym e in
       let n = get_or s.words i 0 in
       let now = ready k s r id v at rests.awake Idle rests.idle in
-      let t = law.tells_count (point k s r id v) m o p (n % 4294967296) (n / 4294967296) now mine.0 (ap (λ x. get_or s.words x 0) same
+      let t = law.tells_count_funded (point k s r id v) m o p (n % 4294967296) (n / 4294967296) now mine.0 (ap (λ x. get_or s.words x 0) same
       ∙ halved n) (low_half n) in (
         looked z s.words i _ _ t.0,
         λ a. (
           a,
           refl,
-          λ whole. t.1 (sole_owes z s.words views r.history r.stands id v.view now.seated rests.awake rests.idle
+          λ whole. t.1 (sole_owes z r.stands.bare views r.history r.stands.stands id v.view now.seated rests.awake rests.idle
               (subst (λ y. (leads (opening_of y) r.history).allowance v.view.name ≡ y.allowance) (r.shapes id v at rests.awake) whole) j)
               ∙ ap (λ y. count (leads (opening_of y) r.history) o) (sym (r.shapes id v at rests.awake)),
         ),
@@ -71,8 +71,8 @@ module _ {V : Type 0} where
       let mine = held_there k s r id v at rests.awake Weak o p b holds in
       let same = ap (λ x. spot x 0) mine.1 ∙ sym e in
       let h : ℕ → List (Entry V) = λ x. entry v.view.name (Expired (weak_of o p) (get_or s.words x 0 == 0)) ∷ r.history in
-      looked z s.words i _ _ (subst (λ x. Stands z s.words (set views id (sees_as v.view Idle (h x))) (h x)) same
-      (law.tells_expired (point k s r id v) o p (ready k s r id v at rests.awake Idle rests.idle) mine.0)))
+      looked z s.words i _ _ (subst (λ x. StandsFunded z s.words (set views id (sees_as v.view Idle (h x))) (h x)) same
+      (law.tells_expired_funded (point k s r id v) o p (ready k s r id v at rests.awake Idle rests.idle) mine.0)))
 
   pub allows_read : (k : Shape) (slots id i o : ℕ) (place : Place) (p : Option Place) (me : At V) → Rests me → p ≡ Some place
       → HoldingInBlock me.0 Owner o p place.block.0 → place.field < 4 → i ≡ spot place.block.0 (3 + place.field)
@@ -85,5 +85,5 @@ module _ {V : Type 0} where
       let mine = held_there k s r id v at rests.awake Owner o (Some place) place.block.0 (subst (λ x. HoldingInBlock v Owner o x place.block.0) is holds) in
       let h : ℕ → Option Place → List (Entry V) = λ x y. entry v.view.name (Read (owner o y) (get_or s.words x 0)) ∷ r.history in
       looked z s.words i _ _ (subst (λ (y : ℕ
-      × Option Place). Stands z s.words (set views id (sees_as v.view Idle (h y.0 y.1))) (h y.0 y.1)) (λ j. (sym e j, sym is j))
-      (law.reads (point k s r id v) o place (ready k s r id v at rests.awake Idle rests.idle) mine.0 (sym mine.1) low)))
+      × Option Place). StandsFunded z s.words (set views id (sees_as v.view Idle (h y.0 y.1))) (h y.0 y.1)) (λ j. (sym e j, sym is j))
+      (law.reads_funded (point k s r id v) o place (ready k s r id v at rests.awake Idle rests.idle) mine.0 (sym mine.1) low)))

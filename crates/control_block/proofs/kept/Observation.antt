@@ -5,7 +5,7 @@ use Rattle.control_block.proofs.Prelude
 use Prelude.{Allows, At, at_inside, at_longer, at_map, at_snoc, first_again, get_elem?, grown}
 use Prelude.{Idle, IsBacked, IsOut, IsSlotOf, keeps, leads, map-append, none, Observed}
 use Prelude.{ObservedBoth, opening_of, Ruled, SeatView, second_again, set_else, set_here, Shape}
-use Prelude.{some, some-injective, Splits, Stands, step, View, view_of}
+use Prelude.{some, some-injective, Splits, StandsFunded, step, View, view_of}
 use Rattle.control_block.specs.ObservationStepKinds.{observed}
 use Rattle.control_block.proofs.words.Apart.{apart_names, idle_view, last_at, one_view, part_again}
 use Rattle.control_block.proofs.words.Lists.{each_set, map_set}
@@ -26,7 +26,7 @@ module _ {V : Type 0} where
             history = r.history;
             words = s.words;
             views = map view_of s.views;
-            stands = subst (λ y. Stands (opening_of y) s.words (map view_of s.views) r.history) (sym (r.shapes id v at awake)) r.stands;
+            stands = subst (λ y. StandsFunded (opening_of y) s.words (map view_of s.views) r.history) (sym (r.shapes id v at awake)) r.stands;
             found = refl;
             here = (id, at_map view_of s.views id v at);
           },
@@ -74,7 +74,7 @@ module _ {V : Type 0} where
       let shape : g.shape ≡ k = r.shapes id g at awake in
       record {
         history = r.history;
-        stands = subst (λ l. Stands z s.words l r.history) (sym views) now;
+        stands = subst (λ l. StandsFunded z s.words l r.history) (sym views) now;
         limits = r.limits;
         shapes = λ j u e. ⊎_elim
             (λ (q : get_elem? (set s.views id x) j ≡ some u). each_set (λ a b. b.view.spent ≡ false

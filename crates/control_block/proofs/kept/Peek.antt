@@ -7,11 +7,14 @@ use Prelude.{added, adds, Allows, At, blocks_of, cond-false, cond_both, Ends, En
 use Prelude.{flags_of, get_elem?, handle, held_busy, held_made, HoldingInBlock, Idle, IsBusy}
 use Prelude.{IsNearObject, IsTold, keeps, Kind, known, leads, Making, Merging, none, Object}
 use Prelude.{Opening, opening_of, Parting, Paying, peeked, Pending, Place, Ruled, SeatView, Shape}
-use Prelude.{some, sound, spot, Stands, step, total, value, View, view_of, Visiting}
+use Prelude.{some, sound, spot, step, total, value, View, view_of, Visiting}
 use Rattle.std.proofs.lemmas.List.{set-get_or}
 use Rattle.atomic_table.specs.Table as Table
 use Rattle.control_word.proofs.history.Kept.{stays_as_made}
 use Rattle.control_word.proofs.words.Body.{body_more, body_read, words_field, words_flags}
+use Rattle.control_word.proofs.funded.Apart.{body_apart}
+use Rattle.control_word.proofs.funded.Next.{plain_word}
+use Rattle.control_word.specs.Views.{Stands}
 use Rattle.control_word.specs.Words.{object_words}
 use Rattle.control_block.proofs.Endings.{ends_busy, ends_here}
 use Rattle.control_block.proofs.words.Lists.{set_same}
@@ -99,10 +102,14 @@ module _ {V : Type 0} where
       → Allows (Ruled k) slots id me i (λ n. n) (peeked o j (step slots i 0 0 none) me)
   allows_peek k slots id b o i j me awake near low e s r sized at small =
       let v = me.0 in let z = opening_of k in let h = leads z r.history in
+      let fine = sound z r.history r.stands.stands.legal in
       let there = near_there k s r id v at awake o b near in
       let same_words : set s.words i (get_or s.words i 0) ≡ s.words = set-get_or s.words i 0 in
       let same_views : set s.views id v ≡ s.views = set_same s.views id v at in
-      let told = told_now z s.words (map view_of s.views) r.history r.stands o j there.1 low in
+      let plain = plain_word z s.words (map view_of s.views) r.history r.stands (spot (h.object o).block (2 + j))
+      (body_apart z h fine (h.object o).block (2 + j) (fine.placed o there.1).1.0 (omega arith) (omega arith)) in
+      let told = subst (IsTold j (h.object o)) (sym plain)
+      (told_now z r.stands.bare (map view_of s.views) r.history r.stands.stands o j there.1 low) in
       let kept : IsAsMade ((known v).object o) (h.object o) =
       subst (λ (y : Rattle.control_word.specs.State.State). IsAsMade (y.object o) (h.object o)) (sym (known_as k s r id v at awake))
       (subst (λ l. IsAsMade ((leads z v.view.seen).object o) ((leads z l).object o)) (sym (knows k s r id v at awake).1)
@@ -127,13 +134,13 @@ module _ {V : Type 0} where
           (λ (t : (m : Kind) × (p : Option Place) × HoldingInBlock v m o p b).
           let z = opening_of k in let mine = held_there k s r id v at awake t.0 o t.1 b t.2 in (
             mine.1,
-            held_busy z (leads z r.history) v.view.name o t.0 t.1 (sound z r.history r.stands.legal) mine.0,
+            held_busy z (leads z r.history) v.view.name o t.0 t.1 (sound z r.history r.stands.stands.legal) mine.0,
             held_made z (leads z v.view.seen) v.view.name o t.0 t.1 (sound z v.view.seen (legal_known k s r id v at awake))
                 (subst (λ (y : Rattle.control_word.specs.State.State). Rattle.control_word.specs.State.Has
                 (Rattle.control_word.specs.State.held v.view.name (handle t.0 (Some o) t.1)) y.hands) (known_as k s r id v at awake) t.2.has),
           ))
           (λ (t : Ends v o b).
-          let z = opening_of k in let h = leads z r.history in let fine = sound z r.history r.stands.legal in
+          let z = opening_of k in let h = leads z r.history in let fine = sound z r.history r.stands.stands.legal in
           let e = still_ending k s r id v at awake o b t in
           let ends = e.1.phase ∙ t.1 in let there = ap (λ x. (h.object x).phase) e.0 ∙ ends in (
             ap (λ x. (h.object x).block) (sym e.0) ∙ ends_here z h b v.view.name fine there,

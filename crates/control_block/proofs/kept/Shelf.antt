@@ -6,10 +6,10 @@ use Rattle.control_block.proofs.Prelude
 use Prelude.{Allows, At, bit_at, bit_at-lt, bit_not, bit_of, Block, cases_eq, entry, get_elem?}
 use Prelude.{Has, Idle, IsLegal, IsOff, IsShelfWord, IsSo, keeps, known, leads, none, opening_of}
 use Prelude.{Rests, Ruled, SeatView, seeing, sees_as, Shape, shelf_at, Shelve, shelved, some}
-use Prelude.{Stands, State, step, stored, Unshelve, unshelved, view_of, w64}
+use Prelude.{StandsFunded, State, step, stored, Unshelve, unshelved, view_of, w64}
 use Rattle.atomic_table.specs.Table as Table
 use Rattle.control_word.proofs.packing.Bits.{bit_tells}
-use Rattle.control_word.proofs.steps.Shelf as law
+use Rattle.control_word.proofs.funded.Words as law
 use Rattle.control_word.specs.Words.{shelf_spot}
 use Rattle.control_block.specs.ShelfStepKinds.{told_shelf}
 use Rattle.control_block.proofs.cells.CellRetries.{rested}
@@ -40,7 +40,7 @@ module _ {V : Type 0} where
         record {
           between = m.0;
           quiet = m.2;
-          legal = subst (λ l. IsLegal (opening_of v.shape) l) m.1 (subst (λ y. IsLegal (opening_of y) r.history) shape r.stands.legal);
+          legal = subst (λ l. IsLegal (opening_of v.shape) l) m.1 (subst (λ y. IsLegal (opening_of y) r.history) shape r.stands.stands.legal);
           so = subst is (λ j. leads (opening_of (shape j)) (m.1 j)) now;
         }
 
@@ -52,7 +52,7 @@ module _ {V : Type 0} where
         → bit_at (get_or s.words i 0) (b % 64) ≡ Rattle.control_word.specs.State.on_shelf (leads (opening_of k) r.history) b
     shown i b e low =
         ap (λ y. bit_at (get_or s.words y 0) (b % 64)) (sym (there i b e))
-        ∙ law.shelf_shows (point k s r id v) v.view.pending b (ready k s r id v at awake v.view.pending refl)
+        ∙ law.shelf_shows_funded (point k s r id v) v.view.pending b (ready k s r id v at awake v.view.pending refl)
         (let same = ap (λ (y : Shape). shelf_words y.blocks) (r.shapes id v at awake) in omega arith)
 
   pub allows_shelf_look : (k : Shape) (slots id i j : ℕ) (me : At V) → Rests me → i ≡ shelf_at me.0.shape j
@@ -79,10 +79,10 @@ module _ {V : Type 0} where
       (λ n. plain (λ s d. refl) (λ s d. refl) (λ s f. refl))
       (λ s r at small.
       let v = me.0 in let h = entry v.view.name (Shelve b) ∷ r.history in
-      subst (λ (y : ℕ × ℕ). Stands (opening_of k) (set s.words y.0 (bit_or (get_or s.words y.0 0) y.1))
+      subst (λ (y : ℕ × ℕ). StandsFunded (opening_of k) (set s.words y.0 (bit_or (get_or s.words y.0 0) y.1))
       (set (map view_of s.views) id (sees_as v.view Idle h)) h)
       (λ j. (there k s r id v at rests.awake i b.0 e j, sym is j))
-      (law.shelves' (point k s r id v) b (ready k s r id v at rests.awake Idle rests.idle)
+      (law.shelves_funded (point k s r id v) b (ready k s r id v at rests.awake Idle rests.idle)
       (still_stored k s r id v at rests.awake (stored v.view.name b.0) refl mine)))
 
   -- a bit is cleared, by what it was
@@ -100,14 +100,14 @@ module _ {V : Type 0} where
     was_set one =
         let v = me.0 in let h = entry v.view.name (Unshelve b) ∷ r.history in
         let here = there k s r id v at rests.awake i b.0 e in
-        let now = (law.unshelves' (point k s r id v) b (ready k s r id v at rests.awake Idle rests.idle) (low_here)).0
+        let now = (law.unshelves_funded (point k s r id v) b (ready k s r id v at rests.awake Idle rests.idle) (low_here)).0
         (ap (λ y. bit_at (get_or s.words y 0) (b.0 % 64)) here ∙ one) in
-        let stands = subst (λ (y : ℕ × ℕ). Stands (opening_of k) (set s.words y.0 (bit_and (get_or s.words y.0 0) y.1))
+        let stands = subst (λ (y : ℕ × ℕ). StandsFunded (opening_of k) (set s.words y.0 (bit_and (get_or s.words y.0 0) y.1))
         (set (map view_of s.views) id (sees_as v.view Idle h)) h) (λ j. (here j, sym is j)) now in (
           seeing v Idle None h,
           quiet_next k s r id v _ (Unshelve b) Idle at rests.awake rests.empty (plain (λ t d. refl) (λ t d. refl) (λ t f. refl)) stands,
           (
-            (λ _. (adds k s r id v at rests.awake Idle None (Unshelve b) now.legal, refl)),
+            (λ _. (adds k s r id v at rests.awake Idle None (Unshelve b) now.stands.legal, refl)),
             (λ (zero : bit_at (get_or s.words i 0) (b.0 % 64) ≡ 0). let no : ⊥ = omega (arith, one, zero) in absurd no),
           ),
         )
@@ -116,9 +116,9 @@ module _ {V : Type 0} where
     was_clear none' =
         let v = me.0 in
         let here = there k s r id v at rests.awake i b.0 e in
-        let now = (law.unshelves' (point k s r id v) b (ready k s r id v at rests.awake Idle rests.idle) (low_here)).1
+        let now = (law.unshelves_funded (point k s r id v) b (ready k s r id v at rests.awake Idle rests.idle) (low_here)).1
         (ap (λ y. bit_at (get_or s.words y 0) (b.0 % 64)) here ∙ none') in
-        let stands = subst (λ (y : ℕ × ℕ). Stands (opening_of k) (set s.words y.0 (bit_and (get_or s.words y.0 0) y.1))
+        let stands = subst (λ (y : ℕ × ℕ). StandsFunded (opening_of k) (set s.words y.0 (bit_and (get_or s.words y.0 0) y.1))
         (set (map view_of s.views) id (sees_as v.view Idle r.history)) r.history) (λ j. (here j, sym is j)) now in (
           v,
           subst (λ (u : SeatView V). Ruled k record { words = set s.words i (bit_and (get_or s.words i 0) a); homes = s.homes; views = set s.views id u })

@@ -8,9 +8,9 @@ use Prelude.{get_elem?, goes_on, HasAll, HasRoom, Held, held, held_self, held_tr
 use Prelude.{IsOut, IsSlotOf, keeps, known, leads, map-append, MaySplit, none, num_map, num_none}
 use Prelude.{num_passes, NumberedHandle, opening_of, Parting, passed, put, put_other, put_same}
 use Prelude.{Rests, Ruled, same_held, same_stored, SeatView, seeing, set_else, Shape, some}
-use Prelude.{some-injective, Split, Splits, splits_off, Stands, State, step, Stored, stored}
+use Prelude.{some-injective, Split, Splits, splits_off, StandsFunded, State, step, Stored, stored}
 use Prelude.{stored_true, view_of}
-use Rattle.control_word.proofs.steps.Split as law
+use Rattle.control_word.proofs.funded.Desks as law
 use Rattle.control_word.specs.Views.{stays}
 use Rattle.control_block.specs.StepKinds.{comes_off, parted, second_name}
 use Rattle.control_block.proofs.words.Lists.{each_set, map_set}
@@ -41,7 +41,7 @@ module _ {V : Type 0} where
       let v = me.0 in let z = opening_of k in let t = leads z r.history in let d = v.view.name in let to = t.names in
       let mine = same k s r id v at rests.awake in let was = known_as k s r id v at rests.awake in
       let now = ready k s r id v at rests.awake Idle rests.idle in
-      let acts = (r.stands.team.seated id v.view now.seated rests.awake).acts d (inl refl) in
+      let acts = (r.stands.stands.team.seated id v.view now.seated rests.awake).acts d (inl refl) in
       let all : HasAll same_held (λ (h : NumberedHandle). held d h) hs t.hands = all_from (λ (x : Held). x.desk) d same_held held_true
       (λ (h : NumberedHandle). held d h) hs t.hands (λ h. refl)
       (subst (HasAll same_held (λ (h : NumberedHandle). held d h) hs) (ap (λ (y : State). filter (λ (x : Held). x.desk == d) y.hands) was ∙ sym mine.in_bag)
@@ -60,14 +60,14 @@ module _ {V : Type 0} where
       (t.allowance d - n)) to n d apart ∙ put_same t.allowance d (t.allowance d - n) d refl in
       let b = bag_given d to hs t.hands apart all in let c = may.fits in omega arith in
       let e : Event V = Split to n hs bs in let h = entry d e ∷ r.history in
-      let told = law.splits (point k s r id v) to n hs bs now (refl, may.some_given, less, may.few, all, some') room in (
+      let told = law.splits_funded (point k s r id v) to n hs bs now (refl, may.some_given, less, may.few, all, some') room in (
         seeing v (Parting to) None h,
         keeps,
         tt,
         quiet_next k s r id v (set s.words i (get_or s.words i 0)) e (Parting to) at rests.awake rests.empty
             (plain (λ y x. refl) (λ y x. refl) (λ y f. refl))
             (looked z s.words i _ h told),
-        (to, adds k s r id v at rests.awake (Parting to) None e told.legal, refl),
+        (to, adds k s r id v at rests.awake (Parting to) None e told.stands.legal, refl),
       )
 
   -- the second step: the new desk's seat
@@ -75,13 +75,13 @@ module _ {V : Type 0} where
       → Splits (Ruled k) id v (goes_on v) (comes_off v)
   allows_cut k id to v awake pending free s r at =
       let z = opening_of k in let w = goes_on v in let c = comes_off v in
-      let now = law.cuts_view (point k s r id v) to (ready k s r id v at awake (Parting to) pending) in
+      let now = law.cuts_view_funded (point k s r id v) to (ready k s r id v at awake (Parting to) pending) in
       let name : comes v.view to ≡ c.view = ap (λ p. comes v.view (second_name p)) (sym pending) in
       let views : map view_of (set s.views id w ++ c ∷ []) ≡ set (map view_of s.views) id (stays v.view) ++ comes v.view to ∷ [] =
       map-append view_of (set s.views id w) (c ∷ []) ∙ (λ i. map_set view_of s.views id w i ++ sym name i ∷ []) in
       record {
         history = r.history;
-        stands = subst (λ l. Stands z s.words l r.history) (sym views) now;
+        stands = subst (λ l. StandsFunded z s.words l r.history) (sym views) now;
         limits = r.limits;
         shapes = λ j u e. ⊎_elim
             (λ (q : get_elem? (set s.views id w) j ≡ some u). each_set (λ x y. y.view.spent ≡ false

@@ -2,8 +2,8 @@
 use Rattle.std.proofs.Common.{◌≡◌, ℕ, ◌-◌, ◌≤◌, map, get_or, set, refl, ap, subst, arith}
 use Rattle.control_block.proofs.Prelude
 use Prelude.{Allows, At, Idle, keeps, opening_of, Rests, Ruled, SeatView, sees_as, Shape}
-use Prelude.{Stands, view_of}
-use Rattle.control_word.proofs.steps.Summary as law
+use Prelude.{StandsFunded, view_of}
+use Rattle.control_word.proofs.funded.Words as law
 use Rattle.control_block.proofs.cells.CellRetries.{rested}
 use Rattle.control_block.proofs.Passage.{point, ready}
 use Rattle.control_block.proofs.words.Still.{moved_on, unmoved}
@@ -21,9 +21,9 @@ module _ {V : Type 0} where
       let j = i - summary_at k 0 in
       let shape = ap (λ (y : Shape). summary_at y 0) (r.shapes id v at rests.awake) in
       let here : summary_at k j ≡ i = omega (arith, behind, shape) in
-      let stands = subst (λ y. Stands (opening_of k) (set s.words y n)
+      let stands = subst (λ y. StandsFunded (opening_of k) (set s.words y n)
       (set (map view_of s.views) id (sees_as v.view Idle r.history)) r.history) here
-      (law.writes_summary (point k s r id v) j n (ready k s r id v at rests.awake Idle rests.idle)) in (
+      (law.writes_summary_funded (point k s r id v) j n (ready k s r id v at rests.awake Idle rests.idle)) in (
         v,
         keeps,
         tt,

@@ -3,14 +3,14 @@ use Rattle.std.proofs.Common.{◌≡◌, ℕ, ◌+◌, ◌<◌, Bool, true, fals
 use Rattle.std.proofs.Common.{◌==◌, Some, None, Option, sym, refl, ap, ◌∙◌, subst, inl, inr}
 use Rattle.std.proofs.Common.{⊎_elim, arith}
 use Rattle.control_block.proofs.Prelude
-use Prelude.{Adds, Allows, and_parts, At, block_fits, block_of, blocks_of, Cell, cell_bits}
+use Prelude.{AddsFunded, Allows, and_parts, At, block_fits, block_of, blocks_of, Cell, cell_bits}
 use Prelude.{cell_of, cell_word, CellWord, Compare, counts_at, either, entry, equivalent, Event}
 use Prelude.{field_fits, get_elem?, handle, HasRoomFor, Idle, InHand, IsCellAt, IsCellWord}
 use Prelude.{IsWordOf, kind_in, known, leads, Load, none, NumberedHandle, opening_of, owned_fits}
 use Prelude.{Paying, Pending, Rests, Ruled, same_number, same_number_true, same_place}
-use Prelude.{same_place_true, SeatView, seeing, sees_as, Shape, some, Stands, step, Took, view_of}
+use Prelude.{same_place_true, SeatView, seeing, sees_as, Shape, some, StandsFunded, step, Took, view_of}
 use Rattle.atomic_table.specs.Table as Table
-use Rattle.control_word.proofs.steps.Take as law
+use Rattle.control_word.proofs.funded.Cells as law
 use Rattle.control_block.specs.CellStepKinds.{took}
 use Rattle.control_block.proofs.CellWords.{Decoded, Opened, decoded, found_is, is_open, one_cell}
 use Rattle.control_block.proofs.CellWords.{opened}
@@ -45,7 +45,7 @@ module _ {V : Type 0} where
       (is : Opened k s r id me.0 at rests.awake c i) (o : ℕ) → let t = leads (opening_of k) r.history in
       let h = handle (kind_in me.0.shape c) (Some o) x.place in
       h ≡ cell_of t c → get_or s.words i 0 ≡ cell_bits x
-      → Adds (point k s r id me.0) (cell_word (point k s r id me.0) c) (get_or s.words (cell_word (point k s r id me.0) c) 0 + one_taken) (e h)
+      → AddsFunded (point k s r id me.0) (cell_word (point k s r id me.0) c) (get_or s.words (cell_word (point k s r id me.0) c) 0 + one_taken) (e h)
       (Paying (kind_in me.0.shape c) o x.place (counts_at (blocks_of t) (kind_in me.0.shape c) o) 1 1)) where
     taking : (s : Table.State (Option V) (SeatView V)) (r : Ruled k s) (at : get_elem? s.views id ≡ some me.0)
         (is : Opened k s r id me.0 at rests.awake c i) → Decoded k s r id me.0 at rests.awake c i is → get_or s.words i 0 ≡ found
@@ -62,8 +62,8 @@ module _ {V : Type 0} where
         let it : h ≡ old = λ j. record { kind = sym d.kind j; object = sym has j; place = (same j).place } in
         let p : Pending V = Paying kk o x.place (counts_at (blocks_of t) kk o) 1 1 in let hist = entry v.view.name (e h) ∷ r.history in
         let told = law s r at is o it (q ∙ is_found) in
-        let stands = subst (λ n. Stands z (set s.words i (n + one_taken)) (set (map view_of s.views) id (sees_as v.view p hist)) hist) q
-        (subst (λ y. Stands z (set s.words y (get_or s.words y 0 + one_taken)) (set (map view_of s.views) id (sees_as v.view p hist)) hist) is.there
+        let stands = subst (λ n. StandsFunded z (set s.words i (n + one_taken)) (set (map view_of s.views) id (sees_as v.view p hist)) hist) q
+        (subst (λ y. StandsFunded z (set s.words y (get_or s.words y 0 + one_taken)) (set (map view_of s.views) id (sees_as v.view p hist)) hist) is.there
         told) in (
           seeing v p None hist,
           quiet_next k s r id v (set s.words i (found + one_taken)) (e h) p at rests.awake rests.empty (quiet h) stands,
@@ -73,7 +73,7 @@ module _ {V : Type 0} where
             owned = ap (λ y. y.owned) same ∙ ap (block_of (blocks_of t)) has;
             there = ap (λ y. ((leads (opening_of y) hist).object o).block) (r.shapes id v at rests.awake)
                 ∙ (quiet h).blocks t v.view.name o;
-            event = adds k s r id v at rests.awake p None (e h) told.legal;
+            event = adds k s r id v at rests.awake p None (e h) told.stands.legal;
           },
         )
 
@@ -106,7 +106,7 @@ module _ {V : Type 0} where
       (λ s r at is o same bits.
       let low = subst (λ y. taken_in (get_or s.words y 0) < cell_funds) (sym is.there)
       (subst (λ n. taken_in n < cell_funds) (sym bits) (left_over x valid left)) in
-      (law.takes (point k s r id me.0) c (kind_in me.0.shape c) o x.place (ready k s r id me.0 at rests.awake Idle rests.idle) same
+      (law.takes_funded (point k s r id me.0) c (kind_in me.0.shape c) o x.place (ready k s r id me.0 at rests.awake Idle rests.idle) same
       (still_room k s r id me.0 at rests.awake more) low).0 (is_open k s r id me.0 at rests.awake c i cell))
 
   pub allows_differ : (k : Shape) (slots id i found : ℕ) (c : Cell) (expected new : NumberedHandle) (weak' : Bool) (x : CellWord) (me : At V) → Rests me
@@ -130,7 +130,7 @@ module _ {V : Type 0} where
         place = p j;
         taken = x.taken;
       })))) inr why in
-      (law.takes (point k s r id v) c kk o x.place (ready k s r id v at rests.awake Idle rests.idle) same
+      (law.takes_funded (point k s r id v) c kk o x.place (ready k s r id v at rests.awake Idle rests.idle) same
       (still_room k s r id v at rests.awake more) low).1 expected new weak' (
         is_open k s r id v at rests.awake c i cell,
         hand_there k s r id v at rests.awake kk expected he _ is.kind,

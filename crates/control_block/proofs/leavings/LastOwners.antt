@@ -28,11 +28,11 @@ module _ {V : Type 0} where
       → Visits t u.view.name b u.view.pending → ⊥
   unvisited k s r id v at awake free o b p mine last one j u there un out m =
       let z = opening_of k in let t = leads z r.history in
-      let name = names_an_object z r.history r.stands.legal u.view.name Owner (handle Owner (Some m.object) m.place) (m.has, refl, refl) in
+      let name = names_an_object z r.history r.stands.stands.legal u.view.name Owner (handle Owner (Some m.object) m.place) (m.has, refl, refl) in
       let same : m.object ≡ o = sym name.2 ∙ (ap t.latest m.there ∙ last) in
       let his = subst (λ q. Has (held u.view.name (handle Owner (Some q) m.place)) t.hands) same m.has in
       let other : j ≢ id = λ q. subst (λ c. IsSlotOf c b) free (subst (λ (y : SeatView V). IsSlotOf y.hand b) (some-injective u v (sym there
       ∙ (ap (get_elem? s.views) q ∙ at))) out) in
-      let apart : v.view.name ≢ u.view.name = λ q. other (r.stands.team.names j id u.view v.view (at_map view_of s.views j u there)
+      let apart : v.view.name ≢ u.view.name = λ q. other (r.stands.stands.team.names j id u.view v.view (at_map view_of s.views j u there)
       (at_map view_of s.views id v at) un awake u.view.name (inl refl) (inl q)) in
       let two = two_owners t v.view.name u.view.name o p m.place apart mine his in let e = eqb-true (count t o) 1 (sym one) in omega arith

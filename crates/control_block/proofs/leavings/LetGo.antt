@@ -1,10 +1,11 @@
 -- What the steps of a call come to by which a handle comes out of a cell and leaves.
-use Rattle.std.proofs.Common.{◌≡◌, ℕ, ◌-◌, ◌≤◌, false, [], IfSome, Some, None, Option, sym, refl}
-use Rattle.std.proofs.Common.{ap, ◌∙◌, subst, inr, arith}
+use Rattle.std.proofs.Common.{◌≡◌, ℕ, ◌-◌, ◌≤◌, ◌≢◌, ◌==◌, false, [], IfSome, Some, None, Option, sym, refl}
+use Rattle.std.proofs.Common.{ap, ◌∙◌, subst, inl, inr, ⊎_elim, arith, eq-eqb, ne_eqb}
+use Rattle.std.proofs.lemmas.Bool.{cond-false, cond-true}
 use Rattle.control_block.proofs.Prelude
-use Prelude.{Added, At, Block, block_out, blocks_of, CameOut, CellWord, debt, Event, Gave, goes_on}
-use Prelude.{handle, Idle, in_call, IsCounted, IsReleasedBy, IsSized, Kind, known, LetGo, MayLeave}
-use Prelude.{NumberedHandle, object_by, object_of, opening_of, OutAndGone, Owes, owing, Pending}
+use Prelude.{Added, At, Block, block_out, blocks_of, CameOut, cases_eq, CellWord, debt, Event, Gave, goes_on}
+use Prelude.{handle, HoldingInBlock, Idle, IsCounted, IsReleasedBy, IsSized, Kind, known, LetGo, MayLeave}
+use Prelude.{NumberedHandle, object_by, object_of, opening_of, OutAndGone, Owes, owing, Paying, Pending, short_of, slot, spot}
 use Prelude.{Place, Released, Rests, SeatView, shown_handle, TableId, value}
 use Rattle.control_block.specs.Leaving.{OwesFor, leave_of, nothing}
 use Rattle.control_block.proofs.cells.CellRetries.{added_owes, came_object, given_back}
@@ -21,12 +22,27 @@ module _ {V : Type 0} where
   pub gone_rests : (v : SeatView V) (me : At V) (e : Event V) → Added v Idle None e me.0 → v.view.spent ≡ false → me.1 ≡ [] → Rests me
   gone_rests v me e a awake none = owes_rests me (added_owes v me Idle e a awake none)
 
-  -- what owes its funds may leave
+  -- what came out may leave with the funds that it has
   pub may_go : (k : Kind) (x : CellWord) (me : At V) (b : Block) (o : ℕ) (p : Option Place) (f : ℕ) → OwesFor k x me → x.owned ≡ Some b
-      → o ≡ (known me.0).latest b.0 → p ≡ x.place → f ≡ cell_funds - x.taken → MayLeave me k o p b.0 f
-  may_go k x me b o p f owes is object place left =
-      let now = subst (λ q. Owes (debt (handle k (object_by (known me.0).latest q) x.place) q (cell_funds - x.taken)) me) is owes in
-      inr (subst (λ (y : ℕ × Option Place × ℕ). Owes (owing k y.0 y.1 b.0 y.2 0) me) (λ i. (sym object i, sym place i, sym left i)) now)
+      → o ≡ (known me.0).latest b.0 → p ≡ x.place → f ≡ cell_funds - x.taken → HoldingInBlock me.0 k o p b.0 → MayLeave me k o p b.0 f
+  may_go k x me b o p f owes is object place left holds =
+      let l = (known me.0).latest b.0 in let w = spot b.0 (slot k) in let n = cell_funds - x.taken in
+      let now : Owes (short_of k l x.place w n) me =
+      subst (λ q. Owes (debt (handle k (object_by (known me.0).latest q) x.place) q (cell_funds - x.taken)) me) is owes in
+      ⊎_elim
+      (λ (e : n ≡ cell_funds).
+      inl (
+        owes_rests me (subst (λ (q : Pending V). Owes q me) (cond-true (n == cell_funds) Idle (Paying k l x.place w n 0) (eq-eqb n cell_funds e)) now),
+        holds,
+        left ∙ e,
+      ))
+      (λ (ne : n ≢ cell_funds).
+      inr (
+        subst (λ (y : ℕ × Option Place × ℕ). Owes (owing k y.0 y.1 b.0 y.2 0) me) (λ i. (sym object i, sym place i, sym left i))
+            (subst (λ (q : Pending V). Owes q me) (cond-false (n == cell_funds) Idle (Paying k l x.place w n 0) (ne_eqb n cell_funds ne)) now),
+        omega arith,
+      ))
+      (cases_eq n cell_funds)
 
   pub meant_out : (k : Kind) (v : SeatView V) (x : CellWord)
       → IfSome x.owned (λ b. (block_out x ≡ b) × (object_of (shown_handle v k x) ≡ (known v).latest b.0))
@@ -54,18 +70,6 @@ module _ {V : Type 0} where
       (subst (λ (y : ℕ × Option Place). Added v Idle None (leave_of k (handle k (Some y.0) y.1) r) u × IsReleasedBy k r
       × IfSome r.value (λ c. value (opening_of v.shape) u.view.seen y.0 ≡ Some c)) (λ i. (object i, place i)) (a, only, kept))
 
-  -- bringing funds adds nothing to what the desk has seen
-  pub gave_from : (e : NumberedHandle → Event V) (k : Kind) (v w u : SeatView V) (p : Pending V) (x : CellWord) → w ≡ in_call v p
-      → Gave e k w x u → Gave e k v x u
-  gave_from e k v w u p x is g =
-      let d = subst (λ (y : SeatView V). Gave e k y x u) is g in let a = d.event in
-      record {
-        old = d.old;
-        kind = d.kind;
-        shows = d.shows;
-        event = record { between = a.between; now = a.now; quiet = a.quiet; legal = a.legal };
-      }
-
   module _ (e : NumberedHandle → Event V) (k : Kind) (v : SeatView V) (x : CellWord) (lost : NumberedHandle) (trades : Trades e lost) where
     -- the handle that came out owes its funds
     pub gave_owes : (me : At V) → Gave e k v x me.0 → v.view.spent ≡ false → me.1 ≡ [] → OwesFor k x me
@@ -86,7 +90,21 @@ module _ {V : Type 0} where
             let object : object_of g.old ≡ (known w).latest b.0 = ap (λ (q : Option ℕ). object_of (handle k q None)) o in
             let place : g.old.place ≡ x.place = sym (ap (λ y. y.place) g.shows) in
             let now = added_owes v me _ (e g.old) (subst (λ q. Added v (debt g.old q (cell_funds - x.taken)) None (e g.old) w) is g.event) awake none in
-            subst (λ (y : Kind × ℕ × Option Place). Owes (owing y.0 y.1 y.2 b.0 (cell_funds - x.taken) 0) me) (λ i. (g.kind i, object i, place i)) now
+            subst (λ (y : Kind × ℕ × Option Place). Owes (short_of y.0 y.1 y.2 (spot b.0 (slot y.0)) (cell_funds - x.taken)) me)
+            (λ i. (g.kind i, object i, place i)) now
+
+    -- and is in the desk's hands
+    pub gave_holds : (me : At V) → Gave e k v x me.0
+        → IfSome x.owned (λ b. HoldingInBlock me.0 k (object_of (shown_handle me.0 k x)) x.place b.0)
+    gave_holds me g = go x.owned refl
+      where
+        go : (q : Option Block) → x.owned ≡ q
+            → IfSome q (λ b. HoldingInBlock me.0 k (object_of (handle k (object_by (known me.0).latest q) x.place)) x.place b.0)
+        go None is = tt
+        go (Some b) is =
+            let c = given_back e k v me.0 (goes_on me.0) x g refl in
+            let h = (came_object e k v (goes_on me.0) x lost b trades c is).1 in
+            record { has = h.has; there = h.there }
 
     -- and its block and count are the table's
     pub gave_there : (w : SeatView V) (id : TableId) → Gave e k v x w → IsSized id v.shape → IfSome x.owned (λ b. IsCounted k b id × (b.0 ≤ id.slots))

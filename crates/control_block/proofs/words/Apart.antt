@@ -5,9 +5,11 @@ use Rattle.std.proofs.Common.{⊎_elim, append_assoc, arith}
 use Rattle.control_block.proofs.Prelude
 use Prelude.{added, adds, at_inside, at_longer, at_set, cases_eq, Entry, fun_ext, get_elem?, Idle}
 use Prelude.{IsActing, Knows, leads, longer, Merging, more, Opening, owed, owes, paid, pays}
-use Prelude.{Seated, set_else, set_here, Shows, some, some-injective, some-ne-none, spot, Stands}
+use Prelude.{Seated, set_else, set_here, Shows, some, some-injective, some-ne-none, spot, StandsFunded}
 use Prelude.{StandsFor, State, total, total_set, View}
 use Rattle.control_block.proofs.words.Seats.{none_by}
+use Rattle.control_word.specs.HandFunds.{lacks}
+use Rattle.control_word.specs.Views.{Stands}
 
 -- an element behind a list
 at_end : {A : Type 0} (l : List A) (a : A) (i : ℕ) (x : A) → get_elem? (l ++ a ∷ []) i ≡ some x
@@ -47,12 +49,12 @@ module _ {V : Type 0} where
 
   module _ (z : Opening) (words : List ℕ) (views : List (View V)) (h : List (Entry V)) (stands : Stands z words views h)
       (i n : ℕ) (xs : List (Entry V)) (m : ℕ) (ys : List (Entry V)) (at : get_elem? views i ≡ some (one_view n xs m ys)) where
-    pub apart_names : n ≢ m
-    apart_names e = (stands.team.seated i (one_view n xs m ys) at refl).apart m refl e
+    apart_bare : n ≢ m
+    apart_bare e = (stands.team.seated i (one_view n xs m ys) at refl).apart m refl e
 
     -- the second view takes its place behind the others
-    pub part_again : Stands z words (set views i (idle_view n xs) ++ idle_view m ys ∷ []) h
-    part_again = record {
+    part_bare : Stands z words (set views i (idle_view n xs) ++ idle_view m ys ∷ []) h
+    part_bare = record {
       taken = stands.taken;
       legal = stands.legal;
       shows = subst (λ (u : ℕ → ℕ). Shows z words u (more z s all stands.taken) s)
@@ -156,3 +158,20 @@ module _ {V : Type 0} where
             (λ (t : (j ≡ i) × (v ≡ u)). seat.apart m refl (⊎_elim (λ (q : n ≡ d). q
             ∙ sym is) (λ q. absurd q) (subst (λ (x : View V). StandsFor x d) (sym t.1) a)))
             (λ (t : (j ≢ i) × (get_elem? views j ≡ some u)). t.0 (stands.team.names j i u both t.1 at l refl d a (inr is))) (at_set views i j v u e)
+
+  module _ (z : Opening) (words : List ℕ) (views : List (View V)) (h : List (Entry V)) (stands : StandsFunded z words views h)
+      (i n : ℕ) (xs : List (Entry V)) (m : ℕ) (ys : List (Entry V)) (at : get_elem? views i ≡ some (one_view n xs m ys)) where
+    pub apart_names : n ≢ m
+    apart_names = apart_bare z stands.bare views h stands.stands i n xs m ys at
+
+    -- neither a look nor a desk between its calls lacks funds
+    pub part_again : StandsFunded z words (set views i (idle_view n xs) ++ idle_view m ys ∷ []) h
+    part_again = record {
+      bare = stands.bare;
+      stands = part_bare z stands.bare views h stands.stands i n xs m ys at;
+      sized = stands.sized;
+      funded = λ k.
+          let a = total_set (λ (y : View V). lacks y.pending k) views i (one_view n xs m ys) (idle_view n xs) at in
+          let b = total_end (λ (y : View V). lacks y.pending k) (set views i (idle_view n xs)) (idle_view m ys) in
+          let f = stands.funded k in omega arith;
+    }

@@ -2,10 +2,10 @@
 use Rattle.std.proofs.Common.{◌≡◌, ℕ, suc, ◌≤◌, Bool, false, cond, [], ◌∷◌, length, ◌==◌, Some}
 use Rattle.std.proofs.Common.{None, Option, sym, refl, ap, ◌∙◌, subst, inl, inr, ⊎_elim, arith}
 use Rattle.control_block.proofs.Prelude
-use Prelude.{allowed, bag_one, bag_size, Block, block_of, blocks_of, Cell, cond_both, debt, fills}
+use Prelude.{allowed, bag_one, bag_size, Block, block_of, blocks_of, Cell, cond_both, debt, drawn, fills}
 use Prelude.{filter, Free, get_elem?, gets, handle, has_object, HasRoom, HasRoomFor, Held, held}
 use Prelude.{held_busy, held_self, held_true, Holds, InHand, IsBusy, Kind, known, leads, loses}
-use Prelude.{Member, num_without, NumberedHandle, object_of, opening_of, purse, Ruled, same_counts}
+use Prelude.{Member, num_without, NumberedHandle, object_of, opening_of, Ruled, same_counts}
 use Prelude.{same_held, SeatView, Shape, slot, some, sound, spot, State, without, written}
 use Rattle.atomic_table.specs.Table as Table
 use Rattle.control_word.specs.Events.{swaps}
@@ -49,13 +49,13 @@ swaps_most s d c h old =
     let q = ap (λ l. length (filter (λ (x : Held). x.desk == d) l)) (fills_hands c h (loses d h s)) in omega arith
 
 module _ {V : Type 0} where
-  -- what is owed for a handle is its purse
-  pub debt_purse : (block : ℕ → ℕ) (h : NumberedHandle) (f : ℕ) → ◌≡◌ (debt {V = V} h (block_of block h.object) f) (purse block h f)
-  debt_purse block h f = go h.object refl
+  -- what is owed for a handle that has so many of its funds
+  pub debt_drawn : (block : ℕ → ℕ) (h : NumberedHandle) (f : ℕ) → ◌≡◌ (debt {V = V} h (block_of block h.object) f) (drawn block h f)
+  debt_drawn block h f = go h.object refl
     where
-      go : (o : Option ℕ) → h.object ≡ o → debt {V = V} h (block_of block h.object) f ≡ purse block h f
-      go None e = subst (λ y. debt {V = V} (handle h.kind y h.place) (block_of block y) f ≡ purse block (handle h.kind y h.place) f) (sym e) refl
-      go (Some o) e = subst (λ y. debt {V = V} (handle h.kind y h.place) (block_of block y) f ≡ purse block (handle h.kind y h.place) f) (sym e) refl
+      go : (o : Option ℕ) → h.object ≡ o → debt {V = V} h (block_of block h.object) f ≡ drawn block h f
+      go None e = subst (λ y. debt {V = V} (handle h.kind y h.place) (block_of block y) f ≡ drawn block (handle h.kind y h.place) f) (sym e) refl
+      go (Some o) e = subst (λ y. debt {V = V} (handle h.kind y h.place) (block_of block y) f ≡ drawn block (handle h.kind y h.place) f) (sym e) refl
 
   module _ (k : Shape) (s : Table.State (Option V) (SeatView V)) (r : Ruled k s) (id : ℕ) (v : SeatView V) (at : get_elem? s.views id ≡ some v)
       (awake : v.view.spent ≡ false) (m : Kind) (h : NumberedHandle) (hand : InHand (known v) v.view.name m h) where
@@ -77,7 +77,7 @@ module _ {V : Type 0} where
         let n : object_of h ≡ o = ap (λ y. object_of (handle h.kind y h.place)) e in
         let has = subst (λ x. Rattle.control_word.specs.State.Has (held v.view.name (handle m (Some x) h.place)) (known v).hands) n it in
         let mine = held_there k s r id v at awake m o h.place ((known v).object o).block record { has = has; there = refl } in
-        (held_busy z (leads z r.history) v.view.name o m h.place (sound z r.history r.stands.legal) mine.0, mine.1)) hand.1
+        (held_busy z (leads z r.history) v.view.name o m h.place (sound z r.history r.stands.stands.legal) mine.0, mine.1)) hand.1
 
     pub hand_block : block_of (blocks_of (known v)) h.object ≡ block_of (blocks_of (leads (opening_of k) r.history)) h.object
     hand_block = go h.object refl
@@ -101,7 +101,7 @@ module _ {V : Type 0} where
         go (Some x) None a b c = absurd (none_some (sym c))
         go (Some x) (Some y) a b c =
             let z = opening_of k in let t = leads z r.history in
-            let one = same_counts z t (sound z r.history r.stands.legal) m m x y (busy x a) (hand_object y b).0
+            let one = same_counts z t (sound z r.history r.stands.stands.legal) m m x y (busy x a) (hand_object y b).0
             (ap (λ n. spot n (slot m)) (same_number _ _ c)) in
             a ∙ (ap Some one.1 ∙ sym b)
 
@@ -117,7 +117,7 @@ module _ {V : Type 0} where
             let b = swaps_most t d c h old in let q = ap (λ y. bag_size y d) l in
             let f = ap (λ (g : ℕ → ℕ). g d) (fills_allowance c h (loses d h t)) in omega arith
         go (Some o) e =
-            let t = leads (opening_of k) r.history in let d = v.view.name in let a = (allowed (opening_of k) r.history r.stands.legal).rooms d in
+            let t = leads (opening_of k) r.history in let d = v.view.name in let a = (allowed (opening_of k) r.history r.stands.stands.legal).rooms d in
             let b = swaps_most t d c h old in let f = ap (λ (g : ℕ → ℕ). g d) (fills_allowance c h (loses d h t)) in let p : Held
             → Bool = λ x. x.desk == d in
             let has : Rattle.control_word.specs.State.Has (held d h) t.hands =

@@ -7,8 +7,8 @@ use Prelude.{all_blocks, all_stored, At, bag_size, Block, cases_eq, cond-false, 
 use Prelude.{filter-append, get_elem?, Inside, IsBacked, IsDesk, IsLegal, IsSized, IsWithinLimits}
 use Prelude.{known, length-map, length-replicate, many_ending, opening, opening_of, opens_with}
 use Prelude.{Rests, Ruled, same_stored, SeatView, Shape, some, some-injective, some-ne-none}
-use Prelude.{Stands, stock, Stored, stored, sum_below}
-use Rattle.control_word.proofs.steps.Standing.{begins}
+use Prelude.{StandsFunded, stock, Stored, stored, sum_below}
+use Rattle.control_word.proofs.funded.Words.{begins_funded}
 use Rattle.control_word.specs.Layout.{table_size}
 use Rattle.control_word.specs.State.{IsOpening, start}
 use Rattle.control_word.specs.Views.{fresh}
@@ -51,7 +51,7 @@ module _ {V : Type 0} where
   opens k fine words zeros =
       record {
         history = [];
-        stands = subst (λ l. Stands {V = V} (opening_of k) l (fresh 0 1) []) (sym zeros) (begins (opening_of k) (proper k fine));
+        stands = subst (λ l. StandsFunded {V = V} (opening_of k) l (fresh 0 1) []) (sym zeros) (begins_funded (opening_of k) (proper k fine));
         limits = fine;
         shapes = only (λ u. u.view.spent ≡ false → u.shape ≡ k) (opens_with k) (λ _. refl);
         sized = length-map (replicate k.blocks None) (λ y. some y) ∙ length-replicate k.blocks None;

@@ -1,13 +1,14 @@
 -- What a seat has after the steps of one call.
 use Rattle.std.proofs.Common.{◌≡◌, ℕ, zero, suc, ◌+◌, ◌-◌, ◌*◌, ◌<◌, Bool, true, false, List, []}
-use Rattle.std.proofs.Common.{◌∷◌, ◌++◌, length, set, slice_index, slice_set, Some, None, Option}
+use Rattle.std.proofs.Common.{◌∷◌, ◌++◌, ◌==◌, length, set, slice_index, slice_set, Some, None, Option}
 use Rattle.std.proofs.Common.{sym, refl, ap, ◌∙◌, subst, append_assoc, arith, length-set}
 use Rattle.control_block.proofs.Prelude
-use Prelude.{Added, At, bag_size, Block, bool_byte, Entry, entry, Event, flags_of, grown}
+use Prelude.{Added, At, bag_size, began, Block, bool_byte, Entry, entry, Event, Finish, flags_of, grown}
 use Prelude.{HasRoomFor, Idle, IsLegal, IsPrepared, Join, joined, JoinsUp, known, Knows, leads}
 use Prelude.{longer, Making, Merging, Moved, NoneBy, opening_of, Pending, prepared, rest}
-use Prelude.{same_kept, SeatView, seeing, wrote}
+use Prelude.{Rests, same_kept, SeatView, seeing, tells, value, wrote}
 use Rattle.atomic_table.specs.Table.{Step}
+use Rattle.control_block.specs.StepKinds.{finished}
 
 module _ {V : Type 0} where
   pub some_same : (x y : V) → Some x ≡ Some y → x ≡ y
@@ -36,6 +37,26 @@ module _ {V : Type 0} where
   -- and at a look with a slot in hand, before the event
   pub added_at : (v w : SeatView V) (c : Option Block) (e : Event V) → Added (seeing v Idle c v.view.seen) Idle None e w → Added v Idle None e w
   added_at v w c e a = record { between = a.between; now = a.now; quiet = a.quiet; legal = a.legal }
+
+  -- a make that has begun
+  pub begun_prepared : (b c : Block) (me new : At V) (n : ℕ) (st : Step (Option V)) → c ≡ b → Rests me → began c st me n new
+      → (l : List ℕ) × IsPrepared me.0 b new l None
+  begun_prepared b c me new n st is rests t = (
+    t.0,
+    record {
+      moved = subst (λ (x : Block). Moved me.0 (Making x t.0) (Some x) new.0) is t.2;
+      sized = t.1;
+      carried = t.3 ∙ (λ i. ((is i).0 - 1, None) ∷ rests.none i);
+    },
+  )
+
+  -- an ending that is over, of which the value that came out before is told
+  pub finished_told : (b : Block) (v : SeatView V) (me new : At V) (o n : ℕ) (st : Step (Option V)) → me.0 ≡ seeing v Idle (Some b) v.view.seen
+      → finished o st me n new → (x : V) → value (opening_of v.shape) v.view.seen o ≡ Some x → tells (Finish o (n == 1) x) v new.0
+  finished_told b v me new o n st now t x is =
+      let same = some_same t.0 x (sym t.1 ∙ (ap (λ (u : SeatView V). value (opening_of u.shape) u.view.seen o) now ∙ is)) in
+      subst (λ y. tells (Finish o (n == 1) y) v new.0) same
+      (added_at v new.0 (Some b) (Finish o (n == 1) t.0) (subst (λ u. Added u Idle None (Finish o (n == 1) t.0) new.0) now t.2))
 
   -- one part of a call after another
   pub moved_both : (v w u : SeatView V) (p q : Pending V) (a c : Option Block) → Moved v p a w → Moved w q c u → Moved v q c u

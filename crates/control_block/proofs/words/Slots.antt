@@ -84,7 +84,7 @@ module _ {V : Type 0} where
       where
         blocks : (o : ℕ) (q : Option Place) → Has (held u.view.name (handle Owner (Some o) q)) (leads (opening_of k) r.history).hands
             → 1 ≤ ((leads (opening_of k) r.history).object o).block
-        blocks o q h = (names_an_object (opening_of k) r.history r.stands.legal u.view.name Owner (handle Owner (Some o) q) (h, refl, refl)).3.0
+        blocks o q h = (names_an_object (opening_of k) r.history r.stands.stands.legal u.view.name Owner (handle Owner (Some o) q) (h, refl, refl)).3.0
 
         go : (c : Option Block) → u.hand ≡ c → IsSlotOf c b
             → let t = leads (opening_of k) r.history in
@@ -92,10 +92,10 @@ module _ {V : Type 0} where
         go None e h = absurd h
         go (Some c) e h =
             let t = leads (opening_of k) r.history in
-            let fits = (r.stands.team.seated j u.view (at_map view_of s.views j u there) un).fits in
+            let fits = (r.stands.stands.team.seated j u.view (at_map view_of s.views j u there) un).fits in
             let back : IsBacked t u.view.name u.view.pending (Some c) = subst (IsBacked t u.view.name u.view.pending) e (r.backed j u there un) in
             ⊎_elim
-            (λ (m : IsUsing u.view.pending c.0). inl (used_by s.words t (value
+            (λ (m : IsUsing u.view.pending c.0). inl (used_by r.stands.bare t (value
             (opening_of k) r.history) u.view.name b u.view.pending low blocks fits (subst (IsUsing u.view.pending) h m)))
             (λ (m : (t.object (t.latest c.0)).phase ≡ ending u.view.name). inr (ap (λ x. (t.object (t.latest x)).phase) (sym h) ∙ m)) back
 
@@ -107,7 +107,7 @@ module _ {V : Type 0} where
         → Visits (leads (opening_of k) r.history) u.view.name b u.view.pending → ⊥)
         → get_elem? s.homes (b - 1) ≡ some (some (value (opening_of k) r.history o))
     live_home b o inside is there alive unvisited =
-        let t = leads (opening_of k) r.history in let fine = sound (opening_of k) r.history r.stands.legal in
+        let t = leads (opening_of k) r.history in let fine = sound (opening_of k) r.history r.stands.stands.legal in
         ⊎_elim
         (λ (e : get_elem? s.homes (b - 1) ≡ some (some (kept (opening_of k) r.history b))).
         e ∙ ap (λ x. some (some x)) (ap (λ x. until_gone (t.object x).phase (value (opening_of k) r.history x)) is
@@ -123,7 +123,7 @@ module _ {V : Type 0} where
     pub vacant_home : (id : ℕ) (v : SeatView V) → get_elem? s.views id ≡ some v → v.view.spent ≡ false → v.hand ≡ None → (b : ℕ)
         → Has (stored v.view.name b) (leads (opening_of k) r.history).stores → get_elem? s.homes (b - 1) ≡ some (some None)
     vacant_home id v at awake free b mine =
-        let z = opening_of k in let t = leads z r.history in let fine = sound z r.history r.stands.legal in let o = t.latest b in
+        let z = opening_of k in let t = leads z r.history in let fine = sound z r.history r.stands.stands.legal in let o = t.latest b in
         let vacant = fine.stores v.view.name b mine in
         let here : o ≢ 0 → (t.object o).block ≡ b = fine.latest_in b in
         let dead : (t.object o).phase ≡ live → ⊥ = λ q. let w = live_busy t o q in
@@ -137,7 +137,7 @@ module _ {V : Type 0} where
         let same = one_store v.view.name q.1.view.name b t.stores (let o = fine.once b in omega arith) mine m in
         ⊎_elim (λ (i : q.0 ≡ id). subst (λ c. IsSlotOf c b) free (subst (λ (u : SeatView V). IsSlotOf u.hand b) (some-injective q.1 v (sym q.2
         ∙ (ap (get_elem? s.views) i ∙ at))) q.4))
-        (λ (n : q.0 ≢ id). n (r.stands.team.names q.0 id q.1.view v.view (at_map view_of s.views q.0 q.1 q.2)
+        (λ (n : q.0 ≢ id). n (r.stands.stands.team.names q.0 id q.1.view v.view (at_map view_of s.views q.0 q.1 q.2)
         (at_map view_of s.views id v at) q.3 awake
         q.1.view.name (inl refl) (inl same))) (cases_eq q.0 id))
         (λ (m : Visits t q.1.view.name b q.1.view.pending).
@@ -152,7 +152,7 @@ module _ {V : Type 0} where
         → ((leads (opening_of k) r.history).object o).phase ≡ ending v.view.name
         → get_elem? s.homes (b - 1) ≡ some (some (value (opening_of k) r.history o))
     ending_home id v at awake free b o inside is ends =
-        let z = opening_of k in let t = leads z r.history in let fine = sound z r.history r.stands.legal in
+        let z = opening_of k in let t = leads z r.history in let fine = sound z r.history r.stands.stands.legal in
         let here : (t.object (t.latest b)).phase ≡ ending v.view.name = ap (λ x. (t.object x).phase) is ∙ ends in
         ⊎_elim (λ (e : get_elem? s.homes (b - 1) ≡ some (some (kept z r.history b))). e
         ∙ ap (λ x. some (some x)) (ap (λ x. until_gone (t.object x).phase (value z r.history x)) is
@@ -162,7 +162,7 @@ module _ {V : Type 0} where
         let w = ends_busy z t b v.view.name fine here in
         let u = (fine.stores q.1.view.name b m).0 (t.latest b) (ends_here z t b v.view.name fine here) in omega arith)
         (λ (m : Visits t q.1.view.name b q.1.view.pending).
-        let n = names_an_object z r.history r.stands.legal q.1.view.name Owner (handle Owner (Some m.object) m.place) (m.has, refl, refl) in
+        let n = names_an_object z r.history r.stands.stands.legal q.1.view.name Owner (handle Owner (Some m.object) m.place) (m.has, refl, refl) in
         let alive = counted_live z t m.object fine (owner_counted t q.1.view.name m.object m.place m.has) in
         let same : m.object ≡ t.latest b = sym n.2 ∙ ap t.latest m.there in
         live_ends v.view.name (sym alive ∙ (ap (λ x. (t.object x).phase) same ∙ here))))
@@ -170,7 +170,7 @@ module _ {V : Type 0} where
         let same : v.view.name ≡ q.1.view.name = same_ender v.view.name q.1.view.name (sym here ∙ m) in
         ⊎_elim (λ (i : q.0 ≡ id). subst (λ c. IsSlotOf c b) free (subst (λ (u : SeatView V). IsSlotOf u.hand b) (some-injective q.1 v (sym q.2
         ∙ (ap (get_elem? s.views) i ∙ at))) q.4))
-        (λ (n : q.0 ≢ id). n (r.stands.team.names q.0 id q.1.view v.view (at_map view_of s.views q.0 q.1 q.2)
+        (λ (n : q.0 ≢ id). n (r.stands.stands.team.names q.0 id q.1.view v.view (at_map view_of s.views q.0 q.1 q.2)
         (at_map view_of s.views id v at) q.3 awake
         q.1.view.name (inl refl) (inl same))) (cases_eq q.0 id))
         (out_means b q.0 q.1 inside.0 q.2 q.3 q.4))) (r.homes b inside)
@@ -183,8 +183,8 @@ module _ {V : Type 0} where
         → IsBacked (leads (opening_of k) r.history) u.view.name u.view.pending u.hand
         → IsBacked (leads (opening_of k) (entry v.view.name e ∷ r.history)) u.view.name u.view.pending u.hand
     others_still id v at awake e asks none j u ne there un back =
-        let t = leads (opening_of k) r.history in let fine = sound (opening_of k) r.history r.stands.legal in
-        let apart : v.view.name ≢ u.view.name = λ q. ne (sym (r.stands.team.names id j v.view u.view (at_map view_of s.views id v at)
+        let t = leads (opening_of k) r.history in let fine = sound (opening_of k) r.history r.stands.stands.legal in
+        let apart : v.view.name ≢ u.view.name = λ q. ne (sym (r.stands.stands.team.names id j v.view u.view (at_map view_of s.views id v at)
         (at_map view_of s.views j u there) awake un u.view.name (inl q) (inl refl))) in
         backed_still t (leads (opening_of k) (entry v.view.name e ∷ r.history)) u.view.name u.view.pending u.hand
         (λ b ends. let a = stays_after (opening_of k) t b u.view.name v.view.name fine ends e asks apart (none j u ne there un) in

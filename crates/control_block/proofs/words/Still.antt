@@ -3,7 +3,7 @@ use Rattle.std.proofs.Common.{◌≡◌, ℕ, ◌<◌, false, ◌≢◌, List, m
 use Rattle.std.proofs.Common.{sym, refl, subst, inr, ⊎_elim, eq-eqb, ne_eqb}
 use Rattle.control_block.proofs.Prelude.{Allows, At, at_map, cases_eq, either, get_elem?, in_call}
 use Rattle.control_block.proofs.Prelude.{IsSlotOf, keeps, load_is_write, opening_of, Pending}
-use Rattle.control_block.proofs.Prelude.{Ruled, SeatView, sees_as, set_again, Shape, some, Stands}
+use Rattle.control_block.proofs.Prelude.{Ruled, SeatView, sees_as, set_again, Shape, some, StandsFunded}
 use Rattle.control_block.proofs.Prelude.{view_of}
 use Rattle.atomic_table.specs.Table as Table
 use Rattle.control_block.proofs.Passage.{next}
@@ -20,7 +20,7 @@ module _ {V : Type 0} where
   -- the rule where the desk's call went on, and all else is as it was, what it has seen too
   pub moved_on : (k : Shape) (s : Table.State (Option V) (SeatView V)) (r : Ruled k s) (id : ℕ) (v : SeatView V) (words : List ℕ) (p : Pending V)
       → get_elem? s.views id ≡ some v → v.view.spent ≡ false → v.hand ≡ None → IsOwn p
-      → Stands (opening_of k) words (set (map view_of s.views) id (sees_as v.view p r.history)) r.history
+      → StandsFunded (opening_of k) words (set (map view_of s.views) id (sees_as v.view p r.history)) r.history
       → Ruled k record { words = words; homes = s.homes; views = set s.views id (in_call v p) }
   moved_on k s r id v words p at awake free own stands =
       next k s r id v (in_call v p) words s.homes r.history at awake (r.shapes id v at awake)
@@ -31,7 +31,7 @@ module _ {V : Type 0} where
   pub allows_move : (k : Shape) (slots id i : ℕ) (me : At V) (f : ℕ → ℕ) (p : Pending V) → me.0.view.spent ≡ false
       → me.0.hand ≡ None → IsOwn p
       → ((s : Table.State (Option V) (SeatView V)) (r : Ruled k s) → get_elem? s.views id ≡ some me.0 → get_or s.words i 0 < 18446744073709551616
-      → Stands (opening_of k) (set s.words i (f (get_or s.words i 0))) (set (map view_of s.views) id (sees_as me.0.view p r.history)) r.history)
+      → StandsFunded (opening_of k) (set s.words i (f (get_or s.words i 0))) (set (map view_of s.views) id (sees_as me.0.view p r.history)) r.history)
       → Allows (Ruled k) slots id me i f (λ n after. (after.0 ≡ in_call me.0 p) × (after.1 ≡ me.1))
   allows_move k slots id i me f p awake free own law s r sized at small =
       let v = me.0 in (

@@ -4,8 +4,10 @@ use Rattle.std.proofs.Common.{true≢false, arith}
 use Rattle.control_block.proofs.Prelude.{added, adds, at_inside, at_set, cases_eq, Entry, fun_ext}
 use Rattle.control_block.proofs.Prelude.{get_elem?, HasBoth, IsSecond, leads, more, Opening, owed}
 use Rattle.control_block.proofs.Prelude.{owes, paid, pays, Pending, Seated, sees_as, set_else}
-use Rattle.control_block.proofs.Prelude.{set_here, Shows, some, some-injective, spot, Stands}
-use Rattle.control_block.proofs.Prelude.{StandsFor, total_set, View}
+use Rattle.control_block.proofs.Prelude.{set_here, Shows, some, some-injective, spot}
+use Rattle.control_block.proofs.Prelude.{StandsFor, StandsFunded, total_set, View}
+use Rattle.control_word.specs.HandFunds.{lacking, lacks}
+use Rattle.control_word.specs.Views.{Stands}
 
 module _ {V : Type 0} where
   -- the call is no half-done split or join
@@ -58,8 +60,8 @@ module _ {V : Type 0} where
         (full, ap (get_elem? (set views i full)) t.0 ∙ here, awake, λ d st. subst (λ (x : View V). StandsFor x d) (sym t.1) st))
         (λ (t : (j ≢ i) × (get_elem? views j ≡ some u)). (u, set_else views i j full t.0 ∙ t.1, l, λ d st. st)) (at_set views i j now u e)
 
-    pub unseen : Stands z words (set views i now) h
-    unseen = record {
+    unseen_bare : Stands z words (set views i now) h
+    unseen_bare = record {
       taken = stands.taken;
       legal = stands.legal;
       shows = subst (λ (u : ℕ → ℕ). Shows z words u (more z (leads z h) all stands.taken) (leads z h)) (fun_ext (λ m. sym (sums m).0))
@@ -84,3 +86,16 @@ module _ {V : Type 0} where
             (λ (n : t.0 ≢ i). (t.0, t.1, set_else views i t.0 now n ∙ t.2, t.3, t.4)) (cases_eq t.0 i);
       };
     }
+
+  pub unseen : (z : Opening) (before words : List ℕ) (views : List (View V)) (h : List (Entry V)) (i : ℕ) (v : View V) (p : Pending V)
+      → get_elem? views i ≡ some v → v.spent ≡ false → StandsFunded z before views h → IsOwn p
+      → StandsFunded z words (set views i (sees_as v p h)) h → StandsFunded z words (set views i (sees_as v p v.seen)) h
+  unseen z before words views h i v p at awake old own stands = record {
+    bare = stands.bare;
+    stands = unseen_bare z old.bare stands.bare views h i v p at awake old.stands own stands.stands;
+    sized = stands.sized;
+    funded = λ m.
+        let a = total_set (λ (y : View V). lacks y.pending m) views i v (sees_as v p v.seen) at in
+        let b = total_set (λ (y : View V). lacks y.pending m) views i v (sees_as v p h) at in
+        let f = stands.funded m in omega arith;
+  }

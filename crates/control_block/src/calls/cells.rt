@@ -13,7 +13,7 @@ use crate::domain::Domain;
 use crate::step_kinds::cells::CellArgs;
 use crate::{retries, steps};
 use control_word::packed::layout::site_word;
-use control_word::{CellWord, Refusal, Site};
+use control_word::{Refusal, Site};
 use std::sync::Wait;
 
 /// A copy of what a cell holds ([util.smartptr.atomic.shared], [util.smartptr.atomic.weak]). It is refused `Limit` just
@@ -30,10 +30,11 @@ pub fn load<V: Drop, A: CellArgs, R: Wait>(
     ensures limit { IsErr result ↔ (held_of desk.old ≡ allowance_of desk.old) }
     ensures refused { IfErr result (λ why. (why ≡ Refusal.Limit) × (desk.new ≡ desk.old)) }
     ensures event { IfOk result
-        (λ h. AddsEvent desk.old (Load A.cell (handle_in desk.new cell.kind h.block h.place)) desk.new) }
-    ensures bag { IfOk result (λ h. bag_of desk.new ≡ with_handle cell.kind h.block h.place (bag_of desk.old)) }
+        (λ h. AddsEvent desk.old (Load A.cell (handle_in desk.new cell.kind h.word.block h.word.place)) desk.new) }
+    ensures bag { IfOk result
+        (λ h. bag_of desk.new ≡ with_handle cell.kind h.word.block h.word.place (bag_of desk.old)) }
     ensures held { OnOk result (desk.new.held ≡ desk.old.held + 1) }
-    ensures holds { IfOk result (λ h. HoldsHandle desk.new cell.kind h.block h.place) }
+    ensures holds { IfOk result (λ h. HoldsHandle desk.new cell.kind h.word.block h.word.place) }
     ensures kind { IfOk result (λ h. h.kind ≡ cell.kind) }
     ensures keeps { OnOk result (Keeps desk.old desk.new) }
 {
@@ -46,8 +47,7 @@ pub fn load<V: Drop, A: CellArgs, R: Wait>(
     let seen = retries::loads::load::<V, A, R>(rt, table, &mut desk.seat, word, cell.kind);
     Ok(Content {
         kind: cell.kind,
-        block: seen.owned,
-        place: seen.place,
+        word: seen.handle(),
     })
 }
 
@@ -64,10 +64,11 @@ pub fn load_once<V: Drop, A: CellArgs>(
     ensures limit { held_of desk.old ≡ allowance_of desk.old → IsNone result }
     ensures missed { IfNone result (desk.new ≡ desk.old) }
     ensures event { IfSome result
-        (λ h. AddsEvent desk.old (Load A.cell (handle_in desk.new cell.kind h.block h.place)) desk.new) }
-    ensures bag { IfSome result (λ h. bag_of desk.new ≡ with_handle cell.kind h.block h.place (bag_of desk.old)) }
+        (λ h. AddsEvent desk.old (Load A.cell (handle_in desk.new cell.kind h.word.block h.word.place)) desk.new) }
+    ensures bag { IfSome result
+        (λ h. bag_of desk.new ≡ with_handle cell.kind h.word.block h.word.place (bag_of desk.old)) }
     ensures held { IfSome result (λ _. desk.new.held ≡ desk.old.held + 1) }
-    ensures holds { IfSome result (λ h. HoldsHandle desk.new cell.kind h.block h.place) }
+    ensures holds { IfSome result (λ h. HoldsHandle desk.new cell.kind h.word.block h.word.place) }
     ensures kind { IfSome result (λ h. h.kind ≡ cell.kind) }
     ensures keeps { IfSome result (λ _. Keeps desk.old desk.new) }
 {
@@ -80,8 +81,7 @@ pub fn load_once<V: Drop, A: CellArgs>(
     match retries::loads::load_once::<V, A>(table, &mut desk.seat, word, cell.kind) {
         Ok(seen) => Some(Content {
             kind: cell.kind,
-            block: seen.owned,
-            place: seen.place,
+            word: seen.handle(),
         }),
         Err(_) => {
             desk.held -= 1;
@@ -101,20 +101,15 @@ pub fn holds<V: Drop, A: CellArgs>(
 ) -> bool
     requires domain { Belongs desk.old domain.now }
     requires cell { IsOpenAt desk.old site expected.kind × (A.cell ≡ cell_of_site desk.old site) }
-    requires expected { A.expected ≡ handle_in desk.old expected.kind expected.block expected.place }
-    requires holds { HoldsHandle desk.old expected.kind expected.block expected.place }
+    requires expected { A.expected ≡ handle_in desk.old expected.kind expected.word.block expected.word.place }
+    requires holds { HoldsHandle desk.old expected.kind expected.word.block expected.word.place }
     ensures event { AddsEvent desk.old (Same A.cell A.expected result) desk.new }
     ensures outcome { Outcome desk.old (bag_of desk.old) desk.old.held desk.new }
 {
     let table = &domain.table.shared;
     let seat = &mut desk.seat;
     let word = site_word(domain.shape.blocks, site);
-    let shown = CellWord {
-        owned: expected.block,
-        place: expected.place,
-        taken: 0,
-    };
-    steps::cells::holds::<V, A>(table, seat, word, shown)
+    steps::cells::holds::<V, A>(table, seat, word, expected.word)
 }
 
 /// A handle that the desk has goes into a cell, and what the cell held comes out ([util.smartptr.atomic.shared],
@@ -128,29 +123,23 @@ pub fn exchange<V: Drop, A: CellArgs>(
 ) -> Content
     requires domain { Belongs desk.old domain.now }
     requires cell { IsOpenAt desk.old site new.kind × (A.cell ≡ cell_of_site desk.old site) }
-    requires new { A.new ≡ handle_in desk.old new.kind new.block new.place }
-    requires holds { HoldsHandle desk.old new.kind new.block new.place }
+    requires new { A.new ≡ handle_in desk.old new.kind new.word.block new.word.place }
+    requires holds { HoldsHandle desk.old new.kind new.word.block new.word.place }
     ensures event { AddsEvent desk.old
-        (Swap A.cell A.new (handle_in desk.new new.kind result.block result.place)) desk.new }
-    ensures bag { bag_of desk.new ≡ with_handle new.kind result.block result.place
-        (without_handle new.kind new.block new.place (bag_of desk.old)) }
+        (Swap A.cell A.new (handle_in desk.new new.kind result.word.block result.word.place)) desk.new }
+    ensures bag { bag_of desk.new ≡ with_handle new.kind result.word.block result.word.place
+        (without_handle new.kind new.word.block new.word.place (bag_of desk.old)) }
     ensures held { desk.new.held ≡ desk.old.held }
-    ensures holds { HoldsHandle desk.new new.kind result.block result.place }
+    ensures holds { HoldsHandle desk.new new.kind result.word.block result.word.place }
     ensures kind { result.kind ≡ new.kind }
     ensures keeps { Keeps desk.old desk.new }
 {
     let table = &domain.table.shared;
     let seat = &mut desk.seat;
     let word = site_word(domain.shape.blocks, site);
-    let full = CellWord {
-        owned: new.block,
-        place: new.place,
-        taken: 0,
-    };
-    let old = retries::cells::swap::<V, A>(table, seat, word, new.kind, full);
+    let old = retries::cells::swap::<V, A>(table, seat, word, new.kind, new.word);
     Content {
         kind: new.kind,
-        block: old.owned,
-        place: old.place,
+        word: old.handle(),
     }
 }

@@ -33,7 +33,7 @@ pub fn clear<V: Drop>(
     requires domain { Belongs desk.old domain.now }
     requires ending { (x : V) × IsEnding desk.old block.0 x }
     requires member { (member < members_of desk.old.shape) × (kind_of_member desk.old.shape.owners member ≡ kind) }
-    ensures emptied { Empties kind desk.old block.0 member result.0.block result.0.place result.1 desk.new }
+    ensures emptied { Empties kind desk.old block.0 member result.0.word.block result.0.word.place result.1 desk.new }
     ensures kind { IsReleasedBy kind result.1 }
     ensures bag { bag_of desk.new ≡ bag_of desk.old }
     ensures held { desk.new.held ≡ desk.old.held }
@@ -49,11 +49,10 @@ pub fn clear<V: Drop>(
     let seat = &mut desk.seat;
     let (out, released) = clears::clear::<V, Brand>(table, seat, block, member, kind);
     desk.endings += u32::from(released.value.is_some());
-    put_by_out(&mut desk.store, out.owned, released.vacant);
+    put_by_out(&mut desk.store, out, released.vacant);
     let content = Content {
         kind,
-        block: out.owned,
-        place: out.place,
+        word: out.handle(),
     };
     (content, released)
 }

@@ -14,7 +14,8 @@ use crate::desk::Desk;
 use crate::domain::Domain;
 use crate::released::Released;
 use crate::steps::{self, leaves};
-use control_word::{Block, Handle};
+use control_word::shape::CELL_FUNDS;
+use control_word::{Block, Handle, PackedCell};
 use std::alloc::Global;
 use std::marker::Brand;
 
@@ -33,7 +34,7 @@ pub fn leave<V: Drop>(domain: &Domain<V>, desk: &mut Desk<V>, of: Handle) -> Rel
     ensures endings { KeepsEndings desk.old desk.new }
     ensures count { endings_of desk.new ≡ endings_of desk.old + cond (is_some result.value) 1 0 }
 {
-    let released = leaves::leave::<V, Brand>(&domain.table.shared, &mut desk.seat, of, 0);
+    let released = leaves::leave::<V, Brand>(&domain.table.shared, &mut desk.seat, of, CELL_FUNDS);
     desk.held -= 1;
     desk.endings += u32::from(released.value.is_some());
     put_by(&mut desk.store, of.block, released.vacant);
@@ -74,13 +75,13 @@ pub(crate) fn put_by(store: &mut Vec<Block, Global>, block: Block, vacant: bool)
     }
 }
 
-/// The same of the block of a handle that came out of a cell, if it has one.
-pub(crate) fn put_by_out(store: &mut Vec<Block, Global>, block: Option<Block>, vacant: bool)
-    requires room { vacant ≡ true → IfSome block (λ _. vec_len store.old < vec_capacity store.old) }
-    ensures items { store.new.items ≡ store.old.items ++ freed block vacant }
+/// The same of the block of what came out of a cell, if it has one.
+pub(crate) fn put_by_out(store: &mut Vec<Block, Global>, out: PackedCell, vacant: bool)
+    requires room { vacant ≡ true → IfSome out.owned (λ _. vec_len store.old < vec_capacity store.old) }
+    ensures items { store.new.items ≡ store.old.items ++ freed out.owned vacant }
     ensures capacity { vec_capacity store.new ≡ vec_capacity store.old }
 {
-    let Some(block) = block else {
+    let Some(block) = out.owned() else {
         return;
     };
     put_by(store, block, vacant);

@@ -15,22 +15,24 @@ use crate::desk::Desk;
 use crate::domain::Domain;
 use crate::handles::Shared;
 use crate::steps::locks;
-use control_word::{Handle, Refusal};
+use control_word::{Handle, HandleWord, Refusal};
 use std::marker::Brand;
 use std::sync::Wait;
 
 /// An owner from a weak handle that the desk holds, just where one remains at its step, and else none
 /// ([util.smartptr.weak.obs]). Where the desk had seen the object without owner there is none. It is refused `Limit`
-/// just where the desk is at its allowance, and then nothing changes.
+/// just where the desk is at its allowance, and then nothing changes. Condition: the word is the weak handle's.
 #[inline(always)]
 pub fn lock<V: Drop, R: Wait>(
     rt: &R,
     domain: &Domain<V>,
     desk: &mut Desk<V>,
     of: Handle,
+    word: HandleWord,
 ) -> Result<Option<Shared>, Refusal>
     requires domain { Belongs desk.old domain.now }
     requires holds { HasHandle desk.old Weak of.place of.block.0 }
+    requires word { word ≡ record { block = Some of.block; place = of.place } }
     ensures limit { IsErr result ↔ (held_of desk.old ≡ allowance_of desk.old) }
     ensures refused { IfErr result (λ why. (why ≡ Refusal.Limit) × (desk.new ≡ desk.old)) }
     ensures handle { IfOk result (λ r. IfSome r (λ h. (h.block ≡ Some of.block) × (h.place ≡ of.place))) }
@@ -53,10 +55,7 @@ pub fn lock<V: Drop, R: Wait>(
         desk.held -= 1;
         return Ok(None);
     }
-    Ok(Some(Shared {
-        block: Some(of.block),
-        place: of.place,
-    }))
+    Ok(Some(Shared::of_word(word)))
 }
 
 /// One try at the same, which waits for nobody. It answers none where others changed the count of owners meanwhile, and
@@ -66,9 +65,11 @@ pub fn lock_once<V: Drop>(
     domain: &Domain<V>,
     desk: &mut Desk<V>,
     of: Handle,
+    word: HandleWord,
 ) -> Option<Option<Shared>>
     requires domain { Belongs desk.old domain.now }
     requires holds { HasHandle desk.old Weak of.place of.block.0 }
+    requires word { word ≡ record { block = Some of.block; place = of.place } }
     ensures limit { held_of desk.old ≡ allowance_of desk.old → IsNone result }
     ensures missed { IfNone result (desk.new ≡ desk.old) }
     ensures handle { IfSome result (λ r. IfSome r (λ h. (h.block ≡ Some of.block) × (h.place ≡ of.place))) }
@@ -97,10 +98,7 @@ pub fn lock_once<V: Drop>(
                 desk.held -= 1;
                 return Some(None);
             }
-            Some(Some(Shared {
-                block: Some(of.block),
-                place: of.place,
-            }))
+            Some(Some(Shared::of_word(word)))
         }
     }
 }

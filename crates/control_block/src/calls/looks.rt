@@ -1,5 +1,6 @@
 //! Calls that look at what is fixed of an object.
 ghost use Rattle.std.specs.Prelude.{◌≡◌, ℕ, ◌<◌, slice_index};
+ghost use Rattle.control_word.specs.Packing.{IsBlock};
 ghost use Rattle.control_block.specs.Desks.{Belongs, IsNear, object_in};
 ghost use Rattle.control_block.specs.StepKinds.{IsTold};
 
@@ -15,6 +16,7 @@ fn peek<V: Drop>(domain: &Domain<V>, desk: &mut Desk<V>, block: Block, word: usi
     requires domain { Belongs desk.old domain.now }
     requires near { IsNear desk.old block.0 }
     requires word { word < 5 }
+    ensures block { IsBlock block }
     ensures told { IsTold word (object_in desk.old block.0) result }
     ensures same { desk.new ≡ desk.old }
 {
@@ -26,6 +28,7 @@ fn peek<V: Drop>(domain: &Domain<V>, desk: &mut Desk<V>, block: Block, word: usi
 pub fn is_enabled<V: Drop>(domain: &Domain<V>, desk: &mut Desk<V>, block: Block) -> bool
     requires domain { Belongs desk.old domain.now }
     requires near { IsNear desk.old block.0 }
+    ensures block { IsBlock block }
     ensures flag { result ≡ (object_in desk.old block.0).enabled }
     ensures same { desk.new ≡ desk.old }
 {

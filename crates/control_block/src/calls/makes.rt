@@ -2,6 +2,7 @@
 ghost use Rattle.std.specs.Prelude.{◌≡◌, ◌+◌, [], ◌∷◌, length, Some, IfOk, IfErr, OnOk};
 ghost use Rattle.control_word.specs.Events.{origin};
 ghost use Rattle.control_word.specs.Handles.{handle};
+ghost use Rattle.control_word.specs.Packing.{IsBlock};
 ghost use Rattle.control_word.specs.declared.model.event.Event.TheVariants.{Make};
 ghost use Rattle.control_word.specs.declared.model.handle.Kind.TheVariants.{Owner};
 ghost use Rattle.control_block.specs.Refusals.{IsFullOrLimit};
@@ -42,6 +43,7 @@ pub fn make<V: Drop>(
     requires domain { Belongs desk.old domain.now }
     ensures refusals { IsFullOrLimit (held_of desk.old ≡ allowance_of desk.old) (stock_of desk.old ≡ []) result }
     ensures refused { IfErr result (λ r. (r.back ≡ value) × (desk.new ≡ desk.old)) }
+    ensures block { IfOk result (λ h. IsBlock h.block) }
     ensures handle { IfOk result (λ h. (h.kind ≡ Owner) × (h.place ≡ origin h.block.0 null)) }
     ensures event { IfOk result (λ h. AddsEvent desk.old (Make h.block enabled null fields value) desk.new) }
     ensures bag { IfOk result (λ h. bag_of desk.new ≡ handle Owner (Some h.block.0) h.place ∷ bag_of desk.old) }

@@ -12,26 +12,28 @@ use crate::desk::Desk;
 use crate::domain::Domain;
 use crate::handles::Shared;
 use crate::{handles, steps};
-use control_word::{Block, Handle, Place, Refusal};
+use control_word::{Block, Handle, HandleWord, Refusal};
 use std::marker::Brand;
 
-/// One owner more of the object in the block, under an owner that the desk holds ([util.smartptr.shared.const]). It is
+/// One owner more of the object in the block, with this word, under an owner that the desk holds
+/// ([util.smartptr.shared.const]). It is
 /// refused `Limit` just where the desk is at its allowance, and then nothing changes.
 pub fn share<V: Drop>(
     domain: &Domain<V>,
     desk: &mut Desk<V>,
     of: Handle,
-    wanted: Option<Place>,
+    wanted: HandleWord,
 ) -> Result<Shared, Refusal>
     requires domain { Belongs desk.old domain.now }
     requires holds { HasHandle desk.old Owner of.place of.block.0 }
-    requires wanted { MayPoint of.place of.block.0 wanted }
+    requires block { wanted.block ≡ Some of.block }
+    requires wanted { MayPoint of.place of.block.0 wanted.place }
     ensures limit { IsErr result ↔ (held_of desk.old ≡ allowance_of desk.old) }
     ensures refused { IfErr result (λ why. (why ≡ Refusal.Limit) × (desk.new ≡ desk.old)) }
-    ensures handle { IfOk result (λ h. (h.block ≡ Some of.block) × (h.place ≡ wanted)) }
+    ensures handle { IfOk result (λ h. (h.block ≡ Some of.block) × (h.place ≡ wanted.place)) }
     ensures event { OnOk result
-        (AddsEvent desk.old (Share (on_latest desk.old Owner of.place of.block.0) wanted) desk.new) }
-    ensures bag { OnOk result (bag_of desk.new ≡ handle Owner (Some of.block.0) wanted ∷ bag_of desk.old) }
+        (AddsEvent desk.old (Share (on_latest desk.old Owner of.place of.block.0) wanted.place) desk.new) }
+    ensures bag { OnOk result (bag_of desk.new ≡ handle Owner (Some of.block.0) wanted.place ∷ bag_of desk.old) }
     ensures held { OnOk result (desk.new.held ≡ desk.old.held + 1) }
     ensures keeps { OnOk result (Keeps desk.old desk.new) }
 {
@@ -43,22 +45,23 @@ pub fn share<V: Drop>(
     Ok(shared)
 }
 
-/// One weak handle more of the object in the block, under a handle that the desk holds or an ending of its
-/// ([util.smartptr.weak.const], [util.smartptr.enab]). It is refused `Limit` just where the desk is at its allowance,
-/// and then nothing changes.
+/// One weak handle more of the object in the block, with this word, under a handle that the desk holds or an ending of
+/// its ([util.smartptr.weak.const], [util.smartptr.enab]). It is refused `Limit` just where the desk is at its
+/// allowance, and then nothing changes.
 pub fn share_weak<V: Drop>(
     domain: &Domain<V>,
     desk: &mut Desk<V>,
     block: Block,
-    wanted: Option<Place>,
+    wanted: HandleWord,
 ) -> Result<handles::Weak, Refusal>
     requires domain { Belongs desk.old domain.now }
-    requires may { MayGiveWeak desk.old block.0 wanted }
+    requires block { wanted.block ≡ Some block }
+    requires may { MayGiveWeak desk.old block.0 wanted.place }
     ensures limit { IsErr result ↔ (held_of desk.old ≡ allowance_of desk.old) }
     ensures refused { IfErr result (λ why. (why ≡ Refusal.Limit) × (desk.new ≡ desk.old)) }
-    ensures handle { IfOk result (λ h. (h.block ≡ Some block) × (h.place ≡ wanted)) }
-    ensures event { OnOk result (AddsEvent desk.old (WeakShare (latest_of desk.old block.0) wanted) desk.new) }
-    ensures bag { OnOk result (bag_of desk.new ≡ handle Weak (Some block.0) wanted ∷ bag_of desk.old) }
+    ensures handle { IfOk result (λ h. (h.block ≡ Some block) × (h.place ≡ wanted.place)) }
+    ensures event { OnOk result (AddsEvent desk.old (WeakShare (latest_of desk.old block.0) wanted.place) desk.new) }
+    ensures bag { OnOk result (bag_of desk.new ≡ handle Weak (Some block.0) wanted.place ∷ bag_of desk.old) }
     ensures held { OnOk result (desk.new.held ≡ desk.old.held + 1) }
     ensures keeps { OnOk result (Keeps desk.old desk.new) }
 {

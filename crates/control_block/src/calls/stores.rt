@@ -15,8 +15,8 @@ use crate::domain::Domain;
 use crate::released::Released;
 use crate::retries;
 use crate::step_kinds::cells::CellArgs;
+use control_word::Site;
 use control_word::packed::layout::site_word;
-use control_word::{CellWord, Site};
 
 /// A handle that the desk has goes into a cell, and what the cell held leaves ([util.smartptr.atomic.shared],
 /// [util.smartptr.atomic.weak]). Where that was an object's last owner, its value is released, and it ends in the
@@ -30,11 +30,11 @@ pub fn store<V: Drop, A: CellArgs>(
 ) -> (Content, Released<V>)
     requires domain { Belongs desk.old domain.now }
     requires cell { IsOpenAt desk.old site new.kind × (A.cell ≡ cell_of_site desk.old site) }
-    requires new { A.new ≡ handle_in desk.old new.kind new.block new.place }
-    requires holds { HoldsHandle desk.old new.kind new.block new.place }
-    ensures stored { Replaces new.kind desk.old A.cell A.new result.0.block result.0.place result.1 desk.new }
+    requires new { A.new ≡ handle_in desk.old new.kind new.word.block new.word.place }
+    requires holds { HoldsHandle desk.old new.kind new.word.block new.word.place }
+    ensures stored { Replaces new.kind desk.old A.cell A.new result.0.word.block result.0.word.place result.1 desk.new }
     ensures kind { IsReleasedBy new.kind result.1 }
-    ensures bag { bag_of desk.new ≡ without_handle new.kind new.block new.place (bag_of desk.old) }
+    ensures bag { bag_of desk.new ≡ without_handle new.kind new.word.block new.word.place (bag_of desk.old) }
     ensures held { desk.new.held + 1 ≡ desk.old.held }
     ensures desk { IsSameDesk desk.old desk.new }
     ensures stock { length (stock_of desk.new) ≡ length (stock_of desk.old) + cond result.1.vacant 1 0 }
@@ -45,24 +45,18 @@ pub fn store<V: Drop, A: CellArgs>(
     desk.held -= 1; // here, since each locked instruction that follows waits for what was stored before it
     let table = &domain.table.shared;
     let word = site_word(domain.shape.blocks, site);
-    let full = CellWord {
-        owned: new.block,
-        place: new.place,
-        taken: 0,
-    };
     let (out, released) = retries::stores::store::<V, A>(
         table,
         &mut desk.seat,
         word,
         new.kind,
-        full,
+        new.word,
     );
     desk.endings += u32::from(released.value.is_some());
-    put_by_out(&mut desk.store, out.owned, released.vacant);
+    put_by_out(&mut desk.store, out, released.vacant);
     let content = Content {
         kind: new.kind,
-        block: out.owned,
-        place: out.place,
+        word: out.handle(),
     };
     (content, released)
 }

@@ -4,8 +4,7 @@ ghost use Rattle.control_block.specs.Census.{is_free, vacant_in, HasBlock, IsFre
 
 use crate::census::Census;
 use control_word::Block;
-use control_word::packed::counts::unpack_count;
-use control_word::packed::layout::{WEAKS, block_word};
+use control_word::packed::layout::{SHELF_BITS, shelf_bit, shelf_word};
 
 impl<V: Drop> Census<V> {
     /// Whether the domain had this block, and it is vacant (own).
@@ -28,10 +27,13 @@ impl<V: Drop> Census<V> {
         vacant
     }
 
-    fn is_free(&self, block: Block) -> bool
+    /// Whether the block is on the shelf. Its counts don't say it: a vacant block's weak word may have kept a 1, and
+    /// that of an object which is gone and has one weak handle is 1 too.
+    pub(crate) fn is_free(&self, block: Block) -> bool
         requires { HasBlock self.now block.0 }
         ensures { result ≡ is_free self.now block.0 }
     {
-        unpack_count(self.closed.word(block_word(block, WEAKS))).number == 0
+        let word = shelf_word(self.shape.blocks, self.frees(), block.number() / SHELF_BITS);
+        self.closed.word(word) & shelf_bit(block) != 0
     }
 }

@@ -1,7 +1,8 @@
-//! The steps of one compare-and-swap of a cell. It looks first, and brings funds only where what it sees is what it
+//! The steps of one compare-and-swap of a cell. It looks first, and tries to swap only where what it sees is what it
 //! expects.
 ghost use Rattle.std.specs.Prelude.{◌≡◌, ◌<◌, true, false, None, Some, IfSome};
 ghost use Rattle.control_word.specs.Events.{InHand};
+ghost use Rattle.control_word.specs.HandleWords.{cell_of_handle};
 ghost use Rattle.control_word.specs.Packing.{IsCellWord};
 ghost use Rattle.control_word.specs.declared.model.event.Event.TheVariants.{Compare};
 ghost use Rattle.control_block.specs.CellStepKinds.{IsWordOf};
@@ -10,23 +11,24 @@ ghost use Rattle.control_block.specs.StepKinds.{HasRoomFor, known};
 ghost use Rattle.control_word.specs.Limits.{cell_funds};
 
 use crate::pause::Pause;
-use crate::retries::cells::{bring_for, settle};
+use crate::retries::cells::settle;
 use crate::retries::loads::top_up;
 use crate::step_kinds::cells::CellArgs;
 use crate::steps::{cells, funds};
 use crate::table::{Seat, Table};
 use control_word::model::handle::Kind;
 use control_word::shape::CELL_FUNDS;
-use control_word::{Block, CellWord};
+use control_word::{Block, HandleWord, PackedCell};
 use std::sync::Wait;
 
-/// Whether two words of cells show equivalent handles ([util.smartptr.atomic.shared]): the same place, and the same
-/// block or none.
-fn is_alike(seen: CellWord, expected: CellWord) -> bool
-    ensures alike { result ≡ true → (seen.owned ≡ expected.owned) × (seen.place ≡ expected.place) }
-    ensures differs { result ≡ false → seen.owned ≡ expected.owned → seen.place ≡ expected.place → ⊥ }
+/// Whether a cell's word shows a handle that is equivalent ([util.smartptr.atomic.shared]): the same place, and the
+/// same block or none.
+#[inline(always)]
+fn is_alike(seen: PackedCell, expected: HandleWord) -> bool
+    ensures alike { result ≡ true → (seen.owned ≡ expected.block) × (seen.place ≡ expected.place) }
+    ensures differs { result ≡ false → seen.owned ≡ expected.block → seen.place ≡ expected.place → ⊥ }
 {
-    seen.owned == expected.owned && seen.place == expected.place
+    seen.holds(expected)
 }
 
 /// What a cell with an object shows comes out, by a compare that differs: a fund is taken and turned into a handle,
@@ -38,7 +40,7 @@ fn take_out<V, A: CellArgs, R: Wait>(
     word: usize,
     kind: Kind,
     block: Block,
-    seen: CellWord,
+    seen: PackedCell,
 ) -> bool
     requires aim { IsAim A.cell kind word table.now.table_id seat.old.table_id seat.old.me }
     requires seen { IsCellWord seen × (seen.owned ≡ Some block) × (seen.taken < cell_funds) }
@@ -59,31 +61,28 @@ fn take_out<V, A: CellArgs, R: Wait>(
     true
 }
 
-/// One try at the swap of a cell that shows what is expected: the funds of what goes in are brought, and where the cell
-/// shows something else by then, given back. Then nothing changes.
+/// One try at the swap of a cell that shows what is expected. Where the cell shows something else by then, nothing
+/// changes.
 fn try_swap<V, A: CellArgs>(
     table: &Table<V>,
     seat: &mut Seat<V>,
     word: usize,
     kind: Kind,
-    seen: CellWord,
-    new: CellWord,
+    seen: PackedCell,
+    new: HandleWord,
 ) -> bool
     requires aim { IsAim A.cell kind word table.now.table_id seat.old.table_id seat.old.me }
     requires seen { IsCellWord seen × IsWordOf seat.old.me.0 A.expected seen }
-    requires offer { IsOffer kind A.expected A.new new table.now.table_id seat.old.me.0 }
+    requires offer { IsOffer kind A.expected A.new (cell_of_handle new) table.now.table_id seat.old.me.0 }
     ensures table { seat.new.table_id ≡ seat.old.table_id }
     ensures swapped { result ≡ true
         → IsOut (λ h. Compare A.cell A.expected A.new h true A.weak) kind seat.old.me.0 seen seat.new.me }
     ensures missed { result ≡ false → seat.new.me ≡ seat.old.me }
 {
-    bring_for::<V, A>(table, seat, kind, new.owned);
     if cells::compare_and_swap::<V, A>(table, seat, word, seen, new) {
-        let left = CELL_FUNDS.saturating_sub(seen.taken);
-        settle(table, seat, kind, seen.owned, left);
+        settle(table, seat, kind, seen);
         return true;
     }
-    settle(table, seat, kind, new.owned, CELL_FUNDS);
     false
 }
 
@@ -97,11 +96,11 @@ fn try_compare<V, A: CellArgs, R: Wait>(
     pause: &mut Pause,
     word: usize,
     kind: Kind,
-    offer: (CellWord, CellWord),
-) -> Option<(bool, CellWord)>
+    offer: (HandleWord, HandleWord),
+) -> Option<(bool, PackedCell)>
     requires aim { IsAim A.cell kind word table.now.table_id seat.old.table_id seat.old.me }
-    requires expected { IsWordOf seat.old.me.0 A.expected offer.0 }
-    requires offer { IsOffer kind A.expected A.new offer.1 table.now.table_id seat.old.me.0 }
+    requires expected { IsWordOf seat.old.me.0 A.expected (cell_of_handle offer.0) }
+    requires offer { IsOffer kind A.expected A.new (cell_of_handle offer.1) table.now.table_id seat.old.me.0 }
     ensures table { seat.new.table_id ≡ seat.old.table_id }
     ensures compared { IfSome result (λ r. IsOut (λ h. Compare A.cell A.expected A.new h r.0 A.weak) kind
         seat.old.me.0 r.1 seat.new.me) }
@@ -116,10 +115,10 @@ fn try_compare<V, A: CellArgs, R: Wait>(
         pause.wait();
         return None;
     }
-    let Some(block) = seen.owned else {
+    let Some(block) = seen.owned() else {
         return Some((false, seen));
     };
-    if seen.taken >= CELL_FUNDS {
+    if seen.taken() >= CELL_FUNDS {
         pause.give_way();
         return None;
     }
@@ -139,12 +138,12 @@ pub fn compare<V, A: CellArgs, R: Wait>(
     seat: &mut Seat<V>,
     word: usize,
     kind: Kind,
-    expected: CellWord,
-    new: CellWord,
-) -> (bool, CellWord)
+    expected: HandleWord,
+    new: HandleWord,
+) -> (bool, PackedCell)
     requires aim { IsAim A.cell kind word table.now.table_id seat.old.table_id seat.old.me }
-    requires expected { IsWordOf seat.old.me.0 A.expected expected }
-    requires offer { IsOffer kind A.expected A.new new table.now.table_id seat.old.me.0 }
+    requires expected { IsWordOf seat.old.me.0 A.expected (cell_of_handle expected) }
+    requires offer { IsOffer kind A.expected A.new (cell_of_handle new) table.now.table_id seat.old.me.0 }
     ensures table { seat.new.table_id ≡ seat.old.table_id }
     ensures compared { IsOut (λ h. Compare A.cell A.expected A.new h result.0 A.weak) kind
         seat.old.me.0 result.1 seat.new.me }

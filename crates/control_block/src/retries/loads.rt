@@ -13,7 +13,7 @@ use crate::steps::{cells, funds};
 use crate::table::{Seat, Table};
 use control_word::model::handle::Kind;
 use control_word::shape::CELL_FUNDS;
-use control_word::{Block, CellWord, Place};
+use control_word::{Block, PackedCell, Place};
 use std::marker::Brand;
 use std::sync::Wait;
 
@@ -21,16 +21,17 @@ use std::sync::Wait;
 const MANY_TAKEN: u32 = 128;
 
 /// Whether a cell shows a handle in the block with this place, and many of its funds are taken.
-fn is_drained(seen: CellWord, block: Block, place: Option<Place>) -> bool
+fn is_drained(seen: PackedCell, block: Block, place: Option<Place>) -> bool
     ensures { result ≡ true → (seen.owned ≡ Some block) × (seen.taken ≤ cell_funds) }
 {
-    seen.owned == Some(block)
-        && seen.place == place
-        && (MANY_TAKEN..=CELL_FUNDS).contains(&seen.taken)
+    seen.owned() == Some(block)
+        && seen.place() == place
+        && (MANY_TAKEN..=CELL_FUNDS).contains(&seen.taken())
 }
 
 /// One try at a refill: where a cell holds what a handle of the desk's holds, and many of its funds are taken, as many
-/// are brought and put into it. True where nothing is left to do. Nobody sees a difference but the words.
+/// of the handle's own go into it, and are brought for the handle. True where nothing is left to do. Nobody sees a
+/// difference but the words.
 #[inline(always)]
 fn try_refill<V, A: CellArgs, M: StepArgs>(
     table: &Table<V>,
@@ -50,17 +51,15 @@ fn try_refill<V, A: CellArgs, M: StepArgs>(
     if !is_drained(seen, block, place) {
         return true;
     }
-    let taken = seen.taken;
-    funds::bring::<V, M>(table, seat, kind, block, taken);
-    if cells::refill::<V, A>(table, seat, word, seen) {
+    if cells::refill::<V, A, Brand>(table, seat, word, seen) {
+        funds::top_up(table, seat, kind, block, seen.taken());
         return true;
     }
-    funds::give_back(table, seat, kind, block, taken);
     false
 }
 
-/// Refill: while a cell holds what a handle of the desk's holds, and many of its funds are taken, as many are brought
-/// and put into it (own). Nobody sees a difference but the words.
+/// Refill: while a cell holds what a handle of the desk's holds, and many of its funds are taken, as many of the
+/// handle's own go into it, and are brought for the handle (own). Nobody sees a difference but the words.
 #[inline(never)]
 fn refill<V, A: CellArgs, M: StepArgs, R: Wait>(
     rt: &R,
@@ -96,7 +95,7 @@ pub(crate) fn top_up<V, A: CellArgs, R: Wait>(
     word: usize,
     kind: Kind,
     block: Block,
-    seen: CellWord,
+    seen: PackedCell,
 )
     requires aim { IsAim A.cell kind word table.now.table_id seat.old.table_id seat.old.me }
     requires seen { seen.taken < cell_funds }
@@ -105,18 +104,18 @@ pub(crate) fn top_up<V, A: CellArgs, R: Wait>(
     ensures table { seat.new.table_id ≡ seat.old.table_id }
     ensures same { seat.new.me ≡ seat.old.me }
 {
-    if seen.taken + 1 < MANY_TAKEN {
+    if seen.taken() + 1 < MANY_TAKEN {
         return;
     }
-    refill::<V, A, Brand, R>(rt, table, seat, word, kind, block, seen.place);
+    refill::<V, A, Brand, R>(rt, table, seat, word, kind, block, seen.place());
 }
 
 /// The block of a cell that shows an object and has a fund of its left.
-fn with_fund(seen: CellWord) -> Option<Block>
+fn with_fund(seen: PackedCell) -> Option<Block>
     ensures { IfSome result (λ b. (seen.owned ≡ Some b) × (seen.taken < cell_funds)) }
 {
-    if seen.taken < CELL_FUNDS {
-        seen.owned
+    if seen.taken() < CELL_FUNDS {
+        seen.owned()
     } else {
         None
     }
@@ -131,8 +130,8 @@ fn try_load<V, A: CellArgs, R: Wait>(
     seat: &mut Seat<V>,
     word: usize,
     kind: Kind,
-    seen: CellWord,
-) -> Result<CellWord, CellWord>
+    seen: PackedCell,
+) -> Result<PackedCell, PackedCell>
     requires aim { IsAim A.cell kind word table.now.table_id seat.old.table_id seat.old.me }
     requires seen { IsCellWord seen }
     requires room { HasRoomFor seat.old.me.0 }
@@ -142,7 +141,7 @@ fn try_load<V, A: CellArgs, R: Wait>(
 {
     let Some(block) = with_fund(seen) else {
         let now = cells::look::<V, A>(table, seat, word);
-        return match now.owned {
+        return match now.owned() {
             None => Ok(now),
             Some(_) => Err(now),
         };
@@ -167,8 +166,8 @@ fn load_with_retries<V, A: CellArgs, R: Wait>(
     seat: &mut Seat<V>,
     word: usize,
     kind: Kind,
-    seen: CellWord,
-) -> CellWord
+    seen: PackedCell,
+) -> PackedCell
     requires aim { IsAim A.cell kind word table.now.table_id seat.old.table_id seat.old.me }
     requires seen { IsCellWord seen }
     requires room { HasRoomFor seat.old.me.0 }
@@ -182,7 +181,7 @@ fn load_with_retries<V, A: CellArgs, R: Wait>(
             Ok(loaded) => return loaded,
             Err(found) => seen = found,
         }
-        if seen.taken >= CELL_FUNDS {
+        if seen.taken() >= CELL_FUNDS {
             pause.give_way();
         }
     }
@@ -198,7 +197,7 @@ pub fn load_once<V, A: CellArgs>(
     seat: &mut Seat<V>,
     word: usize,
     kind: Kind,
-) -> Result<CellWord, CellWord>
+) -> Result<PackedCell, PackedCell>
     requires aim { IsAim A.cell kind word table.now.table_id seat.old.table_id seat.old.me }
     requires room { HasRoomFor seat.old.me.0 }
     ensures table { seat.new.table_id ≡ seat.old.table_id }
@@ -206,10 +205,10 @@ pub fn load_once<V, A: CellArgs>(
     ensures missed { IfErr result (λ x. IsCellWord x × (seat.new.me ≡ seat.old.me)) }
 {
     let shown = cells::look::<V, A>(table, seat, word);
-    let Some(block) = shown.owned else {
+    let Some(block) = shown.owned() else {
         return Ok(shown);
     };
-    if shown.taken + 1 >= MANY_TAKEN {
+    if shown.taken() + 1 >= MANY_TAKEN {
         return Err(shown);
     }
     match cells::take::<V, A>(table, seat, word, shown) {
@@ -230,7 +229,7 @@ pub fn load<V, A: CellArgs, R: Wait>(
     seat: &mut Seat<V>,
     word: usize,
     kind: Kind,
-) -> CellWord
+) -> PackedCell
     requires aim { IsAim A.cell kind word table.now.table_id seat.old.table_id seat.old.me }
     requires room { HasRoomFor seat.old.me.0 }
     ensures table { seat.new.table_id ≡ seat.old.table_id }
@@ -240,11 +239,5 @@ pub fn load<V, A: CellArgs, R: Wait>(
         Ok(loaded) => return loaded,
         Err(found) => found,
     };
-    // in hand, since what a call that isn't inlined answers is kept in memory
-    let loaded = load_with_retries::<V, A, R>(rt, table, seat, word, kind, found);
-    CellWord {
-        owned: loaded.owned,
-        place: loaded.place,
-        taken: loaded.taken,
-    }
+    load_with_retries::<V, A, R>(rt, table, seat, word, kind, found)
 }

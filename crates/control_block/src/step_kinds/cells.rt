@@ -11,6 +11,7 @@ ghost use Rattle.control_block.specs.CellStepKinds.{refilled};
 ghost use Rattle.control_block.specs.CellStepKinds.{swapped, told_same, took};
 
 use crate::slot::Slot;
+use crate::step_kinds::StepArgs;
 use crate::table::SeatView;
 use atomic_table::Play;
 use std::marker::{Brand, PhantomData};
@@ -80,11 +81,11 @@ impl<V, A: CellArgs> Play<Slot<V>, SeatView<V>> for TakesToCompare<A> {
     ghost then = { took A.cell (λ h. Compare A.cell A.expected A.new h false A.weak) };
 }
 
-/// The funds taken are put into the cell again.
-pub struct Refills;
+/// The funds taken are put into the cell again, of those of a handle in hand.
+pub struct Refills<M>(PhantomData<M>);
 
-impl<V> Play<Slot<V>, SeatView<V>> for Refills {
-    ghost then = { refilled };
+impl<V, M: StepArgs> Play<Slot<V>, SeatView<V>> for Refills<M> {
+    ghost then = { refilled M.kind M.object M.place M.block M.word };
 }
 
 /// The new handle goes in, and what the cell held comes out.

@@ -18,17 +18,9 @@ use crate::step_kinds::clears::{Clears, LooksClear};
 use crate::steps::{leaves, words};
 use crate::table::{Seat, Table};
 use control_word::model::handle::Kind;
-use control_word::packed::cell::unpack;
 use control_word::packed::layout::{MEMBERS, block_word};
-use control_word::{Block, CellWord};
+use control_word::{Block, PackedCell};
 use std::marker::Brand;
-
-/// The word of a cell that holds nothing.
-const EMPTY: CellWord = CellWord {
-    owned: None,
-    place: None,
-    taken: 0,
-};
 
 /// Look: whether a member of an object that ends in the desk's hands holds nothing (own). Then this look clears it;
 /// else nothing changes.
@@ -62,7 +54,7 @@ fn swap_out<V, M: StepArgs>(
     seat: &mut Seat<V>,
     block: Block,
     member: u8,
-) -> CellWord
+) -> PackedCell
     requires table { seat.old.table_id ≡ table.now.table_id }
     requires rests { Rests seat.old.me }
     requires used { member < members_of seat.old.me.0.shape }
@@ -76,7 +68,7 @@ fn swap_out<V, M: StepArgs>(
     ensures gave { Gave (λ h. ClearMember M.object M.word h)
         (kind_of_member seat.old.me.0.shape.owners M.word) seat.old.me.0 result seat.new.me.0 }
 {
-    unpack(words::swap::<V, Clears<M>>(
+    PackedCell::of_bits(words::swap::<V, Clears<M>>(
         table,
         seat,
         block_word(block, MEMBERS + member as usize),
@@ -92,7 +84,7 @@ pub fn clear<V: Drop, M: StepArgs>(
     block: Block,
     member: u8,
     kind: Kind,
-) -> (CellWord, Released<V>)
+) -> (PackedCell, Released<V>)
     requires table { (seat.old.table_id ≡ table.now.table_id) × IsSized seat.old.table_id seat.old.me.0.shape }
     requires rests { Rests seat.old.me }
     requires used { member < members_of seat.old.me.0.shape }
@@ -107,7 +99,7 @@ pub fn clear<V: Drop, M: StepArgs>(
         result.1 seat.new.me.0 }
 {
     if is_empty::<V, M>(table, seat, block, member) {
-        return (EMPTY, Released::nothing());
+        return (PackedCell::empty(), Released::nothing());
     }
     let out = swap_out::<V, M>(table, seat, block, member);
     let released = leaves::let_go::<V, Brand>(table, seat, kind, out);

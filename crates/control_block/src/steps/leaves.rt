@@ -1,5 +1,5 @@
-//! Handles that leave: by themselves, or as they came out of a cell. What came out brings its funds with it, and one
-//! step gives them back and ends the handle.
+//! Handles that leave: by themselves, or as they came out of a cell. Each leaves with the funds that it has, all of them
+//! or those that were not taken, by one step.
 ghost use Rattle.std.specs.Prelude.{◌≡◌, ◌<◌, ◌≤◌, [], is_some, IfSome, Some};
 ghost use Rattle.control_word.specs.Handles.{handle, owner, weak_of};
 ghost use Rattle.control_word.specs.Histories.{value};
@@ -9,7 +9,7 @@ ghost use Rattle.control_word.specs.declared.model.event.Event.TheVariants.{Leav
 ghost use Rattle.control_word.specs.declared.model.handle.Kind.TheVariants.{Owner, Weak};
 ghost use Rattle.control_block.specs.CellRetries.{IsCounted};
 ghost use Rattle.control_block.specs.Leaving.{IsReleasedBy, LetGo, MayLeave, OwesFor, leave_of};
-ghost use Rattle.control_block.specs.StepKinds.{Rests, known, tells};
+ghost use Rattle.control_block.specs.StepKinds.{HoldingInBlock, Rests, known, tells};
 ghost use Rattle.control_block.specs.Rule.{opening_of};
 
 use crate::in_place::InPlace;
@@ -21,7 +21,7 @@ use control_word::model::handle::Kind;
 use control_word::packed::counts::ONE_FUND;
 use control_word::packed::layout::{OWNERS, WEAKS, block_word};
 use control_word::shape::CELL_FUNDS;
-use control_word::{Block, CellWord, Handle};
+use control_word::{Block, Handle, PackedCell};
 
 /// One owner less ([util.smartptr.shared.dest]). Of the last one the object ends in the desk's hands, and its value
 /// stays where it is: the slot is taken at the leave, so that the value is known, and given back by a look.
@@ -70,7 +70,8 @@ fn leave_weak<V, M: StepArgs>(
     words::fetch_sub::<V, WeakLeaves<M>>(table, seat, block_word(block, WEAKS), all) == all
 }
 
-/// Leave: one handle less, and with it the funds that a half-done cell call has to give back, if it came out of a cell.
+/// Leave: one handle less, and with it the funds that it has: all of them, or if it came out of a cell those that were
+/// not taken.
 #[inline]
 pub fn leave<V: Drop, M: StepArgs>(
     table: &Table<V>,
@@ -107,7 +108,7 @@ pub fn let_go<V: Drop, M: StepArgs>(
     table: &Table<V>,
     seat: &mut Seat<V>,
     kind: Kind,
-    out: CellWord,
+    out: PackedCell,
 ) -> Released<V>
     requires table { seat.old.table_id ≡ table.now.table_id }
     requires cell { IsCellWord out }
@@ -116,18 +117,19 @@ pub fn let_go<V: Drop, M: StepArgs>(
     requires count { IfSome out.owned
         (λ b. IsCounted kind b table.now.table_id × (b.0 ≤ table.now.table_id.slots)) }
     requires owes { OwesFor kind out seat.old.me }
+    requires holds { IfSome out.owned (λ b. HoldingInBlock seat.old.me.0 kind M.object M.place b.0) }
     ensures seat { (seat.new.table_id ≡ seat.old.table_id)
         × (seat.new.id ≡ seat.old.id) × Rests seat.new.me }
     ensures gone { LetGo kind seat.old.me.0 out.owned out.place result seat.new.me.0 }
 {
-    let Some(block) = out.owned else {
+    let Some(block) = out.owned() else {
         return Released::nothing();
     };
     let of = Handle {
         kind,
         block,
-        place: out.place,
+        place: out.place(),
     };
-    let left = CELL_FUNDS.saturating_sub(out.taken);
+    let left = CELL_FUNDS.saturating_sub(out.taken());
     leave::<V, M>(table, seat, of, left)
 }

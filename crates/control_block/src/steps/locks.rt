@@ -13,7 +13,7 @@ use crate::step_kinds::locks::{Locks, SeeksOwner};
 use crate::steps::words;
 use crate::table::{Seat, Table};
 use control_word::Handle;
-use control_word::packed::counts::with_handle;
+use control_word::packed::counts::ONE_FUNDED;
 use control_word::packed::layout::{OWNERS, block_word};
 use std::sync::Wait;
 
@@ -38,7 +38,8 @@ pub fn lock_once<V, M: StepArgs>(table: &Table<V>, seat: &mut Seat<V>, of: Handl
     if found == 0 {
         return Some(false);
     }
-    let more = with_handle(found);
+    // A word that isn't 0 has room for an owner more and its funds, as its halves have bounds.
+    let more = found + ONE_FUNDED;
     if words::compare_exchange::<V, Locks<M>>(table, seat, word, found, more) == found {
         return Some(true);
     }

@@ -9,14 +9,16 @@ ghost use Rattle.control_word.specs.declared.model.event.Event.TheVariants.{Make
 ghost use Rattle.control_block.specs.StepKinds.{tells, known, Rests, HasRoomFor, IsPrepared};
 ghost use Rattle.control_block.specs.declared.table.SeatView.{SeatView};
 
-use crate::step_kinds::{Begins, Claims, MakeArgs, StepArgs, Writes};
+use crate::step_kinds::{Begins, Claims, FindsBegun, MakeArgs, StepArgs, Writes};
 use crate::steps::{in_hand, words};
 use crate::table::{Seat, Table};
 use control_word::Block;
+use control_word::packed::counts::ONE_FUNDED;
 use control_word::packed::layout::{ENABLED, FLAGS, NULL, OWNERS, WEAKS, block_word};
 use std::marker::Brand;
 
-/// The first write of a make: the weak word of an own vacant block becomes 1, and its empty slot is in hand.
+/// The first write of a make: the weak word of an own vacant block becomes 1, and its empty slot is in hand. Where the
+/// word kept the 1 of the block's last object it is only looked at.
 #[inline(always)]
 fn begin<V, M: StepArgs>(table: &Table<V>, seat: &mut Seat<V>, block: Block)
     requires table { seat.old.table_id ≡ table.now.table_id }
@@ -27,7 +29,10 @@ fn begin<V, M: StepArgs>(table: &Table<V>, seat: &mut Seat<V>, block: Block)
     ensures seat { (seat.new.table_id ≡ seat.old.table_id) × (seat.new.id ≡ seat.old.id) }
     ensures prepared { (l : List ℕ) × IsPrepared seat.old.me.0 block seat.new.me l None }
 {
-    words::store::<V, Begins<M>>(table, seat, block_word(block, WEAKS), 1);
+    let word = block_word(block, WEAKS);
+    if words::load::<V, FindsBegun<M>>(table, seat, word) != 1 {
+        words::store::<V, Begins<M>>(table, seat, word, 1);
+    }
 }
 
 /// A further write of a make: flags are word 0, fields words 1 to 4. A word that has its value is only looked at.
@@ -86,7 +91,7 @@ fn claim<V, M: MakeArgs>(table: &Table<V>, seat: &mut Seat<V>, block: Block)
     ensures event { (v : SeatView V) (x : V) → IsPrepared v block seat.old.me (flags_of M.enabled M.null ∷ M.fields)
         (Some x) → tells (Make block M.enabled M.null M.fields x) v seat.new.me.0 }
 {
-    words::swap::<V, Claims<M>>(table, seat, block_word(block, OWNERS), 1);
+    words::swap::<V, Claims<M>>(table, seat, block_word(block, OWNERS), ONE_FUNDED);
 }
 
 /// Make: an object in an own vacant block, with one owner ([util.smartptr.shared.create]; for an owned null pointer

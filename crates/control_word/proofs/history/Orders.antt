@@ -39,7 +39,7 @@ equivalent_same x y e =
     let t = and_parts (same_number x.object y.object) (same_place x.place y.place) e in
     (same_number_true x.object y.object t.0, same_place_true x.place y.place t.1)
 
-same_equivalent : (x y : NumberedHandle) → x.object ≡ y.object → x.place ≡ y.place → equivalent x y ≡ true
+pub same_equivalent : (x y : NumberedHandle) → x.object ≡ y.object → x.place ≡ y.place → equivalent x y ≡ true
 same_equivalent x y e p =
     let self = and_parts (same_kind x.kind x.kind) (equivalent x x) (handle_self x) in
     subst (λ n. equivalent x (handle y.kind n y.place) ≡ true) e

@@ -163,8 +163,8 @@ module _ (z : Opening) (s : State) (sound : Sound z s) (d b : ℕ) (mine : Has (
       → ((k : ℕ) → k < 16 → (u (spot b k) ≡ 0) × (v (spot b k) ≡ 0)) → f (spot b 1) ≡ 1 → g (spot b 1) ≡ 0
       → ((k : ℕ) → k < 16 → k ≢ 1
       → (f (spot b k) ≡ 0) × (g (spot b k) ≡ 0))
-      → (j : ℕ) → j < 16 → j ≢ 0 → Says s u f b j (get_or words (spot b j) 0)
-      → Says (made_state z s d b enabled null fields) v g b j (get_or words (spot b j) 0)
+      → (j : ℕ) → j < 16 → j ≢ 0 → Says z s u f b j (get_or words (spot b j) 0)
+      → Says z (made_state z s d b enabled null fields) v g b j (get_or words (spot b j) 0)
   own_words words u f v g known fits is zeros one none rest zero lt n says = absurd (n refl)
   own_words words u f v g known fits is zeros one none rest (suc zero) lt n says =
       let zs = zeros 1 (omega arith) in let z0 = zs.0 in let z1 = zs.1 in
@@ -174,7 +174,7 @@ module _ (z : Opening) (s : State) (sound : Sound z s) (d b : ℕ) (mine : Has (
       (λ (y : Object). common y.phase) (put_same s.object (suc s.made) x (suc s.made) refl) in
       let l = ap (weak_number t) made_latest in
       let w = (new_counts z s d b enabled null fields sound).1 in
-      ⊎_elim (λ a. absurd (let a1 = a.0 in omega arith)) (λ eq. inr (let vw = vacant_words 1 (omega arith) (inl (omega arith)) in omega arith)) says
+      ⊎_elim (λ a. inr (let kept = (a.3 refl).0 in omega arith)) (λ eq. inr (let vw = vacant_words 1 (omega arith) (inl (omega arith)) in omega arith)) says
   own_words words u f v g known fits is zeros one none rest (suc (suc j)) lt n says =
       let zs = zeros (suc (suc j)) lt in let z0 = zs.0 in let z1 = zs.1 in
       let t = made_state z s d b enabled null fields in
@@ -239,15 +239,15 @@ module _ {V : Type 0} where
         (omega arith) stands.shows
         (λ c j hc lt ne says. ⊎_elim
         (λ (u : c ≡ b.0).
-        subst (λ y. Says t (owed (set views i w)) (more z t (set views i w) stands.taken) y j (get_or words (spot y j) 0)) (sym u)
+        subst (λ y. Says z t (owed (set views i w)) (more z t (set views i w) stands.taken) y j (get_or words (spot y j) 0)) (sym u)
         (own_words z s fine v.name b.0 mine enabled null fields words (owed views) (more z s views stands.taken) (owed (set views i w)) (more z t
         (set views i w) stands.taken) known fits.1 is
         (λ k l. let f = free k l in (f.0, f.1))
         (let f = (free 1 (omega arith)).2 in omega arith) (let f = (free 1 (omega arith)).3 in omega arith)
         (λ k l m. let y = added_high z words views h stands i v at awake b.0 k mine l m in let f = free k l in let f2 = f.2 in let f3 = f.3 in
         let q = same (spot b.0 k) (λ q. omega arith) in (omega arith, omega arith))
-        j lt (λ k. ne (u, k)) (subst (λ y. Says s (owed views) (more z s views stands.taken) y j (get_or words (spot y j) 0)) u says)))
-        (λ (n : c ≢ b.0). ⊎_elim (λ l. inl (l.0, l.1, made_vacant z s fine v.name b.0 mine enabled null fields c n l.2))
+        j lt (λ k. ne (u, k)) (subst (λ y. Says z s (owed views) (more z s views stands.taken) y j (get_or words (spot y j) 0)) u says)))
+        (λ (n : c ≢ b.0). ⊎_elim (λ l. inl (l.0, l.1, made_vacant z s fine v.name b.0 mine enabled null fields c n l.2, l.3))
         (λ u. inr (let mw = made_words z s fine v.name b.0 mine enabled null fields c j n in
         let sa = same (spot c j) (λ e. n ((spot_apart c j b.0 1 hc.0 hb.0 lt (omega arith) e).0)) in let x = moved (spot c j) in
         let x0 = x.0 in let x1 = x.1 in

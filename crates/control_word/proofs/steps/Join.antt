@@ -41,7 +41,7 @@ module _ {V : Type 0} where
         (λ d q. inl (inr (subst (λ p. IsSecond p d) (sym busy) q))) ((λ q. apart (sym q)), acting) tt
         (join_room s v.name other (λ q. apart q) (rooms v.name) (rooms other))
         (shows_all z words words (owed views) (more z s views stands.taken) (owed (set views i w)) (more z t
-        (set views i w) stands.taken) s t refl stands.shows (join_vacant s v.name other)
+        (set views i w) stands.taken) s t refl stands.shows (join_vacant s v.name other) (λ b hb y one. one)
         (λ b j hb hj. let m = spot b j in let x = same m in let x0 = x.0 in let x1 = x.1 in let x2 = x.2 in let y = join_words s v.name other b j in
         let g = join_bank s z v.name other stands.taken m in omega arith)
         (λ c hc. let m = cell_spot z c in let x = same m in let x0 = x.0 in let x1 = x.1 in let x2 = x.2 in
@@ -85,10 +85,10 @@ module _ {V : Type 0} where
                 )
 
 module _ {V : Type 0} where
-  pub joins : Joins V
+  pub joins : Joins V Stands
   joins at other mine others ready = join_step at.opening at.words at.views at.history ready.stands at.seat at.view ready.seated ready.awake other mine
       others ready.pending
 
-  pub merges_views : MergesViews V
+  pub merges_views : MergesViews V Stands
   merges_views at j w ready there two up rests = merge_step at.opening at.words at.views at.history ready.stands at.seat j at.view w ready.seated there
       two ready.awake up ready.pending rests

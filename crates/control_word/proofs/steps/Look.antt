@@ -167,7 +167,7 @@ module _ {V : Type 0} where
         (λ (a : low ≢ 0). let m = c.2 a in count_as_step z words views h stands i v at awake idle o p k n holds (λ q. absurd (omega arith))
         (λ q. absurd (omega arith)) (omega arith) whole) (cases_eq low 0)
 
-  pub counts_exactly : CountsExactly V
+  pub counts_exactly : CountsExactly V Stands
   counts_exactly z words views h stands o busy none =
       let i = counts_at (blocks_of (leads z h)) Owner o in
       let word = get_or words i 0 in
@@ -220,7 +220,7 @@ module _ {V : Type 0} where
         ) tt refl refl
 
 module _ {V : Type 0} where
-  pub tells_count : TellsCount V
+  pub tells_count : TellsCount V Stands
   tells_count at k o p low high ready holds is small =
       let busy = held_busy at.opening (state at) (me at) o k p (sound at.opening at.history ready.stands.legal) holds in (
         count_step at.opening at.words at.views at.history ready.stands at.seat at.view ready.seated ready.awake
@@ -228,22 +228,22 @@ module _ {V : Type 0} where
         count_exact at.opening at.words at.views at.history ready.stands o low high busy is small,
       )
 
-  pub tells_expired : TellsExpired V
+  pub tells_expired : TellsExpired V Stands
   tells_expired at o p ready holds = expired_step at.opening at.words at.views at.history ready.stands at.seat at.view ready.seated ready.awake
       ready.pending o p holds
 
-  pub reads : Reads V
+  pub reads : Reads V Stands
   reads at o p ready holds inside low =
       subst (λ b. Tells at (Read (owner o (Some p)) (word at (spot b (3 + p.field)))) Idle) (sym inside)
       (read_step at.opening at.words at.views at.history ready.stands at.seat at.view ready.seated ready.awake ready.pending o p holds inside low)
 
-  pub looks_on : LooksOn V
+  pub looks_on : LooksOn V Stands
   looks_on at ready = look_step at.opening at.words at.views at.history at.seat at.view ready.stands ready.seated ready.awake ready.pending
 
-  pub loads_empty : LoadsEmpty V
+  pub loads_empty : LoadsEmpty V Stands
   loads_empty at c k p ready open' is = load_empty_step at.opening at.words at.views at.history ready.stands at.seat at.view ready.seated ready.awake
       ready.pending c k p open' is
 
-  pub differs_empty : DiffersEmpty V
+  pub differs_empty : DiffersEmpty V Stands
   differs_empty at c k p expected new weak' ready is asks = look_event at.opening at.words at.views at.history ready.stands at.seat at.view ready.seated
       ready.awake ready.pending 0 None (Compare c expected new (handle k None p) false weak') tt asks tt refl refl

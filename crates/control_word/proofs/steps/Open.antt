@@ -73,6 +73,6 @@ module _ {V : Type 0} where
             let d = stands.doors b ((sound z h stands.legal).placed o busy).1 in omega arith
 
 module _ {V : Type 0} where
-  pub opens' : Opens V
+  pub opens' : Opens V Stands
   opens' at o p was becomes ready = open_step at.opening at.words at.views at.history ready.stands at.seat at.view ready.seated ready.awake o p was
       becomes ready.pending

@@ -74,6 +74,7 @@ module _ {V : Type 0} where
           still_step z words (set words j n) views h i v Idle taken stands at awake tt (λ y. omega arith)
           (shows_all z words (set words j n) (owed views) (more z s views stands.taken) (owed (set views i u)) (more z s (set views i u) taken) s s
           (length-set words j n) stands.shows (λ b y. y)
+          (λ y hy vacant one. get_or-set_other words j (spot y 1) n 0 (cell_apart z words views h stands i v at awake c kept y 1 hy (omega arith)) ∙ one)
           (λ b y hb hy. let m = both (spot b y) in let m0 = m.0 in let m1 = m.1 in omega arith)
           (λ d hd. let m = both (cell_spot z d) in let m0 = m.0 in let m1 = m.1 in omega arith)
           (shelf_kept z words s j n (cell_low z words views h stands i v at awake c kept) stands.shows.shelf))

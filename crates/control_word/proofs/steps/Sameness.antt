@@ -20,6 +20,7 @@ use Rattle.control_word.proofs.packing.Cells.{field_fits, owned_fits as owned_li
 use Rattle.control_word.proofs.packing.Fields.{same_parts}
 use Rattle.control_word.specs.Limits.{one_place_low, one_field, one_owned_high, one_place_high}
 use Rattle.control_word.specs.Packing.{block_number, high_part, low_part, place_block, place_field}
+use Rattle.control_word.specs.Views.{Stands}
 
 -- numbers of two parts are equal just where both parts are
 both_parts : (a b c d e f : ℕ) → (a ≡ b → c ≡ d → e ≡ f) → (e ≡ f → (a ≡ b) × (c ≡ d)) → (e == f) ≡ (a == b && c == d)
@@ -98,7 +99,7 @@ module _ {V : Type 0} where
       some_none : {r : ℕ} → Some r ≡ None → ⊥
       some_none e = cc
 
-  pub tells_same : TellsSame V
+  pub tells_same : TellsSame V Stands
   tells_same at c x ready open' hand =
       let z = at.opening in let s = state at in let old = cell_of s c in let fine = sound z at.history ready.stands.legal in
       let kept = open_kept z s (me at) c fine open' in

@@ -120,6 +120,7 @@ module _ {V : Type 0} where
         let t : State = record s { stores = r; shelved = f } in
         shows_all z words (set words k n) (owed views) (more z s views stands.taken) (owed (set views i w))
         (more z t (set views i w) stands.taken) s t (length-set words k n) stands.shows (vacant_still s r f)
+        (λ y hy vacant one. get_or-set_other words k (spot y 1) n 0 (apart y 1 hy (omega arith)) ∙ one)
         (λ c j hc lt. let m = spot c j in let q = calm z words views h stands i v at awake idle seen m in
         let q0 = q.0 in let q1 = q.1 in let q2 = q.2 in let a = get_or-set_other words k m n 0 (apart c j hc lt) in
         let y = ap (λ l. get_or l j 0) (words_still s r f c) in let g = bank_still s r f z stands.taken m in omega arith)
@@ -197,14 +198,14 @@ module _ {V : Type 0} where
         (λ d q ne f. known z words views h stands i v at awake idle b.0 low n d q f)
 
 module _ {V : Type 0} where
-  pub shelf_shows : ShelfShows V
+  pub shelf_shows : ShelfShows V Stands
   shelf_shows at p b ready low = ready.stands.shows.shelf b low
 
-  pub shelves' : Shelves V
+  pub shelves' : Shelves V Stands
   shelves' at b ready mine =
       shelve_step at.opening at.words at.views at.history ready.stands at.seat at.view ready.seated ready.awake ready.pending b mine
 
-  pub unshelves' : Unshelves V
+  pub unshelves' : Unshelves V Stands
   unshelves' at b ready low = (
     unshelve_step at.opening at.words at.views at.history ready.stands at.seat at.view ready.seated ready.awake ready.pending b low,
     missed_step at.opening at.words at.views at.history ready.stands at.seat at.view ready.seated ready.awake ready.pending b low,

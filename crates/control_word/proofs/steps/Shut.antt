@@ -45,7 +45,7 @@ module _ {V : Type 0} where
         (λ d r n f. stays_flag z words s (value z h) fine o (get_or words k 0 + 4) d r busy f)
 
 module _ {V : Type 0} where
-  pub shuts : Shuts V
+  pub shuts : Shuts V Stands
   shuts at o p v ready holds is =
       let busy = held_busy at.opening (state at) (me at) o Owner p (sound at.opening at.history ready.stands.legal) holds in (
         (flags_read at.opening at.words at.views at.history ready.stands at.seat at.view ready.seated ready.awake o p busy).0,

@@ -38,7 +38,7 @@ module _ {V : Type 0} where
         event_step z words words views h i v (Split to n hs bs) (Parting to) stands.taken stands at awake
         (λ d q. inr (λ act. let l = act.0 in let y : to ≡ d = q in omega arith)) asks tt room
         (shows_all z words words (owed views) (more z s views stands.taken) (owed (set views i w)) (more z t
-        (set views i w) stands.taken) s t refl stands.shows (split_vacant s v.name to n hs bs asks.4)
+        (set views i w) stands.taken) s t refl stands.shows (split_vacant s v.name to n hs bs asks.4) (λ b hb y one. one)
         (λ b j hb hj. let m = spot b j in let x = same m in let x0 = x.0 in let x1 = x.1 in let x2 = x.2 in
         let y = split_words s v.name to n hs bs asks.4 b j in let g = split_bank s z v.name to n hs bs stands.taken m in omega arith)
         (λ c hc. let m = cell_spot z c in let x = same m in let x0 = x.0 in let x1 = x.1 in let x2 = x.2 in
@@ -54,9 +54,9 @@ module _ {V : Type 0} where
         let y : to ≡ u.name = q in omega arith) (λ o q. absurd q) (λ b has y lt. refl) fits)
 
 module _ {V : Type 0} where
-  pub splits : Splits V
+  pub splits : Splits V Stands
   splits at to n hs bs ready asks room = split_step at.opening at.words at.views at.history ready.stands at.seat at.view ready.seated ready.awake to n
       hs bs ready.pending asks room
 
-  pub cuts_view : CutsView V
+  pub cuts_view : CutsView V Stands
   cuts_view at to ready = part_step at.opening at.words at.views at.history ready.stands at.seat at.view ready.seated ready.awake to ready.pending

@@ -13,9 +13,10 @@ use Rattle.control_word.proofs.words.Rooms.{funds_room, halves}
 use Rattle.control_word.specs.Steps.{Begins, HasHeadroom}
 use Rattle.control_word.specs.CellSteps.{CellsShow}
 use Rattle.control_word.specs.Limits.{cell_funds}
+use Rattle.control_word.specs.Views.{Stands}
 
 module _ {V : Type 0} where
-  pub begins : Begins V
+  pub begins : Begins V Stands
   begins z proper = opens z proper
 
   nothing_taken : (at : Point V) (p : Pending V) (ready : Ready at p) (c : Cell) → IsKept (state at) c → (cell_of (state at) c).object ≡ None
@@ -37,11 +38,11 @@ module _ {V : Type 0} where
     nothing_taken at p ready c kept,
   )
 
-  pub cells_show : CellsShow V
+  pub cells_show : CellsShow V Stands
   cells_show at p c ready open' =
       kept_show at p c ready (open_kept at.opening (state at) (me at) c (sound at.opening at.history ready.stands.legal) open')
 
-  pub has_headroom : HasHeadroom V
+  pub has_headroom : HasHeadroom V Stands
   has_headroom at p ready k o busy =
       let t = funds_room at.opening at.words at.views at.history ready.stands k o busy in (
         t.2,

@@ -1,5 +1,5 @@
 -- A word of the shelf's summary becomes any number.
-use Rattle.std.proofs.Common.{◌≡◌, ℕ, ◌+◌, ◌%◌, ◌<◌, false, ◌≢◌, List, get_or, set, ap, ◌∙◌, arith}
+use Rattle.std.proofs.Common.{◌≡◌, ℕ, ◌+◌, ◌%◌, ◌<◌, false, ◌≢◌, List, set, ap, ◌∙◌, arith}
 use Rattle.std.proofs.Common.{length-set, get_or-set_other}
 use Rattle.control_word.proofs.Prelude
 use Prelude.{bit_at, cell_spot, Entry, Fits, get_elem?, Idle, InShape, leads, Making, Merging, more}
@@ -48,6 +48,7 @@ module _ {V : Type 0} where
         let w = sees v h in
         shows_all z words (set words k n) (owed views) (more z s views stands.taken) (owed (set views i w))
         (more z s (set views i w) stands.taken) s s (length-set words k n) stands.shows (λ b vacant. vacant)
+        (λ y hy vacant one. get_or-set_other words k (spot y 1) n 0 (apart y 1 hy (omega arith)) ∙ one)
         (λ c l hc lt. let m = spot c l in let q = calm z words views h stands i v at awake idle h m in
         let q0 = q.0 in let q1 = q.1 in let q2 = q.2 in let a = get_or-set_other words k m n 0 (apart c l hc lt) in omega arith)
         (λ c lt. let m = cell_spot z c in let q = calm z words views h stands i v at awake idle h m in
@@ -60,6 +61,6 @@ module _ {V : Type 0} where
         still_step z words (set words there n) views h i v Idle stands.taken stands at awake tt (λ c. omega arith) shows
         stands.most stands.blank stands.bare tt (λ d q ne f. known d q f)
 
-  pub writes_summary : WritesSummary V
+  pub writes_summary : WritesSummary V Stands
   writes_summary at j n ready =
       write_step at.opening at.words at.views at.history ready.stands at.seat at.view ready.seated ready.awake ready.pending j n

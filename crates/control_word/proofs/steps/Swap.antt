@@ -125,6 +125,7 @@ module _ {V : Type 0} where
             let inside = cell_inside z words views h stands i v at awake (Free d) op in
             shows_all z words (set words k n) (owed views) (more z s views stands.taken) u g s t (length-set words k n) stands.shows
             (free_vacant z s fine v.name new d op hand)
+            (λ y hy vacant one. get_or-set_other words k (spot y 1) n 0 (cell_apart z words views h stands i v at awake (Free d) op y 1 hy (omega arith)) ∙ one)
             (λ b j hb hj.
             let m = spot b j in
             let ne : m ≢ k = λ e. let l = spot_fits z b j hb hj in omega arith in
@@ -156,6 +157,8 @@ module _ {V : Type 0} where
             let lt = op.0 in
             shows_all z words (set words k n) (owed views) (more z s views stands.taken) u g s t (length-set words k n) stands.shows
             (member_vacant z s fine v.name new o l op hand)
+            (λ y hy vacant one. get_or-set_other words k (spot y 1) n 0
+            (cell_apart z words views h stands i v at awake (Member o l) op y 1 hy (omega arith)) ∙ one)
             (λ b j hb hj.
             let m = spot b j in let a = (same m).0 in let b' = (same m).1 in
             ⊎_elim

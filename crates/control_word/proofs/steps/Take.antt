@@ -1,7 +1,7 @@
 -- A fund is taken from a cell: a load, or a compare that differs.
 use Rattle.std.proofs.Common.{◌≡◌, ℕ, suc, ◌+◌, ◌-◌, ◌*◌, ◌<◌, ◌≤◌, Bool, true, false, ◌≢◌, ◌⊎◌}
 use Rattle.std.proofs.Common.{List, [], ◌∷◌, get_or, set, Some, Option, sym, refl, ap, ◌∙◌, subst}
-use Rattle.std.proofs.Common.{inl, inr, ⊎_elim, arith, length-set}
+use Rattle.std.proofs.Common.{inl, inr, ⊎_elim, arith, length-set, get_or-set_other}
 use Rattle.control_word.proofs.Prelude
 use Prelude.{adds, after, Asks, bag_size, Bare, blocks_of, cases_eq, Cell, cell_at, cell_of}
 use Prelude.{cell_spot, Compare, counts_at, Entry, entry, equivalent, Event, fills, Fits, Free}
@@ -87,6 +87,7 @@ module _ {V : Type 0} where
           (subst (λ y. Shows z (set words j n) (owed (set views i u)) (more z y (set views i u) taken) y) (sym same) (shows_all z words (set words j n)
           (owed views) (more z s views stands.taken) (owed (set views i u)) (more z t (set views i u) taken) s t (length-set words j n) stands.shows
           (vacant_gain z s v.name o k p fine busy)
+          (λ y hy vacant one. get_or-set_other words j (spot y 1) n 0 (cell_apart z words views h stands i v at awake c kept y 1 hy (omega arith)) ∙ one)
           (λ b y hb hy. let m = spot b y in let a = words_gain z s v.name o k p fine busy b y hb hy in let q = more' m in let q0 = q.0 in let q1 = q.1 in
           let r = read m in omega arith)
           (λ d hd. let m = cell_spot z d in let q = (more' m).0 in let r = read m in omega arith)
@@ -143,7 +144,7 @@ module _ {V : Type 0} where
           tt refl idle is left room
 
 module _ {V : Type 0} where
-  pub takes : Takes V
+  pub takes : Takes V Stands
   takes at c k o p ready is more left = (
     λ open'.
         let kept = open_kept at.opening (state at) (me at) c (sound at.opening at.history ready.stands.legal) open' in

@@ -1,7 +1,7 @@
--- The words of an own vacant block are written: the weak word, the flags and the fields.
-use Rattle.std.proofs.Common.{◌≡◌, ℕ, zero, suc, ◌+◌, ◌-◌, ◌<◌, ◌≤◌, Bool, true, false, cond, ◌≢◌}
+-- The flags and the fields of an own vacant block are written.
+use Rattle.std.proofs.Common.{◌≡◌, ℕ, zero, suc, ◌+◌, ◌-◌, ◌<◌, ◌≤◌, Bool, true, false, ◌≢◌}
 use Rattle.std.proofs.Common.{List, [], ◌∷◌, length, get_or, set, ◌==◌, slice_index, sym, refl, ap}
-use Rattle.std.proofs.Common.{◌∙◌, subst, inl, inr, ⊎_elim, arith, length-set, get_or-set_other}
+use Rattle.std.proofs.Common.{◌∙◌, subst, inl, inr, ⊎_elim, arith, get_or-set_other}
 use Rattle.std.proofs.Common.{get_or-set_same, eq-eqb, ne_eqb}
 use Rattle.control_word.proofs.Prelude
 use Prelude.{added, adds, at_set, Block, blocks_of, cases_eq, cases_lt, cell_spot, cond-false}
@@ -15,11 +15,10 @@ use Rattle.control_word.proofs.lists.Tallies.{stored_true}
 use Rattle.control_word.proofs.views.Teams.{still_step}
 use Rattle.control_word.proofs.words.Banks.{bank_none}
 use Rattle.control_word.proofs.words.Counting.{none_of}
-use Rattle.control_word.proofs.words.Frames.{shelf_kept, shows_write, spot_apart, spot_fits}
+use Rattle.control_word.proofs.words.Frames.{shows_write, spot_apart}
 use Rattle.control_word.proofs.words.Frames.{total_none, total_set}
 use Rattle.control_word.proofs.words.Funds.{slot_low}
-use Rattle.control_word.proofs.words.Payments.{read_set, shows_all}
-use Rattle.control_word.specs.Steps.{WritesWeakWord, WritesWord, known_of}
+use Rattle.control_word.specs.Steps.{WritesWord, known_of}
 
 -- a block that is in two desks' stores would be there twice
 two_stores : (d e b : ℕ) (l : List Stored) → Has (stored d b) l → Has (stored e b) l → d ≢ e → 1 < how_often b l
@@ -104,7 +103,7 @@ module _ {V : Type 0} where
         let both = two_stores v.name d b (leads z h).stores mine (subst (λ x. Has (stored d x) (leads z h).stores) q.0 theirs) (λ x. other (sym x)) in
         let once = fine.once b in omega arith)
 
-    fits_mine : (b k n d : ℕ) (p : Pending V) → Has (stored v.name b) (leads z h).stores → k < 16 → d ≢ v.name
+    pub fits_mine : (b k n d : ℕ) (p : Pending V) → Has (stored v.name b) (leads z h).stores → k < 16 → d ≢ v.name
         → Fits words (leads z h) (value z h) d p → Fits (set words (spot b k) n) (leads z h) (value z h) d p
     fits_mine b k n d Idle mine lt other fits = tt
     fits_mine b k n d (Making c known) mine lt other fits = (fits.0, λ j l. words_mine b k n d mine lt other c.0 fits.0 j l ∙ fits.1 j l)
@@ -167,44 +166,6 @@ module _ {V : Type 0} where
         let t = total_set (λ (y : View V). adds y.pending m) views i v w at in
         let a0 = a m in let b0 = b m in let c0 = c m in let d0 = d m in (omega arith, omega arith, t)
 
-    -- the weak word of an own vacant block becomes 1, and its flags and fields are known
-    pub prepare_step : (b : Block) → v.pending ≡ Idle → Has (stored v.name b.0) (leads z h).stores
-        → Stands z (set words (spot b.0 1) 1) (set views i (record v { pending = Making b (known_of words b.0); seen = h })) h
-    prepare_step b idle mine =
-        let s = leads z h in
-        let fine = sound z h stands.legal in
-        let hb = (fine.stores v.name b.0 mine).1 in
-        let vacant = (fine.stores v.name b.0 mine).0 in
-        let p = Making b (known_of words b.0) in
-        let w : View V = record v { pending = p; seen = h } in
-        let w0 : View V = record v { pending = Idle; seen = h } in
-        let k = spot b.0 1 in
-        let moved = λ (m : ℕ). made_more p h m (λ x. ap (λ q. owes q x) idle) (λ x. ap (λ q. pays q x) idle) (λ x. refl) (λ x. refl) in
-        let back = made_more Idle h k (λ x. ap (λ q. owes q x) idle) (λ x. ap (λ q. pays q x) idle) (λ x. refl) (λ x. refl) in
-        let back' = back.2 in
-        let none = others_none b.0 w0 mine refl in
-        let free = vacant_free b.0 1 mine (omega arith) in
-        let e : weak_number s (s.latest b.0) ≡ 0 = ⊎_elim (λ (x : s.latest b.0 ≡ 0). ap (weak_number s) x
-        ∙ fine.unmade_free 0 fine.none) (λ x. vacant (s.latest b.0) (fine.latest_in b.0 x)) (cases_eq (s.latest b.0) 0) in
-        let i0 = ap (λ q. adds q k) idle in
-        let was : get_or words k 0 ≡ 0 = let f0 = free.0 in
-        let f1 = free.1 in ⊎_elim (λ l. absurd (let t = l.0 in omega arith)) (λ t. omega arith) (stands.shows.blocks b.0 1 hb (omega arith)) in
-        let read = λ (m : ℕ). read_set words k 1 m (let l = spot_fits z b.0 1 hb (omega arith) in
-        let t = stands.shows.sized in omega arith) 0 1 (omega arith) in
-        still_step z words (set words k 1) views h i v p stands.taken stands at awake tt
-        (λ c. let q : ◌≡◌ {A = ℕ} (cond (spot c 2 == spot b.0 1) 1 0) 0 = cond-false _ 1 0 (ne_eqb (spot c 2) (spot b.0 1) (λ e. omega arith)) in
-        omega arith)
-        (shows_all z words (set words k 1) (owed views) (more z s views stands.taken) (owed (set views i w)) (more z s (set views i w) stands.taken) s s
-        (length-set words k 1) stands.shows (λ c y. y)
-        (λ c j hc hj. let m = spot c j in let r = read m in let x = moved m in let x0 = x.0 in let x1 = x.1 in let x2 = x.2 in
-        let y = ap (λ q. adds q m) idle in omega arith)
-        (λ c hc. let m = cell_spot z c in let r = read m in let x = moved m in let x0 = x.0 in let x1 = x.1 in let x2 = x.2 in
-        let y = ap (λ q. adds q m) idle in omega arith)
-        (shelf_kept z words s k 1 (let l = spot_fits z b.0 1 hb (omega arith) in omega arith) stands.shows.shelf))
-        stands.most stands.blank stands.bare
-        (mine, λ j lt. get_or-set_other words k (spot b.0 (2 + j)) 1 0 (λ e. omega arith) ∙ known_at words b.0 j lt)
-        (λ d q n f. fits_mine b.0 1 1 d q mine (omega arith) n f)
-
     -- the flags or a field of the block is written
     pub write_step : (b : Block) (known : List ℕ) (j n : ℕ) → v.pending ≡ Making b known → j < 5 → length known ≡ 5
         → Stands z (set words (spot b.0 (2 + j)) n) (set views i (record v { pending = Making b (set known j n); seen = h })) h
@@ -224,7 +185,7 @@ module _ {V : Type 0} where
         (2 + j) n hb (omega arith) stands.shows
         (λ c k hc l ne says. ⊎_elim (λ t. inl t) (λ t. inr (let x = moved (spot c k) in let x0 = x.0 in let x1 = x.1 in let x2 = x.2 in
         let y = ap (λ q. adds q (spot c k)) busy in omega arith)) says)
-        (inl (omega arith, omega arith, vacant))
+        (inl (omega arith, omega arith, vacant, λ e. absurd (omega arith)))
         (λ c x l t. let q = moved (cell_spot z c) in let x0 = q.0 in let x1 = q.1 in let x2 = q.2 in
         let y = ap (λ q. adds q (cell_spot z c)) busy in omega arith)
         (λ c. refl))
@@ -250,11 +211,7 @@ module _ {V : Type 0} where
       (stands.team.seated i v at awake).fits in f.1 j lt
 
 module _ {V : Type 0} where
-  pub writes_weak_word : WritesWeakWord V
-  writes_weak_word at ready b mine = prepare_step at.opening at.words at.views at.history ready.stands at.seat at.view ready.seated ready.awake b
-      ready.pending mine
-
-  pub writes_word : WritesWord V
+  pub writes_word : WritesWord V Stands
   writes_word at b known ready five j n lt = (
     known_read at.opening at.words at.views at.history ready.stands at.seat at.view ready.seated ready.awake b known ready.pending j lt,
     write_step at.opening at.words at.views at.history ready.stands at.seat at.view ready.seated ready.awake b known j n ready.pending lt five,

@@ -1,8 +1,8 @@
 -- A sole desk has seen all, and the counts of a block at rest are exactly the handles on it.
 use Rattle.std.proofs.Common.{◌≡◌, ℕ, ◌+◌, ◌*◌, ◌<◌, Bool, true, false, ◌≢◌, List, get_or, sym}
-use Rattle.std.proofs.Common.{refl, ap, ◌∙◌, subst, inl, ⊎_elim, arith, ne_eqb}
+use Rattle.std.proofs.Common.{refl, ap, ◌∙◌, subst, inl, inr, ◌⊎◌, ⊎_elim, arith, ne_eqb}
 use Rattle.control_word.proofs.Prelude.{added, adds, block_words, cond-false, Entry, Fits}
-use Rattle.control_word.proofs.Prelude.{get_elem?, Idle, InShape, leads, Making, Merging}
+use Rattle.control_word.proofs.Prelude.{get_elem?, Idle, InShape, IsVacant, leads, Making, Merging}
 use Rattle.control_word.proofs.Prelude.{number_of, Opening, owed, owes, Owner, paid, Parting}
 use Rattle.control_word.proofs.Prelude.{Paying, pays, Pending, slot, some, some-injective, spot}
 use Rattle.control_word.proofs.Prelude.{Stands, value, View, Visiting, Weak, weak_number}
@@ -39,7 +39,7 @@ module _ {V : Type 0} where
       let seat = stands.team.names j i w v there at up awake v.name (inl same) (inl refl) in
       some-injective w v (sym there ∙ (ap (get_elem? views) seat ∙ at))
 
-  pub sole_has_seen_all : SoleHasSeenAll V
+  pub sole_has_seen_all : SoleHasSeenAll V Stands
   sole_has_seen_all z words views h stands i v at awake whole =
       let w = stands.team.whole in
       let same = as_seen z words views h stands i v at awake in
@@ -115,18 +115,21 @@ module _ {V : Type 0} where
     )
 
     -- the funds on a word of a block, of whatever object, are a whole number of funds; its number is the state's
-    rest_word : (k : ℕ) → k < 2 → get_or words (spot b k) 0 ≡ get_or (block_words (leads z h) b) k 0 + one_fund * bank z
-        (leads z h) stands.taken (spot b k)
+    -- unless the block is kept
+    rest_word : (k : ℕ) → k < 2
+        → ((k ≡ 1) × IsVacant (leads z h) b × (get_or words (spot b k) 0 ≡ 1) × (z.keeps_blocks ≡ true))
+        ⊎ (get_or words (spot b k) 0 ≡ get_or (block_words (leads z h) b) k 0 + one_fund * bank z (leads z h) stands.taken (spot b k))
     rest_word k low =
         let t = rest_sums k low in
         let t0 = t.0 in let t1 = t.1 in let t2 = t.2 in
         let u = stands.blank b k inside (omega arith) in
-        ⊎_elim (λ l. absurd (let l0 = l.0 in omega arith)) (λ e. omega arith) (stands.shows.blocks b k inside (omega arith))
+        ⊎_elim (λ l. let l0 = l.0 in let e : k ≡ 1 = omega arith in let one = l.3 e in inl (e, l.2, one.0, one.1))
+        (λ e. inr (omega arith)) (stands.shows.blocks b k inside (omega arith))
 
     number_read_of : (n f : ℕ) → n < one_fund → number_of (n + one_fund * f) ≡ n
     number_read_of n f lt = omega arith
 
-  pub rests_exactly : RestsExactly V
+  pub rests_exactly : RestsExactly V Stands
   rests_exactly z words views h stands b inside rest =
       let s = leads z h in
       let o = s.latest b in
@@ -134,6 +137,19 @@ module _ {V : Type 0} where
       let weak-few = number_room z h stands.legal Weak o in
       let a = rest_word z words views h stands b inside rest 0 (omega arith) in
       let c = rest_word z words views h stands b inside rest 1 (omega arith) in (
-        ap number_of a ∙ number_read_of z words views h stands b inside rest (count s o) (bank z s stands.taken (spot b 0)) (omega arith),
-        ap number_of c ∙ number_read_of z words views h stands b inside rest (weak_number s o) (bank z s stands.taken (spot b 1)) (omega arith),
+        ⊎_elim (λ l. absurd (let l0 = l.0 in omega arith))
+            (λ e. ap number_of e ∙ number_read_of z words views h stands b inside rest (count s o) (bank z s stands.taken (spot b 0)) (omega arith)) a,
+        ⊎_elim (λ l. inr (l.1, l.2, l.3))
+            (λ e. inl (ap number_of e
+            ∙ number_read_of z words views h stands b inside rest (weak_number s o) (bank z s stands.taken (spot b 1)) (omega arith))) c,
       )
+
+  -- where a domain keeps no block, they always are
+  pub rests_unkept : (z : Opening) (words : List ℕ) (views : List (View V)) (h : List (Entry V)) → Stands z words views h → z.keeps_blocks ≡ false
+      → (b : ℕ) → InShape z b → IsAtRest (leads z h) views b → let s = leads z h in let o = s.latest b in
+      (number_of (get_or words (spot b 0) 0) ≡ count s o) × (number_of (get_or words (spot b 1) 0) ≡ weak_number s o)
+  rests_unkept z words views h stands unkept b inside rest =
+      let t = rests_exactly z words views h stands b inside rest in (t.0, ⊎_elim (λ e. e) (λ kept. absurd (true_not_false (sym kept.2 ∙ unkept))) t.1)
+    where
+      true_not_false : true ≡ false → ⊥
+      true_not_false e = cc

@@ -1,6 +1,6 @@
 -- Events that change one number, after which their desk rests.
 use Rattle.std.proofs.Common.{◌≡◌, ℕ, suc, ◌+◌, ◌*◌, ◌<◌, ◌≤◌, false, ◌≢◌, ◌⊎◌, List, ◌∷◌, get_or}
-use Rattle.std.proofs.Common.{set, Some, Option, sym, refl, ap, ◌∙◌, subst, ⊎_elim, arith}
+use Rattle.std.proofs.Common.{set, Some, Option, sym, refl, ap, ◌∙◌, subst, inl, inr, ⊎_elim, arith}
 use Rattle.control_word.proofs.Prelude
 use Prelude.{after, Asks, bag_size, Bare, block_words, blocks_of, common, counts, counts_at, Entry}
 use Prelude.{entry, Event, get_elem?, Held, held, Idle, Kind, leads, live, more, moved_to, Object}
@@ -18,7 +18,7 @@ use Rattle.control_word.proofs.words.Frames.{shows_number, shows_stores}
 use Rattle.control_word.proofs.words.Funds.{bank_still, slot_low}
 use Rattle.control_word.proofs.words.Payments.{one_at, one_else, one_here}
 use Rattle.control_word.specs.State.{count}
-use Rattle.control_word.specs.Words.{bank}
+use Rattle.control_word.specs.Words.{bank, IsLoose}
 use Rattle.control_word.specs.Limits.{one_fund}
 
 module _ {V : Type 0} where
@@ -31,8 +31,8 @@ module _ {V : Type 0} where
   module _ (z : Opening) (words : List ℕ) (views : List (View V)) (h : List (Entry V)) (stands : Stands z words views h)
       (i : ℕ) (v : View V) (at : get_elem? views i ≡ some v) (awake : v.spent ≡ false) where
     -- an event of a desk that rests afterwards, which changes hands and phases, and the number of one busy object; the funds that
-    -- the desk had out on its count go by the same step
-    pub settled_stores : (a : Event V) (hs : List Held) (f : ℕ → Object) (r : List Stored) (k : Kind) (o n u : ℕ) → IsPlain a
+    -- the desk had out on its count go by the same step. The word has the new number, unless the block is left vacant and kept
+    pub settled_as : (a : Event V) (hs : List Held) (f : ℕ → Object) (r : List Stored) (k : Kind) (o n u : ℕ) → IsPlain a
         → HasOut v.pending (counts_at (blocks_of (leads z h)) k o) u → Asks (leads z h) v.name a
         → Values (value z h) a
         → IsBusy (leads z h) o
@@ -40,10 +40,11 @@ module _ {V : Type 0} where
         → ((q : ℕ) → (slot k ≢ 0) ⊎ (q ≢ o) → count s' q ≡ count s q)
         → ((q : ℕ) → (slot k ≢ 1) ⊎ (q ≢ o) → weak_number s' q ≡ weak_number s q)
         → ((q : ℕ) → moved_to unmade (f q) ≡ moved_to unmade (s.object q))
-        → n + number s k o + one_fund * u ≡ get_or words (counts_at (blocks_of s) k o) 0 + number s' k o
+        → (n + number s k o + one_fund * u ≡ get_or words (counts_at (blocks_of s) k o) 0 + number s' k o)
+        ⊎ IsLoose z s' (s.object o).block (slot k) n
         → bag_size s' v.name ≤ s.allowance v.name
         → Stands z (set words (counts_at (blocks_of s) k o) n) (set views i (sees v (entry v.name a ∷ h))) (entry v.name a ∷ h)
-    settled_stores a hs f r k o n u plain out asks vals busy same counts weaks still e room =
+    settled_as a hs f r k o n u plain out asks vals busy same counts weaks still leaves room =
         let s = leads z h in
         let fine = sound z h stands.legal in
         let s' : State = record s { hands = hs; object = f } in
@@ -69,7 +70,7 @@ module _ {V : Type 0} where
         (set views i w) stands.taken) n (slot_low k) stands.shows
         (λ m ne. (quiet m).0)
         (λ m ne. let q = more' m in let none : u * one_at j m ≡ u * 0 = ap (λ c. u * c) (one_else j m ne) in omega arith)
-        (omega arith))))
+        (⊎_elim (λ e. inr (omega arith)) (λ l. inl l) leaves))))
         stands.most stands.blank
         (subst (λ t. Bare z t stands.taken) (sym same) (record {
           members = λ c m hc lt e. stands.bare.members c m hc lt (ap (λ (x : Object). (x.member m).object) (sym (still (s.latest c))) ∙ e);
@@ -81,6 +82,21 @@ module _ {V : Type 0} where
             (record (leads z h) { hands = hs; object = f }) m o
         says Owner = ap (count (record (leads z h) { hands = hs; object = f })) ((sound z h stands.legal).placed o busy).0
         says Weak = ap (weak_number (record (leads z h) { hands = hs; object = f })) ((sound z h stands.legal).placed o busy).0
+
+    -- the same where the word has the new number
+    pub settled_stores : (a : Event V) (hs : List Held) (f : ℕ → Object) (r : List Stored) (k : Kind) (o n u : ℕ) → IsPlain a
+        → HasOut v.pending (counts_at (blocks_of (leads z h)) k o) u → Asks (leads z h) v.name a
+        → Values (value z h) a
+        → IsBusy (leads z h) o
+        → let s = leads z h in let s' : State = record s { hands = hs; object = f } in after s v.name a ≡ record s' { stores = r }
+        → ((q : ℕ) → (slot k ≢ 0) ⊎ (q ≢ o) → count s' q ≡ count s q)
+        → ((q : ℕ) → (slot k ≢ 1) ⊎ (q ≢ o) → weak_number s' q ≡ weak_number s q)
+        → ((q : ℕ) → moved_to unmade (f q) ≡ moved_to unmade (s.object q))
+        → n + number s k o + one_fund * u ≡ get_or words (counts_at (blocks_of s) k o) 0 + number s' k o
+        → bag_size s' v.name ≤ s.allowance v.name
+        → Stands z (set words (counts_at (blocks_of s) k o) n) (set views i (sees v (entry v.name a ∷ h))) (entry v.name a ∷ h)
+    settled_stores a hs f r k o n u plain out asks vals busy same counts weaks still e room = settled_as a hs f r k o n u plain out asks vals busy
+        same counts weaks still (inl e) room
 
     -- the same where no block becomes vacant
     pub settled_step : (a : Event V) (hs : List Held) (f : ℕ → Object) (k : Kind) (o n u : ℕ) → IsPlain a

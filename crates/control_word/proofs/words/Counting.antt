@@ -154,7 +154,7 @@ module _ {V : Type 0} where
     number_read Weak o busy =
         let s = leads z h in let b = (s.object o).block in let p = (sound z h stands.legal).placed o busy in
         let m = more_counts Weak o busy in
-        ⊎_elim (λ l. absurd (omega arith)) (λ t. omega (arith, m, ap (weak_number s) p.0)) (stands.shows.blocks b 1 p.1 (omega arith))
+        ⊎_elim (λ l. absurd (let none = l.2 o refl in omega arith)) (λ t. omega (arith, m, ap (weak_number s) p.0)) (stands.shows.blocks b 1 p.1 (omega arith))
 
     pub pays_handle : (k : Kind) (o : ℕ) → IsBusy (leads z h) o → (d : ℕ) (q : Pending V) → Fits words (leads z h) (value z h) d q
         → 0 < pays q (counts_at (blocks_of (leads z h)) k o)

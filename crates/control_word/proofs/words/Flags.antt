@@ -109,6 +109,7 @@ module _ {V : Type 0} where
         (omega arith, omega arith, omega arith) in
         shows_all z words (set words k n) (owed views) (more z s views stands.taken) (owed (set views i w)) (more z s (set views i w) stands.taken) s s
         (length-set words k n) stands.shows (λ y u. u)
+        (λ y hy vacant one. get_or-set_other words k (spot y 1) n 0 (λ e. omega arith) ∙ one)
         (λ y j hy hj. let m = spot y j in let r = read m in let x = moved m in let x0 = x.0 in let x1 = x.1 in let x2 = x.2 in omega arith)
         (λ y hy. let m = cell_spot z y in let r = read m in let x = moved m in let x0 = x.0 in let x1 = x.1 in let x2 = x.2 in omega arith)
         (shelf_kept z words s k n (let l = spot_fits z b 2 place (omega arith) in omega arith) stands.shows.shelf)

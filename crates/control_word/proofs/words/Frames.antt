@@ -25,9 +25,9 @@ shelf_kept z words s k n lt shows b low =
 
 -- the other words are as they were
 pub shows_write : (z : Opening) (words : List ℕ) (u f v g : ℕ → ℕ) (s t : State) (b k n : ℕ) → InShape z b → k < 16 → Shows z words u f s
-    → ((c j : ℕ) → InShape z c → j < 16 → ((c ≡ b) × (j ≡ k) → ⊥) → Says s u f c j (get_or words (spot c j) 0)
-    → Says t v g c j (get_or words (spot c j) 0))
-    → Says t v g b k n
+    → ((c j : ℕ) → InShape z c → j < 16 → ((c ≡ b) × (j ≡ k) → ⊥) → Says z s u f c j (get_or words (spot c j) 0)
+    → Says z t v g c j (get_or words (spot c j) 0))
+    → Says z t v g b k n
     → ((c w : ℕ) → c < z.cells → w ≡ packed (blocks_of s) (s.cell c) + f (cell_spot z c)
     → w ≡ packed (blocks_of t) (t.cell c) + g (cell_spot z c))
     → ((c : ℕ) → on_shelf t c ≡ on_shelf s c)
@@ -40,9 +40,9 @@ shows_write z words u f v g s t b k n hb hk shows others here free same = record
       let q : get_or (set words (spot b k) n) (spot c j) 0 ≡ n =
       ap (λ i. get_or (set words (spot b k) n) i 0) e ∙ get_or-set_same words (spot b k) n 0 (let l = spot_fits z b k hb hk in
       let m = shows.sized in omega arith) in
-      subst (λ w. Says t v g c j w) (sym q) (subst (λ x. Says t v g x j n) (sym p.0) (subst (λ x. Says t v g b x n) (sym p.1) here)))
+      subst (λ w. Says z t v g c j w) (sym q) (subst (λ x. Says z t v g x j n) (sym p.0) (subst (λ x. Says z t v g b x n) (sym p.1) here)))
       (λ (ne : spot c j ≢ spot b k).
-      subst (λ w. Says t v g c j w) (sym (get_or-set_other words (spot b k) (spot c j) n 0 ne))
+      subst (λ w. Says z t v g c j w) (sym (get_or-set_other words (spot b k) (spot c j) n 0 ne))
       (others c j hc hj (λ p. ne (λ i. spot (p.0 i) (p.1 i))) (shows.blocks c j hc hj)))
       (cases_eq (spot c j) (spot b k));
   free = λ c hc.
@@ -100,17 +100,16 @@ module _ (z : Opening) (s : State) (hs : List Held) (f' : ℕ → Object) (o k :
 
   pub shows_number : (words : List ℕ) (u f v g : ℕ → ℕ) (n : ℕ) → k < 2 → Shows z words u f s
       → ((i : ℕ) → i ≢ spot (s.object o).block k → u i ≡ v i) → ((i : ℕ) → i ≢ spot (s.object o).block k → f i ≡ g i)
-      → n + v (spot (s.object o).block k) ≡ get_or (block_words (record s { hands = hs; object = f' }) (s.object o).block) k 0 + g
-      (spot (s.object o).block k)
+      → Says z (record s { hands = hs; object = f' }) v g (s.object o).block k n
       → Shows z (set words (spot (s.object o).block k) n) v g (record s { hands = hs; object = f' })
-  shows_number words u f v g n low shows same_u same_f e =
+  shows_number words u f v g n low shows same_u same_f says' =
       let b = (s.object o).block in
       let hb = (sound.placed o busy).1 in
       shows_write z words u f v g s (record s { hands = hs; object = f' }) b k n hb (omega arith) shows
       (λ c j hc hj ne says. let apart : spot c j ≢ spot b k = λ q. ne (spot_apart c j b k hc.0 hb.0 hj (omega arith) q) in
-      ⊎_elim (λ l. inl (l.0, l.1, vacant_same c l.2)) (λ t. inr (let w = word_same c j ne in let x = same_u (spot c j) apart in
+      ⊎_elim (λ l. inl (l.0, l.1, vacant_same c l.2, l.3)) (λ t. inr (let w = word_same c j ne in let x = same_u (spot c j) apart in
       let y = same_f (spot c j) apart in omega arith)) says)
-      (inr e)
+      says'
       (λ c w hc t. let y = same_f (cell_spot z c) (λ q. let l = spot_fits z b k hb (omega arith) in omega arith) in
       let x = packed_still f' s.object (s.cell c) still in omega arith)
       (λ c. refl)

@@ -32,6 +32,7 @@ kept_in z s (Member o m) fine kept = (kept.0, was_made z s o fine (λ e. let u =
 -- words and state change alike
 pub shows_all : (z : Opening) (words words' : List ℕ) (u f v g : ℕ → ℕ) (s t : State) → length words' ≡ length words → Shows z words u f s
     → ((b : ℕ) → IsVacant s b → IsVacant t b)
+    → ((b : ℕ) → InShape z b → IsVacant s b → get_or words (spot b 1) 0 ≡ 1 → get_or words' (spot b 1) 0 ≡ 1)
     → ((b j : ℕ) → InShape z b → j < 16
     → get_or words' (spot b j) 0 + v (spot b j) + (get_or (block_words s b) j 0 + f (spot b j)) ≡ get_or words (spot b j) 0 + u (spot b j) + (get_or
     (block_words t b) j 0 + g (spot b j)))
@@ -40,9 +41,16 @@ pub shows_all : (z : Opening) (words words' : List ℕ) (u f v g : ℕ → ℕ) 
     (blocks_of t) (t.cell c) + g (cell_spot z c)))
     → ShowsShelf z words' t
     → Shows z words' v g t
-shows_all z words words' u f v g s t len shows vacant blocks free shelf = record {
+shows_all z words words' u f v g s t len shows vacant weak blocks free shelf = record {
   sized = len ∙ shows.sized;
-  blocks = λ b j hb hj. ⊎_elim (λ l. inl (l.0, l.1, vacant b l.2)) (λ e. inr (let c = blocks b j hb hj in omega arith)) (shows.blocks b j hb hj);
+  blocks = λ b j hb hj. ⊎_elim
+      (λ l. inl (
+        l.0,
+        l.1,
+        vacant b l.2,
+        λ e. let one = l.3 e in (ap (λ i. get_or words' (spot b i) 0) e ∙ weak b hb l.2 (ap (λ i. get_or words (spot b i) 0) (sym e) ∙ one.0), one.1),
+      ))
+      (λ e. inr (let c = blocks b j hb hj in omega arith)) (shows.blocks b j hb hj);
   free = λ c hc. let a = free c hc in let e = shows.free c hc in omega arith;
   shelf = shelf;
 }
@@ -193,6 +201,9 @@ module _ {V : Type 0} where
         still_step z words (set words w n) views h i v new stands.taken stands at awake lone (λ y. let q = adds1 (spot y 2) in omega arith)
         (shows_all z words (set words w n) (owed views) (more z s views stands.taken) (owed (set views i u)) (more z s (set views i u) stands.taken) s s
         (length-set words w n) stands.shows (λ b y. y)
+        (λ y hy vacant one. get_or-set_other words w (spot y 1) n 0 (λ q. absurd (let place = ((sound z h stands.legal).placed o busy).1 in
+        let l = slot_low k in let t = (spot_apart y 1 (s.object o).block (slot k) hy.0 place.0 (omega arith) (omega arith) q).0 in
+        let none = vacant o (sym t) in omega arith)) ∙ one)
         (λ b j hb hj. let m = moved (spot b j) in omega arith)
         (λ c hc.
         let m = cell_spot z c in

@@ -29,7 +29,7 @@ relaxed n l m f low high e a b c d g =
     (λ u. absurd (omega arith)) (cases_lt high f)) (cases_eq high f)
 
 -- the rule of the opening, for either kind
-kind_room : (z : Opening) → IsOpening z → (k : Kind) → HasRoomForFunds z.allowance (members_of z k) z.blocks z.cells
+pub kind_room : (z : Opening) → IsOpening z → (k : Kind) → HasRoomForFunds z.allowance (members_of z k) z.blocks z.cells
 kind_room z proper Owner = proper.room.0
 kind_room z proper Weak = proper.room.1
 

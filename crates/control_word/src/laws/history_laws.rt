@@ -1,11 +1,13 @@
 //! Laws of whole histories, by what they are about, and worked histories. The functions that carry
 //! them have no work to do.
 ghost use Rattle.control_word.specs.Laws.{GivesOnce, LiveWhileOwned, NamesAnObject, StoredOnce};
+ghost use Rattle.control_word.specs.Laws.{ShelfHasAll, StoresOfDesks};
 ghost use Rattle.control_word.specs.Laws.{AreFormed, AllowancesAddUp, NumbersFit, StaysExpired};
 ghost use Rattle.control_word.specs.Laws.{OrdersByOwner, SoleHasSeenAll, RestsExactly};
 ghost use Rattle.control_word.specs.Laws.{EndsInHands, EndsStill, StaysAsMade, StaysTheLatest};
 ghost use Rattle.control_word.specs.Laws.{FewAtOnce, NothingUnseen, JoinedIsQuiet, UnnamedIsQuiet};
 ghost use Rattle.control_word.specs.Laws.{CountsExactly, IsStrictWeakOrder, IsEquivalence};
+ghost use Rattle.control_word.specs.Views.{Stands};
 ghost use Rattle.control_word.specs.Worked.{CountAfterCopy, LockKeepsAlive};
 ghost use Rattle.control_word.specs.Worked.{FailedCompareHandsOutHeld, BlockUsedAgain, CycleStays};
 ghost use Rattle.control_word.specs.Worked.{MembersGoOut, SplitAndJoined};
@@ -44,6 +46,11 @@ pub fn handles<V>()
     ensures stays_the_latest { StaysTheLatest V }
     // A vacant block is in just one store or on the shelf, and no other block is in any (own).
     ensures stored_once { StoredOnce V }
+    // A block in a store is a desk's that acts (own).
+    ensures stores_of_desks { StoresOfDesks V }
+    // Where a desk has the whole allowance and its store is empty, the shelf has just the vacant
+    // blocks (own).
+    ensures shelf_has_all { ShelfHasAll V }
 {}
 
 /// Of every legal history: how many handles there are.
@@ -52,11 +59,11 @@ pub fn counts<V>()
     // 4,784,376 (own).
     ensures numbers_fit { NumbersFit V }
     // Between any two steps: whenever a block is at rest, its owner and weak counts are exactly the
-    // handles on it, in desks and cells together (own).
-    ensures rests_exactly { RestsExactly V }
+    // handles on it, in desks and cells together, or it is vacant and its weak word kept a 1 (own).
+    ensures rests_exactly { RestsExactly V Stands }
     // Between any two steps: wherever no load of an object is under way, its owner word tells
     // exactly how many owners it has ([util.smartptr.shared.obs]).
-    ensures counts_exactly { CountsExactly V }
+    ensures counts_exactly { CountsExactly V Stands }
 {}
 
 /// Of every legal history: what desks may hold, and what they know.
@@ -65,7 +72,7 @@ pub fn desks<V>()
     // desk holds more handles than that (own).
     ensures allowances_add_up { AllowancesAddUp V }
     // Between any two steps: a desk that has the whole allowance has seen all (own).
-    ensures sole_has_seen_all { SoleHasSeenAll V }
+    ensures sole_has_seen_all { SoleHasSeenAll V Stands }
     // Of two histories of which one is a beginning of the other: what comes after all that a desk
     // with the whole allowance has seen is its own (own).
     ensures nothing_unseen { NothingUnseen V }

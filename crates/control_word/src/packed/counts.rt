@@ -3,6 +3,8 @@ ghost use Rattle.std.specs.Prelude.{◌≡◌, ◌↔◌, ◌+◌, ◌*◌, ◌<
 ghost use Rattle.control_word.specs.Packing.{IsCount, count_bits, funds_of, number_of};
 ghost use Rattle.control_word.specs.declared.packed.counts.Count.{Count};
 
+use crate::shape::CELL_FUNDS;
+
 /// Width of the number.
 pub const NUMBER_BITS: u32 = 32;
 /// Width of the funds.
@@ -19,6 +21,12 @@ pub const ONE_HANDLE: u64 = 1;
 pub const ONE_FUND: u64 = 1 << FUNDS_SHIFT;
 /// What is taken from a count where a fund becomes a handle: 4,294,967,295.
 pub const FUND_TURNED: u64 = ONE_FUND - ONE_HANDLE;
+/// One handle with its funds on a count, as each handle of a running desk has them:
+/// 1,099,511,627,777.
+pub const ONE_FUNDED: u64 = CELL_FUNDS as u64 * ONE_FUND + ONE_HANDLE;
+/// What is added to a count where a running desk's fund becomes a handle, which brings the others
+/// that it is to have: 1,095,216,660,481.
+pub const FUND_TURNED_FUNDED: u64 = ONE_FUNDED - ONE_FUND;
 
 /// What a count's word says (own). A block has two: of its object's owners and of its weak handles.
 ///
@@ -27,8 +35,8 @@ pub const FUND_TURNED: u64 = ONE_FUND - ONE_HANDLE;
 /// | 0 to 31 | number | handles that are counted one by one |
 /// | 32 to 63 | funds | handles paid for ahead |
 ///
-/// Funds are those that cells still offer, those that loads under way took, and those that
-/// half-done calls brought or have to give back.
+/// Funds are those that cells still offer, those that loads under way took, those of running desks'
+/// handles in hand, and those that half-done calls brought or have to give back.
 ///
 /// Of the owners:
 ///

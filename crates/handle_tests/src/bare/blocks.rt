@@ -124,12 +124,12 @@ fn of_a_live_one(domain: &Domain<u64>, desk: &mut Desk<u64>, is_enabled: bool) -
     let told = match downgrade(domain, desk, &owner) {
         Ok(weak) => {
             let is_over = is_over(domain, desk, &weak);
-            weak.into_parts();
+            weak.into_word();
             Some([gives, is_over])
         }
         Err(_) => None,
     };
-    owner.into_parts();
+    owner.into_word();
     told
 }
 
@@ -147,7 +147,7 @@ fn of_one_that_ends(domain: &Domain<u64>, desk: &mut Desk<u64>) -> Option<bool>
     let told = match ending.weak_from_this(domain, desk) {
         Ok(weak) => {
             let is_over = is_over(domain, desk, &weak);
-            weak.into_parts();
+            weak.into_word();
             Some(is_over)
         }
         Err(_) => None,

@@ -90,7 +90,7 @@ fn leave_behind<'a>(
     ensures desk { IsSameDesk desk.old desk.new }
 {
     match made(domain, desk, drops) {
-        Some(owner) => owner.into_parts().0,
+        Some(owner) => owner.into_word().block(),
         None => None,
     }
 }

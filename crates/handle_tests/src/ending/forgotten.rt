@@ -61,14 +61,14 @@ fn forget_copy(domain: &Domain<u64>, desk: &mut Desk<u64>, owner: &Shared)
 {
     match share(domain, desk, owner) {
         Ok(other) => {
-            other.into_parts();
+            other.into_word();
         }
         Err(_) => {}
     }
 }
 
 // A weak handle, which is forgotten.
-fn forget_weak(domain: &Domain<u64>, desk: &mut Desk<u64>, owner: &Shared)
+pub(crate) fn forget_weak(domain: &Domain<u64>, desk: &mut Desk<u64>, owner: &Shared)
     requires domain { Belongs desk.old domain.now }
     requires holds { HoldsHandle desk.old Owner owner.now.block owner.now.place }
     ensures desk { IsSameDesk desk.old desk.new }
@@ -76,7 +76,7 @@ fn forget_weak(domain: &Domain<u64>, desk: &mut Desk<u64>, owner: &Shared)
 {
     match downgrade(domain, desk, owner) {
         Ok(weak) => {
-            weak.into_parts();
+            weak.into_word();
         }
         Err(_) => {}
     }
@@ -103,7 +103,7 @@ fn forget_all(
         forget_weak(domain, desk, &owner);
     }
     let told = use_count(domain, desk, &owner);
-    (owner.into_parts().0, told)
+    (owner.into_word().block(), told)
 }
 
 // What is told of so many handles that are forgotten: by a look, how many owners there are; by the desk, how many

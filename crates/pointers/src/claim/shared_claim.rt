@@ -109,7 +109,7 @@ impl<D: Domain> SharedClaim<D> {
     /// The owner is forgotten: its desk holds it still.
     pub(crate) fn forget(self) {
         let SharedClaim { handle, entry: _ } = self;
-        handle.into_parts();
+        handle.into_word();
     }
 
     /// The owner, for a call by which it leaves.

@@ -106,7 +106,7 @@ impl<D: Domain> WeakClaim<D> {
     /// The handle is forgotten: its desk holds it still.
     pub(crate) fn forget(self) {
         let WeakClaim { handle, entry: _ } = self;
-        handle.into_parts();
+        handle.into_word();
     }
 
     /// The handle, for a call by which it leaves.

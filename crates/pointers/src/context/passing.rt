@@ -32,13 +32,7 @@ pub(crate) fn look_at<D: Domain>(of: Option<&SharedClaim<D>>, claims: &mut Claim
 fn is_empty(handle: &Shared) -> bool
     ensures { result ≡ true → IsEmptyHandle (held.Owner handle.now) }
 {
-    match handle.block() {
-        Some(_) => false,
-        None => match handle.place() {
-            Some(_) => false,
-            None => true,
-        },
-    }
+    handle.word().is_empty()
 }
 
 /// A handle that came: a claim, or none where it is empty, which leaves.

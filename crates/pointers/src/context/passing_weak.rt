@@ -19,13 +19,7 @@ use shared_handle::{Pile, Weak, empty_weak, release_weak};
 fn is_empty(handle: &Weak) -> bool
     ensures { result ≡ true → IsEmptyHandle (held.Weak handle.now) }
 {
-    match handle.block() {
-        Some(_) => false,
-        None => match handle.place() {
-            Some(_) => false,
-            None => true,
-        },
-    }
+    handle.word().is_empty()
 }
 
 /// A handle that came: a claim, or none where it is empty, which leaves.

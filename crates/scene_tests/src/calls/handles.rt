@@ -97,7 +97,7 @@ fn forget(domain: &Domain<u64>, desk: &mut Desk<u64>) -> Answer
 {
     match empty(domain, desk) {
         Ok(handle) => {
-            handle.into_parts();
+            handle.into_word();
             Answer::Done
         }
         Err(why) => Answer::Not(why),

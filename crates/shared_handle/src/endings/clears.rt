@@ -37,7 +37,7 @@ impl<V: Drop> Ending<V> {
     {
         let member = self.cleared;
         let (held, released) = clear_calls::clear(domain, desk, self.block, member, Kind::Owner);
-        Left::of_parts(domain, held.block, released.value)
+        Left::of_parts(domain, held.word.block(), released.value)
     }
 
     // The same of one that holds a weak handle or nothing.
@@ -60,7 +60,7 @@ impl<V: Drop> Ending<V> {
     {
         let member = self.cleared;
         let (held, released) = clear_calls::clear(domain, desk, self.block, member, Kind::Weak);
-        Left::of_parts(domain, held.block, released.value)
+        Left::of_parts(domain, held.word.block(), released.value)
     }
 
     /// The first member that isn't cleared is emptied, and what it held leaves (own): it answers what a release of that

@@ -17,7 +17,7 @@ use control_block::domain::Domain;
 use control_block::handles::Shared;
 use control_block::in_place::InPlace;
 use control_block::{calls, handles};
-use control_word::{Block, Place, Refusal};
+use control_word::{Block, HandleWord, Place, Refusal};
 
 impl<V: Drop> Ending<V> {
     /// The object's four fields (own).
@@ -110,7 +110,8 @@ impl<V: Drop> Ending<V> {
             return Err(Refusal::NotEnabled);
         }
         let block = self.block;
-        calls::share_weak(domain, desk, block, Some(Place { block, field: 0 }))
+        let place = Some(Place { block, field: 0 });
+        calls::share_weak(domain, desk, block, HandleWord::of(Some(block), place))
     }
 
     /// The end ([util.smartptr.shared.dest]). Condition: all members were cleared. The value comes out, which is

@@ -5,7 +5,7 @@ use Rattle.std.proofs.Common.{eqb-true}
 use Rattle.step_core.proofs.Prelude.{count, ends_by, Entry, entry, eqb-false, Event, Extent}
 use Rattle.step_core.proofs.Prelude.{false≢true, given, given_over, is_event, is_last_leave}
 use Rattle.step_core.proofs.Prelude.{IsLegal, LastLeft, model_state, Nothing, NumberedHandle}
-use Rattle.step_core.proofs.Prelude.{object_of, opening, over, rests_exactly, TableInvariant}
+use Rattle.step_core.proofs.Prelude.{object_of, opening, over, rests_unkept, TableInvariant}
 use Rattle.step_core.proofs.Prelude.{TakesStep, TraceStep, Was, WorldState}
 use Rattle.control_word.specs.declared.model.event.Event.TheVariants.{Leave, Lock}
 use Rattle.control_word.specs.Events.{Asks}
@@ -22,7 +22,7 @@ pub record IsStep (u : WorldState) (x : TraceStep) (u' : WorldState) : Type 0 wh
 
 pub counts : (u : WorldState) → TableInvariant u.ghost_state → CountsAtRest u
 counts u kept = λ b inside rest.
-    let r = rests_exactly (opening u.ghost_state.extent) u.ghost_state.words u.ghost_state.views u.ghost_state.history kept.stands b inside rest in
+    let r = rests_unkept (opening u.ghost_state.extent) u.ghost_state.words u.ghost_state.views u.ghost_state.history kept.stands refl b inside rest in
     record { owners = r.0; weaks = r.1 }
 
 pub values : (u : WorldState) → TableInvariant u.ghost_state → ValuesOnce u

@@ -55,7 +55,10 @@ module _ (v : GhostState) (threads : List Thread) (b : ℕ) (fit : AllFit v thre
       let owes = owed_none v threads b fit kept size inside.0 Weak rest in
       let room = number_room (opening v.extent) v.history kept.stands.legal Weak ((model_state v).latest b) in
       let u = kept.stands.blank b 1 inside (omega arith) in
-      ⊎_elim (λ l. absurd (let l0 = l.0 in omega arith)) (λ e. omega (arith, e, few, owes, room, u)) (kept.stands.shows.blocks b 1 inside (omega arith))
+      ⊎_elim (λ l. absurd (none_kept (l.3 refl).1)) (λ e. omega (arith, e, few, owes, room, u)) (kept.stands.shows.blocks b 1 inside (omega arith))
+    where
+      none_kept : false ≡ true → ⊥
+      none_kept e = cc
 
   word_is : (k : Kind) → let s = model_state v in
       number_of (slice_index v.words (spot b (slot k))) + owed v.views (spot b (slot k)) ≡ number s k (s.latest b) + added v.views (spot b (slot k))

@@ -7,7 +7,7 @@ use Prelude.{All-tail, AllFit, cases_eq, census_of, common, cond-false, cond-tru
 use Prelude.{ending, endings_in_block, FrameView, GhostState, gone, Idle, InShape, IsAtEnd}
 use Prelude.{IsVacant, length-map, live, model_state, Nothing, nowhere, number_of, Opening}
 use Prelude.{opening, OwnersFit, Pending, pending, PendingCall, PendingCallFits, Phase, Rest}
-use Prelude.{rests_exactly, same_Some, Sound, sound, spot, State, TableInvariant, task_at, Thread}
+use Prelude.{rests_unkept, same_Some, Sound, sound, spot, State, TableInvariant, task_at, Thread}
 use Prelude.{thread_frame, thread_pending, TotalsAreTold, unmade, used_up, View, weak, weak_number}
 use Prelude.{world_state, WorldState}
 use mathlib.Core.Option.{some, some-injective, some-ne-none}
@@ -39,7 +39,7 @@ at_rest v b kept still = record {
 pub exact : (v : GhostState) (b : ℕ) → TableInvariant v → IsStill v → InShape (opening v.extent) b
     → (number_of (slice_index v.words (spot b 0)) ≡ count (model_state v) ((model_state v).latest b))
     × (number_of (slice_index v.words (spot b 1)) ≡ weak_number (model_state v) ((model_state v).latest b))
-exact v b kept still inside = rests_exactly (opening v.extent) v.words v.views v.history kept.stands b inside (at_rest v b kept still)
+exact v b kept still inside = rests_unkept (opening v.extent) v.words v.views v.history kept.stands refl b inside (at_rest v b kept still)
 
 -- a block is vacant just where its latest object has no weak number
 vacant_by : (z : Opening) (s : State) (b : ℕ) → Sound z s → weak_number s (s.latest b) ≡ 0 → IsVacant s b

@@ -8,7 +8,7 @@ use Rattle.step_table.proofs.Prelude.{kind_of_member, me, model_state, Nothing, 
 use Rattle.step_table.proofs.Prelude.{object_of_block, opening, pending, purse, sees_as, spot}
 use Rattle.step_table.proofs.Prelude.{Stands, TableInvariant, view_in, weak}
 use Rattle.std.proofs.lemmas.List.{set-get_or}
-use Rattle.control_word.proofs.steps.WeakLeave.{finishes'}
+use Rattle.control_word.proofs.steps.Finish.{finishes'}
 use Rattle.control_word.proofs.words.CellWords.{cell_read}
 use Rattle.control_word.specs.declared.model.event.Cell.TheVariants.{Member}
 use Rattle.control_word.specs.declared.model.event.Event.TheVariants as event

@@ -6,7 +6,8 @@ use Rattle.step_table.proofs.Prelude.{GhostState, Has, Idle, Making, model_state
 use Rattle.step_table.proofs.Prelude.{Pending, pending, Prepare, sees_as, spot, Stands, stored}
 use Rattle.step_table.proofs.Prelude.{TableInvariant, view_in, Write}
 use Rattle.control_word.proofs.steps.Claim.{claims}
-use Rattle.control_word.proofs.steps.Write.{writes_weak_word, writes_word}
+use Rattle.control_word.proofs.steps.Begin.{writes_weak_word}
+use Rattle.control_word.proofs.steps.Write.{writes_word}
 use Rattle.control_word.specs.declared.model.event.Event.TheVariants as event
 use Rattle.step_table.specs.GhostStates.{IsMaking, known_words}
 use Rattle.step_table.proofs.tables.Standing.{point, ready, kept_after}

@@ -74,10 +74,10 @@ pub(crate) fn holds_held<V: Drop>(
 ) -> bool
     requires domain { Belongs desk.old domain.now }
     requires cell { IsOpenAt desk.old cell.site cell.kind }
-    requires holds { HoldsHandle desk.old cell.kind expected.block expected.place }
+    requires holds { HoldsHandle desk.old cell.kind expected.word.block expected.word.place }
     requires kind { expected.kind ≡ cell.kind }
-    ensures event { TellsHeld desk.old (cell_of_site desk.old cell.site) cell.kind expected.block expected.place
-        result desk.new }
+    ensures event { TellsHeld desk.old (cell_of_site desk.old cell.site) cell.kind expected.word.block
+        expected.word.place result desk.new }
     ensures bag { bag_of desk.new ≡ bag_of desk.old }
     ensures held { desk.new.held ≡ desk.old.held }
     ensures keeps { Keeps desk.old desk.new }
@@ -120,15 +120,16 @@ pub(crate) fn compare_held<V: Drop, F: Form, R: Wait>(
 ) -> (bool, Held)
     requires domain { Belongs desk.old domain.now }
     requires cell { IsOpenAt desk.old cell.site cell.kind }
-    requires holds { HoldsHandle desk.old cell.kind expected.block expected.place
-        × HoldsHandle desk.old cell.kind new.block new.place }
+    requires holds { HoldsHandle desk.old cell.kind expected.word.block expected.word.place
+        × HoldsHandle desk.old cell.kind new.word.block new.word.place }
     requires kinds { (expected.kind ≡ cell.kind) × (new.kind ≡ cell.kind) }
     requires below { IsBelow desk.old }
     ensures kind { kind_of_held result.1 ≡ cell.kind }
-    ensures event { Compares desk.old (cell_of_site desk.old cell.site) cell.kind expected.block expected.place
-        new.block new.place result.0 (block_of_held result.1) (place_of_held result.1) F.weak desk.new }
+    ensures event { Compares desk.old (cell_of_site desk.old cell.site) cell.kind expected.word.block
+        expected.word.place new.word.block new.word.place result.0 (block_of_held result.1) (place_of_held result.1)
+        F.weak desk.new }
     ensures bag { bag_of desk.new ≡ with_held result.1
-        (cond result.0 (without_handle cell.kind new.block new.place (bag_of desk.old)) (bag_of desk.old)) }
+        (cond result.0 (without_handle cell.kind new.word.block new.word.place (bag_of desk.old)) (bag_of desk.old)) }
     ensures held { desk.new.held ≡ desk.old.held + cond result.0 0 1 }
     ensures keeps { Keeps desk.old desk.new }
 {

@@ -12,22 +12,14 @@ pub(crate) fn into_content(handle: Held) -> Content
     ensures { IsContent handle result }
 {
     match handle {
-        Held::Owner(owner) => {
-            let (block, place) = owner.into_parts();
-            Content {
-                kind: Kind::Owner,
-                block,
-                place,
-            }
-        }
-        Held::Weak(weak) => {
-            let (block, place) = weak.into_parts();
-            Content {
-                kind: Kind::Weak,
-                block,
-                place,
-            }
-        }
+        Held::Owner(owner) => Content {
+            kind: Kind::Owner,
+            word: owner.into_word(),
+        },
+        Held::Weak(weak) => Content {
+            kind: Kind::Weak,
+            word: weak.into_word(),
+        },
     }
 }
 
@@ -36,8 +28,8 @@ pub(crate) fn held_of(content: Content) -> Held
     ensures { IsContent result content }
 {
     match content.kind {
-        Kind::Owner => Held::Owner(Shared::of_parts(content.block, content.place)),
-        Kind::Weak => Held::Weak(Weak::of_parts(content.block, content.place)),
+        Kind::Owner => Held::Owner(Shared::of_word(content.word)),
+        Kind::Weak => Held::Weak(Weak::of_word(content.word)),
     }
 }
 
@@ -48,13 +40,11 @@ pub(crate) fn content_of(handle: &Held) -> Content
     match handle {
         Held::Owner(owner) => Content {
             kind: Kind::Owner,
-            block: owner.block(),
-            place: owner.place(),
+            word: owner.word(),
         },
         Held::Weak(weak) => Content {
             kind: Kind::Weak,
-            block: weak.block(),
-            place: weak.place(),
+            word: weak.word(),
         },
     }
 }

@@ -3,16 +3,17 @@ use Rattle.shared_handle.proofs.Prelude.{Block, endings_of, IsLeft, Place, Shape
 use Rattle.shared_handle.proofs.Beside.{left_apart, left_of, more_of}
 use Rattle.shared_handle.specs.Endings.{IsLeftOf}
 use Rattle.shared_handle.proofs.shares.release.Goals as goal
+use Rattle.control_word.specs.HandleWords.{HandleNow}
 
 pub returns-clause-left : goal.returns-clause-left
 returns-clause-left g c =
     let d = c.args.desk.now in let h = c.args.handle in let t = c.leave-released in let e = t.new.desk in let left = c.of_parts.result in
-    let parts = c.into_parts-block in let block = c.in-Some.block in
-    let same : Some block ≡ h.block = sym c.in-Some.is ∙ ap (λ (r : Option Block × Option Place). r.0) parts.ensures in
-    let place : parts.result.1 ≡ h.place = ap (λ (r : Option Block × Option Place). r.1) parts.ensures in
+    let word = c.into_word-word in let block = c.in-Some.block in
+    let same : Some block ≡ h.block = c.in-Some.ensures.block ∙ ap (λ (r : HandleNow). r.block) word.ensures in
+    let place : c.place.result ≡ h.place = c.place.ensures.place ∙ ap (λ (r : HandleNow). r.place) word.ensures in
     subst (λ (b : Option Block). IsLeft d b h.place left e) same
     (subst (λ (p : Option Place). IsLeft d (Some block) p left e) place
-    (left_of d e (Some block) parts.result.1 t.result left t.ensures.left
+    (left_of d e (Some block) c.place.result t.result left t.ensures.left
     (subst (λ (z : Shape). IsLeftOf z (Some block) t.result.value left) (sym (t.ensures.desk.shape ∙ c.requires.domain.shape)) c.of_parts.ensures)))
 
 pub returns-clause-keeps : goal.returns-clause-keeps
@@ -32,7 +33,7 @@ pub returns-clause-count : goal.returns-clause-count
 returns-clause-count g c =
     let d = c.args.desk.now in let t = c.leave-released in
     t.ensures.count ∙ ap (λ n. endings_of d + n)
-    (more_of d t.new.desk (Some c.in-Some.block) c.into_parts-block.result.1 t.result c.of_parts.result t.ensures.left
+    (more_of d t.new.desk (Some c.in-Some.block) c.place.result t.result c.of_parts.result t.ensures.left
     (subst (λ (z : Shape). IsLeftOf z (Some c.in-Some.block) t.result.value c.of_parts.result) (sym (t.ensures.desk.shape ∙ c.requires.domain.shape))
     c.of_parts.ensures))
 

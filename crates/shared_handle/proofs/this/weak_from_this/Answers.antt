@@ -1,7 +1,8 @@
-use Rattle.std.proofs.Common.{Option, sym, refl, subst, inl, inr}
+use Rattle.std.proofs.Common.{Option, sym, ap, subst, inl, inr}
 use Rattle.shared_handle.proofs.Prelude.{Block, DeskNow, HoldsHandle, Owner}
 use Rattle.control_block.specs.Desks.{HasHandle}
 use Rattle.shared_handle.proofs.this.weak_from_this.Goals as goal
+use Rattle.control_word.specs.HandleWords.{HandleNow}
 
 pub share_weak-requires-clause-may : goal.share_weak-requires-clause-may
 share_weak-requires-clause-may g c =
@@ -11,5 +12,5 @@ share_weak-requires-clause-may g c =
       Owner,
       place,
       subst (λ (d : DeskNow g.row.V.Denot). HasHandle d Owner place c.in_ok-block.block.0) (sym c.in_ok-block.ensures.same) there,
-      inr refl,
+      inr (ap (λ (w : HandleNow). w.place) c.of.ensures),
     )

@@ -2,14 +2,16 @@ use Rattle.std.proofs.Common.{◌≡◌, ℕ, cond, is_some, Some, Option, sym, 
 use Rattle.shared_handle.proofs.Prelude.{Block, LeavesWeakly, Place}
 use Rattle.shared_handle.proofs.Beside.{weakly_of}
 use Rattle.shared_handle.proofs.weaks.release_weak.Goals as goal
+use Rattle.control_word.specs.HandleWords.{HandleNow}
 
 pub returns-clause-event : goal.returns-clause-event
 returns-clause-event g c =
-    let d = c.args.desk.now in let t = c.leave in let e = t.new.desk in let parts = c.into_parts-block in let vacant = t.result.vacant in (
+    let d = c.args.desk.now in let t = c.leave in let e = t.new.desk in let word = c.into_word-word in let vacant = t.result.vacant in (
       vacant,
-      subst (λ (y : Option Block × Option Place). LeavesWeakly d y.0 y.1 vacant e) parts.ensures
-          (subst (λ (b : Option Block). LeavesWeakly d b parts.result.1 vacant e) (sym c.in-Some.is)
-          (weakly_of d e (Some c.in-Some.block) parts.result.1 t.result t.ensures.left)),
+      subst (λ (y : HandleNow). LeavesWeakly d y.block y.place vacant e) word.ensures
+          (subst (λ (y : Option Block × Option Place). LeavesWeakly d y.0 y.1 vacant e)
+          (λ i. (c.in-Some.ensures.block i, c.place.ensures.place i))
+          (weakly_of d e (Some c.in-Some.block) c.place.result t.result t.ensures.left)),
       t.ensures.stock,
     )
 

@@ -11,5 +11,5 @@ returns-clause-stored g c =
 pub returns-clause-apart : goal.returns-clause-apart
 returns-clause-apart g c k ends =
     let t = returns-clause-stored g c in let d = c.args.desk.now in
-    left_apart t.between c.store-released.new.desk t.block t.place c.of_parts.result t.leaves k
+    left_apart t.between c.store-old.new.desk t.block t.place c.of_parts.result t.leaves k
     (ends_through_swap d t.between k (shared_cell d c.args.self.now.site) _ _ ends t.exchanges)

@@ -7,7 +7,7 @@ abbrev pub ghosts-store : goal.ghosts-store
 ghosts-store g a =
     record {
       cell = cell_of_site a.desk.now a.site;
-      new = handle_in a.desk.now a.new.kind a.new.block a.new.place;
+      new = handle_in a.desk.now a.new.kind a.new.word.block a.new.word.place;
       expected = empty a.new.kind;
       weak = false;
     }

@@ -34,9 +34,9 @@ module _ (g : _) (c : goal.After-site_word-word g) where
       g.A.CellArgs.cell c.desk.view_is (ap (λ z. z.shape) c.desk.view_is ∙ (r.domain.shape ∙ sym (ap (λ z. z.shape) c.domain.view_is))) r.cell.0
       r.cell.1 c.site_word-word.ensures
 
-  handle_is : g.A.CellArgs.expected ≡ in_seat c.desk.inside.seat.me.0 c.args.expected.kind c.args.expected.block c.args.expected.place
+  handle_is : g.A.CellArgs.expected ≡ in_seat c.desk.inside.seat.me.0 c.args.expected.kind c.args.expected.word.block c.args.expected.word.place
   handle_is = c.requires.expected
-      ∙ ap (λ (z : DeskNow g.row.V.Denot). handle_in z c.args.expected.kind c.args.expected.block c.args.expected.place) (sym c.desk.view_is)
+      ∙ ap (λ (z : DeskNow g.row.V.Denot). handle_in z c.args.expected.kind c.args.expected.word.block c.args.expected.word.place) (sym c.desk.view_is)
 
 pub holds-requires-clause-cell : goal.holds-requires-clause-cell
 holds-requires-clause-cell g c = (there g c).0
@@ -44,18 +44,16 @@ holds-requires-clause-cell g c = (there g c).0
 pub holds-requires-clause-expected : goal.holds-requires-clause-expected
 holds-requires-clause-expected g c =
     let r = c.requires in let d = c.desk.inside in let h = c.desk.invariant in let k = c.args.expected.kind in
-    let b = c.args.expected.block in let p = c.args.expected.place in let y = c.args.desk.now in (
-      lost_word d y k p h c.desk.view_is b r.holds c.args.expected.proper,
-      refl,
-      subst (λ (z : NumberedHandle). IsWordOf d.seat.me.0 z record { owned = b; place = p; taken = 0 }) (sym (handle_is g c))
-          (lost_shows d y k p h c.desk.view_is b r.holds),
-    )
+    let b = c.args.expected.word.block in let p = c.args.expected.word.place in let y = c.args.desk.now in
+    subst (λ (z : NumberedHandle). IsWordOf d.seat.me.0 z record { owned = b; place = p; taken = 0 }) (sym (handle_is g c))
+    (lost_shows d y k p h c.desk.view_is b r.holds)
 
 pub holds-requires-clause-hand : goal.holds-requires-clause-hand
 holds-requires-clause-hand g c =
     let d = c.desk.inside in let v = d.seat.me.0 in let k = c.args.expected.kind in
     let mine = subst (λ (z : NumberedHandle). InHand (known v) v.view.name k z) (sym (handle_is g c))
-    (lost_hand d c.args.desk.now k c.args.expected.place c.desk.invariant c.desk.view_is c.args.expected.block c.requires.holds c.args.expected.proper) in
+    (lost_hand d c.args.desk.now k c.args.expected.word.place c.desk.invariant c.desk.view_is c.args.expected.word.block c.requires.holds
+    c.args.expected.proper) in
     subst (λ j. InHand (known v) v.view.name j g.A.CellArgs.expected) (there g c).1 mine
 
 pub invariant_of-desk : goal.invariant_of-desk

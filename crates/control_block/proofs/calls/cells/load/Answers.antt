@@ -35,18 +35,19 @@ invariant_of-desk g c =
     desk_then _ h (came g c) t.table t.loaded.rests.none refl refl refl (λ size. omega (arith, size, few, h.holding)) (omega (arith, h.within, ne))
 
 pub returns-clause-event : goal.returns-clause-event
-returns-clause-event g c = event_of c.desk.invariant (came g c) _ _ _ c.desk.view_is c.load-seen.ensures.table
+returns-clause-event g c = rw c.handle.ensures (event_of c.desk.invariant (came g c) _ _ _ c.desk.view_is c.load-seen.ensures.table)
 
 pub returns-clause-bag : goal.returns-clause-bag
-returns-clause-bag g c = bag_then c.desk.invariant (came g c) _ c.desk.view_is
+returns-clause-bag g c = rw c.handle.ensures (bag_then c.desk.invariant (came g c) _ c.desk.view_is)
 
 pub returns-clause-holds : goal.returns-clause-holds
 returns-clause-holds g c =
     let h = c.desk.invariant in let size = size_now h (came g c) in
-    holds_it h (came g c) c.load-seen.new.seat.table_id (c.desk.inside.held + 1) (λ none. let m = ap one none in omega (arith, size, m, h.holding))
+    rw c.handle.ensures
+    (holds_it h (came g c) c.load-seen.new.seat.table_id (c.desk.inside.held + 1) (λ none. let m = ap one none in omega (arith, size, m, h.holding)))
 
 pub invariant_of-result : goal.invariant_of-result
-invariant_of-result g c = record { proper = is_proper c.desk.invariant (loaded _ _ g.A.CellArgs.cell _ _ c.load-seen.ensures.loaded.out) }
+invariant_of-result g c = record { proper = rw c.handle.ensures (is_proper c.desk.invariant (loaded _ _ g.A.CellArgs.cell _ _ c.load-seen.ensures.loaded.out)) }
 
 pub returns-clause-keeps : goal.returns-clause-keeps
 returns-clause-keeps g c = keeps_else c.desk.invariant (came g c) _ _ _ c.desk.view_is c.load-seen.ensures.table

@@ -39,18 +39,19 @@ invariant_of-desk g c =
     desk_then _ h (came g c) t.table t.loaded.rests.none refl refl refl (λ size. omega (arith, size, few, h.holding)) (omega (arith, h.within, ne))
 
 pub returns-in-Ok-clause-event : goal.returns-in-Ok-clause-event
-returns-in-Ok-clause-event g c = event_of c.desk.invariant (came g c) _ _ _ c.desk.view_is c.load_once.ensures.table
+returns-in-Ok-clause-event g c = rw c.handle.ensures (event_of c.desk.invariant (came g c) _ _ _ c.desk.view_is c.load_once.ensures.table)
 
 pub returns-in-Ok-clause-bag : goal.returns-in-Ok-clause-bag
-returns-in-Ok-clause-bag g c = bag_then c.desk.invariant (came g c) _ c.desk.view_is
+returns-in-Ok-clause-bag g c = rw c.handle.ensures (bag_then c.desk.invariant (came g c) _ c.desk.view_is)
 
 pub returns-in-Ok-clause-holds : goal.returns-in-Ok-clause-holds
 returns-in-Ok-clause-holds g c =
     let h = c.desk.invariant in let size = size_now h (came g c) in
-    holds_it h (came g c) c.load_once.new.seat.table_id (c.desk.inside.held + 1) (λ none. let m = ap one none in omega (arith, size, m, h.holding))
+    rw c.handle.ensures
+    (holds_it h (came g c) c.load_once.new.seat.table_id (c.desk.inside.held + 1) (λ none. let m = ap one none in omega (arith, size, m, h.holding)))
 
 pub invariant_of-result : goal.invariant_of-result
-invariant_of-result g c = record { proper = is_proper c.desk.invariant (loaded _ _ g.A.CellArgs.cell _ _ c.in-Ok.ensures.loaded.out) }
+invariant_of-result g c = record { proper = rw c.handle.ensures (is_proper c.desk.invariant (loaded _ _ g.A.CellArgs.cell _ _ c.in-Ok.ensures.loaded.out)) }
 
 pub returns-in-Ok-clause-keeps : goal.returns-in-Ok-clause-keeps
 returns-in-Ok-clause-keeps g c = keeps_else c.desk.invariant (came g c) _ _ _ c.desk.view_is c.load_once.ensures.table

@@ -15,8 +15,8 @@ use Rattle.control_block.proofs.desks.OwnEndings.{ends_in}
 use Rattle.control_block.proofs.desks.StoreBlocks.{ending_word}
 use Rattle.control_block.proofs.calls.clears.clear.Goals as goal
 
-pub clear-released-requires-clause-word : goal.clear-released-requires-clause-word
-clear-released-requires-clause-word g c =
+pub clear-out-requires-clause-word : goal.clear-out-requires-clause-word
+clear-out-requires-clause-word g c =
     let used = subst (λ (y : DeskNow g.row.V.Denot). c.args.member < members_of y.shape) (sym c.desk.view_is) c.requires.member.0 in
     let most = c.desk.invariant.limits.members.2 in
     let low : c.args.member < 9 = omega arith in
@@ -26,21 +26,21 @@ clear-released-requires-clause-word g c =
     in
     (w.0, low, refl, w.1)
 
-pub clear-released-requires-clause-used : goal.clear-released-requires-clause-used
-clear-released-requires-clause-used g c =
+pub clear-out-requires-clause-used : goal.clear-out-requires-clause-used
+clear-out-requires-clause-used g c =
     subst (λ (y : DeskNow g.row.V.Denot). c.args.member < members_of y.shape) (sym c.desk.view_is) c.requires.member.0
 
-pub clear-released-requires-clause-kind : goal.clear-released-requires-clause-kind
-clear-released-requires-clause-kind g c =
+pub clear-out-requires-clause-kind : goal.clear-out-requires-clause-kind
+clear-out-requires-clause-kind g c =
     subst (λ (y : DeskNow g.row.V.Denot). kind_of_member y.shape.owners c.args.member ≡ c.args.kind) (sym c.desk.view_is)
     c.requires.member.1
 
-pub clear-released-requires-clause-ends : goal.clear-released-requires-clause-ends
-clear-released-requires-clause-ends g c =
+pub clear-out-requires-clause-ends : goal.clear-out-requires-clause-ends
+clear-out-requires-clause-ends g c =
     ends_in c.desk.inside c.args.desk.now c.args.block.0 c.requires.ending.0 c.desk.view_is c.requires.ending.1
 
-pub clear-released-requires-clause-room : goal.clear-released-requires-clause-room
-clear-released-requires-clause-room g c = room_out c.desk.inside c.args.block.0 c.desk.invariant
+pub clear-out-requires-clause-room : goal.clear-out-requires-clause-room
+clear-out-requires-clause-room g c = room_out c.desk.inside c.args.block.0 c.desk.invariant
     (ends_in c.desk.inside c.args.desk.now c.args.block.0 c.requires.ending.0 c.desk.view_is c.requires.ending.1)
 
 pub overflow_add-desk : goal.overflow_add-desk
@@ -51,12 +51,12 @@ overflow_add-desk g c =
 pub put_by_out-requires : goal.put_by_out-requires
 put_by_out-requires g c =
     let d = c.desk.inside in let h = c.desk.invariant in let k = c.args.kind in let b = c.args.block.0 in let m = c.args.member in
-    let x = c.clear-released.result.0 in let u = c.clear-released.ensures.cleared in let same = c.clear-released.ensures.seat.0 in
+    let x = c.clear-out.result.0 in let u = c.clear-out.ensures.cleared in let same = c.clear-out.ensures.seat.0 in
     let f : Inside g.row.V.Denot =
-    record { seat = c.clear-released.new.seat; allowance = d.allowance; held = d.held; endings = d.endings; store = d.store; shelf_word = d.shelf_word } in
+    record { seat = c.clear-out.new.seat; allowance = d.allowance; held = d.held; endings = d.endings; store = d.store; shelf_word = d.shelf_word } in
     let ends' = ends_in d c.args.desk.now b c.requires.ending.0 c.desk.view_is c.requires.ending.1 in
     record {
-      room = gone.room_gone (clear.going k d f h b m ends' x u.between u.out same c.clear-released.result.1 u.gone refl);
+      room = gone.room_gone (clear.going k d f h b m ends' x u.between u.out same c.clear-out.result.1 u.gone refl);
     }
 
 module _ (g : _) (c : goal.After-content-1 g) where
@@ -68,7 +68,7 @@ module _ (g : _) (c : goal.After-content-1 g) where
 
   abbrev f : Inside g.row.V.Denot
   f = record {
-    seat = c.clear-released.new.seat;
+    seat = c.clear-out.new.seat;
     allowance = d.allowance;
     held = d.held;
     endings = d.endings + c.from.result;
@@ -77,19 +77,19 @@ module _ (g : _) (c : goal.After-content-1 g) where
   }
 
   abbrev x : CellWord
-  x = c.clear-released.result.0
+  x = c.clear-out.result.0
 
   abbrev r : Released g.row.V.Denot
-  r = c.clear-released.result.1
+  r = c.clear-out.result.1
 
   ends : Ends d.seat.me.0 ((known d.seat.me.0).latest c.args.block.0) c.args.block.0
   ends = ends_in d c.args.desk.now c.args.block.0 c.requires.ending.0 c.desk.view_is c.requires.ending.1
 
   table : f.seat.table_id ≡ d.seat.table_id
-  table = c.clear-released.ensures.seat.0
+  table = c.clear-out.ensures.seat.0
 
   o : OutAndGone (λ y. ClearMember ((known d.seat.me.0).latest c.args.block.0) c.args.member y) k d.seat.me.0 x r f.seat.me.0
-  o = c.clear-released.ensures.cleared
+  o = c.clear-out.ensures.cleared
 
   -- the desk between the two events
   abbrev t : Inside g.row.V.Denot
@@ -107,20 +107,21 @@ module _ (g : _) (c : goal.After-content-1 g) where
 pub invariant_of-desk : goal.invariant_of-desk
 invariant_of-desk g c =
     let h = c.desk.invariant in let b = c.args.block.0 in let m = c.args.member in let u = o g c in let e = ends g c in let same = table g c in
-    gone.desk_gone (going g c) c.clear-released.ensures.seat.2.none c.put_by_out.ensures.items c.put_by_out.ensures.capacity refl
+    gone.desk_gone (going g c) c.clear-out.ensures.seat.2.none c.put_by_out.ensures.items c.put_by_out.ensures.capacity refl
     c.from.result (c.from.ensures ∙ ap bool_byte c.is_some.ensures) refl (clear.room (k g c) (d g c) (f g c) h b m e (x g c) u.between u.out same)
     (clear.within (k g c) (d g c) (f g c) h b m e (x g c) u.between u.out same refl (omega arith) refl)
 
 pub returns-clause-emptied : goal.returns-clause-emptied
 returns-clause-emptied g c =
     let u = o g c in
-    subst (λ (z : DeskNow g.row.V.Denot). Empties (k g c) z c.args.block.0 c.args.member (x g c).owned (x g c).place (r g c) (desk_now (f g c)))
+    rw c.handle.ensures
+    (subst (λ (z : DeskNow g.row.V.Denot). Empties (k g c) z c.args.block.0 c.args.member (x g c).owned (x g c).place (r g c) (desk_now (f g c)))
     c.desk.view_is
     record {
       between = desk_now (t g c);
       takes = clear.takes (k g c) (d g c) (f g c) c.desk.invariant c.args.block.0 c.args.member (ends g c) (x g c) u.between u.out (table g c);
       lets = gone.lets_go (going g c);
-    }
+    })
 
 pub returns-clause-kind : goal.returns-clause-kind
 returns-clause-kind g c = gone.only (going g c)
@@ -151,11 +152,11 @@ returns-clause-count g c = (emptied g c).count
 
 pub invariant_of-content : goal.invariant_of-content
 invariant_of-content g c =
-    let d = c.desk.inside in let u = c.clear-released.ensures.cleared in
+    let d = c.desk.inside in let u = c.clear-out.ensures.cleared in
     let f : Inside g.row.V.Denot =
-    record { seat = c.clear-released.new.seat; allowance = d.allowance; held = d.held; endings = d.endings; store = d.store; shelf_word = d.shelf_word } in
+    record { seat = c.clear-out.new.seat; allowance = d.allowance; held = d.held; endings = d.endings; store = d.store; shelf_word = d.shelf_word } in
     let ends' = ends_in d c.args.desk.now c.args.block.0 c.requires.ending.0 c.desk.view_is c.requires.ending.1 in
     record {
-      proper = clear.proper_is c.args.kind d f c.desk.invariant c.args.block.0 c.args.member ends' c.clear-released.result.0 u.between u.out
-          c.clear-released.ensures.seat.0;
+      proper = rw c.handle.ensures (clear.proper_is c.args.kind d f c.desk.invariant c.args.block.0 c.args.member ends' c.clear-out.result.0 u.between
+          u.out c.clear-out.ensures.seat.0);
     }

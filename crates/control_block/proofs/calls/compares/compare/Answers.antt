@@ -34,18 +34,18 @@ compare-swapped-requires-clause-aim g c =
 pub compare-swapped-requires-clause-expected : goal.compare-swapped-requires-clause-expected
 compare-swapped-requires-clause-expected g c =
     let r = c.requires in let d = c.desk.inside in let h = c.desk.invariant in let v = d.seat.me.0 in let k = c.args.offer.new.kind in
-    let b = c.args.offer.new.block in let p = c.args.offer.new.place in let y = c.args.desk.now in let lost = g.A.CellArgs.new in
+    let b = c.args.offer.new.word.block in let p = c.args.offer.new.word.place in let y = c.args.desk.now in let lost = g.A.CellArgs.new in
     let new_is : lost ≡ in_seat v k b p = r.new ∙ ap (λ (z : DeskNow g.row.V.Denot). handle_in z k b p) (sym c.desk.view_is) in
-    let there = g.A.CellArgs.expected in let q = c.args.offer.expected.block in let o = c.args.offer.expected.place in
+    let there = g.A.CellArgs.expected in let q = c.args.offer.expected.word.block in let o = c.args.offer.expected.word.place in
     let there_is : there ≡ in_seat v k q o = r.expected ∙ ap (λ (z : DeskNow g.row.V.Denot). handle_in z k q o) (sym c.desk.view_is) in
     subst (λ (z : NumberedHandle). IsWordOf v z record { owned = q; place = o; taken = 0 }) (sym there_is) (lost_shows d y k o h c.desk.view_is q r.holds.0)
 
 pub compare-swapped-requires-clause-offer : goal.compare-swapped-requires-clause-offer
 compare-swapped-requires-clause-offer g c =
     let r = c.requires in let d = c.desk.inside in let h = c.desk.invariant in let v = d.seat.me.0 in let k = c.args.offer.new.kind in
-    let b = c.args.offer.new.block in let p = c.args.offer.new.place in let y = c.args.desk.now in let lost = g.A.CellArgs.new in
+    let b = c.args.offer.new.word.block in let p = c.args.offer.new.word.place in let y = c.args.desk.now in let lost = g.A.CellArgs.new in
     let new_is : lost ≡ in_seat v k b p = r.new ∙ ap (λ (z : DeskNow g.row.V.Denot). handle_in z k b p) (sym c.desk.view_is) in
-    let there = g.A.CellArgs.expected in let q = c.args.offer.expected.block in let o = c.args.offer.expected.place in
+    let there = g.A.CellArgs.expected in let q = c.args.offer.expected.word.block in let o = c.args.offer.expected.word.place in
     let there_is : there ≡ in_seat v k q o = r.expected ∙ ap (λ (z : DeskNow g.row.V.Denot). handle_in z k q o) (sym c.desk.view_is) in
     let table = ap (λ z. z.domain) c.desk.view_is ∙ (r.domain.table ∙ sym (ap (λ z. z.id) c.domain.view_is)) in
     record {
@@ -64,10 +64,10 @@ compare-swapped-requires-clause-offer g c =
       room = room_left d h (not_full d y _ h c.desk.view_is c.if-is_full.ensures refl);
     }
 
-module _ (g : _) (c : goal.After-result-2-1 g) where
+module _ (g : _) (c : goal.After-result-1 g) where
   came : let a = g.A.CellArgs in let new = c.args.offer.new in let r = c.compare-swapped.result in
-      Came c.desk.inside c.compare-swapped.new.seat.me.0 a.cell (λ z. Compare a.cell a.expected a.new z r.0 a.weak) new.kind r.1 (cond r.0 new.block None)
-      (cond r.0 new.place None)
+      Came c.desk.inside c.compare-swapped.new.seat.me.0 a.cell (λ z. Compare a.cell a.expected a.new z r.0 a.weak) new.kind r.1 (cond r.0 new.word.block None)
+      (cond r.0 new.word.place None)
   came =
       compared _ c.desk.invariant _ _ _ _ _ _ _ _ c.desk.view_is c.requires.new c.requires.holds.1 _ _ _ c.compare-swapped.ensures.compared.out
 
@@ -75,37 +75,41 @@ pub invariant_of-desk : goal.invariant_of-desk
 invariant_of-desk g c =
     let d = c.desk.inside in let h = c.desk.invariant in let t = c.compare-swapped.ensures in let s = c.compare-swapped.result.0 in
     let x = c.compare-swapped.result.1 in let new = c.args.offer.new in let w = c.compare-swapped.new.seat.me.0 in
-    let fit = fits d new.kind new.place new.block h (has_here d c.args.desk.now new.kind new.block new.place c.desk.view_is c.requires.holds.1) in
+    let fit = fits d new.kind new.word.place new.word.block h
+    (has_here d c.args.desk.now new.kind new.word.block new.word.place c.desk.view_is c.requires.holds.1) in
     let more = counted_of s c.from.result c.from.ensures in
     desk_then _ h (came g c) t.table t.compared.rests.none refl refl refl
     (λ size. subst (λ (q : ℕ). bag_size (known w) w.view.name ≤ (d.held + q)) (sym more)
-    (fits_of s new.block x.owned _ _ d.held size fit h.holding (one_few x.owned)))
+    (fits_of s new.word.block x.owned _ _ d.held size fit h.holding (one_few x.owned)))
     (let l = within_of s d.held (min 1 d.endings) d.allowance (omega (arith, h.within))
     (not_full d c.args.desk.now _ h c.desk.view_is c.if-is_full.ensures refl) in omega (arith, more))
 
 pub returns-clause-event : goal.returns-clause-event
-returns-clause-event g c = event_of c.desk.invariant (came g c) _ _ _ c.desk.view_is c.compare-swapped.ensures.table
+returns-clause-event g c = rw c.handle.ensures (event_of c.desk.invariant (came g c) _ _ _ c.desk.view_is c.compare-swapped.ensures.table)
 
 pub returns-clause-bag : goal.returns-clause-bag
 returns-clause-bag g c =
     let new = c.args.offer.new in let s = c.compare-swapped.result.0 in let x = c.compare-swapped.result.1 in
-    bag_then c.desk.invariant (came g c) _ c.desk.view_is
-    ∙ ap (with_handle new.kind x.owned x.place) (bag_of_choice s new.kind new.block new.place (bag_of c.args.desk.now))
+    rw c.handle.ensures
+    (bag_then c.desk.invariant (came g c) _ c.desk.view_is
+    ∙ ap (with_handle new.kind x.owned x.place) (bag_of_choice s new.kind new.word.block new.word.place (bag_of c.args.desk.now)))
 
 pub returns-clause-holds : goal.returns-clause-holds
 returns-clause-holds g c =
     let d = c.desk.inside in let h = c.desk.invariant in let s = c.compare-swapped.result.0 in let x = c.compare-swapped.result.1 in
     let new = c.args.offer.new in let w = c.compare-swapped.new.seat.me.0 in
-    let fit = fits d new.kind new.place new.block h (has_here d c.args.desk.now new.kind new.block new.place c.desk.view_is c.requires.holds.1) in
-    holds_it h (came g c) c.compare-swapped.new.seat.table_id (d.held + c.from.result)
+    let fit = fits d new.kind new.word.place new.word.block h
+    (has_here d c.args.desk.now new.kind new.word.block new.word.place c.desk.view_is c.requires.holds.1) in
+    rw c.handle.ensures (holds_it h (came g c) c.compare-swapped.new.seat.table_id (d.held + c.from.result)
     (λ none. subst (λ q. bag_size (known w) w.view.name < d.held + q) (sym (counted_of s c.from.result c.from.ensures))
-    (few_of s new.block x.owned _ _ d.held (size_now h (came g c)) fit h.holding (ap one none)))
+    (few_of s new.word.block x.owned _ _ d.held (size_now h (came g c)) fit h.holding (ap one none))))
 
 pub invariant_of-result : goal.invariant_of-result
 invariant_of-result g c =
     record {
-      proper = is_proper c.desk.invariant (compared _ c.desk.invariant _ g.A.CellArgs.cell _ _ _ _ _ _ c.desk.view_is c.requires.new c.requires.holds.1
-          _ _ _ c.compare-swapped.ensures.compared.out);
+      proper = rw c.handle.ensures
+          (is_proper c.desk.invariant (compared _ c.desk.invariant _ g.A.CellArgs.cell _ _ _ _ _ _ c.desk.view_is c.requires.new c.requires.holds.1
+          _ _ _ c.compare-swapped.ensures.compared.out));
     }
 
 pub returns-clause-keeps : goal.returns-clause-keeps

@@ -1,5 +1,5 @@
 use Rattle.std.proofs.Common.{◌+◌, true, false, not, ◌∷◌, ◌==◌, Some, None, sym, refl, ap, ◌∙◌}
-use Rattle.std.proofs.Common.{arith}
+use Rattle.std.proofs.Common.{subst, arith}
 use Rattle.control_block.proofs.Prelude.{bag_of, desk_now, DeskNow, handle, Idle, latest_of, Lock}
 use Rattle.control_block.proofs.Prelude.{on_latest, Owner, Weak}
 use Rattle.control_word.specs.State.{count}
@@ -12,6 +12,8 @@ use Rattle.control_block.proofs.desks.DeskSteps.{ending_same, as_many, came, one
 use Rattle.control_block.proofs.desks.DeskSteps.{word_inside}
 use Rattle.control_block.proofs.desks.DeskLocks.{none_after}
 use Rattle.control_block.proofs.calls.locks.lock.Goals as goal
+use Rattle.control_word.specs.HandleWords.{HandleNow}
+use Rattle.control_block.specs.Handles.{IsProper}
 
 pub lock-requires-clause-holds : goal.lock-requires-clause-holds
 lock-requires-clause-holds g c =
@@ -150,10 +152,14 @@ pub returns-then-not-lock-clause-handle : goal.returns-then-not-lock-clause-hand
 returns-then-not-lock-clause-handle g c = tt
 
 pub returns-clause-handle : goal.returns-clause-handle
-returns-clause-handle g c = (refl, refl)
+returns-clause-handle g c =
+    let w = c.requires.word in let r = c.of_word.ensures in (r.0 ∙ ap (λ h. h.block) w, r.1 ∙ ap (λ h. h.place) w)
 
 pub returns-then-not-lock-clause-expired : goal.returns-then-not-lock-clause-expired
 returns-then-not-lock-clause-expired g c = λ _. refl
 
 pub returns-clause-held : goal.returns-clause-held
 returns-clause-held g c = ap (λ (z : DeskNow g.row.V.Denot). z.held + 1) c.desk.view_is
+
+pub of_word-requires : goal.of_word-requires
+of_word-requires g c = subst (λ (w : HandleNow). IsProper Owner w.block w.place) (sym c.requires.word) tt

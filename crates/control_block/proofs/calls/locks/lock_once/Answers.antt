@@ -8,6 +8,8 @@ use Rattle.control_block.proofs.desks.DeskSteps.{ending_same, as_many, came, one
 use Rattle.control_block.proofs.desks.DeskSteps.{word_inside}
 use Rattle.control_block.proofs.desks.DeskLocks.{none_after}
 use Rattle.control_block.proofs.calls.locks.lock_once.Goals as goal
+use Rattle.control_word.specs.HandleWords.{HandleNow}
+use Rattle.control_block.specs.Handles.{IsProper}
 
 told : {V : Type 0} {v w : SeatView V} {h : NumberedHandle} {a b : Bool} → a ≡ b → Added v Idle None (Lock h a) w → Added v Idle None (Lock h b) w
 told {v = v} {w = w} {h = h} e t = subst (λ (x : Bool). Added v Idle None (Lock h x) w) e t
@@ -75,3 +77,10 @@ returns-else-not-got-clause-keeps g c =
     keeps_quietly d c.lock_once.new.seat.me.0 (Lock (on_latest (desk_now d) Weak c.args.of.place c.args.of.block.0) true) c.desk.invariant
     (told c.if-not-got.false c.in-Some.ensures.event) _ _ c.args.desk.now c.desk.view_is c.lock_once.ensures.seat.0
     (calm (λ s n. refl) (λ s n. refl) (λ s f. refl)) (λ s n. refl) (λ s n. refl)
+
+pub of_word-requires : goal.of_word-requires
+of_word-requires g c = subst (λ (w : HandleNow). IsProper Owner w.block w.place) (sym c.requires.word) tt
+
+pub returns-else-not-got-clause-handle : goal.returns-else-not-got-clause-handle
+returns-else-not-got-clause-handle g c =
+    let w = c.requires.word in let r = c.of_word.ensures in (r.0 ∙ ap (λ h. h.block) w, r.1 ∙ ap (λ h. h.place) w)

@@ -1,5 +1,6 @@
 use Rattle.std.proofs.Common.{◌+◌, sym, refl, ap, ◌∙◌, subst, arith}
 use Rattle.control_block.proofs.Prelude.{DeskNow, IsTold, object_in}
+use Rattle.control_block.proofs.desks.DeskBlocks.{near_block}
 use Rattle.control_block.proofs.desks.Near.{near_in, near_word}
 use Rattle.control_block.proofs.calls.looks.peek.Goals as goal
 
@@ -17,3 +18,8 @@ peek-requires-clause-word g c =
 pub returns-clause-told : goal.returns-clause-told
 returns-clause-told g c =
     subst (λ (z : DeskNow g.row.V.Denot). IsTold c.args.word (object_in z c.args.block.0) c.peek.result) c.desk.view_is c.peek.ensures.told
+
+pub returns-clause-block : goal.returns-clause-block
+returns-clause-block g c =
+    near_block c.desk.inside c.desk.invariant c.args.block.0
+    (near_in c.desk.inside c.args.desk.now c.args.block.0 c.desk.invariant c.desk.view_is c.requires.near)

@@ -4,6 +4,7 @@ use Rattle.control_block.proofs.Prelude.{opening_of, Owner, sound, stock_of}
 use Rattle.control_word.specs.Events.{origin}
 use Rattle.control_block.proofs.desks.DeskBags.{not_full, adds_of, bag_gets, before, ends_still}
 use Rattle.control_block.proofs.desks.DeskBags.{legal_now, room_left, same_desk}
+use Rattle.control_block.proofs.desks.DeskBlocks.{stored_block}
 use Rattle.control_block.proofs.desks.OwnCounts.{made_count}
 use Rattle.control_block.proofs.desks.DeskSteps.{came, desk_after, one_more}
 use Rattle.control_block.proofs.desks.OwnEndings.{make_spares, made_block}
@@ -135,3 +136,11 @@ returns-clause-handle g c = (refl, c.origin_of.ensures)
 
 pub returns-clause-held : goal.returns-clause-held
 returns-clause-held g c = ap (λ (z : DeskNow g.row.V.Denot). z.held + 1) c.desk.view_is
+
+pub returns-then-is_full-clause-block : goal.returns-then-is_full-clause-block
+returns-then-is_full-clause-block g c = tt
+
+pub returns-clause-block : goal.returns-clause-block
+returns-clause-block g c =
+    stored_block c.desk.inside c.desk.invariant c.in-Some.block.0
+    (last_stored c.desk.inside c.desk.invariant c.pop.new.self.items c.in-Some.block c.in-Some.ensures.items)

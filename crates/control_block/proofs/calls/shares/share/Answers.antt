@@ -21,7 +21,7 @@ share-shared-requires-clause-word g c =
 
 pub share-shared-requires-clause-wanted : goal.share-shared-requires-clause-wanted
 share-shared-requires-clause-wanted g c =
-    points_well c.desk.inside c.args.desk.now c.args.of.place c.args.wanted c.args.of.block.0 c.desk.invariant c.desk.view_is c.requires.holds
+    points_well c.desk.inside c.args.desk.now c.args.of.place c.args.wanted.place c.args.of.block.0 c.desk.invariant c.desk.view_is c.requires.holds
     c.requires.wanted
 
 pub share-shared-requires-clause-room : goal.share-shared-requires-clause-room
@@ -31,8 +31,8 @@ share-shared-requires-clause-room g c =
 pub invariant_of-desk : goal.invariant_of-desk
 invariant_of-desk g c =
     let d = c.desk.inside in let h = c.desk.invariant in let v = d.seat.me.0 in let w = c.share-shared.new.seat.me.0 in let s = c.share-shared.ensures in
-    let e = Share (on_latest (desk_now d) Owner c.args.of.place c.args.of.block.0) c.args.wanted in let t = came v w Idle None e s.event in
-    let size = one_more v w e t (on_latest (desk_now d) Owner c.args.wanted c.args.of.block.0) refl in
+    let e = Share (on_latest (desk_now d) Owner c.args.of.place c.args.of.block.0) c.args.wanted.place in let t = came v w Idle None e s.event in
+    let size = one_more v w e t (on_latest (desk_now d) Owner c.args.wanted.place c.args.of.block.0) refl in
     let ne = (not_full c.desk.inside c.args.desk.now _ c.desk.invariant c.desk.view_is c.if-is_full.ensures refl) in
     quiet_desk d _ e h s.event s.seat.0 (s.seat.2 ∙ h.rests.none) (λ y x. refl) (λ y x. refl) refl refl (omega (arith, size, h.holding))
     (omega (arith, h.within, ne)) (h.ended ∙ sym (ending_same v w e t (plain (λ y x. refl) (λ y x. refl) (λ y f. refl))))
@@ -40,12 +40,12 @@ invariant_of-desk g c =
 pub returns-clause-event : goal.returns-clause-event
 returns-clause-event g c =
     adds_of c.desk.inside c.args.desk.now c.share-shared.new.seat.me.0 _ _
-    (λ z. Share (on_latest z Owner c.args.of.place c.args.of.block.0) c.args.wanted)
+    (λ z. Share (on_latest z Owner c.args.of.place c.args.of.block.0) c.args.wanted.place)
     c.desk.view_is c.share-shared.ensures.seat.0 c.share-shared.ensures.event
 
 pub returns-clause-bag : goal.returns-clause-bag
 returns-clause-bag g c =
-    let d = c.desk.inside in let w = c.share-shared.new.seat.me.0 in let b = c.args.of.block.0 in let q = c.args.wanted in
+    let d = c.desk.inside in let w = c.share-shared.new.seat.me.0 in let b = c.args.of.block.0 in let q = c.args.wanted.place in
     let e = Share (on_latest (desk_now d) Owner c.args.of.place b) q in
     let holds = holding_in d c.args.desk.now Owner c.args.of.place b c.desk.invariant c.desk.view_is c.requires.holds in
     bag_gets d w e c.desk.invariant c.share-shared.ensures.event (on_latest (desk_now d) Owner q b) (handle Owner (Some b) q) refl
@@ -55,7 +55,7 @@ returns-clause-bag g c =
 pub returns-clause-keeps : goal.returns-clause-keeps
 returns-clause-keeps g c =
     let d = c.desk.inside in
-    keeps_quietly d c.share-shared.new.seat.me.0 (Share (on_latest (desk_now d) Owner c.args.of.place c.args.of.block.0) c.args.wanted) c.desk.invariant
+    keeps_quietly d c.share-shared.new.seat.me.0 (Share (on_latest (desk_now d) Owner c.args.of.place c.args.of.block.0) c.args.wanted.place) c.desk.invariant
     c.share-shared.ensures.event _ _ c.args.desk.now c.desk.view_is c.share-shared.ensures.seat.0
     (calm (λ s n. refl) (λ s n. refl) (λ s f. refl)) (λ s n. refl) (λ s n. refl)
 

@@ -7,7 +7,7 @@ ghosts-share g a =
       kind = Owner;
       object = (known a.seat.now.me.0).latest a.of.block.0;
       place = a.of.place;
-      wanted = a.wanted;
+      wanted = a.wanted.place;
       block = a.of.block;
       word = 0;
     }

@@ -27,61 +27,60 @@ site_word-word-requires g c =
 
 pub overflow_sub-desk : goal.overflow_sub-desk
 overflow_sub-desk g c =
-    let some' = lost_some c.desk.inside c.args.new.kind c.args.new.place c.args.new.block c.desk.invariant
-    (subst (λ (z : DeskNow g.row.V.Denot). HoldsHandle z c.args.new.kind c.args.new.block c.args.new.place) (sym c.desk.view_is) c.requires.holds) in omega
-    arith
+    let some' = lost_some c.desk.inside c.args.new.kind c.args.new.word.place c.args.new.word.block c.desk.invariant
+    (subst (λ (z : DeskNow g.row.V.Denot). HoldsHandle z c.args.new.kind c.args.new.word.block c.args.new.word.place) (sym c.desk.view_is)
+    c.requires.holds) in omega arith
 
-pub store-released-requires-clause-word : goal.store-released-requires-clause-word
-store-released-requires-clause-word g c =
+pub store-out-requires-clause-word : goal.store-out-requires-clause-word
+store-out-requires-clause-word g c =
     let r = c.requires in
     (word_there c.desk.inside c.desk.invariant c.args.new.kind c.site_word-word.result c.args.desk.now
     c.domain.inside.table.shared.table_id c.domain.inside.shape c.args.site c.desk.view_is
     (ap (λ z. z.domain) c.desk.view_is ∙ (r.domain.table ∙ sym (ap (λ z. z.id) c.domain.view_is)))
     (ap (λ z. z.shape) c.desk.view_is ∙ (r.domain.shape ∙ sym (ap (λ z. z.shape) c.domain.view_is))) r.cell.0 c.site_word-word.ensures).1
 
-pub store-released-requires-clause-cell : goal.store-released-requires-clause-cell
-store-released-requires-clause-cell g c =
+pub store-out-requires-clause-cell : goal.store-out-requires-clause-cell
+store-out-requires-clause-cell g c =
     let r = c.requires in
     cell_there c.desk.inside c.desk.invariant c.args.new.kind c.site_word-word.result c.args.desk.now c.domain.inside.shape c.args.site
     g.A.CellArgs.cell c.desk.view_is (ap (λ z. z.shape) c.desk.view_is ∙ (r.domain.shape ∙ sym (ap (λ z. z.shape) c.domain.view_is))) r.cell.0 r.cell.1
     c.site_word-word.ensures
 
-pub store-released-requires-clause-new : goal.store-released-requires-clause-new
-store-released-requires-clause-new g c =
+pub store-out-requires-clause-new : goal.store-out-requires-clause-new
+store-out-requires-clause-new g c =
     let r = c.requires in let d = c.desk.inside in let h = c.desk.invariant in let v = d.seat.me.0 in
-    let k = c.args.new.kind in let b = c.args.new.block in let p = c.args.new.place in let y = c.args.desk.now in let lost = g.A.CellArgs.new in
+    let k = c.args.new.kind in let b = c.args.new.word.block in let p = c.args.new.word.place in let y = c.args.desk.now in let lost = g.A.CellArgs.new in
     let new_is : lost ≡ in_seat v k b p = r.new ∙ ap (λ (z : DeskNow g.row.V.Denot). handle_in z k b p) (sym c.desk.view_is) in (
       lost_word d y k p h c.desk.view_is b r.holds c.args.new.proper,
-      refl,
       subst (λ (z : NumberedHandle). IsWordOf v z record { owned = b; place = p; taken = 0 }) (sym new_is) (lost_shows d y k p h c.desk.view_is b r.holds),
     )
 
-pub store-released-requires-clause-hand : goal.store-released-requires-clause-hand
-store-released-requires-clause-hand g c =
+pub store-out-requires-clause-hand : goal.store-out-requires-clause-hand
+store-out-requires-clause-hand g c =
     let r = c.requires in let d = c.desk.inside in let h = c.desk.invariant in let v = d.seat.me.0 in
-    let k = c.args.new.kind in let b = c.args.new.block in let p = c.args.new.place in let y = c.args.desk.now in let lost = g.A.CellArgs.new in
+    let k = c.args.new.kind in let b = c.args.new.word.block in let p = c.args.new.word.place in let y = c.args.desk.now in let lost = g.A.CellArgs.new in
     let new_is : lost ≡ in_seat v k b p = r.new ∙ ap (λ (z : DeskNow g.row.V.Denot). handle_in z k b p) (sym c.desk.view_is) in
     subst (λ (z : NumberedHandle). InHand (known v) v.view.name k z) (sym new_is)
     (lost_hand d y k p h c.desk.view_is b r.holds c.args.new.proper)
 
-pub store-released-requires-clause-holds : goal.store-released-requires-clause-holds
-store-released-requires-clause-holds g c =
+pub store-out-requires-clause-holds : goal.store-out-requires-clause-holds
+store-out-requires-clause-holds g c =
     let r = c.requires in let d = c.desk.inside in let h = c.desk.invariant in let v = d.seat.me.0 in
-    let k = c.args.new.kind in let b = c.args.new.block in let p = c.args.new.place in let y = c.args.desk.now in let lost = g.A.CellArgs.new in
+    let k = c.args.new.kind in let b = c.args.new.word.block in let p = c.args.new.word.place in let y = c.args.desk.now in let lost = g.A.CellArgs.new in
     let new_is : lost ≡ in_seat v k b p = r.new ∙ ap (λ (z : DeskNow g.row.V.Denot). handle_in z k b p) (sym c.desk.view_is) in
     subst (λ (z : NumberedHandle). IfSome b (λ a. HoldingInBlock v z.kind (object_of z) z.place a.0)) (sym new_is)
     (lost_holding d y k p h c.desk.view_is b r.holds)
 
-pub store-released-requires-clause-count : goal.store-released-requires-clause-count
-store-released-requires-clause-count g c =
+pub store-out-requires-clause-count : goal.store-out-requires-clause-count
+store-out-requires-clause-count g c =
     let r = c.requires in
-    lost_counted c.desk.inside c.args.desk.now c.args.new.kind c.args.new.place c.desk.invariant c.desk.view_is c.args.new.block
+    lost_counted c.desk.inside c.args.desk.now c.args.new.kind c.args.new.word.place c.desk.invariant c.desk.view_is c.args.new.word.block
     c.domain.inside.table.shared.table_id (ap (λ z. z.domain) c.desk.view_is ∙ (r.domain.table ∙ sym (ap (λ z. z.id) c.domain.view_is))) r.holds
 
-pub store-released-requires-clause-room : goal.store-released-requires-clause-room
-store-released-requires-clause-room g c = λ none.
+pub store-out-requires-clause-room : goal.store-out-requires-clause-room
+store-out-requires-clause-room g c = λ none.
     let r = c.requires in let d = c.desk.inside in let h = c.desk.invariant in let v = d.seat.me.0 in
-    let k = c.args.new.kind in let b = c.args.new.block in let p = c.args.new.place in let y = c.args.desk.now in let lost = g.A.CellArgs.new in
+    let k = c.args.new.kind in let b = c.args.new.word.block in let p = c.args.new.word.place in let y = c.args.desk.now in let lost = g.A.CellArgs.new in
     let new_is : lost ≡ in_seat v k b p = r.new ∙ ap (λ (z : DeskNow g.row.V.Denot). handle_in z k b p) (sym c.desk.view_is) in
     lost_room d y k p h c.desk.view_is b r.holds (ap (λ z. z.object) (sym new_is) ∙ none)
 
@@ -92,14 +91,14 @@ overflow_add-desk g c =
 
 pub put_by_out-requires : goal.put_by_out-requires
 put_by_out-requires g c =
-    let d = c.desk.inside in let h = c.desk.invariant in let k = c.args.new.kind in let b = c.args.new.block in let p = c.args.new.place in
+    let d = c.desk.inside in let h = c.desk.invariant in let k = c.args.new.kind in let b = c.args.new.word.block in let p = c.args.new.word.place in
     let is' = c.requires.new ∙ ap (λ (z : DeskNow g.row.V.Denot). handle_in z k b p) (sym c.desk.view_is) in
     let has' = subst (λ (z : DeskNow g.row.V.Denot). HoldsHandle z k b p) (sym c.desk.view_is) c.requires.holds in
     let some' = lost_some d k p b h has' in
-    let u = c.store-released.ensures.stored in let x = c.store-released.result.0 in let same = c.store-released.ensures.seat.0 in
+    let u = c.store-out.ensures.stored in let x = c.store-out.result.0 in let same = c.store-out.ensures.seat.0 in
     let f : Inside g.row.V.Denot =
     record {
-      seat = c.store-released.new.seat;
+      seat = c.store-out.new.seat;
       allowance = d.allowance;
       held = d.held - 1;
       endings = d.endings;
@@ -107,7 +106,7 @@ put_by_out-requires g c =
       shelf_word = d.shelf_word;
     } in
     record {
-      room = gone.room_gone (store.going k d f h g.A.CellArgs.cell g.A.CellArgs.new b p x is' has' u.between u.out same c.store-released.result.1 u.gone
+      room = gone.room_gone (store.going k d f h g.A.CellArgs.cell g.A.CellArgs.new b p x is' has' u.between u.out same c.store-out.result.1 u.gone
           (omega arith));
     }
 
@@ -119,14 +118,14 @@ module _ (g : _) (c : goal.After-content-1 g) where
   k = c.args.new.kind
 
   abbrev b : Option Block
-  b = c.args.new.block
+  b = c.args.new.word.block
 
   abbrev p : Option Place
-  p = c.args.new.place
+  p = c.args.new.word.place
 
   abbrev f : Inside g.row.V.Denot
   f = record {
-    seat = c.store-released.new.seat;
+    seat = c.store-out.new.seat;
     allowance = d.allowance;
     held = d.held - 1;
     endings = d.endings + c.from.result;
@@ -135,10 +134,10 @@ module _ (g : _) (c : goal.After-content-1 g) where
   }
 
   abbrev x : CellWord
-  x = c.store-released.result.0
+  x = c.store-out.result.0
 
   abbrev q : Released g.row.V.Denot
-  q = c.store-released.result.1
+  q = c.store-out.result.1
 
   is : g.A.CellArgs.new ≡ in_seat d.seat.me.0 k b p
   is = c.requires.new ∙ ap (λ (z : DeskNow g.row.V.Denot). handle_in z k b p) (sym c.desk.view_is)
@@ -147,13 +146,13 @@ module _ (g : _) (c : goal.After-content-1 g) where
   has = subst (λ (z : DeskNow g.row.V.Denot). HoldsHandle z k b p) (sym c.desk.view_is) c.requires.holds
 
   table : f.seat.table_id ≡ d.seat.table_id
-  table = c.store-released.ensures.seat.0
+  table = c.store-out.ensures.seat.0
 
   held : f.held + 1 ≡ d.held
   held = let some' = lost_some d k p b c.desk.invariant has in omega arith
 
   o : OutAndGone (λ y. Swap g.A.CellArgs.cell g.A.CellArgs.new y) k d.seat.me.0 x q f.seat.me.0
-  o = c.store-released.ensures.stored
+  o = c.store-out.ensures.stored
 
   -- the desk between the two events
   abbrev t : Inside g.row.V.Denot
@@ -176,20 +175,21 @@ module _ (g : _) (c : goal.After-content-1 g) where
 
 pub invariant_of-desk : goal.invariant_of-desk
 invariant_of-desk g c =
-    gone.desk_gone (going g c) c.store-released.ensures.seat.2.none c.put_by_out.ensures.items c.put_by_out.ensures.capacity refl
+    gone.desk_gone (going g c) c.store-out.ensures.seat.2.none c.put_by_out.ensures.items c.put_by_out.ensures.capacity refl
     c.from.result (c.from.ensures ∙ ap bool_byte c.is_some.ensures) refl (room g c)
     (let h = c.desk.invariant in let some' = held g c in let one' = byte_few c.is_some.result in omega (arith, h.within, c.from.ensures))
 
 pub returns-clause-stored : goal.returns-clause-stored
 returns-clause-stored g c =
-    subst (λ (z : DeskNow g.row.V.Denot). Replaces (k g c) z g.A.CellArgs.cell g.A.CellArgs.new (x g c).owned (x g c).place (q g c) (desk_now (f g c)))
+    rw c.handle.ensures
+    (subst (λ (z : DeskNow g.row.V.Denot). Replaces (k g c) z g.A.CellArgs.cell g.A.CellArgs.new (x g c).owned (x g c).place (q g c) (desk_now (f g c)))
     c.desk.view_is
     record {
       between = desk_now (t g c);
       swaps = store.swaps (k g c) (d g c) (f g c) c.desk.invariant g.A.CellArgs.cell g.A.CellArgs.new (b g c) (p g c) (x g c) (is g c) (has g c) (o g c).between
           (o g c).out (table g c);
       lets = gone.lets_go (going g c);
-    }
+    })
 
 pub returns-clause-kind : goal.returns-clause-kind
 returns-clause-kind g c = gone.only (going g c)
@@ -220,18 +220,18 @@ returns-clause-count g c = (stored g c).count
 
 pub invariant_of-content : goal.invariant_of-content
 invariant_of-content g c =
-    let d = c.desk.inside in let h = c.desk.invariant in let k = c.args.new.kind in let b = c.args.new.block in let p = c.args.new.place in
+    let d = c.desk.inside in let h = c.desk.invariant in let k = c.args.new.kind in let b = c.args.new.word.block in let p = c.args.new.word.place in
     let is' = c.requires.new ∙ ap (λ (z : DeskNow g.row.V.Denot). handle_in z k b p) (sym c.desk.view_is) in
     let has' = subst (λ (z : DeskNow g.row.V.Denot). HoldsHandle z k b p) (sym c.desk.view_is) c.requires.holds in
     let some' = lost_some d k p b h has' in
-    let u = c.store-released.ensures.stored in let x = c.store-released.result.0 in let same = c.store-released.ensures.seat.0 in
+    let u = c.store-out.ensures.stored in let x = c.store-out.result.0 in let same = c.store-out.ensures.seat.0 in
     let f : Inside g.row.V.Denot =
     record {
-      seat = c.store-released.new.seat;
+      seat = c.store-out.new.seat;
       allowance = d.allowance;
       held = d.held - 1;
       endings = d.endings;
       store = d.store;
       shelf_word = d.shelf_word;
     } in
-    record { proper = store.proper_is k d f h g.A.CellArgs.cell g.A.CellArgs.new b p x is' has' u.between u.out same }
+    record { proper = rw c.handle.ensures (store.proper_is k d f h g.A.CellArgs.cell g.A.CellArgs.new b p x is' has' u.between u.out same) }

@@ -14,26 +14,26 @@ load-requires g c =
       },
     )
 
-pub unpack-requires : goal.unpack-requires
-unpack-requires g c = c.load.ensures.2.0
+pub of_bits-requires : goal.of_bits-requires
+of_bits-requires g c = c.load.ensures.2.0
 
 pub returns-clause-seat : goal.returns-clause-seat
 returns-clause-seat g c =
-    let t = c.load.ensures in let u = c.unpack.ensures in let x = c.unpack.result in let q = t.2.1 x u.valid (sym u.bits) in let me = c.args.seat.now.me in
+    let t = c.load.ensures in let u = c.of_bits.ensures in let x = c.of_bits.result in let q = t.2.1 x u.valid (sym u.bits) in let me = c.args.seat.now.me in
     let b = equivalent (handle (kind_in me.0.shape g.A.CellArgs.cell) None x.place) g.A.CellArgs.expected in
     (t.0, t.1, slots_differed x me c.load.new.seat.me _ b q.1 q.2 q.3 ∙ c.requires.rests.none)
 
 pub returns-clause-event : goal.returns-clause-event
 returns-clause-event g c =
-    λ bare differs. let u = c.unpack.ensures in ((c.load.ensures.2.1 c.unpack.result u.valid (sym u.bits)).1 bare differs).0
+    λ bare differs. let u = c.of_bits.ensures in ((c.load.ensures.2.1 c.of_bits.result u.valid (sym u.bits)).1 bare differs).0
 
 pub returns-clause-alike : goal.returns-clause-alike
 returns-clause-alike g c =
-    λ bare same. let u = c.unpack.ensures in (c.load.ensures.2.1 c.unpack.result u.valid (sym u.bits)).2 bare same
+    λ bare same. let u = c.of_bits.ensures in (c.load.ensures.2.1 c.of_bits.result u.valid (sym u.bits)).2 bare same
 
 pub returns-clause-held : goal.returns-clause-held
-returns-clause-held g c = let u = c.unpack.ensures in (c.load.ensures.2.1 c.unpack.result u.valid (sym u.bits)).0
+returns-clause-held g c = let u = c.of_bits.ensures in (c.load.ensures.2.1 c.of_bits.result u.valid (sym u.bits)).0
 
 pub returns-clause-same : goal.returns-clause-same
 returns-clause-same g c =
-    λ some'. let u = c.unpack.ensures in (c.load.ensures.2.1 c.unpack.result u.valid (sym u.bits)).3 some'
+    λ some'. let u = c.of_bits.ensures in (c.load.ensures.2.1 c.of_bits.result u.valid (sym u.bits)).3 some'

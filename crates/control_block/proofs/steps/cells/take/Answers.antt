@@ -7,7 +7,7 @@ compare_exchange-now-requires g c =
       r.table,
       r.word,
       record {
-        allows = allows_load table.key table.table_id.slots seat.id c.args.word c.pack-found.result g.A.CellArgs.cell c.args.seen seat.me r.rests r.cell x.0
-            c.pack-found.ensures x.1 x.2 r.room;
+        allows = allows_load table.key table.table_id.slots seat.id c.args.word c.bits-found.result g.A.CellArgs.cell c.args.seen seat.me r.rests r.cell x.0
+            c.bits-found.ensures x.1 x.2 r.room;
       },
     )

@@ -1,9 +1,9 @@
 use Rattle.std.proofs.Common.{ℕ, sym, refl, ap, ◌∙◌, subst}
-use Rattle.control_block.proofs.Prelude.{At, ClearMember, empty, Ends, Gave, IsSized, Kind}
-use Rattle.control_block.proofs.Prelude.{kind_of_member, Rests, TableId, tells}
+use Rattle.control_block.proofs.Prelude.{At, CellWord, ClearMember, empty, Ends, Gave, IsSized, Kind}
+use Rattle.control_block.proofs.Prelude.{kind_of_member, OutAndGone, Rests, TableId, tells}
 use Rattle.control_block.proofs.cells.CellTries.{room_at, told_rests}
 use Rattle.control_block.proofs.cells.CellTrades.{clear_trades}
-use Rattle.control_block.proofs.leavings.LetGo.{gave_owes, gave_there, meant_out, out_and_gone}
+use Rattle.control_block.proofs.leavings.LetGo.{gave_holds, gave_owes, gave_there, meant_out, out_and_gone}
 use Rattle.control_block.proofs.steps.clears.clear.Goals as goal
 
 pub let_go-released-requires-clause-meant : goal.let_go-released-requires-clause-meant
@@ -33,6 +33,17 @@ let_go-released-requires-clause-owes g c =
     gave_owes (λ h. ClearMember o q h) c.args.kind v x (empty c.args.kind) (clear_trades g.row.V.Denot o q c.args.kind) c.swap_out-out.new.seat.me t
     r.rests.awake
     c.swap_out-out.ensures.seat.2
+
+pub let_go-released-requires-clause-holds : goal.let_go-released-requires-clause-holds
+let_go-released-requires-clause-holds g c =
+    let r = c.requires in let o = g.M.StepArgs.object in let q = c.args.member in let x = c.swap_out-out.result in let w = c.swap_out-out.new.seat.me.0 in
+    let v = c.args.seat.now.me.0 in
+    let t : Gave (λ h. ClearMember o q h) c.args.kind v x w =
+    subst (λ (y : Kind). Gave (λ h. ClearMember o q h) y v x w) r.kind
+    (subst (λ y. Gave (λ h. ClearMember o y h) (kind_of_member v.shape.owners y) v x w) r.word.2
+    (subst (λ (y : At g.row.V.Denot). Gave (λ h. ClearMember o g.M.StepArgs.word h) (kind_of_member y.0.shape.owners g.M.StepArgs.word) y.0 x w)
+    (c.is_empty.ensures.same c.if-is_empty.false) c.swap_out-out.ensures.gave)) in
+    gave_holds (λ h. ClearMember o q h) c.args.kind v x (empty c.args.kind) (clear_trades g.row.V.Denot o q c.args.kind) c.swap_out-out.new.seat.me t
 
 pub returns-clause-cleared : goal.returns-clause-cleared
 returns-clause-cleared g c =
@@ -68,6 +79,8 @@ returns-then-is_empty-clause-seat g c =
 pub returns-then-is_empty-clause-cleared : goal.returns-then-is_empty-clause-cleared
 returns-then-is_empty-clause-cleared g c =
     let r = c.requires in let t = c.is_empty.ensures.cleared c.if-is_empty.true in let v = c.args.seat.now.me.0 in let w = c.is_empty.new.seat.me.0 in
+    let o = g.M.StepArgs.object in
+    subst (λ (x : CellWord). OutAndGone (λ h. ClearMember o c.args.member h) c.args.kind v x c.nothing.result w) (sym c.empty.ensures)
     record {
       between = w;
       out = record {

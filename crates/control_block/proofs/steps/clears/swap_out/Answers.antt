@@ -16,12 +16,12 @@ swap-requires g c =
       },
     )
 
-pub unpack-requires : goal.unpack-requires
-unpack-requires g c = c.swap.ensures.2.0
+pub of_bits-requires : goal.of_bits-requires
+of_bits-requires g c = c.swap.ensures.2.0
 
 pub returns-clause-seat : goal.returns-clause-seat
 returns-clause-seat g c =
-    let t = c.swap.ensures in let u = c.unpack.ensures in (t.0, t.1, (t.2.1 c.unpack.result u.valid (sym u.bits)).1 ∙ c.requires.rests.none)
+    let t = c.swap.ensures in let u = c.of_bits.ensures in (t.0, t.1, (t.2.1 c.of_bits.result u.valid (sym u.bits)).1 ∙ c.requires.rests.none)
 
 pub returns-clause-gave : goal.returns-clause-gave
-returns-clause-gave g c = let t = c.swap.ensures in let u = c.unpack.ensures in (t.2.1 c.unpack.result u.valid (sym u.bits)).0
+returns-clause-gave g c = let t = c.swap.ensures in let u = c.of_bits.ensures in (t.2.1 c.of_bits.result u.valid (sym u.bits)).0

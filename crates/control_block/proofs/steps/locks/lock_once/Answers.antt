@@ -1,4 +1,4 @@
-use Rattle.std.proofs.Common.{◌≡◌, ℕ, suc, ◌<◌, true, false, ◌==◌, sym, ap, ◌∙◌, subst, arith}
+use Rattle.std.proofs.Common.{◌≡◌, ℕ, ◌+◌, ◌<◌, true, false, ◌==◌, sym, ap, ◌∙◌, subst, arith}
 use Rattle.control_block.proofs.Prelude.{Allows, At, either, Lock, locked, none, Ruled}
 use Rattle.control_block.proofs.Prelude.{step, tells, weak_of}
 use Rattle.control_block.proofs.kept.Lock.{allows_lock, allows_seek, got_owner}
@@ -19,14 +19,13 @@ pub compare_exchange-requires : goal.compare_exchange-requires
 compare_exchange-requires g c =
     let r = c.requires in let e = c.block_word-word.ensures in let i = c.block_word-word.result in let table = c.args.table.now in
     let slots = table.table_id.slots in let o = g.M.StepArgs.object in let p = g.M.StepArgs.place in
-    let t = c.load-found.ensures in let found : ℕ = c.load-found.result in let id = c.load-found.new.seat.id in
-    let more : c.with_handle-more.result ≡ suc found = omega (arith, c.with_handle-more.ensures.word) in (
+    let t = c.load-found.ensures in let found : ℕ = c.load-found.result in let id = c.load-found.new.seat.id in (
       t.0 ∙ r.table,
       subst (λ x. x < table.table_id.words) (sym e) r.word.1,
       record {
-        allows = subst (λ (m : At g.row.V.Denot × ℕ). Allows (Ruled table.key) slots id m.0 i (λ n. either (n == found) m.1 n)
-            (locked o p (step slots i found m.1 none) m.0))
-            (λ j. (sym (t.2.1 c.if-found-eq0.false).0 j, sym more j))
+        allows = subst (λ (m : At g.row.V.Denot). Allows (Ruled table.key) slots id m i (λ n. either (n == found) (found + 1099511627777) n)
+            (locked o p (step slots i found (found + 1099511627777) none) m))
+            (sym (t.2.1 c.if-found-eq0.false).0)
             (allows_lock table.key slots id c.args.of.block.0 o i found p c.args.seat.now.me r.rests r.holds r.room c.if-found-eq0.false e);
       },
     )

@@ -14,8 +14,8 @@ swap-requires g c =
       r.table,
       subst (λ y. y < table.table_id.words) (sym e) r.word.1,
       record {
-        allows = subst (λ (y : Block). Allows (Ruled table.key) table.table_id.slots seat.id seat.me i (λ _. 1)
-            (made y m.enabled m.null m.fields (step table.table_id.slots i 1 0 none) seat.me))
+        allows = subst (λ (y : Block). Allows (Ruled table.key) table.table_id.slots seat.id seat.me i (λ _. 1099511627777)
+            (made y m.enabled m.null m.fields (step table.table_id.slots i 1099511627777 0 none) seat.me))
             (sym r.planned.0)
             (allows_claim table.key table.table_id.slots seat.id i b m.enabled m.null m.fields seat.me q.1 (stays_awake q.0 b seat.me l x t q.2)
             (makes q.0 b seat.me l x t)

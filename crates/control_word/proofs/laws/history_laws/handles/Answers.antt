@@ -1,6 +1,7 @@
 use Rattle.control_word.proofs.history.Given as given
 use Rattle.control_word.proofs.history.Formation as formation
 use Rattle.control_word.proofs.history.Storing as storing
+use Rattle.control_word.proofs.history.Stores as stores
 use Rattle.control_word.proofs.history.Endings as endings
 use Rattle.control_word.proofs.laws.history_laws.handles.Goals as goal
 
@@ -10,4 +11,6 @@ returns g c = record {
   are_formed = formation.are_formed;
   stays_the_latest = endings.stays_the_latest;
   stored_once = storing.stored_once;
+  stores_of_desks = stores.stores_of_desks;
+  shelf_has_all = stores.shelf_has_all;
 }

@@ -20,7 +20,7 @@ handles-requires-clause-cell g c =
 pub handles-requires-clause-holds : goal.handles-requires-clause-holds
 handles-requires-clause-holds g c =
     let o = g.D.Domain.opened in let d = c.self.inside.desk in let p = c.self.inside.pile in let cs = c.self.inside.claims.entries in
-    let first = c.look-hoped.ensures in let second = c.split-entry.ensures in let same = c.look_at.ensures.claims in (
+    let first = c.look-hoped.ensures in let second = c.split-new.ensures in let same = c.look_at.ensures.claims in (
       owner_held o d p cs _ _ _ c.self.invariant (at_same cs _ _ _ same first.has) first.handle,
       owner_held o d p cs _ _ _ c.self.invariant (at_same cs _ _ _ (first.claims ∙ same) second.has) second.handle,
     )
@@ -29,8 +29,8 @@ pub drop_shared-gone-requires-clause-holds : goal.drop_shared-gone-requires-clau
 drop_shared-gone-requires-clause-holds g c =
     let o = g.D.Domain.opened in let d = c.self.inside.desk in let e = c.handles.new.desk in let p = c.self.inside.pile in
     let cs = c.self.inside.claims.entries in let w = c.self.invariant in
-    let first = c.look-hoped.ensures in let second = c.split-entry.ensures in let same = c.look_at.ensures.claims in
-    let x = shared_cell d c.args.how.now.at.site in let hoped = c.look-hoped.result.now in let new = c.split-entry.result.0 in
+    let first = c.look-hoped.ensures in let second = c.split-new.ensures in let same = c.look_at.ensures.claims in
+    let x = shared_cell d c.args.how.now.at.site in let hoped = c.look-hoped.result.now in let new = c.split-new.result.0 in
     let raw = c.in-Ok-Swapped.ensures in
     let says = says_by d x Owner hoped.block hoped.place new.block new.place c.args.how.now.weak e
     (λ (h : Shared). h.block) (λ (h : Shared). h.place) _ (Swapped c.in-Ok-Swapped.found)
@@ -44,8 +44,8 @@ pub drop_shared-gone-requires-clause-carries : goal.drop_shared-gone-requires-cl
 drop_shared-gone-requires-clause-carries g c =
     let o = g.D.Domain.opened in let d = c.self.inside.desk in let e = c.handles.new.desk in let p = c.self.inside.pile in
     let cs = c.self.inside.claims.entries in let w = c.self.invariant in
-    let first = c.look-hoped.ensures in let second = c.split-entry.ensures in let same = c.look_at.ensures.claims in
-    let x = shared_cell d c.args.how.now.at.site in let hoped = c.look-hoped.result.now in let new = c.split-entry.result.0 in
+    let first = c.look-hoped.ensures in let second = c.split-new.ensures in let same = c.look_at.ensures.claims in
+    let x = shared_cell d c.args.how.now.at.site in let hoped = c.look-hoped.result.now in let new = c.split-new.result.0 in
     let raw = c.in-Ok-Swapped.ensures in
     let says = says_by d x Owner hoped.block hoped.place new.block new.place c.args.how.now.weak e
     (λ (h : Shared). h.block) (λ (h : Shared). h.place) _ (Swapped c.in-Ok-Swapped.found)
@@ -59,8 +59,8 @@ pub invariant_of-self : goal.invariant_of-self
 invariant_of-self g c =
     let o = g.D.Domain.opened in let d = c.self.inside.desk in let e = c.handles.new.desk in let p = c.self.inside.pile in
     let cs = c.self.inside.claims.entries in let w = c.self.invariant in
-    let first = c.look-hoped.ensures in let second = c.split-entry.ensures in let same = c.look_at.ensures.claims in
-    let x = shared_cell d c.args.how.now.at.site in let hoped = c.look-hoped.result.now in let new = c.split-entry.result.0 in
+    let first = c.look-hoped.ensures in let second = c.split-new.ensures in let same = c.look_at.ensures.claims in
+    let x = shared_cell d c.args.how.now.at.site in let hoped = c.look-hoped.result.now in let new = c.split-new.result.0 in
     let raw = c.in-Ok-Swapped.ensures in
     let says = says_by d x Owner hoped.block hoped.place new.block new.place c.args.how.now.weak e
     (λ (h : Shared). h.block) (λ (h : Shared). h.place) _ (Swapped c.in-Ok-Swapped.found)
@@ -77,8 +77,8 @@ pub arrived-held-requires-clause-hand : goal.arrived-held-requires-clause-hand
 arrived-held-requires-clause-hand g c =
     let o = g.D.Domain.opened in let d = c.self.inside.desk in let e = c.handles.new.desk in let p = c.self.inside.pile in
     let cs = c.self.inside.claims.entries in let w = c.self.invariant in
-    let first = c.look-hoped.ensures in let second = c.split-entry.ensures in let same = c.look_at.ensures.claims in
-    let x = shared_cell d c.args.how.now.at.site in let hoped = c.look-hoped.result.now in let new = c.split-entry.result.0 in
+    let first = c.look-hoped.ensures in let second = c.split-new.ensures in let same = c.look_at.ensures.claims in
+    let x = shared_cell d c.args.how.now.at.site in let hoped = c.look-hoped.result.now in let new = c.split-new.result.0 in
     let raw = c.in-Ok-Differs.ensures in
     let says = says_by d x Owner hoped.block hoped.place new.block new.place c.args.how.now.weak e
     (λ (h : Shared). h.block) (λ (h : Shared). h.place) _ (Differs c.in-Ok-Differs.held c.in-Ok-Differs.desired)
@@ -90,8 +90,8 @@ pub returns-in-Ok-Swapped-clause-compared : goal.returns-in-Ok-Swapped-clause-co
 returns-in-Ok-Swapped-clause-compared g c =
     let o = g.D.Domain.opened in let d = c.self.inside.desk in let e = c.handles.new.desk in let p = c.self.inside.pile in
     let cs = c.self.inside.claims.entries in let w = c.self.invariant in
-    let first = c.look-hoped.ensures in let second = c.split-entry.ensures in let same = c.look_at.ensures.claims in
-    let x = shared_cell d c.args.how.now.at.site in let hoped = c.look-hoped.result.now in let new = c.split-entry.result.0 in
+    let first = c.look-hoped.ensures in let second = c.split-new.ensures in let same = c.look_at.ensures.claims in
+    let x = shared_cell d c.args.how.now.at.site in let hoped = c.look-hoped.result.now in let new = c.split-new.result.0 in
     let raw = c.in-Ok-Swapped.ensures in
     let says = says_by d x Owner hoped.block hoped.place new.block new.place c.args.how.now.weak e
     (λ (h : Shared). h.block) (λ (h : Shared). h.place) _ (Swapped c.in-Ok-Swapped.found)
@@ -105,8 +105,8 @@ pub returns-in-Ok-Differs-clause-compared : goal.returns-in-Ok-Differs-clause-co
 returns-in-Ok-Differs-clause-compared g c =
     let o = g.D.Domain.opened in let d = c.self.inside.desk in let e = c.handles.new.desk in let p = c.self.inside.pile in
     let cs = c.self.inside.claims.entries in let w = c.self.invariant in
-    let first = c.look-hoped.ensures in let second = c.split-entry.ensures in let same = c.look_at.ensures.claims in
-    let x = shared_cell d c.args.how.now.at.site in let hoped = c.look-hoped.result.now in let new = c.split-entry.result.0 in
+    let first = c.look-hoped.ensures in let second = c.split-new.ensures in let same = c.look_at.ensures.claims in
+    let x = shared_cell d c.args.how.now.at.site in let hoped = c.look-hoped.result.now in let new = c.split-new.result.0 in
     let raw = c.in-Ok-Differs.ensures in
     let says = says_by d x Owner hoped.block hoped.place new.block new.place c.args.how.now.weak e
     (λ (h : Shared). h.block) (λ (h : Shared). h.place) _ (Differs c.in-Ok-Differs.held c.in-Ok-Differs.desired)
@@ -128,8 +128,8 @@ pub returns-in-Ok-Swapped-clause-exact : goal.returns-in-Ok-Swapped-clause-exact
 returns-in-Ok-Swapped-clause-exact g c =
     let o = g.D.Domain.opened in let d = c.self.inside.desk in let e = c.handles.new.desk in let p = c.self.inside.pile in
     let cs = c.self.inside.claims.entries in let w = c.self.invariant in
-    let first = c.look-hoped.ensures in let second = c.split-entry.ensures in
-    let x = shared_cell d c.args.how.now.at.site in let hoped = c.look-hoped.result.now in let new = c.split-entry.result.0 in
+    let first = c.look-hoped.ensures in let second = c.split-new.ensures in
+    let x = shared_cell d c.args.how.now.at.site in let hoped = c.look-hoped.result.now in let new = c.split-new.result.0 in
     let raw = c.in-Ok-Swapped.ensures in
     let says = says_by d x Owner hoped.block hoped.place new.block new.place c.args.how.now.weak e
     (λ (h : Shared). h.block) (λ (h : Shared). h.place) _ (Swapped c.in-Ok-Swapped.found)
@@ -144,8 +144,8 @@ pub returns-in-Ok-Differs-clause-exact : goal.returns-in-Ok-Differs-clause-exact
 returns-in-Ok-Differs-clause-exact g c =
     let o = g.D.Domain.opened in let d = c.self.inside.desk in let e = c.handles.new.desk in let p = c.self.inside.pile in
     let cs = c.self.inside.claims.entries in let w = c.self.invariant in
-    let first = c.look-hoped.ensures in let second = c.split-entry.ensures in
-    let x = shared_cell d c.args.how.now.at.site in let hoped = c.look-hoped.result.now in let new = c.split-entry.result.0 in
+    let first = c.look-hoped.ensures in let second = c.split-new.ensures in
+    let x = shared_cell d c.args.how.now.at.site in let hoped = c.look-hoped.result.now in let new = c.split-new.result.0 in
     let raw = c.in-Ok-Differs.ensures in
     let says = says_by d x Owner hoped.block hoped.place new.block new.place c.args.how.now.weak e
     (λ (h : Shared). h.block) (λ (h : Shared). h.place) _ (Differs c.in-Ok-Differs.held c.in-Ok-Differs.desired)

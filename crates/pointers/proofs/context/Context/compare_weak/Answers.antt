@@ -18,7 +18,7 @@ weak_handles-requires-clause-cell g c =
 pub weak_handles-requires-clause-holds : goal.weak_handles-requires-clause-holds
 weak_handles-requires-clause-holds g c =
     let o = g.D.Domain.opened in let d = c.self.inside.desk in let p = c.self.inside.pile in let cs = c.self.inside.claims.entries in
-    let first = c.look-hoped.ensures in let second = c.split-entry.ensures in let same = c.look_at.ensures.claims in (
+    let first = c.look-hoped.ensures in let second = c.split-new.ensures in let same = c.look_at.ensures.claims in (
       weak_held o d p cs _ _ _ c.self.invariant (at_same cs _ _ _ same first.has) first.handle,
       weak_held o d p cs _ _ _ c.self.invariant (at_same cs _ _ _ (first.claims ∙ same) second.has) second.handle,
     )
@@ -27,8 +27,8 @@ pub release_weak-requires-clause-holds : goal.release_weak-requires-clause-holds
 release_weak-requires-clause-holds g c =
     let o = g.D.Domain.opened in let d = c.self.inside.desk in let e = c.weak_handles.new.desk in let p = c.self.inside.pile in
     let cs = c.self.inside.claims.entries in let w = c.self.invariant in
-    let first = c.look-hoped.ensures in let second = c.split-entry.ensures in let same = c.look_at.ensures.claims in
-    let x = weak_cell d c.args.how.now.at.site in let hoped = c.look-hoped.result.now in let new = c.split-entry.result.0 in
+    let first = c.look-hoped.ensures in let second = c.split-new.ensures in let same = c.look_at.ensures.claims in
+    let x = weak_cell d c.args.how.now.at.site in let hoped = c.look-hoped.result.now in let new = c.split-new.result.0 in
     let raw = c.in-Ok-Swapped.ensures in
     let says = says_by d x Weak hoped.block hoped.place new.block new.place c.args.how.now.weak e
     (λ (h : WeakHandle). h.block) (λ (h : WeakHandle). h.place) _ (Swapped c.in-Ok-Swapped.found)
@@ -42,8 +42,8 @@ pub invariant_of-self : goal.invariant_of-self
 invariant_of-self g c =
     let o = g.D.Domain.opened in let d = c.self.inside.desk in let e = c.weak_handles.new.desk in let p = c.self.inside.pile in
     let cs = c.self.inside.claims.entries in let w = c.self.invariant in
-    let first = c.look-hoped.ensures in let second = c.split-entry.ensures in let same = c.look_at.ensures.claims in
-    let x = weak_cell d c.args.how.now.at.site in let hoped = c.look-hoped.result.now in let new = c.split-entry.result.0 in
+    let first = c.look-hoped.ensures in let second = c.split-new.ensures in let same = c.look_at.ensures.claims in
+    let x = weak_cell d c.args.how.now.at.site in let hoped = c.look-hoped.result.now in let new = c.split-new.result.0 in
     let raw = c.in-Ok-Swapped.ensures in
     let says = says_by d x Weak hoped.block hoped.place new.block new.place c.args.how.now.weak e
     (λ (h : WeakHandle). h.block) (λ (h : WeakHandle). h.place) _ (Swapped c.in-Ok-Swapped.found)
@@ -60,8 +60,8 @@ pub arrived_weak-held-requires-clause-hand : goal.arrived_weak-held-requires-cla
 arrived_weak-held-requires-clause-hand g c =
     let o = g.D.Domain.opened in let d = c.self.inside.desk in let e = c.weak_handles.new.desk in let p = c.self.inside.pile in
     let cs = c.self.inside.claims.entries in let w = c.self.invariant in
-    let first = c.look-hoped.ensures in let second = c.split-entry.ensures in let same = c.look_at.ensures.claims in
-    let x = weak_cell d c.args.how.now.at.site in let hoped = c.look-hoped.result.now in let new = c.split-entry.result.0 in
+    let first = c.look-hoped.ensures in let second = c.split-new.ensures in let same = c.look_at.ensures.claims in
+    let x = weak_cell d c.args.how.now.at.site in let hoped = c.look-hoped.result.now in let new = c.split-new.result.0 in
     let raw = c.in-Ok-Differs.ensures in
     let says = says_by d x Weak hoped.block hoped.place new.block new.place c.args.how.now.weak e
     (λ (h : WeakHandle). h.block) (λ (h : WeakHandle). h.place) _ (Differs c.in-Ok-Differs.held c.in-Ok-Differs.desired)
@@ -73,8 +73,8 @@ pub returns-in-Ok-Swapped-clause-compared : goal.returns-in-Ok-Swapped-clause-co
 returns-in-Ok-Swapped-clause-compared g c =
     let o = g.D.Domain.opened in let d = c.self.inside.desk in let e = c.weak_handles.new.desk in let p = c.self.inside.pile in
     let cs = c.self.inside.claims.entries in let w = c.self.invariant in
-    let first = c.look-hoped.ensures in let second = c.split-entry.ensures in let same = c.look_at.ensures.claims in
-    let x = weak_cell d c.args.how.now.at.site in let hoped = c.look-hoped.result.now in let new = c.split-entry.result.0 in
+    let first = c.look-hoped.ensures in let second = c.split-new.ensures in let same = c.look_at.ensures.claims in
+    let x = weak_cell d c.args.how.now.at.site in let hoped = c.look-hoped.result.now in let new = c.split-new.result.0 in
     let raw = c.in-Ok-Swapped.ensures in
     let says = says_by d x Weak hoped.block hoped.place new.block new.place c.args.how.now.weak e
     (λ (h : WeakHandle). h.block) (λ (h : WeakHandle). h.place) _ (Swapped c.in-Ok-Swapped.found)
@@ -88,8 +88,8 @@ pub returns-in-Ok-Differs-clause-compared : goal.returns-in-Ok-Differs-clause-co
 returns-in-Ok-Differs-clause-compared g c =
     let o = g.D.Domain.opened in let d = c.self.inside.desk in let e = c.weak_handles.new.desk in let p = c.self.inside.pile in
     let cs = c.self.inside.claims.entries in let w = c.self.invariant in
-    let first = c.look-hoped.ensures in let second = c.split-entry.ensures in let same = c.look_at.ensures.claims in
-    let x = weak_cell d c.args.how.now.at.site in let hoped = c.look-hoped.result.now in let new = c.split-entry.result.0 in
+    let first = c.look-hoped.ensures in let second = c.split-new.ensures in let same = c.look_at.ensures.claims in
+    let x = weak_cell d c.args.how.now.at.site in let hoped = c.look-hoped.result.now in let new = c.split-new.result.0 in
     let raw = c.in-Ok-Differs.ensures in
     let says = says_by d x Weak hoped.block hoped.place new.block new.place c.args.how.now.weak e
     (λ (h : WeakHandle). h.block) (λ (h : WeakHandle). h.place) _ (Differs c.in-Ok-Differs.held c.in-Ok-Differs.desired)

@@ -1,6 +1,7 @@
-use Rattle.std.proofs.Common.{◌≡◌, true, OnOk, Ok, Err, Result, sym, refl, ◌∙◌, subst, inr}
+use Rattle.std.proofs.Common.{◌≡◌, true, OnOk, Ok, Err, Result, sym, ap, ◌∙◌, subst, inr}
 use Rattle.shared_handle.proofs.Prelude.{DeskNow, IsEnding, object_in}
 use Rattle.shared_handle.proofs.endings.Ending.weak_from_this.Goals as goal
+use Rattle.control_word.specs.HandleWords.{HandleNow}
 
 pub share_weak-requires-clause-may : goal.share_weak-requires-clause-may
 share_weak-requires-clause-may g c =
@@ -9,7 +10,7 @@ share_weak-requires-clause-may g c =
       x,
       subst (λ (u : DeskNow g.row.V.Denot). IsEnding u b x) (sym e.same) c.requires.ends.ends,
       subst (λ (u : DeskNow g.row.V.Denot). (object_in u b).enabled ≡ true) (sym e.same) (sym e.flag ∙ c.if-not-is_enabled.false),
-      refl,
+      ap (λ (w : HandleNow). w.place) c.of.ensures,
     )
 
 on_ok : {T E P : Type 0} (r : Result T E) → P → OnOk r P

@@ -5,7 +5,7 @@ abbrev pub ghosts-compare : goal.ghosts-compare
 ghosts-compare g a =
     record {
       cell = cell_of_site a.desk.now a.site;
-      new = handle_in a.desk.now a.offer.new.kind a.offer.new.block a.offer.new.place;
-      expected = handle_in a.desk.now a.offer.new.kind a.offer.expected.block a.offer.expected.place;
+      new = handle_in a.desk.now a.offer.new.kind a.offer.new.word.block a.offer.new.word.place;
+      expected = handle_in a.desk.now a.offer.new.kind a.offer.expected.word.block a.offer.expected.word.place;
       weak = g.F.Form.weak;
     }

@@ -16,7 +16,7 @@ exchange-old-requires-clause-cell g c =
 pub exchange-old-requires-clause-holds : goal.exchange-old-requires-clause-holds
 exchange-old-requires-clause-holds g c =
     let h = c.args.handle in let x = c.into_content-new in
-    by_parts (HoldsHandle c.args.desk.now) x.result.kind _ x.result.block _ x.result.place _ (sym x.ensures.0) (sym x.ensures.1) (sym x.ensures.2)
+    by_parts (HoldsHandle c.args.desk.now) x.result.kind _ x.result.word.block _ x.result.word.place _ (sym x.ensures.0) (sym x.ensures.1) (sym x.ensures.2)
     (held_parts c.args.desk.now h c.requires.held.0)
 
 pub returns-clause-kind : goal.returns-clause-kind
@@ -27,19 +27,19 @@ pub returns-clause-event : goal.returns-clause-event
 returns-clause-event g c =
     let d = c.args.desk.now in let x = c.into_content-new in let y = c.exchange-old in let e = c.exchange-old.new.desk in let k = c.args.cell.kind in
     let at = cell_of_site d c.args.cell.site in
-    by_parts (λ _ b p. cells.Exchanges d at k b p (block_of_held c.held_of.result) (place_of_held c.held_of.result) e) k k _ x.result.block _
-    x.result.place refl
+    by_parts (λ _ b p. cells.Exchanges d at k b p (block_of_held c.held_of.result) (place_of_held c.held_of.result) e) k k _ x.result.word.block _
+    x.result.word.place refl
     x.ensures.1 x.ensures.2
-    (by_parts (λ _ b p. cells.Exchanges d at k x.result.block x.result.place b p e) k k _ y.result.block _ y.result.place refl
+    (by_parts (λ _ b p. cells.Exchanges d at k x.result.word.block x.result.word.place b p e) k k _ y.result.word.block _ y.result.word.place refl
     c.held_of.ensures.1 c.held_of.ensures.2
-    (subst (λ (z : Kind). cells.Exchanges d at z x.result.block x.result.place y.result.block y.result.place e)
+    (subst (λ (z : Kind). cells.Exchanges d at z x.result.word.block x.result.word.place y.result.word.block y.result.word.place e)
     (sym x.ensures.0 ∙ c.requires.held.1) y.ensures.event))
 
 pub returns-clause-bag : goal.returns-clause-bag
 returns-clause-bag g c =
     let x = c.into_content-new in let y = c.exchange-old in let k = x.result.kind in let l = bag_of c.args.desk.now in let h = c.args.handle in
     y.ensures.bag
-    ∙ ap (λ (m : List NumberedHandle). with_handle k y.result.block y.result.place m)
-    (sym (without_named h k x.result.block x.result.place l x.ensures.0 x.ensures.1 x.ensures.2))
-    ∙ sym (with_named c.held_of.result k y.result.block y.result.place (without_held h l)
+    ∙ ap (λ (m : List NumberedHandle). with_handle k y.result.word.block y.result.word.place m)
+    (sym (without_named h k x.result.word.block x.result.word.place l x.ensures.0 x.ensures.1 x.ensures.2))
+    ∙ sym (with_named c.held_of.result k y.result.word.block y.result.word.place (without_held h l)
     (c.held_of.ensures.0 ∙ y.ensures.kind) c.held_of.ensures.1 c.held_of.ensures.2)

@@ -7,6 +7,6 @@ ghosts-holds g a =
     record {
       cell = cell_of_site a.desk.now a.site;
       new = empty a.expected.kind;
-      expected = handle_in a.desk.now a.expected.kind a.expected.block a.expected.place;
+      expected = handle_in a.desk.now a.expected.kind a.expected.word.block a.expected.word.place;
       weak = false;
     }

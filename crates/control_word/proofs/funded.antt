@@ -1,0 +1,13 @@
+pub mod Totals
+pub mod Hands
+pub mod Events
+pub mod Next
+pub mod Counts
+pub mod Apart
+pub mod Cells
+pub mod Refills
+pub mod Making
+pub mod Looks
+pub mod Words
+pub mod Desks
+pub mod Resting
