@@ -2,6 +2,7 @@ pub mod Totals
 pub mod Hands
 pub mod Events
 pub mod Next
+pub mod Purses
 pub mod Counts
 pub mod Apart
 pub mod Cells

@@ -45,7 +45,8 @@ module _ {V : Type 0} where
       there : (now.object o).block ≡ b.0
       there =
           ap (λ y. (now.object y).block) (sym latest)
-          ∙ ends_here (opening_of k) now b.0 me.0.view.name (sound (opening_of k) r.history r.stands.stands.legal) (ap (λ y. (now.object y).phase) latest ∙ phase)
+          ∙ ends_here (opening_of k) now b.0 me.0.view.name (sound (opening_of k) r.history r.stands.stands.legal) (ap (λ y. (now.object y).phase) latest
+              ∙ phase)
 
       cleared : (m : ℕ) → m < now.members → (now.object o).member m ≡ empty (kind_of_member now.owners m)
       cleared m lt =

@@ -63,7 +63,8 @@ module _ {V : Type 0} where
         ReadyFunded (point k s r id me.0) (short_of m o p w f) × (f ≤ cell_funds) × (spot b (slot m) ≡ w)
     may_ready pos (inl t) =
         let mine = may_have pos (inl t) in let w = counts_at (blocks_of (leads (opening_of k) r.history)) m o in (
-          ready k s r id me.0 at t.0.awake (short_of m o p w f) (t.0.idle ∙ sym (cond-true (f == cell_funds) Idle (Paying m o p w f 0) (eq-eqb f cell_funds t.2))),
+          ready k s r id me.0 at t.0.awake (short_of m o p w f) (t.0.idle
+              ∙ sym (cond-true (f == cell_funds) Idle (Paying m o p w f 0) (eq-eqb f cell_funds t.2))),
           (let e = t.2 in omega arith),
           ap (λ x. spot x (slot m)) (sym mine.1),
         )
@@ -105,6 +106,7 @@ module _ {V : Type 0} where
         let here = subst (λ x. let n = get_or s.words x 0 in let h = entry me.0.view.name (going m o p (n == a)) ∷ r.history in
         (a ≤ n) × StandsFunded (opening_of k) (set s.words x (n - a)) (set (map view_of s.views) id (sees_as me.0.view Idle h)) h) (sym e) now in
         subst (λ x. let h = entry me.0.view.name (going m o p c) ∷ r.history in
-        StandsFunded (opening_of k) (set s.words i x) (set (map view_of s.views) id (sees_as me.0.view Idle h)) h) (sym (falls (get_or s.words i 0) a here.0 small))
+        StandsFunded (opening_of k) (set s.words i x) (set (map view_of s.views) id (sees_as me.0.view Idle h)) h) (sym (falls (get_or s.words i 0) a here.0
+            small))
         (subst (λ y. let h = entry me.0.view.name (going m o p y) ∷ r.history in
         StandsFunded (opening_of k) (set s.words i (get_or s.words i 0 - a)) (set (map view_of s.views) id (sees_as me.0.view Idle h)) h) is here.1)

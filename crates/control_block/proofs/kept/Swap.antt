@@ -52,7 +52,8 @@ module _ {V : Type 0} where
             old = old;
             kind = d.kind;
             shows = same ∙ (λ j. shown (sym blocks j) old (sym (ap (λ y. y.taken) same) j));
-            event = subst (λ q. Rattle.control_block.specs.StepKinds.Added v q None (e old) w) (sym owed) (adds k s r id v at awake p None (e old) told.stands.legal);
+            event = subst (λ q. Rattle.control_block.specs.StepKinds.Added v q None (e old) w) (sym owed) (adds k s r id v at awake p None (e old)
+                told.stands.legal);
           },
         )
 

@@ -6,7 +6,7 @@ use Prelude.{Allows, At, at_map, blocks_of, counts_at, Fits, get_elem?, handle, 
 use Prelude.{Kind, leads, none, opening_of, Owes, owing, Paying, Place, ReadyFunded, Ruled, SeatView}
 use Prelude.{sees_as, settled, Shape, slot, some, spot, StandsFunded, step, value, view_of}
 use Rattle.atomic_table.specs.Table as Table
-use Rattle.control_word.proofs.funded.Cells as law
+use Rattle.control_word.proofs.funded.Purses as law
 use Rattle.control_block.proofs.Passage.{point, ready}
 use Rattle.control_block.proofs.words.Still.{allows_move}
 use Rattle.control_word.specs.Limits.{cell_funds}

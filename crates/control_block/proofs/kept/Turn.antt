@@ -4,7 +4,7 @@ use Rattle.control_word.specs.Limits.{cell_funds}
 use Rattle.control_block.proofs.Prelude.{Allows, At, blocks_of, counts_at, has_headroom_funded, held_busy, Idle, Kind, leads, none, opening_of, Owes, owing}
 use Rattle.control_block.proofs.Prelude.{Paying, Place, Ruled, sees_as, settled, Shape, slot, sound, spot, StandsFunded}
 use Rattle.control_block.proofs.Prelude.{step, view_of}
-use Rattle.control_word.proofs.funded.Cells as law
+use Rattle.control_word.proofs.funded.Purses as law
 use Rattle.control_block.proofs.Passage.{point}
 use Rattle.control_block.proofs.words.Still.{allows_move}
 use Rattle.control_block.proofs.kept.TopUp.{owed_there}

@@ -2,7 +2,8 @@
 use Rattle.std.proofs.Common.{◌≡◌, ℕ, zero, suc, ◌+◌, ◌-◌, ◌*◌, ◌<◌, ◌≤◌, Bool, true, false, cond, ◌≢◌, ◌⊎◌, List, ◌∷◌, length, get_or}
 use Rattle.std.proofs.Common.{set, ◌==◌, map, Some, None, Option, sym, refl, ap, ◌∙◌, subst, inl, inr, ⊎_elim, arith, eq-eqb, ne_eqb, eqb-true}
 use Rattle.control_word.proofs.Prelude
-use Prelude.{after, and_parts, blocks_of, cases_eq, common, cond-false, cond-true, cond_both, counts, counts_at, ending, Entry, entry, Event, Finish, get_elem?, handle}
+use Prelude.{after, and_parts, blocks_of, cases_eq, common, cond-false, cond-true, cond_both, counts, counts_at, ending, Entry, entry, Event, Finish}
+use Prelude.{get_elem?, handle}
 use Prelude.{handles, Has, held, Held, Idle, in_cells, IsLegal, IsPointer, Kind, leads, Leave, Lock, me, Opening, owner, Owner, Paying, Pending, Place, Point}
 use Prelude.{Ready, sees_as, Share, spot, Stands, state, State, tally, View, Weak, weak_number, weak_of, WeakLeave, WeakShare, word, worth}
 use Rattle.control_word.proofs.funded.Events.{hand_finishes, hand_leaves, hand_weak_leaves}
@@ -44,7 +45,8 @@ module _ {V : Type 0} where
 
   -- a handle more, with its funds
   gain : (at : Point V) (ready : ReadyBy StandsFunded at Idle) (k : Kind) (o : ℕ) (q : Option Place) (e : Event V) → IsBusy (state at) o
-      → ((i : ℕ) → hand_funds (leads at.opening (entry (me at) e ∷ at.history)) i ≡ worth (blocks_of (state at)) (handle k (Some o) q) 0 i + hand_funds (state at) i)
+      → ((i : ℕ) → hand_funds (leads at.opening (entry (me at) e ∷ at.history)) i ≡ worth (blocks_of (state at)) (handle k (Some o) q) 0 i + hand_funds
+          (state at) i)
       → let i = counts at k o in let h = entry (me at) e ∷ at.history in
       Stands at.opening (set ready.stands.bare i (suc (get_or ready.stands.bare i 0))) (set at.views at.seat (sees_as at.view Idle h)) h
       → StandsFunded at.opening (set at.words i (word at i + one_funded)) (set at.views at.seat (sees_as at.view Idle h)) h
@@ -76,7 +78,8 @@ module _ {V : Type 0} where
         λ none. told at.opening at.words at.views at.history is (set at.views at.seat (sees_as at.view Idle h)) h
             (law.0 (zero_word at.opening at.words at.views at.history ready.stands Owner o busy none)) (λ i. let a = calm at ready h i in omega arith),
         λ some' room. gain at ready Owner o p (Lock (weak_of o p) true) busy (λ i. refl) (law.1
-            (⊎_elim (λ (e : get_or is.bare (counts at Owner o) 0 ≡ 0). let t = zero_bare at.opening at.words at.views at.history ready.stands Owner o busy e in absurd (omega arith))
+            (⊎_elim (λ (e : get_or is.bare (counts at Owner o) 0 ≡ 0). let t = zero_bare at.opening at.words at.views at.history ready.stands Owner o busy e
+                in absurd (omega arith))
             (λ n. omega arith) (cases_eq (get_or is.bare (counts at Owner o) 0) 0)) room),
       )
 

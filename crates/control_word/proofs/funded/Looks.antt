@@ -2,8 +2,10 @@
 use Rattle.std.proofs.Common.{◌≡◌, ℕ, suc, ◌+◌, ◌-◌, ◌*◌, ◌/◌, ◌%◌, ◌<◌, ◌≤◌, Bool, false, true, cond, ◌≢◌, List, ◌∷◌, get_or, set, ◌==◌, Some, None, Option}
 use Rattle.std.proofs.Common.{sym, refl, ap, ◌∙◌, subst, ⊎_elim, arith, eq-eqb, ne_eqb}
 use Rattle.control_word.proofs.Prelude
-use Prelude.{blocks_of, cases_eq, Cell, cell_of, cell_word, Compare, cond-false, cond-true, Count, counts, counts_at, Entry, entry, equivalent, Event, Expired, handle, held, Has}
-use Prelude.{Idle, IsOpen, Kind, leads, Load, me, NumberedHandle, Opening, owed, owner, Owner, Place, Point, Read, Same, sees_as, spot, Stands, state, View, Weak, weak_of, word}
+use Prelude.{blocks_of, cases_eq, Cell, cell_of, cell_word, Compare, cond-false, cond-true, Count, counts, counts_at, Entry, entry, equivalent, Event}
+use Prelude.{Expired, handle, held, Has}
+use Prelude.{Idle, IsOpen, Kind, leads, Load, me, NumberedHandle, Opening, owed, owner, Owner, Place, Point, Read, Same, sees_as, spot, Stands, state, View}
+use Prelude.{Weak, weak_of, word}
 use Rattle.control_word.proofs.funded.Apart.{body_apart}
 use Rattle.control_word.proofs.funded.Cells.{cell_same, open_cell}
 use Rattle.control_word.proofs.funded.Counts.{calm, one_answer}
@@ -27,7 +29,8 @@ told_alike low high low' high' same f g =
     ⊎_elim
     (λ (e : low ≡ 0).
     let a : cond (low == 0) (cond (high == 0) 0 1) low ≡ cond (high == 0) 0 1 = cond-true (low == 0) (cond (high == 0) 0 1) low (eq-eqb low 0 e) in
-    let b : cond (low' == 0) (cond (high' == 0) 0 1) low' ≡ cond (high' == 0) 0 1 = cond-true (low' == 0) (cond (high' == 0) 0 1) low' (eq-eqb low' 0 (omega arith)) in
+    let b : cond (low' == 0) (cond (high' == 0) 0 1) low' ≡ cond (high' == 0) 0 1 = cond-true (low' == 0) (cond (high' == 0) 0 1) low' (eq-eqb low' 0 (omega
+        arith)) in
     a ∙ (ap (λ (t : Bool). cond t 0 1) (one_answer high high' 0 0 (g e) (f e)) ∙ sym b))
     (λ (n : low ≢ 0).
     cond-false (low == 0) (cond (high == 0) 0 1) low (ne_eqb low 0 n) ∙ (same
@@ -68,7 +71,8 @@ module _ {V : Type 0} where
       let busy = held_busy at.opening (state at) (me at) o Weak p (sound at.opening at.history ready.stands.stands.legal) holds in
       let j = counts at Owner o in
       let same : (word at j == 0) ≡ (get_or ready.stands.bare j 0 == 0) = one_answer (word at j) (get_or ready.stands.bare j 0) 0 0
-      (zero_bare at.opening at.words at.views at.history ready.stands Owner o busy) (zero_word at.opening at.words at.views at.history ready.stands Owner o busy) in
+      (zero_bare at.opening at.words at.views at.history ready.stands Owner o busy) (zero_word at.opening at.words at.views at.history ready.stands Owner o
+          busy) in
       subst (λ t. StandsFunded at.opening at.words (set at.views at.seat (sees_as at.view Idle (entry (me at) (Expired (weak_of o p) t) ∷ at.history)))
       (entry (me at) (Expired (weak_of o p) t) ∷ at.history)) (sym same)
       (look at ready (entry (me at) (Expired (weak_of o p) (get_or ready.stands.bare j 0 == 0)) ∷ at.history) (λ i. refl)
@@ -104,6 +108,8 @@ module _ {V : Type 0} where
       let kept = open_cell at Idle c ready open' in
       let same = cell_same at Idle ready c kept in
       subst (λ w. StandsFunded at.opening at.words (set at.views at.seat (sees_as at.view Idle (entry (me at) (Same c h (without_taken w
-      == packed (blocks_of (state at)) h)) ∷ at.history))) (entry (me at) (Same c h (without_taken w == packed (blocks_of (state at)) h)) ∷ at.history)) (sym same)
-      (look at ready (entry (me at) (Same c h (without_taken (get_or ready.stands.bare (cell_word at c) 0) == packed (blocks_of (state at)) h)) ∷ at.history) (λ i. refl)
+      == packed (blocks_of (state at)) h)) ∷ at.history))) (entry (me at) (Same c h (without_taken w == packed (blocks_of (state at)) h)) ∷ at.history)) (sym
+          same)
+      (look at ready (entry (me at) (Same c h (without_taken (get_or ready.stands.bare (cell_word at c) 0) == packed (blocks_of (state at)) h)) ∷ at.history)
+          (λ i. refl)
       (tells_same (bared at ready.stands) c h (bare_ready at Idle ready) open' hand))

@@ -1,8 +1,10 @@
 -- How a block is made, where each handle in hand has its funds: a new owner has them from its claim on.
-use Rattle.std.proofs.Common.{◌≡◌, ℕ, suc, ◌+◌, ◌-◌, ◌*◌, ◌<◌, ◌≤◌, Bool, false, cond, ◌≢◌, List, [], ◌∷◌, length, get_or, set, Some, Option, sym, refl, ap, ◌∙◌, subst}
+use Rattle.std.proofs.Common.{◌≡◌, ℕ, suc, ◌+◌, ◌-◌, ◌*◌, ◌<◌, ◌≤◌, Bool, false, cond, ◌≢◌, List, [], ◌∷◌, length, get_or, set, Some, Option, sym, refl, ap}
+use Rattle.std.proofs.Common.{◌∙◌, subst}
 use Rattle.std.proofs.Common.{⊎_elim, arith, eq-eqb}
 use Rattle.control_word.proofs.Prelude
-use Prelude.{Block, blocks_of, cases_eq, counts_at, Entry, entry, flags_of, handle, Has, Idle, leads, Make, Making, me, new_object, Object, origin, Owner, Pending, Point}
+use Prelude.{Block, blocks_of, cases_eq, counts_at, Entry, entry, flags_of, handle, Has, Idle, leads, Make, Making, me, new_object, Object, origin, Owner}
+use Prelude.{Pending, Point}
 use Prelude.{put, Ready, sees_as, spot, Stands, state, State, stored, View, word, worth}
 use Rattle.control_word.proofs.funded.Apart.{body_apart, stored_apart}
 use Rattle.control_word.proofs.funded.Events.{hand_made}
@@ -75,7 +77,8 @@ module _ {V : Type 0} where
       let law = writes_weak_word (bared at ready.stands) (bare_ready at Idle ready) b mine in
       let same = known_same at ready b mine in
       writes at Idle ready b mine 1 1 (Making b (known_of at.words b.0)) (omega arith) (λ i. refl) (λ i. refl)
-      (subst (λ l. Stands at.opening (set ready.stands.bare (spot b.0 1) 1) (set at.views at.seat (sees_as at.view (Making b l) at.history)) at.history) same law)
+      (subst (λ l. Stands at.opening (set ready.stands.bare (spot b.0 1) 1) (set at.views at.seat (sees_as at.view (Making b l) at.history)) at.history) same
+          law)
 
   pub writes_word_funded : WritesWord V StandsFunded
   writes_word_funded at b known ready five j n lt =
@@ -97,7 +100,8 @@ module _ {V : Type 0} where
       let law = claims (bared at ready.stands) b enabled null fields v (bare_ready at p ready) four room in
       let apart = own_apart at p ready b mine 0 (omega arith) in
       let us = set at.views at.seat (sees_as at.view Idle h) in
-      let place : blocks_of t (suc s.made) ≡ b.0 = ap (λ (x : Object). x.block) (put_same s.object (suc s.made) (new_object s.owners b.0 enabled null fields) (suc s.made) refl) in
+      let place : blocks_of t (suc s.made) ≡ b.0 = ap (λ (x : Object). x.block) (put_same s.object (suc s.made) (new_object s.owners b.0 enabled null fields)
+          (suc s.made) refl) in
       let here : counts_at (blocks_of t) Owner (suc s.made) ≡ k = ap (λ c. spot c 0) place in
       let lack : (i : ℕ) → lacking us i ≡ lacking at.views i = λ i. let x = lacking_set at.views at.seat at.view Idle h i ready.seated in
       let y = ap (λ c. lacks c i) ready.pending in omega arith in

@@ -2,7 +2,8 @@
 use Rattle.std.proofs.Common.{◌≡◌, ℕ, zero, suc, ◌+◌, ◌-◌, ◌*◌, ◌<◌, ◌≤◌, false, ◌≢◌, List, ◌∷◌, length, get_or, set, map, Option}
 use Rattle.std.proofs.Common.{sym, refl, ap, ◌∙◌, subst, ⊎_elim, arith, length-set, get_or-set_other, get_or-set_same}
 use Rattle.control_word.proofs.Prelude
-use Prelude.{blocks_of, cases_eq, counts_at, Entry, get_elem?, handles, Held, in_cells, Kind, leads, Opening, Pending, Point, Ready, sees_as, some, Stands, State}
+use Prelude.{blocks_of, cases_eq, counts_at, Entry, get_elem?, handles, Held, in_cells, Kind, leads, Opening, Pending, Point, Ready, sees_as, some, Stands}
+use Prelude.{State}
 use Prelude.{tally, total, View}
 use Rattle.control_word.proofs.funded.Hands.{hand_counts, hand_none, lacking_few, lacking_none}
 use Rattle.control_word.proofs.history.Legal.{sound}

@@ -5,7 +5,8 @@ use Rattle.control_word.proofs.Prelude
 use Prelude.{blocks_of, cases_eq, Cell, cell_of, cell_word, counts, get_elem?, handle, Has, held, Idle, IsOpen, Kind, me, Paying, Pending, Place, Point, Ready}
 use Prelude.{sees_as, some, Stands, state, View, word}
 use Rattle.control_word.proofs.funded.Apart.{set_again, set_found}
-use Rattle.control_word.proofs.funded.Cells.{apart, cell_in, cell_same, counted_in, open_cell}
+use Rattle.control_word.proofs.funded.Cells.{apart, cell_in, cell_same, open_cell}
+use Rattle.control_word.proofs.funded.Purses.{counted_in}
 use Rattle.control_word.proofs.funded.Next.{bare_ready, bared, IsApart, lacking_set}
 use Rattle.control_word.proofs.history.Legal.{held_busy, sound}
 use Rattle.control_word.proofs.history.Soundness.{IsBusy}

@@ -1,7 +1,8 @@
 -- What the words tell between any two steps, where each handle in hand has its funds: numbers are as they are without them.
 use Rattle.std.proofs.Common.{◌≡◌, ℕ, ◌+◌, ◌*◌, ◌/◌, ◌%◌, ◌<◌, ◌≤◌, ◌≢◌, List, get_or, sym, refl, ap, ◌∙◌, subst, inl, inr, ⊎_elim, arith}
 use Rattle.control_word.proofs.Prelude
-use Prelude.{blocks_of, cases_eq, common, counts_at, Entry, funds_of, InShape, Kind, leads, number_of, Opening, Owner, slot, spot, State, View, Weak, weak_number}
+use Prelude.{blocks_of, cases_eq, common, counts_at, Entry, funds_of, InShape, Kind, leads, number_of, Opening, Owner, slot, spot, State, View, Weak}
+use Prelude.{weak_number}
 use Rattle.control_word.proofs.funded.Hands.{hand_counts, lacking_few}
 use Rattle.control_word.proofs.funded.Looks.{told_alike}
 use Rattle.control_word.proofs.funded.Next.{plain_word, zero_bare, zero_word}

@@ -1,10 +1,13 @@
 -- The other words of a table, where each handle in hand has its funds: doors, the shelf and its summary, and all words at the start.
-use Rattle.std.proofs.Common.{◌≡◌, ℕ, zero, suc, ◌+◌, ◌-◌, ◌*◌, ◌/◌, ◌%◌, ◌<◌, ◌≤◌, false, true, ◌≢◌, ◌⊎◌, List, [], ◌∷◌, length, get_or, set, Some, None, Option}
+use Rattle.std.proofs.Common.{◌≡◌, ℕ, zero, suc, ◌+◌, ◌-◌, ◌*◌, ◌/◌, ◌%◌, ◌<◌, ◌≤◌, false, true, ◌≢◌, ◌⊎◌, List, [], ◌∷◌, length, get_or, set, Some, None}
+use Rattle.std.proofs.Common.{Option}
 use Rattle.std.proofs.Common.{map, replicate, sym, refl, ap, ◌∙◌, subst, ⊎_elim, arith}
 use Rattle.std.proofs.lemmas.List.{length-map}
 use Rattle.control_word.proofs.Prelude
-use Prelude.{bit_at, Block, blocks_of, cases_eq, cases_lt, counts, counts_at, Entry, entry, Fits, handles, Held, Idle, in_cells, IsOpening, Kind, leads, me, number_of, Opening, owned_bits, owner, Owner}
-use Prelude.{Pending, Place, Point, sees_as, shelf_place, shelf_spot, Shelve, some, spot, Stands, start, state, State, tally, Unshelve, value, View, Visit, Visiting, Weak, weak_number, word}
+use Prelude.{bit_at, Block, blocks_of, cases_eq, cases_lt, counts, counts_at, Entry, entry, Fits, handles, Held, Idle, in_cells, IsOpening, Kind, leads, me}
+use Prelude.{number_of, Opening, owned_bits, owner, Owner}
+use Prelude.{Pending, Place, Point, sees_as, shelf_place, shelf_spot, Shelve, some, spot, Stands, start, state, State, tally, Unshelve, value, View, Visit}
+use Prelude.{Visiting, Weak, weak_number, word}
 use Rattle.control_word.proofs.funded.Apart.{behind_apart, body_apart}
 use Rattle.control_word.proofs.funded.Counts.{calm, inside}
 use Rattle.control_word.proofs.funded.Hands.{hand_counts, lacking_few, paid_lacking}
@@ -51,12 +54,14 @@ module _ (V : Type 0) where
 
 module _ {V : Type 0} where
   -- the door of an object's visit
-  door_apart : (at : Point V) (p : Pending V) (ready : ReadyBy StandsFunded at p) (o : ℕ) → IsBusy (state at) o → IsApart (state at) (spot (blocks_of (state at) o) 2)
+  door_apart : (at : Point V) (p : Pending V) (ready : ReadyBy StandsFunded at p) (o : ℕ) → IsBusy (state at) o
+      → IsApart (state at) (spot (blocks_of (state at) o) 2)
   door_apart at p ready o busy =
       let fine = sound at.opening at.history ready.stands.stands.legal in
       body_apart at.opening (state at) fine ((state at).object o).block 2 (fine.placed o busy).1.0 (omega arith) (omega arith)
 
-  door_in : (at : Point V) (p : Pending V) (ready : ReadyBy StandsFunded at p) (o : ℕ) → IsBusy (state at) o → spot (blocks_of (state at) o) 2 < length (ready.stands.bare)
+  door_in : (at : Point V) (p : Pending V) (ready : ReadyBy StandsFunded at p) (o : ℕ) → IsBusy (state at) o
+      → spot (blocks_of (state at) o) 2 < length (ready.stands.bare)
   door_in at p ready o busy =
       let fine = sound at.opening at.history ready.stands.stands.legal in
       let u = spot_fits at.opening ((state at).object o).block 2 (fine.placed o busy).1 (omega arith) in let t = ready.stands.stands.shows.sized in omega arith
@@ -82,7 +87,8 @@ module _ {V : Type 0} where
       let q : Pending V = Visiting o p k was in
       let is = ready.stands.stands in
       let fits : Fits ready.stands.bare (state at) (value at.opening at.history) (me at) q =
-      subst (Fits ready.stands.bare (state at) (value at.opening at.history) (me at)) ready.pending (is.team.seated at.seat at.view ready.seated ready.awake).fits in
+      subst (Fits ready.stands.bare (state at) (value at.opening at.history) (me at)) ready.pending (is.team.seated at.seat at.view ready.seated
+          ready.awake).fits in
       let busy = held_busy at.opening (state at) (me at) o Owner p (sound at.opening at.history is.legal) fits.0 in
       let law = opens' (bared at ready.stands) o p was becomes (bare_ready at q ready) in
       let same = plain_word at.opening at.words at.views at.history ready.stands k (door_apart at q ready o busy) in

@@ -11,7 +11,8 @@ compare_exchange-requires g c =
       r.table,
       r.word,
       record {
-        allows = allows_compare_swap table.key slots seat.id i found n a.cell a.expected a.new a.weak c.args.seen (cell_of_handle c.args.new) me r.rests r.cell r.seen.0
+        allows = allows_compare_swap table.key slots seat.id i found n a.cell a.expected a.new a.weak c.args.seen (cell_of_handle c.args.new) me r.rests
+            r.cell r.seen.0
             c.bits-found.ensures r.seen.1 r.expected r.new.1 refl r.hand r.room c.bits.ensures;
       },
     )

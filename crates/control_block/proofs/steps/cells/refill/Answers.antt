@@ -15,7 +15,8 @@ compare_exchange-requires g c =
       r.table,
       r.word,
       record {
-        allows = subst (λ n. Allows (Ruled table.key) table.table_id.slots seat.id seat.me c.args.word (λ y. either (y == c.bits-found.result) c.bits-full.result y)
+        allows = subst (λ n. Allows (Ruled table.key) table.table_id.slots seat.id seat.me c.args.word (λ y. either (y == c.bits-found.result)
+            c.bits-full.result y)
             (refilled m.kind m.object m.place m.block n (step table.table_id.slots c.args.word c.bits-found.result c.bits-full.result none) seat.me))
             (sym r.seen.2)
             (allows_refill table.key table.table_id.slots seat.id c.args.word c.bits-found.result c.bits-full.result g.A.CellArgs.cell x m.kind m.object m.place

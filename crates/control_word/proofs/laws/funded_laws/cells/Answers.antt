@@ -1,4 +1,5 @@
 use Rattle.control_word.proofs.funded.Cells as cells
+use Rattle.control_word.proofs.funded.Purses as purses
 use Rattle.control_word.proofs.funded.Refills as refills
 use Rattle.control_word.proofs.laws.funded_laws.cells.Goals as goal
 
@@ -6,8 +7,8 @@ pub returns : goal.returns
 returns g c = record {
   show_cells = cells.cells_show_funded;
   take = cells.takes_funded;
-  turn = cells.turns_funded;
-  top_up = cells.tops_up;
+  turn = purses.turns_funded;
+  top_up = purses.tops_up;
   refill = refills.refills_funded;
   swap = cells.swaps_funded;
   compare_and_swap = cells.compare_swaps_funded;
