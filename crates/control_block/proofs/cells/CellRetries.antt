@@ -166,7 +166,7 @@ module _ {V : Type 0} where
       let now : Owes (short_of h.kind (object_of h) h.place w f) me = subst (λ q. Owes (debt h q f) me) is owes in
       let less : f ≢ cell_funds = λ e. omega arith in
       let short = subst (λ (q : Pending V). Owes q me) (cond-false (f == cell_funds) Idle (Paying h.kind (object_of h) h.place w f 0) (ne_eqb f cell_funds
-          less)) now in
+      less)) now in
       (object_of h, h.place, subst (λ (y : Kind × ℕ). Owes (owing y.0 (object_of h) h.place b.0 y.1 0) me) (λ i. (kind i, sym left i)) short)
 
   -- nothing is owed any more, and nothing has changed

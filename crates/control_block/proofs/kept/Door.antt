@@ -108,10 +108,10 @@ module _ {V : Type 0} where
       → Allows (Ruled k) slots id me i (λ n. (n + (2 ^ 64 - 4)) % 2 ^ 64) (opened b o p (step slots i 4 0 none) me)
   allows_open k slots id o i b p was becomes me awake pending hand carried low e s r sized at small =
       let v = me.0 in let z = opening_of k in let views = map view_of s.views in let t = leads z r.history in
-          let fine = sound z r.history r.stands.stands.legal in
+      let fine = sound z r.history r.stands.stands.legal in
       let fits : Fits r.stands.bare t (value z r.history) v.view.name (Visiting o p i was) =
       subst (Fits r.stands.bare t (value z r.history) v.view.name) pending (r.stands.stands.team.seated id v.view (at_map view_of s.views id v at)
-          awake).fits in
+      awake).fits in
       let n = names_an_object z r.history r.stands.stands.legal v.view.name Owner (owner o p) (fits.0, refl, refl) in
       let word : i ≡ spot (t.object o).block 2 = fits.1 in let l0 = n.3.0 in
       let here : (t.object o).block ≡ b.0 = omega arith in

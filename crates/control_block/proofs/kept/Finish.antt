@@ -46,7 +46,7 @@ module _ {V : Type 0} where
       there =
           ap (λ y. (now.object y).block) (sym latest)
           ∙ ends_here (opening_of k) now b.0 me.0.view.name (sound (opening_of k) r.history r.stands.stands.legal) (ap (λ y. (now.object y).phase) latest
-              ∙ phase)
+          ∙ phase)
 
       cleared : (m : ℕ) → m < now.members → (now.object o).member m ≡ empty (kind_of_member now.owners m)
       cleared m lt =

@@ -62,8 +62,11 @@ module _ {V : Type 0} where
       → found ≢ 0 → i ≡ spot b 0
       → Allows (Ruled k) slots id me i (λ n. either (n == found) (found + 1099511627777) n) (locked o p (step slots i found (found + 1099511627777) none) me)
   allows_lock k slots id b o i found p me rests holds more some' e =
-      allows_exchange k slots id i found (found + 1099511627777) me (locked o p (step slots i found (found + 1099511627777) none) me) (λ s r at q. (λ m.
-          absurd (q m), λ _. refl))
+      allows_exchange k slots id i found (found + 1099511627777) me (locked o p (step slots i found (found + 1099511627777) none) me) (λ s r at q. (
+        λ m.
+            absurd (q m),
+        λ _. refl,
+      ))
       (λ s r at q.
       let v = me.0 in let z = opening_of k in let views = map view_of s.views in
       let now = ready k s r id v at rests.awake Idle rests.idle in

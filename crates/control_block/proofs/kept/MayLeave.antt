@@ -107,6 +107,6 @@ module _ {V : Type 0} where
         (a ≤ n) × StandsFunded (opening_of k) (set s.words x (n - a)) (set (map view_of s.views) id (sees_as me.0.view Idle h)) h) (sym e) now in
         subst (λ x. let h = entry me.0.view.name (going m o p c) ∷ r.history in
         StandsFunded (opening_of k) (set s.words i x) (set (map view_of s.views) id (sees_as me.0.view Idle h)) h) (sym (falls (get_or s.words i 0) a here.0
-            small))
+        small))
         (subst (λ y. let h = entry me.0.view.name (going m o p y) ∷ r.history in
         StandsFunded (opening_of k) (set s.words i (get_or s.words i 0 - a)) (set (map view_of s.views) id (sees_as me.0.view Idle h)) h) is here.1)

@@ -52,7 +52,7 @@ module _ {V : Type 0} where
         (ap (λ y. get_or s.words y 0) is.there ∙ bits) in
         let stands = subst (λ y. StandsFunded z (set s.words y (get_or s.words y 0 - one_taken * x.taken))
         (set (map view_of s.views) id (sees_as v.view (Paying m o p (spot ((t.object o).block) (slot m)) (cell_funds - x.taken) 0) r.history)) r.history)
-            is.there told in
+        is.there told in
         let here = subst (λ n. StandsFunded z (set s.words i (get_or s.words i 0 - one_taken * x.taken))
         (set (map view_of s.views) id (sees_as v.view (Paying m o p (spot n (slot m)) (cell_funds - x.taken) 0) r.history)) r.history) mine.1 stands in
         let value : get_or s.words i 0 - one_taken * x.taken ≡ new = omega arith in

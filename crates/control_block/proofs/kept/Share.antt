@@ -33,6 +33,6 @@ module _ {V : Type 0} where
       let busy = held_busy z (leads z r.history) v.view.name o Owner p (sound z r.history r.stands.stands.legal) mine.0 in
       let room = fits_one _ (has_headroom_funded (point k s r id v) Idle now Owner o busy).1 in
       subst (λ x. StandsFunded z (set s.words x ((get_or s.words x 0 + 1099511627777) % 2 ^ 64)) (set views id (sees_as v.view Idle h)) h) (ap (λ x. spot x
-          0) mine.1 ∙ sym e)
+      0) mine.1 ∙ sym e)
       (subst (λ m. StandsFunded z (set s.words (spot ((leads z r.history).object o).block 0) m) (set views id (sees_as v.view Idle h)) h) (sym (wraps _ room))
       (law.shares_funded (point k s r id v) o p q now mine.0 fine (still_room k s r id v at rests.awake more))))

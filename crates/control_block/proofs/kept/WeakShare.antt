@@ -51,6 +51,6 @@ module _ {V : Type 0} where
       let h = entry v.view.name (WeakShare o q) ∷ r.history in
       let room = fits_one _ (has_headroom_funded (point k s r id v) Idle now Weak o mine.0).1 in
       subst (λ x. StandsFunded z (set s.words x ((get_or s.words x 0 + 1099511627777) % 2 ^ 64)) (set views id (sees_as v.view Idle h)) h) (ap (λ x. spot x
-          1) mine.1 ∙ sym e)
+      1) mine.1 ∙ sym e)
       (subst (λ m. StandsFunded z (set s.words (spot ((leads z r.history).object o).block 1) m) (set views id (sees_as v.view Idle h)) h) (sym (wraps _ room))
       (law.weak_shares_funded (point k s r id v) o q now mine.0 mine.2 (still_room k s r id v at rests.awake more))))

@@ -9,7 +9,7 @@ settle-requires-clause-count g c =
     let a = g.A.CellArgs in let r = c.requires in
     gave_counted (λ h. Swap a.cell a.new h) c.args.kind c.args.seat.now.me.0 c.swap-old.new.seat.me.0 c.swap-old.result a.new
     c.args.table.now.table_id (swap_trades g.row.V.Denot a.cell a.new) (subst (λ (y : Kind). Gave (λ h. Swap a.cell a.new h) y c.args.seat.now.me.0
-        c.swap-old.result c.swap-old.new.seat.me.0) (sym r.cell.1)
+    c.swap-old.result c.swap-old.new.seat.me.0) (sym r.cell.1)
     c.swap-old.ensures.gave)
     (subst (λ (y : TableId). IsSized y c.args.seat.now.me.0.shape) r.table.0 r.table.1)
 

@@ -43,7 +43,7 @@ pub settle-requires-clause-count : goal.settle-requires-clause-count
 settle-requires-clause-count g c =
     let a = g.A.CellArgs in let r = c.requires in let v = c.args.seat.now.me.0 in let w = c.compare_and_swap.new.seat.me.0 in let x = c.args.seen in
     let t = subst (λ (y : Kind). Gave (λ h. Compare a.cell a.expected a.new h true a.weak) y v x w) (sym r.aim.kind) (c.if-compare_and_swap.ensures.gave
-        refl) in
+    refl) in
     gave_counted (λ h. Compare a.cell a.expected a.new h true a.weak) c.args.kind v w x a.new c.args.table.now.table_id
     (compare_trades g.row.V.Denot a.cell a.expected a.new a.weak) t r.aim.sized
 
@@ -51,7 +51,7 @@ pub settle-requires-clause-owes : goal.settle-requires-clause-owes
 settle-requires-clause-owes g c =
     let a = g.A.CellArgs in let r = c.requires in let v = c.args.seat.now.me.0 in let w = c.compare_and_swap.new.seat.me.0 in let x = c.args.seen in
     let t = subst (λ (y : Kind). Gave (λ h. Compare a.cell a.expected a.new h true a.weak) y v x w) (sym r.aim.kind) (c.if-compare_and_swap.ensures.gave
-        refl) in
+    refl) in
     (t.old, t.kind, added_owes v c.compare_and_swap.new.seat.me _ _ t.event r.aim.rests.awake c.compare_and_swap.ensures.seat.2)
 
 pub returns-then-compare_and_swap-clause-table : goal.returns-then-compare_and_swap-clause-table
@@ -61,6 +61,6 @@ pub returns-then-compare_and_swap-clause-swapped : goal.returns-then-compare_and
 returns-then-compare_and_swap-clause-swapped g c =
     λ _. let a = g.A.CellArgs in let r = c.requires in let v = c.args.seat.now.me.0 in let w = c.compare_and_swap.new.seat.me.0 in let x = c.args.seen in
     let t = subst (λ (y : Kind). Gave (λ h. Compare a.cell a.expected a.new h true a.weak) y v x w) (sym r.aim.kind) (c.if-compare_and_swap.ensures.gave
-        refl) in
+    refl) in
     swapped_at (λ h. Compare a.cell a.expected a.new h true a.weak) c.args.kind v w c.settle.new.seat.me x r.seen.0 t c.settle.ensures.settled
     c.settle.ensures.seat.2

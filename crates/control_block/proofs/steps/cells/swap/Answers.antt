@@ -9,8 +9,10 @@ swap-requires g c =
     let i = c.args.word in let n = c.bits.result in let me = seat.me in (
       r.table,
       r.word,
-      record { allows = allows_swap table.key slots seat.id i n a.cell a.new (cell_of_handle c.args.new) me r.rests r.cell r.new.1 refl r.hand r.room
-          c.bits.ensures },
+      record {
+        allows = allows_swap table.key slots seat.id i n a.cell a.new (cell_of_handle c.args.new) me r.rests r.cell r.new.1 refl r.hand r.room
+            c.bits.ensures;
+      },
     )
 
 pub of_bits-requires : goal.of_bits-requires
