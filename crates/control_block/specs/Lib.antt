@@ -1,4 +1,3 @@
-pub mod Tokens
 pub mod Rule
 pub mod StepKinds
 pub mod LockStepKinds

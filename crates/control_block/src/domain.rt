@@ -14,7 +14,7 @@ use atomic_table::Table;
 use control_word::model::handle::Kind;
 use control_word::packed::layout::table_words;
 use control_word::{Block, Refusal, Shape};
-use slot_arena::{Arena, Vacant};
+use slot_arena::{Arena, ValueCell};
 use std::alloc::{AllocError, Global};
 use std::marker::Model;
 
@@ -102,13 +102,13 @@ fn all_stored(alloc: Global, blocks: u32) -> Result<Vec<Block, Global>, AllocErr
     Ok(store)
 }
 
-/// A slot for each token.
-fn slots_of<V: Drop>(alloc: Global, mut tokens: Vec<Vacant<V>>) -> Result<Vec<Slot<V>>, AllocError>
-    ensures { IfOk result (λ slots. slots.items ≡ replicate (vec_len tokens) None) }
+/// A slot for each cell, in the cells' order.
+fn slots_of<V: Drop>(alloc: Global, cells: Vec<ValueCell<V>>) -> Result<Vec<Slot<V>>, AllocError>
+    ensures { IfOk result (λ slots. slots.items ≡ cells.items) }
 {
-    let mut slots = Vec::with_capacity(alloc, tokens.len())?;
-    while let Some(token) = tokens.pop() {
-        slots.push_reserved(Slot::of(token));
+    let mut slots = Vec::with_capacity(alloc, cells.len())?;
+    for cell in cells {
+        slots.push_reserved(Slot::of(cell));
     }
     Ok(slots)
 }

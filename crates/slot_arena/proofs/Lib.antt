@@ -2,4 +2,3 @@ pub mod Prelude
 pub mod Cells
 pub mod CellSteps
 pub mod Crossing
-pub mod Pairs

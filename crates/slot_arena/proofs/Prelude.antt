@@ -47,5 +47,5 @@ pub use types.Logic.{Logic, sem}
 pub use types.Part.{agg, sub, whole}
 pub use types.Run.{addr, align_word, and_then, assigns_last, blocks, enter, exec, first, fld, from}
 pub use types.Run.{init, load, look, no_more, of_opd, returns, size_word, stop}
-pub use Rattle.slot_arena.specs.Ownership.{block_owns}
-pub use Rattle.slot_arena.specs.contracts.cell.FullCell.{the_row}
+pub use Rattle.slot_arena.specs.Ownership.{block_owns, content, value_lent}
+pub use Rattle.slot_arena.specs.contracts.cell.RawCell.{the_row}

@@ -1,42 +1,32 @@
-//! A cell of raw memory, empty or full.
-ghost use Rattle.std.specs.Prelude.{◌≡◌, MatchResult};
-ghost use Rattle.slot_arena.specs.Ownership.{empty_owns, full_owns};
-ghost use denote.Struct.Lending.{lent_at};
+//! A cell of raw memory, which has a value or room for one. Nothing in memory says which.
+ghost use Rattle.std.specs.Prelude.{◌≡◌, MatchResult, None, Option, Some};
+ghost use Rattle.std.specs.Coded.{coded_option};
+ghost use Rattle.slot_arena.specs.Ownership.{cell_owns, value_lent};
 
 use std::alloc::Allocator;
 use std::marker::{Model, Send, Sync};
 use std::mem::{align_of, size_of};
 
-/// A cell without a value.
-pub(crate) struct EmptyCell<V, A: Allocator> {
-    at: *mut V,
+/// A cell. Clauses see the value that it holds, if there is one.
+pub(crate) struct RawCell<V, A: Allocator> {
+    pub(crate) at: *mut V,
     alloc: A,
+    pub ghost held: { Option V } by { coded_option V.code },
 }
 
-impl<V, A: Allocator> Model for EmptyCell<V, A> {
-    ghost also_owns = { λ c. empty_owns V.row c.at (A.dealloc_token c.alloc) };
+impl<V, A: Allocator> Model for RawCell<V, A> {
+    ghost also_owns = { λ c. cell_owns V.row c.at (A.dealloc_token c.alloc) c.held };
+
+    ghost also_shares = { λ c _ κ. value_lent V.row c.at c.held κ };
 }
 
-/// A cell with a value.
-pub(crate) struct FullCell<V, A: Allocator> {
-    pub(crate) at: *const V,
-    alloc: A,
-    pub ghost value: { V },
-}
-
-impl<V, A: Allocator> Model for FullCell<V, A> {
-    ghost also_owns = { λ c. full_owns V.row c.at (A.dealloc_token c.alloc) c.value };
-
-    ghost also_shares = { λ c _ κ. lent_at V.row c.at c.value κ };
-}
-
-impl<V, A: Allocator> EmptyCell<V, A> {
-    /// The allocator comes back where there was no memory.
-    pub(crate) fn allocate(alloc: A) -> Result<EmptyCell<V, A>, A>
-        ensures { MatchResult result (λ c. c.alloc ≡ alloc) (λ h. h ≡ alloc) }
+impl<V, A: Allocator> RawCell<V, A> {
+    /// An empty cell. The allocator comes back where there was no memory.
+    pub(crate) fn allocate(alloc: A) -> Result<RawCell<V, A>, A>
+        ensures { MatchResult result (λ c. (c.alloc ≡ alloc) × (c.held ≡ None)) (λ h. h ≡ alloc) }
     {
         match alloc.allocate(size_of::<V>(), align_of::<V>()) {
-            Ok(block) => Ok(EmptyCell {
+            Ok(block) => Ok(RawCell {
                 at: block as *mut V,
                 alloc,
             }),
@@ -44,64 +34,49 @@ impl<V, A: Allocator> EmptyCell<V, A> {
         }
     }
 
+    /// The memory of an empty cell goes back.
     pub(crate) fn free(self) -> A
+        requires { self.held ≡ None }
         ensures { result ≡ self.alloc }
     {
         unsafe {
             self.alloc
                 .deallocate(self.at as *mut u8, size_of::<V>(), align_of::<V>());
         }
-        let EmptyCell { at: _, alloc } = self;
+        let RawCell { at: _, alloc } = self;
         alloc
     }
 
     /// The value is written where it stays.
-    pub(crate) fn fill(self, value: V) -> FullCell<V, A>
-        ensures { result.value ≡ value }
+    #[inline(always)]
+    pub(crate) fn write(&mut self, value: V)
+        requires { self.old.held ≡ None }
+        ensures { self.new.held ≡ Some value }
     {
-        let EmptyCell { at, alloc } = self;
         unsafe {
-            at.write(value);
+            self.at.write(value);
         }
-        FullCell { at, alloc }
     }
-}
 
-impl<V, A: Allocator> FullCell<V, A> {
     /// The value comes out, and the cell is empty.
-    pub(crate) fn take(self) -> (V, EmptyCell<V, A>)
-        ensures { result.0 ≡ self.value }
+    #[inline(always)]
+    pub(crate) fn read(&mut self) -> V
+        requires { (x : V) × (self.old.held ≡ Some x) }
+        ensures { (self.old.held ≡ Some result) × (self.new.held ≡ None) }
     {
-        let FullCell { at, alloc } = self;
-        let at = at.cast_mut();
-        let value = unsafe { at.read() };
-        (value, EmptyCell { at, alloc })
+        unsafe { self.at.read() }
     }
 
+    #[inline(always)]
     pub(crate) fn get(&self) -> &V
-        ensures { result.now ≡ self.now.value }
+        requires { (x : V) × (self.now.held ≡ Some x) }
+        ensures { self.now.held ≡ Some result.now }
     {
         unsafe { &*self.at }
     }
 }
 
-impl<V, A: Allocator> Drop for EmptyCell<V, A> {
-    fn drop(self) {
-        drop(self.free());
-    }
-}
-
-impl<V: Drop, A: Allocator> Drop for FullCell<V, A> {
-    fn drop(self) {
-        let (value, cell) = self.take();
-        drop(value);
-        drop(cell);
-    }
-}
-
 // A cell may go to another thread if its value and its allocator may.
-unsafe impl<V: Send, A: Allocator + Send> Send for EmptyCell<V, A> {}
+unsafe impl<V: Send, A: Allocator + Send> Send for RawCell<V, A> {}
 
-unsafe impl<V: Send, A: Allocator + Send> Send for FullCell<V, A> {}
-
-unsafe impl<V: Sync, A: Allocator + Sync> Sync for FullCell<V, A> {}
+unsafe impl<V: Sync, A: Allocator + Sync> Sync for RawCell<V, A> {}

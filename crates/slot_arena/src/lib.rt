@@ -1,11 +1,11 @@
-//! Values in place in raw memory. A token owns one cell, and is the only way to it: a `Vacant` one
-//! without a value, a `Filled` one with it. The value stays where it was put while its token moves.
+//! Values in place in raw memory. A `ValueCell` owns one cell, and is the only way to it. The
+//! value stays where it was put while its `ValueCell` moves.
 #![tactic(auto)]
 
 mod arena;
 mod cell;
 mod lends;
-mod tokens;
+mod value_cell;
 
 pub use arena::Arena;
-pub use tokens::{Filled, Vacant};
+pub use value_cell::ValueCell;

@@ -1,41 +1,53 @@
-//! What tokens give, and how often a value is dropped.
+//! What cells give, and how often a value is dropped.
+ghost use Rattle.std.specs.Prelude.{◌≡◌, ℕ, IfSome, None, Some, replicate};
+
 use crate::same::{is_told, same};
 use control_word::Refusal;
-use slot_arena::{Arena, Filled, Vacant};
+use slot_arena::{Arena, ValueCell};
 use std::alloc::Global;
 use std::sync::atomic::AtomicU64;
 use std::sync::atomic::Ordering::SeqCst;
 use std::test::Fail;
 
-// Two tokens, where there are so many.
-fn first_two<T: Drop>(tokens: Vec<T>) -> Option<(T, T)> {
-    let mut tokens = tokens;
-    let one = tokens.pop()?;
-    Some((one, tokens.pop()?))
+// Two cells.
+fn both<V: Drop>(cells: Vec<ValueCell<V>>) -> Option<(ValueCell<V>, ValueCell<V>)>
+    requires { cells.items ≡ replicate 2 None }
+    ensures { IfSome result (λ r. (r.0 ≡ None) × (r.1 ≡ None)) }
+{
+    let mut cells = cells.into_iter();
+    let one = cells.next()?;
+    Some((one, cells.next()?))
 }
 
 // A value is filled in, seen, and changed where it lies.
-fn fill_and_change(vacant: Vacant<u64>) -> (Filled<u64>, u64) {
-    let mut filled = vacant.fill(7);
-    let first = *filled.get();
-    *filled.get_mut() = 8;
-    (filled, first)
+fn fill_and_change(cell: &mut ValueCell<u64>) -> u64
+    requires { cell.old ≡ None }
+    ensures { cell.new ≡ Some 8 }
+{
+    cell.fill(7);
+    let first = *cell.get();
+    *cell.get_mut() = 8;
+    first
 }
 
 // A value is taken out while another lies beside it, and a third goes into its cell: all three.
-fn take_beside(filled: Filled<u64>, other: Vacant<u64>) -> [u64; 3] {
-    let beside = other.fill(1);
-    let (vacant, value) = filled.take();
-    [value, *beside.get(), *vacant.fill(9).get()]
+fn take_beside(cell: &mut ValueCell<u64>, other: &mut ValueCell<u64>) -> [u64; 3]
+    requires there { (x : ℕ) × (cell.old ≡ Some x) }
+    requires vacant { other.old ≡ None }
+{
+    other.fill(1);
+    let value = cell.take();
+    cell.fill(9);
+    [value, *other.get(), *cell.get()]
 }
 
 // All of these.
 fn fill_and_take(alloc: Global) -> Result<Option<(u64, [u64; 3])>, Refusal> {
-    let Some((other, vacant)) = first_two(Arena::new(alloc, 2)?) else {
+    let Some((mut other, mut cell)) = both(Arena::new(alloc, 2)?) else {
         return Ok(None);
     };
-    let (filled, first) = fill_and_change(vacant);
-    Ok(Some((first, take_beside(filled, other))))
+    let first = fill_and_change(&mut cell);
+    Ok(Some((first, take_beside(&mut cell, &mut other))))
 }
 
 #[test]
@@ -56,17 +68,22 @@ impl Drop for Counted<'_> {
 }
 
 // How many values were dropped before a cell's end, and after it.
-fn drop_in_cell<'a>(vacant: Vacant<Counted<'a>>, drops: &'a AtomicU64) -> [u64; 2] {
-    let filled = vacant.fill(Counted { drops });
+fn drop_in_cell<'a>(mut cell: ValueCell<Counted<'a>>, drops: &'a AtomicU64) -> [u64; 2]
+    requires { cell ≡ None }
+{
+    cell.fill(Counted { drops });
     let before = drops.load(SeqCst);
-    drop(filled);
+    drop(cell);
     [before, drops.load(SeqCst)]
 }
 
 // The same of a value that was taken out, and whose cell has ended.
-fn drop_taken<'a>(vacant: Vacant<Counted<'a>>, drops: &'a AtomicU64) -> [u64; 2] {
-    let (vacant, value) = vacant.fill(Counted { drops }).take();
-    drop(vacant);
+fn drop_taken<'a>(mut cell: ValueCell<Counted<'a>>, drops: &'a AtomicU64) -> [u64; 2]
+    requires { cell ≡ None }
+{
+    cell.fill(Counted { drops });
+    let value = cell.take();
+    drop(cell);
     let before = drops.load(SeqCst);
     drop(value);
     [before, drops.load(SeqCst)]
@@ -74,7 +91,7 @@ fn drop_taken<'a>(vacant: Vacant<Counted<'a>>, drops: &'a AtomicU64) -> [u64; 2]
 
 // Both.
 fn drop_both(alloc: Global, drops: &AtomicU64) -> Result<Option<[[u64; 2]; 2]>, Refusal> {
-    let Some((one, other)) = first_two(Arena::new(alloc, 2)?) else {
+    let Some((one, other)) = both(Arena::new(alloc, 2)?) else {
         return Ok(None);
     };
     Ok(Some([drop_in_cell(one, drops), drop_taken(other, drops)]))
@@ -89,7 +106,7 @@ fn a_value_is_dropped_once(rt: HostRuntime) -> Result<(), Fail> {
 #[test]
 fn an_arena_may_be_refused(rt: HostRuntime) {
     match Arena::new::<[u64; 512]>(rt.alloc(), 3) {
-        Ok(tokens) => same(&rt, tokens.len(), 3),
+        Ok(cells) => same(&rt, cells.len(), 3),
         Err(why) => same(&rt, why, Refusal::Memory),
     }
 }

@@ -9,7 +9,7 @@ pub new-requires-2 : goal.new-requires-2
 new-requires-2 g c =
     let e : c.in_ok-words.words.items ≡ replicate c.table_words.result 0 = first_of (search rules, grind (arith, common_steps)) in
     subst (λ l. Ruled c.args.shape (opening c.as_slice.result.now l (opens_with c.args.shape)))
-    (sym (c.in_ok-slots.ensures ∙ ap (λ (n : ℕ). replicate n None) c.in_ok-new.ensures.count))
+    (sym (c.in_ok-slots.ensures ∙ c.in_ok-new.ensures.count))
     (opens c.args.shape (c.if-not-is_within_limits.ensures.0 refl) _
     (c.as_slice.ensures.value ∙ (e ∙ ap (λ (n : ℕ). replicate n 0) c.table_words.ensures)))
 
@@ -17,7 +17,7 @@ pub invariant_of-desk : goal.invariant_of-desk
 invariant_of-desk g c =
     let e : c.in_ok-words.words.items ≡ replicate c.table_words.result 0 = first_of (search rules, grind (arith, common_steps)) in
     let t = c.in-Ok.ensures.ok in
-    let slots = ap length c.in_ok-slots.ensures ∙ (length-replicate _ None ∙ c.in_ok-new.ensures.count) in
+    let slots = ap length (c.in_ok-slots.ensures ∙ c.in_ok-new.ensures.count) ∙ length-replicate _ None in
     let words = ap length (c.as_slice.ensures.value ∙ e) ∙ (length-replicate c.table_words.result 0 ∙ c.table_words.ensures) in
     first_desk _ c.args.shape (c.if-not-is_within_limits.ensures.0 refl) t.4
     record { words = ap (λ x. x.words) t.2 ∙ (t.0 ∙ words); slots = ap (λ x. x.slots) t.2 ∙ (t.1 ∙ slots) } refl refl refl

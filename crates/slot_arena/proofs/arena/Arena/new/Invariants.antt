@@ -1,5 +1,5 @@
-use Rattle.std.proofs.Common.{◌≡◌, vec_len, vec_capacity}
+use Rattle.std.proofs.Common.{◌≡◌, None, replicate, vec_capacity}
 use Rattle.slot_arena.proofs.arena.Arena.new.Given as goal
 
 abbrev pub invariant-loop : goal.invariant-loop
-invariant-loop g l = (vec_len l.tokens ≡ l.counter) × (vec_capacity l.tokens ≡ l.count)
+invariant-loop g l = (l.cells.items ≡ replicate l.counter None) × (vec_capacity l.cells ≡ l.count)

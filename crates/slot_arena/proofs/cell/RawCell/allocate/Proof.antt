@@ -1,6 +1,7 @@
 -- `allocate` lends the handle for the call, and cuts the block that comes. Assumes `Logic`.
 use Rattle.std.proofs.Common.{◌≡◌, ℕ, true, false, List, [], ◌∷◌, ◌++◌, MatchResult, Ok, Err, refl}
 use Rattle.std.proofs.Common.{sym, ap, subst}
+use Rattle.std.specs.Prelude.{None}
 use Rattle.slot_arena.proofs.Prelude
 use Prelude.{addr, after, agg, align, align-raw, align_word, alloc_all, and_then, args, await}
 use Prelude.{block_ptr, Body, Bx, Calls, capped, capped_fits, Clauses, closing, done, emp, Ended}
@@ -27,15 +28,15 @@ use prog.Wp.{after_seq, at_return, Wp}
 use types.ByLocal.{get_tag, lands_as}
 use types.Match.{in_variant, live, vrt}
 use types.Run.{lit, switches_on}
-use Rattle.slot_arena.proofs.CellSteps.{empty_in}
-use Rattle.slot_arena.proofs.Cells.{Empty, empty_ty, empty_typed, word}
+use Rattle.slot_arena.proofs.CellSteps.{cell_in}
+use Rattle.slot_arena.proofs.Cells.{Cell, cell_ty, cell_typed, D, word}
 use mir.Raw.{raw as bare}
 use types.Kit.{Post as After, any_q, ‵, raw, ◌⊛◌, some, later, given, at_ret, ◌$◌, ◌∵◌, !, qed, by, move, keep, use1}
 use Rattle.std.specs.contracts.result.Result as RS
-use Rattle.slot_arena.specs.contracts.cell.EmptyCell.allocate as F
-use Rattle.slot_arena.specs.contracts.cell.EmptyCell.allocate.Key.{name as #self}
-use Rattle.slot_arena.proofs.cell.EmptyCell.allocate.Statement as stated
-use Rattle.slot_arena.proofs.cell.EmptyCell.allocate.Code as code
+use Rattle.slot_arena.specs.contracts.cell.RawCell.allocate as F
+use Rattle.slot_arena.specs.contracts.cell.RawCell.allocate.Key.{name as #self}
+use Rattle.slot_arena.proofs.cell.RawCell.allocate.Statement as stated
+use Rattle.slot_arena.proofs.cell.RawCell.allocate.Code as code
 
 module _ (E : Bx) where
   abbrev fn' : Fn
@@ -51,7 +52,7 @@ module _ (E : Bx) where
   stayed = (stay_dropped (plain (λ _. P E)) no, tt)
 
   abbrev Out : RattleType
-  Out = RS.the_row (Empty E) (P E)
+  Out = RS.the_row (Cell E) (P E)
 
 module _ (E : Bx) {M : Type 1} {𝓤 : Ura M} (𝓛 : Logic 𝓤) (at_mem : Memory → SProp 𝓤) (run : Routine → Fun 𝓤)
     (C : Calls 𝓤 𝓛.H) (Λ : Loops 𝓤 𝓛.H) (fm : FmC 𝓤 𝓛.H 𝓛.laws C)
@@ -68,7 +69,7 @@ module _ (E : Bx) {M : Type 1} {𝓤 : Ura M} (𝓛 : Logic 𝓤) (at_mem : Memo
   abbrev Had : Val → SProp 𝓤
   Had hv = sep 𝓤 (sem 𝓛 (E.al.row.own_val a (hv ∷ []))) (sep 𝓤 (A.lft ρ qρ) (A.lft κT qT))
 
-  exits : (r : (Out E).Denot) (v : Val) → MatchResult r (λ d. d.alloc ≡ a) (λ h. h ≡ a)
+  exits : (r : (Out E).Denot) (v : Val) → MatchResult r (λ d. (d.alloc ≡ a) × (d.held ≡ None)) (λ h. h ≡ a)
       → ent 𝓤 (sep 𝓤 (sem 𝓛 ((Out E).own_val r (v ∷ []))) (sep 𝓤 (A.lft κT qT) (A.lft ρ qρ))) (Post v)
   exits r v k =
       qed 𝓛 (‵ ((Out E).own_val r (v ∷ [])) ∷ ‵ (flft κT qT) ∷ ‵ (flft ρ qρ) ∷ []) ∵
@@ -111,10 +112,10 @@ module _ (E : Bx) {M : Type 1} {𝓤 : Ura M} (𝓛 : Logic 𝓤) (at_mem : Memo
       (𝓛.laws.at_wt full_share (α E.al) (l 2) 0 hv') $ learn ! (λ fa'. give_at ! 2 $ move ! (2 ∷ []) $
       answers E.al ! at_mem run a (bare σ) v
       (λ b o e.
-      let made = empty_typed E hv' b o fa' in
+      let made = cell_typed E hv' b o fa' in
       let u : Val = word E hv' b o in
-      let ok = first_Good (empty_ty E) u made in
-      let d : (Empty E).Denot = record { at = block_ptr b o; alloc = a } in
+      let ok = first_Good (cell_ty E) u made in
+      let d : D E = record { at = block_ptr b o; alloc = a; held = None } in
       lands_as ! e refl (Answer-typed true b o) $ first ! $
       switches_on ! (get_tag ! (vrt ! refl (fld ! refl (stop !))) (whole !)) $ exec ! C Λ En (arm_body 0 both) Then $
       sets ! (of_opd ! (get_in ! (vrt ! refl (fld ! refl (stop !))) (in_variant ! 0 0 refl refl (whole !)))) refl
@@ -123,10 +124,10 @@ module _ (E : Bx) {M : Type 1} {𝓤 : Ura M} (𝓛 : Logic 𝓤) (at_mem : Memo
       sets ! (agg ! (and_then ! (get ! refl) (and_then ! (get ! refl) (no_more !)))) refl made $
       sets_last ! (agg ! (and_then ! (lit ! tt) (and_then ! (get ! refl) (no_more !)))) refl ok $
       exec ! C Λ En (after 4 (fn' E).body) (at_ret En Post) $ sets ! (of_opd ! (get ! refl)) refl ok $
-      empty_in E ! a b o $
-      use1 𝓛 (‵ ((Out E).own_val (Ok d) (live 0 (vcons u vnil) ∷ []))) (ok_of 𝓛 (Empty E) (P E) d u) $
+      cell_in E ! d b o None refl refl $
+      use1 𝓛 (‵ ((Out E).own_val (Ok d) (live 0 (vcons u vnil) ∷ []))) (ok_of 𝓛 (Cell E) (P E) d u) $
       returns ! (look_at ! 0 refl) $ free_all ! refl $ keep ! (0 ∷ 2 ∷ 1 ∷ []) $
-      by ! (exits (Ok d) (live 0 (vcons u vnil)) refl))
+      by ! (exits (Ok d) (live 0 (vcons u vnil)) (refl, refl)))
       (λ e.
       let none = some_Good (α E.al) hv' fa' in
       lands_as ! e refl (Answer-typed false 0 0) $ first ! $
@@ -134,7 +135,7 @@ module _ (E : Bx) {M : Type 1} {𝓤 : Ura M} (𝓛 : Logic 𝓤) (at_mem : Memo
       sets ! (of_opd ! (get ! refl)) refl fa' $
       sets_last ! (agg ! (and_then ! (lit ! tt) (and_then ! (get ! refl) (no_more !)))) refl none $
       exec ! C Λ En (after 4 (fn' E).body) (at_ret En Post) $ sets ! (of_opd ! (get ! refl)) refl none $
-      use1 𝓛 (‵ ((Out E).own_val (Err a) (live 1 (vcons hv' vnil) ∷ []))) (err_of 𝓛 (Empty E) (P E) a hv') $
+      use1 𝓛 (‵ ((Out E).own_val (Err a) (live 1 (vcons hv' vnil) ∷ []))) (err_of 𝓛 (Cell E) (P E) a hv') $
       returns ! (look_at ! 0 refl) $ free_all ! refl $ keep ! (0 ∷ 2 ∷ 1 ∷ []) $
       by ! (exits (Err a) (live 1 (vcons hv' vnil)) refl)))))))
 

@@ -1,33 +1,35 @@
 -- `free` joins the block again, lends the handle for the call, and returns it. Assumes `Logic`.
 use Rattle.std.proofs.Common.{◌≡◌, ℕ, ◌+◌, T, List, [], ◌∷◌, ◌++◌, refl, sym, ap, subst}
+use Rattle.std.specs.Prelude.{None}
 use Rattle.slot_arena.proofs.Prelude
 use Prelude.{addr, after, align, align-raw, align_word, alloc_all, and_then, args, at_ret, await}
-use Prelude.{block_ptr, blocks, Bx, by, Calls, capped, capped_fits, Clauses, closing, done, emp}
+use Prelude.{block_ptr, blocks, Bx, by, Calls, capped, capped_fits, Clauses, closing, done, fact}
 use Prelude.{Ended, ends_at, ent, enter, entered, Env, env, exec, first, Fits, fjoin, fld, flft}
-use Prelude.{fm_of, FmC, Fn, free_all, from, froom, fsplit, fst∗, ftrue, Fun, get, get_in, give_at}
+use Prelude.{fm_of, FmC, Fn, free_all, from, froom, fsplit, ftrue, Fun, get, get_in, give_at}
 use Prelude.{given, Goes-blank, has_ty, Incl-trans, inst_fn, join, keep, later, learn, Lft, Logic}
 use Prelude.{look_at, Loops, meet_⊑_right, Meets, Memory, move, no, no_more, nothing, of_opd}
 use Prelude.{on_entry, owns, pass_all, plain, qed, raw, returns, Routine, says, second, sem, sep}
 use Prelude.{sets, Share, size, size-raw, size_word, split3, SProp, stay_dropped, Stays, stop, sub}
 use Prelude.{suffices, Tables, tables, take_at, tcons, tnil, Triple, triple_of, Ty, ty_ptr, Ura}
-use Prelude.{use1, Val, vcons, via, vnil, vptr, walk_Meets, walk_of, whole, WpFn, WpFn-mono, WT, α}
+use Prelude.{use1, Val, vcons, vnil, vptr, walk_Meets, walk_of, whole, WpFn, WpFn-mono, WT, α}
 use Prelude.{τ, !, ‵, ◌$◌, ◌∵◌, ◌⊑◌, ◌⊛◌}
 use Rattle.std.proofs.alloc.Calls.{at_gives, Gives, Gives-Gives, Gives-goes, gives_key}
 use Rattle.std.proofs.alloc.Calls.{lends_field, takes_back}
 use contract.Running.{tables_of}
 use denote.Triple.Call.{calls_at_last}
+use denote.Triple.Walked.{needs}
 use mir.Syntax.{ty_unit, Tys}
 use mir.Val.{Vals, vunit}
 use prog.Memory.{up}
 use types.ByLocal.{lands_last}
-use types.Kit.{use3}
-use Rattle.slot_arena.proofs.CellSteps.{empty_out}
-use Rattle.slot_arena.proofs.Cells.{block, Empty, empty, empty_typed, word}
+use types.Kit.{rewrite, use3}
+use Rattle.slot_arena.proofs.CellSteps.{cell_out}
+use Rattle.slot_arena.proofs.Cells.{block, Cell, cell, cell_typed, D, Held, inside, word}
 use mir.Raw.{raw as bare}
-use Rattle.slot_arena.specs.contracts.cell.EmptyCell.free as F
-use Rattle.slot_arena.specs.contracts.cell.EmptyCell.free.Key.{name as #self}
-use Rattle.slot_arena.proofs.cell.EmptyCell.free.Statement as stated
-use Rattle.slot_arena.proofs.cell.EmptyCell.free.Code as code
+use Rattle.slot_arena.specs.contracts.cell.RawCell.free as F
+use Rattle.slot_arena.specs.contracts.cell.RawCell.free.Key.{name as #self}
+use Rattle.slot_arena.proofs.cell.RawCell.free.Statement as stated
+use Rattle.slot_arena.proofs.cell.RawCell.free.Code as code
 
 module _ (E : Bx) where
   abbrev fn' : Fn
@@ -40,12 +42,12 @@ module _ (E : Bx) where
   clauses 𝓛 = F.clauses E.row E.al.row E.al.g E.al.d E.al.drops 𝓛
 
   abbrev stayed : Stays ended.signature.params ended.kept
-  stayed = (stay_dropped (plain (λ _. Empty E)) no, tt)
+  stayed = (stay_dropped (plain (λ _. Cell E)) no, tt)
 
 module _ (E : Bx) {M : Type 1} {𝓤 : Ura M} (𝓛 : Logic 𝓤) (at_mem : Memory → SProp 𝓤) (run : Routine → Fun 𝓤)
     (C : Calls 𝓤 𝓛.H) (Λ : Loops 𝓤 𝓛.H) (fm : FmC 𝓤 𝓛.H 𝓛.laws C)
     (callee : Triple 𝓤 (C (gives_key E.al)) (Gives E.al 𝓛 at_mem run)) (κT ρ : Lft) (qT qρ : Share)
-    (within : ρ ⊑ E.al.row.lives) (d : (Empty E).Denot) (vs : List Val) where
+    (within : ρ ⊑ E.al.row.lives) (d : D E) (vs : List Val) where
   open 𝓛 use {H, A}
 
   abbrev bound : (walk_of 𝓛 (ended E) (stayed E) (clauses E 𝓛 at_mem run)).Ghost
@@ -72,7 +74,7 @@ module _ (E : Bx) {M : Type 1} {𝓤 : Ura M} (𝓛 : Logic 𝓤) (at_mem : Memo
 
   walk : (hv : Val) (b o : ℕ) → Fits E.al hv → ent 𝓤 (Had hv b o) (WpFn 𝓤 H C Λ (fn' E) (word E hv b o ∷ []) Post)
   walk hv b o fa =
-      let typed = empty_typed E hv b o fa in let σ : Ty = τ E in
+      let typed = cell_typed E hv b o fa in let σ : Ty = τ E in
       qed 𝓛 (‵ (froom (bare (τ E)) b o) ∷ ‵ (block E a (block_ptr b o)) ∷ ‵ (E.al.row.own_val a (hv ∷ []))
       ∷ ‵ (flft ρ qρ) ∷ ‵ (flft κT qT) ∷ []) ∵
       enter ! C Λ (fn' E) (word E hv b o ∷ []) _ $ alloc_all ! (λ l. pass_all ! refl (typed, tt) $
@@ -87,7 +89,7 @@ module _ (E : Bx) {M : Type 1} {𝓤 : Ura M} (𝓛 : Logic 𝓤) (at_mem : Memo
       sets ! (of_opd ! (get_in ! (fld ! refl (stop !)) (sub ! 0 refl (whole !)))) refl (tt, tt) $
       sets ! (of_opd ! (get ! refl)) refl (tt, tt) $
       take_at ! 2 $ move ! (0 ∷ 3 ∷ 4 ∷ []) $
-      lends_field E.al (empty E).name fields 1 at (l 2) 0 words a ρ qρ ! tt refl within (λ m.
+      lends_field E.al (cell E).name fields 1 at (l 2) 0 words a ρ qρ ! tt refl within (λ m.
       let κ : Lft = m.0 ∷ ρ in
       let hp : ℕ × ℕ = (l 2, 0 + at) in
       let y : (Gives E.al 𝓛 at_mem run).Ghost = at_gives E.al 𝓛 at_mem run κ m.1 hp a b o s al (bare σ) in
@@ -100,18 +102,19 @@ module _ (E : Bx) {M : Type 1} {𝓤 : Ura M} (𝓛 : Logic 𝓤) (at_mem : Memo
       use1 𝓛 (later (given (v ≡ vunit) (‵ (flft κ m.1)))) (Gives-Gives E.al 𝓛 at_mem run κ m.1 hp a b o s al
       (bare σ) v) $
       await ! tt $ learn ! (λ e.
-      takes_back E.al (empty E).name fields 1 at (l 2) 0 words a ρ qρ ! tt m (λ hv' fa'. give_at ! 2 $
+      takes_back E.al (cell E).name fields 1 at (l 2) 0 words a ρ qρ ! tt m (λ hv' fa'. give_at ! 2 $
       lands_last ! refl (subst (λ (z : Val). T (has_ty ty_unit z) × WT z) (sym e) (tt, tt)) $
       exec ! C Λ En (after 2 (fn' E).body) (at_ret En Post) $
       sets ! (of_opd ! (get_in ! (fld ! refl (stop !)) (sub ! 1 refl (whole !)))) refl fa' $
       sets ! (of_opd ! (get ! refl)) refl fa' $
       returns ! (look_at ! 0 refl) $ free_all ! refl $ keep ! (0 ∷ 2 ∷ 1 ∷ []) $ by ! (exits hv'))))))
 
-  entry : ent 𝓤 (on_entry 𝓛 (ended E).signature (κT, (ρ, tt)) (qT, (qρ, tt)) (d, tt) (vs, tt))
+  entry : d.held ≡ None → ent 𝓤 (on_entry 𝓛 (ended E).signature (κT, (ρ, tt)) (qT, (qρ, tt)) (d, tt) (vs, tt))
       (WpFn 𝓤 H C Λ (fn' E) (vs ++ []) Post)
-  entry =
-      qed 𝓛 ((‵ (flft κT qT) ⊛ ‵ (flft ρ qρ) ⊛ ‵ ftrue) ∷ ‵ (owns (Empty E ∷ []) (d, tt) (vs, tt)) ∷ []) ∵
-      split3 ! $ move ! (3 ∷ []) $ fsplit ! $ empty_out E ! d vs (λ b o hv e is fa. keep ! (0 ∷ 1 ∷ 2 ∷ 5 ∷ 4 ∷ []) $
+  entry none =
+      qed 𝓛 ((‵ (flft κT qT) ⊛ ‵ (flft ρ qρ) ⊛ ‵ ftrue) ∷ ‵ (owns (Cell E ∷ []) (d, tt) (vs, tt)) ∷ []) ∵
+      split3 ! $ move ! (3 ∷ []) $ fsplit ! $ cell_out E ! d vs (λ b o hv e is fa.
+      rewrite ! 0 (λ (c : Held E). ‵ (inside E c b o)) none refl $ keep ! (0 ∷ 1 ∷ 2 ∷ 5 ∷ 4 ∷ []) $
       by ! (subst (λ (ws : List Val). ent 𝓤 (Had hv b o) (WpFn 𝓤 H C Λ (fn' E) (ws ++ []) Post)) (sym is)
       (walk hv b o fa)))
 
@@ -120,12 +123,13 @@ meets : (E : Bx) {M : Type 1} {𝓤 : Ura M} (𝓛 : Logic 𝓤) (at_mem : Memor
     → Triple 𝓤 (𝓣.C (gives_key E.al)) (Gives E.al 𝓛 at_mem run)
     → Meets 𝓛 (ended E).signature (WpFn 𝓤 𝓛.H 𝓣.C 𝓣.Λ (fn' E)) (closing 𝓛 (ended E) (clauses E 𝓛 at_mem run))
 meets E {𝓤 = 𝓤} 𝓛 at_mem run 𝓣 callee =
-    walk_Meets 𝓛 (ended E) (stayed E) (Goes-blank 𝓛 2 (plain (λ _. Empty E)) no (λ κs x f. tt), tt)
+    walk_Meets 𝓛 (ended E) (stayed E) (Goes-blank 𝓛 2 (plain (λ _. Cell E)) no (λ κs x f. tt), tt)
     (clauses E 𝓛 at_mem run)
     (WpFn 𝓤 𝓛.H 𝓣.C 𝓣.Λ (fn' E)) (WpFn-mono 𝓤 𝓛.H 𝓛.laws 𝓣 (fn' E))
     (λ z. let κs = z.0.0 in let qs = z.0.1 in
     let On : SProp 𝓤 = on_entry 𝓛 (ended E).signature κs qs z.0.3 z.0.4 in
-    second 𝓤 (κs.0 ⊑ E.row.lives) (κs.1.0 ⊑ E.al.row.lives) On (emp 𝓤) (λ within. via 𝓤 On (fst∗ 𝓤 On (emp 𝓤))
+    let Vacant : Type 0 = z.0.3.0.held ≡ None in
+    second 𝓤 (κs.0 ⊑ E.row.lives) (κs.1.0 ⊑ E.al.row.lives) On (fact 𝓤 Vacant) (λ within. needs 𝓤 Vacant On
     (entry E 𝓛 at_mem run 𝓣.C 𝓣.Λ (fm_of 𝓤 𝓛.H 𝓛.laws 𝓣) callee κs.0 κs.1.0 qs.0 qs.1.0 within z.0.3.0 z.0.4.0)))
 
 pub free_spec : {M : Type 1} → stated.statement M
