@@ -60,8 +60,8 @@ pub fn share<V, M: StepArgs>(
     Shared::of_word(wanted)
 }
 
-/// Weak share: one weak handle more, with its funds, under a handle of the desk or an ending ([util.smartptr.weak.const],
-/// [util.smartptr.enab]).
+/// Weak share: one weak handle more, with its funds, under a handle of the desk or an ending
+/// ([util.smartptr.weak.const], [util.smartptr.enab]).
 pub fn share_weak<V, M: StepArgs>(
     table: &Table<V>,
     seat: &mut Seat<V>,

@@ -96,7 +96,8 @@ module _ (V : Type 0) where
       ReadyBy StandsFunded at Idle → Asks {V = V} s (me at) (Swap c new old)
       → HasRoom (after {V = V} s (me at) (Swap c new old)) (me at)
       → (taken : ℕ) → let i = cell_word at c in word at i ≡ packed (blocks_of s) old + one_taken * taken
-      → AddsBy StandsFunded at i (packed (blocks_of s) new) (Swap c new old) (drawn (blocks_of s) old (cell_funds - taken))
+      → AddsBy StandsFunded at i (packed (blocks_of s) new) (Swap c new old)
+      (drawn (blocks_of s) old (cell_funds - taken))
 
   -- compare and swap a cell
   abbrev pub CompareSwapsFunded : Type 0

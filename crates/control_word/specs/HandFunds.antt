@@ -30,7 +30,8 @@ module _ {V : Type 0} where
   lacking views i = total (λ v. lacks v.pending i) views
 
   -- Between any two steps of running desks: without the funds of handles in hand the words stand for the history
-  pub record StandsFunded (z : Opening) (words : List ℕ) (views : List (View V)) (history : List (Entry V)) : Type 0 where
+  pub record StandsFunded (z : Opening) (words : List ℕ) (views : List (View V)) (history : List (Entry V))
+      : Type 0 where
     pub bare : List ℕ
     pub stands : Stands z bare views history
     pub sized : length words ≡ length bare

@@ -8,4 +8,5 @@ module _ (V : Type 0) (S : Standing V) where
   -- write: a word of the summary may be any number, and stands for nothing
   abbrev pub WritesSummary : Type 0
   WritesSummary =
-      (at : Point V) (j n : ℕ) → ReadyBy S at Idle → MovesBy S at (summary_place at.opening.blocks at.opening.cells j) n Idle
+      (at : Point V) (j n : ℕ) → ReadyBy S at Idle
+      → MovesBy S at (summary_place at.opening.blocks at.opening.cells j) n Idle

@@ -1,5 +1,5 @@
-//! The steps of one call by which a handle goes into a cell. What goes in has its funds with it, and what comes out gets
-//! those that it lacks; when the call is over nothing is under way.
+//! The steps of one call by which a handle goes into a cell. What goes in has its funds with it, and what comes out
+//! gets those that it lacks; when the call is over nothing is under way.
 ghost use Rattle.std.specs.Prelude.{◌≡◌, ◌-◌, ◌<◌, None, IfSome};
 ghost use Rattle.control_word.specs.Handles.{object_of};
 ghost use Rattle.control_word.specs.declared.model.handle.NumberedHandle.{NumberedHandle};

@@ -1,5 +1,5 @@
-//! Handles that leave: by themselves, or as they came out of a cell. Each leaves with the funds that it has, all of them
-//! or those that were not taken, by one step.
+//! Handles that leave: by themselves, or as they came out of a cell. Each leaves with the funds that it has, all of
+//! them or those that were not taken, by one step.
 ghost use Rattle.std.specs.Prelude.{◌≡◌, ◌<◌, ◌≤◌, [], is_some, IfSome, Some};
 ghost use Rattle.control_word.specs.Handles.{handle, owner, weak_of};
 ghost use Rattle.control_word.specs.Histories.{value};

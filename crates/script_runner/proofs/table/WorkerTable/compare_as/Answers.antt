@@ -75,10 +75,10 @@ returns-in-Ok-clause-compared g c =
       between = m.new.desk;
       compares = by_parts (λ y b p. cells.Compares d site y b p (block_of_held n) (place_of_held n) r.0 (block_of_held r.1) (place_of_held r.1)
           g.F.Form.weak m.new.desk)
-          z at.kind (block_of_held h) x.result.block (place_of_held h) x.result.place (sym k) x.ensures.1 x.ensures.2
-          (by_parts (λ _ b p. cells.Compares d site at.kind x.result.block x.result.place b p r.0 (block_of_held r.1) (place_of_held r.1)
+          z at.kind (block_of_held h) x.result.word.block (place_of_held h) x.result.word.place (sym k) x.ensures.1 x.ensures.2
+          (by_parts (λ _ b p. cells.Compares d site at.kind x.result.word.block x.result.word.place b p r.0 (block_of_held r.1) (place_of_held r.1)
           g.F.Form.weak m.new.desk)
-          at.kind at.kind (block_of_held n) y.result.block (place_of_held n) y.result.place refl y.ensures.1 y.ensures.2 m.ensures.event);
+          at.kind at.kind (block_of_held n) y.result.word.block (place_of_held n) y.result.word.place refl y.ensures.1 y.ensures.2 m.ensures.event);
       follows = c.follow.ensures.follows;
     }
 

@@ -38,7 +38,7 @@ returns-in-Ok-clause-told g c =
       at = h.ensures;
       kind = kind_there s.slots.items c.args.at z h.result.now there h.ensures;
       tells = by_parts (λ y b p. cells.TellsHeld d (cell_of_site d site.site) y b p c.holds_held.result e) z site.kind
-          (block_of_held h.result.now) x.result.block (place_of_held h.result.now) x.result.place (sym k) x.ensures.1 x.ensures.2
+          (block_of_held h.result.now) x.result.word.block (place_of_held h.result.now) x.result.word.place (sym k) x.ensures.1 x.ensures.2
           c.holds_held.ensures.event;
       rest = (refl, refl);
     }

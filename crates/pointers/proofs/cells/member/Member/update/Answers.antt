@@ -32,3 +32,9 @@ loop-preserved g c = (
   search (of_calls, rules),
   shows_by _ _ _ _ _ _ _ _ _ c.if-branch.false c.in_ok-compare_exchange_strong.ensures.compared,
 )
+
+pub returns-in_err-compare_exchange_strong-clause-refused : goal.returns-in_err-compare_exchange_strong-clause-refused
+returns-in_err-compare_exchange_strong-clause-refused g c =
+    let from = c.from_residual-in_err-compare_exchange_strong.ensures in
+    let same : c.from_residual-in_err-compare_exchange_strong.result ≡ Err c.in_err-compare_exchange_strong.field-0.0 = search (from, rules) in
+    fault_as _ _ _ same (inr (inr (inr (inr c.in_err-compare_exchange_strong.ensures.refused))))
