@@ -12,6 +12,9 @@ use control_word::packed::layout::{FIELDS, FLAGS, OWNERS, WEAKS, block_word};
 use shared_handle::make;
 use std::alloc::Global;
 
+/// An owner's word of one owner in hand, which has its 256 funds there.
+const ONE_OWNER: u64 = 1_099_511_627_777;
+
 /// The words of block 1: owners, weak handles, flags, and fields 0 and 3.
 type Words = [u64; 5];
 
@@ -72,6 +75,6 @@ fn words_are_told_to_one_desk_and_to_two(rt: HostRuntime) {
     same(
         &rt,
         observed(rt.alloc()),
-        Some(([0, 1, 0], [1, 1, 1, 1, 4])),
+        Some(([0, ONE_OWNER, 0], [ONE_OWNER, 1, 1, 1, 4])),
     );
 }

@@ -1,5 +1,5 @@
-//! A block that an object without weak handles left vacant, and one whose object is gone and watched: their counts show
-//! the same, and the census tells them apart.
+//! A block that an object without weak handles left vacant, and one whose object is gone and watched: their weak counts
+//! show one number, and the census tells them apart.
 ghost use Rattle.std.specs.Prelude.{◌≡◌, ◌<◌};
 ghost use Rattle.shared_handle.specs.Prelude.{Belongs, IsSameDesk};
 
@@ -15,6 +15,9 @@ use control_word::packed::layout::{WEAKS, block_word};
 use control_word::{Block, Counts};
 use shared_handle::make;
 use std::alloc::Global;
+
+/// The weak word of one weak handle in hand, which has its 256 funds there.
+const WATCHED: u64 = 1_099_511_627_777;
 
 // An object is made and ends. Where it is watched, a weak handle of it is forgotten before.
 fn came_and_went(domain: &Domain<u64>, desk: &mut Desk<u64>, watched: bool)
@@ -70,6 +73,6 @@ fn a_kept_block_is_vacant_and_a_watched_one_is_not(rt: HostRuntime) {
     same(
         &rt,
         told(rt.alloc()),
-        Some(([1, 1], [(true, 0, 0), (false, 0, 1)])),
+        Some(([1, WATCHED], [(true, 0, 0), (false, 0, 1)])),
     );
 }

@@ -45,7 +45,7 @@ fn check_handle(rt: &impl Abort, block: Option<Block>, place: Option<Place>, wor
         taken: 5,
     };
     let cell = PackedCell::of_bits(pack(cell));
-    same(rt, cell.bits(), word + 5 * ONE_TAKEN);
+    same(rt, cell.bits(), word.wrapping_add(5 * ONE_TAKEN));
     same(rt, (cell.owned(), cell.taken()), (block, 5));
     same(rt, cell.place(), place);
     same(
