@@ -4,6 +4,10 @@
 #[cfg(test)]
 mod calls;
 #[cfg(test)]
+mod changes;
+#[cfg(test)]
+mod cursors;
+#[cfg(test)]
 mod limits;
 #[cfg(test)]
 mod model;
@@ -13,3 +17,5 @@ mod plays;
 mod racing;
 #[cfg(test)]
 mod walks;
+#[cfg(test)]
+mod weak_vectors;

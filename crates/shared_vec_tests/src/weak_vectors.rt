@@ -1,0 +1,113 @@
+//! Vectors of weak pointers.
+
+use crate::plays::{Play, Size, VECTOR, fill, numbered, plays_alone, read, row};
+use pointers::{Call, Desk, Domain, Fault, Refusal, Weak};
+use shared_vec::{SharedVec, WeakVec};
+use std::sync::Wait;
+
+/// Whether both are of one object.
+fn is_of<D: Domain>(found: Option<Weak<'_, D>>, weak: &Weak<'_, D>) -> bool {
+    match found {
+        Some(found) => found.is(weak),
+        None => false,
+    }
+}
+
+/// Weak pointers come, are got, locked and set, and leave.
+#[derive(Drop)]
+struct Calls;
+
+impl Play for Calls {
+    fn play<'t, D: Domain<Value = u64>, R: Wait>(
+        &self,
+        rt: &R,
+        desk: &'t Desk<'t, D>,
+        _vector: &mut SharedVec<'t, 't, D>,
+    ) -> Result<(), Fault> {
+        let mut vector = WeakVec::at(desk, desk.cell(VECTOR));
+        let (one, two) = (numbered(desk, 1)?, numbered(desk, 2)?);
+        row(1, vector.len(rt)? == 0 && vector.pop(rt)?.is_none())?;
+        row(
+            2,
+            vector.get(rt, 0)?.is_none() && vector.lock(rt, 0)?.is_none(),
+        )?;
+        row(
+            3,
+            is_of(vector.set(rt, 0, one.downgrade()?)?, &one.downgrade()?),
+        )?;
+        for index in 0..20 {
+            let new = if index % 2 == 0 { &one } else { &two };
+            row(4, vector.push(rt, new.downgrade()?)? == index)?;
+        }
+        row(5, vector.len(rt)? == 20 && vector.get(rt, 20)?.is_none())?;
+        row(6, one.use_count()? == 1 && two.use_count()? == 1)?;
+        row(
+            7,
+            read(vector.lock(rt, 7)?)? == Some(2) && read(vector.lock(rt, 8)?)? == Some(1),
+        )?;
+        row(8, is_of(vector.get(rt, 19)?, &two.downgrade()?))?;
+        row(9, vector.set(rt, 7, one.downgrade()?)?.is_none())?;
+        row(
+            10,
+            read(vector.lock(rt, 7)?)? == Some(1) && read(vector.lock(rt, 9)?)? == Some(2),
+        )?;
+        drop(two);
+        row(
+            11,
+            vector.lock(rt, 9)?.is_none() && vector.get(rt, 9)?.is_some(),
+        )?;
+        row(
+            12,
+            !is_of(vector.pop(rt)?, &one.downgrade()?) && vector.len(rt)? == 19,
+        )?;
+        row(
+            13,
+            is_of(vector.pop(rt)?, &one.downgrade()?) && vector.len(rt)? == 18,
+        )?;
+        vector.truncate(rt, 3)?;
+        row(
+            14,
+            vector.len(rt)? == 3 && read(vector.lock(rt, 2)?)? == Some(1),
+        )?;
+        row(15, vector.lock(rt, 3)?.is_none())
+    }
+}
+
+#[test]
+fn weak_pointers_come_and_go(rt: HostRuntime) {
+    plays_alone(&rt, rt.alloc(), Size::alone(40), Calls);
+}
+
+/// Where no block is left for a holder a push is refused, and the weak pointer comes back.
+#[derive(Drop)]
+struct Filled;
+
+impl Play for Filled {
+    fn play<'t, D: Domain<Value = u64>, R: Wait>(
+        &self,
+        rt: &R,
+        desk: &'t Desk<'t, D>,
+        vector: &mut SharedVec<'t, 't, D>,
+    ) -> Result<(), Fault> {
+        fill(rt, desk, vector, 0, 3)?;
+        let object = numbered(desk, 3)?;
+        let mut weak = WeakVec::at(desk, object.owner(5));
+        row(1, weak.push(rt, object.downgrade()?)? == 0)?;
+        row(2, read(weak.lock(rt, 0)?)? == Some(3))?;
+        let last = numbered(desk, 4)?;
+        match weak.push(rt, object.downgrade()?) {
+            Ok(_) => row(3, false)?,
+            Err(came) => {
+                row(3, came.why == Fault::Refused(Call::Make, Refusal::Full))?;
+                row(4, is_of(Some(came.back), &object.downgrade()?))?;
+            }
+        }
+        drop(last);
+        row(5, weak.push(rt, object.downgrade()?)? == 1)
+    }
+}
+
+#[test]
+fn a_weak_pointer_comes_back(rt: HostRuntime) {
+    plays_alone(&rt, rt.alloc(), Size::alone(8), Filled);
+}
