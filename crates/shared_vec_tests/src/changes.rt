@@ -1,6 +1,8 @@
 //! Elements that come and go between others.
 
-use crate::plays::{Play, Size, fill, numbered, plays_alone, read, reads, refused, row};
+use crate::plays::{
+    Play, Size, fill, insert, numbered, plays_alone, read, reads, refused, remove, row,
+};
 use pointers::{Call, Desk, Domain, Fault, Refusal, Spot};
 use shared_vec::SharedVec;
 use std::sync::Wait;
@@ -9,6 +11,36 @@ use std::sync::Wait;
 #[derive(Drop)]
 struct Inserts;
 
+/// Into a vector of none, in front of its first elements and between them.
+fn first_come<'t, D: Domain<Value = u64>, R: Wait>(
+    rt: &R,
+    desk: &'t Desk<'t, D>,
+    vector: &mut SharedVec<'_, 't, D>,
+) -> Result<(), Fault> {
+    row(1, insert(rt, desk, vector, 1, 9)? == Some(9))?;
+    row(2, insert(rt, desk, vector, 0, 4)?.is_none())?;
+    row(3, insert(rt, desk, vector, 1, 6)?.is_none())?;
+    row(4, insert(rt, desk, vector, 0, 3)?.is_none())?;
+    row(5, insert(rt, desk, vector, 2, 5)?.is_none())?;
+    row(6, reads(rt, vector, &[3, 4, 5, 6])?)
+}
+
+/// In front of a leaf that fills, and before the element that begins the next leaf.
+fn a_leaf_fills<'t, D: Domain<Value = u64>, R: Wait>(
+    rt: &R,
+    desk: &'t Desk<'t, D>,
+    vector: &mut SharedVec<'_, 't, D>,
+) -> Result<(), Fault> {
+    for number in (0..3).rev() {
+        row(7, insert(rt, desk, vector, 0, number)?.is_none())?;
+    }
+    row(8, reads(rt, vector, &[0, 1, 2, 3, 4, 5, 6])?)?;
+    row(9, insert(rt, desk, vector, 7, 8)?.is_none())?;
+    row(10, insert(rt, desk, vector, 7, 7)?.is_none())?;
+    row(11, reads(rt, vector, &[0, 1, 2, 3, 4, 5, 6, 7, 8])?)?;
+    row(12, insert(rt, desk, vector, 10, 1)? == Some(1))
+}
+
 impl Play for Inserts {
     fn play<'t, D: Domain<Value = u64>, R: Wait>(
         &self,
@@ -16,29 +48,11 @@ impl Play for Inserts {
         desk: &'t Desk<'t, D>,
         vector: &mut SharedVec<'t, 't, D>,
     ) -> Result<(), Fault> {
-        row(
-            1,
-            read(vector.insert(rt, 1, numbered(desk, 9)?)?)? == Some(9),
-        )?;
-        row(2, vector.insert(rt, 0, numbered(desk, 4)?)?.is_none())?;
-        row(3, vector.insert(rt, 1, numbered(desk, 6)?)?.is_none())?;
-        row(4, vector.insert(rt, 0, numbered(desk, 3)?)?.is_none())?;
-        row(5, vector.insert(rt, 2, numbered(desk, 5)?)?.is_none())?;
-        row(6, reads(rt, vector, &[3, 4, 5, 6])?)?;
-        for number in (0..3).rev() {
-            row(7, vector.insert(rt, 0, numbered(desk, number)?)?.is_none())?;
-        }
-        row(8, reads(rt, vector, &[0, 1, 2, 3, 4, 5, 6])?)?;
-        vector.insert(rt, 7, numbered(desk, 8)?)?;
-        row(9, vector.insert(rt, 7, numbered(desk, 7)?)?.is_none())?;
-        row(10, reads(rt, vector, &[0, 1, 2, 3, 4, 5, 6, 7, 8])?)?;
-        row(
-            11,
-            read(vector.insert(rt, 10, numbered(desk, 1)?)?)? == Some(1),
-        )?;
+        first_come(rt, desk, vector)?;
+        a_leaf_fills(rt, desk, vector)?;
         match vector.get(rt, 8)? {
-            Some(last) => row(12, last.use_count()? == 2),
-            None => row(12, false),
+            Some(last) => row(13, last.use_count()? == 2),
+            None => row(13, false),
         }
     }
 }
@@ -52,6 +66,38 @@ fn elements_are_inserted(rt: HostRuntime) {
 #[derive(Drop)]
 struct Removals;
 
+/// From a vector of none, and from one of ten.
+fn first_leave<'t, D: Domain<Value = u64>, R: Wait>(
+    rt: &R,
+    desk: &'t Desk<'t, D>,
+    vector: &mut SharedVec<'_, 't, D>,
+) -> Result<(), Fault> {
+    row(1, remove(rt, vector, 0)?.is_none())?;
+    fill(rt, desk, vector, 0, 10)?;
+    row(2, remove(rt, vector, 10)?.is_none())?;
+    row(3, remove(rt, vector, usize::MAX)?.is_none())?;
+    row(4, remove(rt, vector, 9)? == Some(9))?;
+    row(5, remove(rt, vector, 0)? == Some(0))?;
+    match vector.remove(rt, 3)? {
+        Some(removed) => row(6, removed.read()? == 4 && removed.use_count()? == 1)?,
+        None => row(6, false)?,
+    }
+    row(7, reads(rt, vector, &[1, 2, 3, 5, 6, 7, 8])?)
+}
+
+/// One after another in front, to the last.
+fn all_leave<D: Domain<Value = u64>, R: Wait>(
+    rt: &R,
+    vector: &mut SharedVec<'_, '_, D>,
+) -> Result<(), Fault> {
+    for _ in 0..7 {
+        row(9, remove(rt, vector, 0)?.is_some())?;
+    }
+    row(10, reads(rt, vector, &[9])?)?;
+    row(11, remove(rt, vector, 0)? == Some(9))?;
+    row(12, reads(rt, vector, &[])?)
+}
+
 impl Play for Removals {
     fn play<'t, D: Domain<Value = u64>, R: Wait>(
         &self,
@@ -59,25 +105,10 @@ impl Play for Removals {
         desk: &'t Desk<'t, D>,
         vector: &mut SharedVec<'t, 't, D>,
     ) -> Result<(), Fault> {
-        row(1, vector.remove(rt, 0)?.is_none())?;
-        fill(rt, desk, vector, 0, 10)?;
-        row(2, vector.remove(rt, 10)?.is_none())?;
-        row(3, vector.remove(rt, usize::MAX)?.is_none())?;
-        row(4, read(vector.remove(rt, 9)?)? == Some(9))?;
-        row(5, read(vector.remove(rt, 0)?)? == Some(0))?;
-        match vector.remove(rt, 3)? {
-            Some(removed) => row(6, removed.read()? == 4 && removed.use_count()? == 1)?,
-            None => row(6, false)?,
-        }
-        row(7, reads(rt, vector, &[1, 2, 3, 5, 6, 7, 8])?)?;
+        first_leave(rt, desk, vector)?;
         vector.push(rt, numbered(desk, 9)?)?;
         row(8, reads(rt, vector, &[1, 2, 3, 5, 6, 7, 8, 9])?)?;
-        for _ in 0..7 {
-            row(9, vector.remove(rt, 0)?.is_some())?;
-        }
-        row(10, reads(rt, vector, &[9])?)?;
-        row(11, read(vector.remove(rt, 0)?)? == Some(9))?;
-        row(12, reads(rt, vector, &[])?)
+        all_leave(rt, vector)
     }
 }
 
@@ -103,7 +134,7 @@ impl Play for Filled {
         row(1, refused(vector.insert(rt, 3, new.share()?))? == (full, 8))?;
         row(2, new.use_count()? == 1)?;
         row(3, reads(rt, vector, &[0, 1, 2, 3, 4, 5, 6, 7])?)?;
-        row(4, read(vector.remove(rt, 6)?)? == Some(6))?;
+        row(4, remove(rt, vector, 6)? == Some(6))?;
         row(5, vector.insert(rt, 3, new)?.is_none())?;
         row(6, reads(rt, vector, &[0, 1, 2, 8, 3, 4, 5, 7])?)
     }

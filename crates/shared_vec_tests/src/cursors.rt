@@ -2,12 +2,36 @@
 
 use crate::plays::{Play, Size, VECTOR, fill, numbered, plays_alone, read, row};
 use pointers::{Desk, Domain, Fault};
-use shared_vec::SharedVec;
+use shared_vec::{Cursor, SharedVec};
 use std::sync::Wait;
 
 /// A cursor finds what the vector has at each index, forward, backward and far apart, and sets it.
 #[derive(Drop)]
 struct Looks;
+
+/// What the element reads that a cursor finds, if there is one.
+fn look<D: Domain, R: Wait>(
+    rt: &R,
+    cursor: &mut Cursor<'_, '_, '_, D>,
+    index: usize,
+) -> Result<Option<u64>, Fault> {
+    let found = cursor.get(rt, index)?;
+    read(found)
+}
+
+/// In order, and back again.
+fn goes_along<D: Domain, R: Wait>(rt: &R, cursor: &mut Cursor<'_, '_, '_, D>) -> Result<(), Fault> {
+    for index in 0..100 {
+        row(2, look(rt, cursor, index as usize)? == Some(index))?;
+    }
+    row(3, look(rt, cursor, 100)?.is_none())?;
+    row(4, look(rt, cursor, 4_096)?.is_none())?;
+    for index in (0..100).rev() {
+        row(5, look(rt, cursor, index as usize)? == Some(index))?;
+    }
+    row(6, look(rt, cursor, 64)? == Some(64))?;
+    row(7, look(rt, cursor, 63)? == Some(63))
+}
 
 impl Play for Looks {
     fn play<'t, D: Domain<Value = u64>, R: Wait>(
@@ -19,25 +43,12 @@ impl Play for Looks {
         row(1, vector.cursor().get(rt, 0)?.is_none())?;
         fill(rt, desk, vector, 0, 100)?;
         let mut cursor = vector.cursor();
-        for index in 0..100 {
-            row(2, read(cursor.get(rt, index as usize)?)? == Some(index))?;
-        }
-        row(
-            3,
-            cursor.get(rt, 100)?.is_none() && cursor.get(rt, 4_096)?.is_none(),
-        )?;
-        for index in (0..100).rev() {
-            row(4, read(cursor.get(rt, index as usize)?)? == Some(index))?;
-        }
-        row(5, read(cursor.get(rt, 64)?)? == Some(64))?;
-        row(6, read(cursor.get(rt, 63)?)? == Some(63))?;
-        row(7, cursor.set(rt, 62, numbered(desk, 7)?)?.is_none())?;
-        row(
-            8,
-            read(cursor.set(rt, 100, numbered(desk, 8)?)?)? == Some(8),
-        )?;
-        row(9, read(cursor.get(rt, 62)?)? == Some(7))?;
-        row(10, read(vector.get(rt, 62)?)? == Some(7))
+        goes_along(rt, &mut cursor)?;
+        row(8, cursor.set(rt, 62, numbered(desk, 7)?)?.is_none())?;
+        let back = cursor.set(rt, 100, numbered(desk, 8)?)?;
+        row(9, read(back)? == Some(8))?;
+        row(10, look(rt, &mut cursor, 62)? == Some(7))?;
+        row(11, read(vector.get(rt, 62)?)? == Some(7))
     }
 }
 
@@ -60,23 +71,17 @@ impl Play for Keeps {
         fill(rt, desk, vector, 0, 9)?;
         let mut other = SharedVec::at(desk, desk.cell(VECTOR));
         let mut cursor = vector.cursor();
-        row(
-            1,
-            read(cursor.get(rt, 8)?)? == Some(8) && cursor.get(rt, 9)?.is_none(),
-        )?;
+        row(1, look(rt, &mut cursor, 8)? == Some(8))?;
+        row(2, look(rt, &mut cursor, 9)?.is_none())?;
         other.push(rt, numbered(desk, 9)?)?;
-        row(2, read(cursor.get(rt, 9)?)? == Some(9))?;
+        row(3, look(rt, &mut cursor, 9)? == Some(9))?;
         drop(other.pop(rt)?);
-        row(3, cursor.get(rt, 9)?.is_none())?;
+        row(4, look(rt, &mut cursor, 9)?.is_none())?;
         desk.clear(VECTOR)?;
-        row(
-            4,
-            read(cursor.get(rt, 8)?)? == Some(8) && other.get(rt, 8)?.is_none(),
-        )?;
-        row(
-            5,
-            cursor.get(rt, 0)?.is_none() && cursor.get(rt, 8)?.is_none(),
-        )
+        row(5, look(rt, &mut cursor, 8)? == Some(8))?;
+        row(6, other.get(rt, 8)?.is_none())?;
+        row(7, look(rt, &mut cursor, 0)?.is_none())?;
+        row(8, look(rt, &mut cursor, 8)?.is_none())
     }
 }
 

@@ -64,6 +64,29 @@ pub(crate) fn reads<D: Domain<Value = u64>, R: Wait>(
     Ok(same)
 }
 
+/// A new object with that number is inserted, or comes back: then what it reads.
+pub(crate) fn insert<'t, D: Domain<Value = u64>, R: Wait>(
+    rt: &R,
+    desk: &'t Desk<'t, D>,
+    vector: &mut SharedVec<'_, 't, D>,
+    index: usize,
+    number: u64,
+) -> Result<Option<u64>, Fault> {
+    let new = numbered(desk, number)?;
+    let back = vector.insert(rt, index, new)?;
+    read(back)
+}
+
+/// What the element reads that is removed, if there is one.
+pub(crate) fn remove<D: Domain, R: Wait>(
+    rt: &R,
+    vector: &mut SharedVec<'_, '_, D>,
+    index: usize,
+) -> Result<Option<u64>, Fault> {
+    let removed = vector.remove(rt, index)?;
+    read(removed)
+}
+
 /// The fault of a refused call, and what the pointer reads that came back.
 pub(crate) fn refused<A: Drop, D: Domain>(
     came: Result<A, Refused<Shared<'_, D>>>,

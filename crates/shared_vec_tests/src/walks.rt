@@ -56,6 +56,23 @@ fn shows<'t, D: Domain<Value = u64>, R: Wait>(
 #[derive(Drop)]
 struct Walks;
 
+/// Walks over none, one, a leaf, and over more and more levels.
+fn grows<'t, D: Domain<Value = u64>, R: Wait>(
+    rt: &R,
+    desk: &'t Desk<'t, D>,
+    vector: &mut SharedVec<'_, 't, D>,
+) -> Result<(), Fault> {
+    row(1, shows(rt, vector, 0, 0)?)?;
+    fill(rt, desk, vector, 0, 1)?;
+    row(2, shows(rt, vector, 1, 0)?)?;
+    fill(rt, desk, vector, 1, 8)?;
+    row(3, shows(rt, vector, 8, 28)?)?;
+    fill(rt, desk, vector, 8, 65)?;
+    row(4, shows(rt, vector, 65, 2_080)?)?;
+    fill(rt, desk, vector, 65, 600)?;
+    row(5, shows(rt, vector, 600, 179_700)?)
+}
+
 impl Play for Walks {
     fn play<'t, D: Domain<Value = u64>, R: Wait>(
         &self,
@@ -63,15 +80,7 @@ impl Play for Walks {
         desk: &'t Desk<'t, D>,
         vector: &mut SharedVec<'t, 't, D>,
     ) -> Result<(), Fault> {
-        row(1, shows(rt, vector, 0, 0)?)?;
-        fill(rt, desk, vector, 0, 1)?;
-        row(2, shows(rt, vector, 1, 0)?)?;
-        fill(rt, desk, vector, 1, 8)?;
-        row(3, shows(rt, vector, 8, 28)?)?;
-        fill(rt, desk, vector, 8, 65)?;
-        row(4, shows(rt, vector, 65, 2_080)?)?;
-        fill(rt, desk, vector, 65, 600)?;
-        row(5, shows(rt, vector, 600, 179_700)?)?;
+        grows(rt, desk, vector)?;
         let (told, ended) = walk(rt, vector, 10)?;
         row(6, told.count == 10 && told.in_order && told.sum == 45)?;
         row(7, ended == Err(Fault::Other(77)))?;
