@@ -82,9 +82,7 @@ impl<R: Threads + Wait + Sync + Print + AllocGlobal> Program<Object, R> for Edit
     ) -> Result<(), Fault> {
         if me > 0 {
             desk.wait_while(rt, TO_SAVE, None)?;
-            if let Some(document) = desk.load(rt, TO_SAVE)? {
-                draw(rt, &document)?;
-            }
+            draw(rt, &desk.load(rt, TO_SAVE)?.ok_or(Fault::Other(0))?)?;
             return desk.clear(TO_SAVE);
         }
         let text = |text| String::from_str(rt.alloc(), text);
