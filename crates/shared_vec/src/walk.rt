@@ -42,8 +42,8 @@ impl<'t, D: Domain> Shown<Weak<'t, D>> for Weak<'t, D> {
 }
 
 impl<'p, 't, D: Domain> SharedVec<'p, 't, D> {
-    /// Each element, from the first on, up to the first index where there is none, in C++ `for (auto& p : v)` (waits).
-    /// Where `f` answers a fault the walk ends with it.
+    /// Each element, from the first on, up to the first index where there is none, in C++
+    /// `for (auto& p : v)` (waits). Where `f` answers a fault the walk ends with it.
     pub fn each<E: Shown<Shared<'t, D>>, R: Wait, F: FnMut(&E) -> Result<(), Fault>>(
         &self,
         rt: &R,
@@ -67,16 +67,18 @@ impl<'p, 't, D: Domain> SharedVec<'p, 't, D> {
 }
 
 impl<'p, 't, D: Domain> WeakVec<'p, 't, D> {
-    /// Each weak pointer, from the first on, up to the first index where there is none, in C++ `for (auto& w : v)`
-    /// (waits). Where `f` answers a fault the walk ends with it.
+    /// Each weak pointer, from the first on, up to the first index where there is none, in C++
+    /// `for (auto& w : v)` (waits). Where `f` answers a fault the walk ends with it.
     pub fn each<E: Shown<Weak<'t, D>>, R: Wait, F: FnMut(&E) -> Result<(), Fault>>(
         &self,
         rt: &R,
         f: F,
     ) -> Result<(), Fault>
         requires { F.IsAlwaysCallable f }
-        ensures told { OnOk result (ShowsAll (GetsWeak D.opened self.now.holders.place) E.shows F.FnMut f) }
-        ensures fault { IfErr result (WhyEnded (GetsWeak D.opened self.now.holders.place) E.shows F.FnMut f) }
+        ensures told { OnOk result
+            (ShowsAll (GetsWeak D.opened self.now.holders.place) E.shows F.FnMut f) }
+        ensures fault { IfErr result
+            (WhyEnded (GetsWeak D.opened self.now.holders.place) E.shows F.FnMut f) }
     {
         let mut f = f;
         let mut index = 0;

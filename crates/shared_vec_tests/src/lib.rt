@@ -16,6 +16,8 @@ mod plays;
 #[cfg(test)]
 mod racing;
 #[cfg(test)]
+mod sorts;
+#[cfg(test)]
 mod walks;
 #[cfg(test)]
 mod weak_vectors;

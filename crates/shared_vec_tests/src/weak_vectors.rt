@@ -64,6 +64,24 @@ fn comes<'t, D: Domain<Value = u64>, R: Wait>(
     row(8, is_of(last, &two.downgrade()?))
 }
 
+/// A walk shows each, in order, and ends with a fault.
+fn is_walked<'t, D: Domain<Value = u64>, R: Wait>(
+    rt: &R,
+    vector: &WeakVec<'_, 't, D>,
+    one: &Weak<'t, D>,
+    two: &Weak<'t, D>,
+) -> Result<(), Fault> {
+    let mut shown = 0u64;
+    let ended = vector.each(rt, |weak: &Weak<D>| {
+        row(20, weak.is(if shown % 2 == 0 { one } else { two }))?;
+        shown = shown.saturating_add(1);
+        Ok(())
+    });
+    row(16, ended == Ok(()) && shown == 20)?;
+    let ended = vector.each(rt, |weak: &Weak<D>| row(21, weak.is(one)));
+    row(17, ended == Err(Fault::Other(21)))
+}
+
 /// One is set, and stands alone where it was.
 fn is_set<'t, D: Domain<Value = u64>, R: Wait>(
     rt: &R,
@@ -106,6 +124,7 @@ impl Play for Calls {
         let (one, two) = (numbered(desk, 1)?, numbered(desk, 2)?);
         is_of_none(rt, &mut vector, &one)?;
         comes(rt, &mut vector, &one, &two)?;
+        is_walked(rt, &vector, &one.downgrade()?, &two.downgrade()?)?;
         is_set(rt, &vector, &one)?;
         drop(two);
         goes(rt, &mut vector, &one)
