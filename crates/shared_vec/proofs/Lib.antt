@@ -5,6 +5,7 @@ pub mod Moves
 pub mod Numbers
 pub mod Reasons
 pub mod Slots
+pub mod Sorts
 pub mod Walks
 pub mod Ways
 pub mod WeakSteps

@@ -79,7 +79,7 @@ impl<'p, 't, D: Domain> SharedVec<'p, 't, D> {
     }
 
     /// A copy of the element at an index takes the place of that at another (waits).
-    fn copy<R: Wait>(&self, rt: &R, from: usize, to: usize) -> Result<(), Fault>
+    pub(crate) fn copy<R: Wait>(&self, rt: &R, from: usize, to: usize) -> Result<(), Fault>
         ensures done { OnOk result (Copies D.opened self.now.place from to) }
         ensures refused { IfErr result WhyNotFound }
     {

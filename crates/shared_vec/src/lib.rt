@@ -8,6 +8,7 @@ mod index;
 mod leaf;
 mod node;
 mod slot;
+mod sort;
 mod vector;
 mod walk;
 mod weak_vector;

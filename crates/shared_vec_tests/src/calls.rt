@@ -1,24 +1,15 @@
 //! Each call on a vector, with ample memory.
 
-use crate::plays::{Size, VECTOR, plays, read, row};
-use pointers::{Desk, Domain, Fault, Program, Shared};
+use crate::plays::{Play, Size, VECTOR, numbered, plays_alone, read, row};
+use pointers::{Desk, Domain, Fault};
 use shared_vec::SharedVec;
 use std::sync::Wait;
-use std::thread::Threads;
 
 /// So many elements: more than a leaf, and more than a root above leaves, has.
 const MANY: u64 = 600;
 
 #[derive(Drop)]
 struct Calls;
-
-/// An object whose field is that number.
-fn numbered<'t, D: Domain<Value = u64>>(
-    desk: &'t Desk<'t, D>,
-    number: u64,
-) -> Result<Shared<'t, D>, Fault> {
-    Ok(desk.make([number, 0, 0, 0], 0)?)
-}
 
 /// In a vector of none there is nothing to get, set or pop.
 fn is_of_none<'t, D: Domain<Value = u64>, R: Wait>(
@@ -117,24 +108,22 @@ fn is_truncated<'t, D: Domain<Value = u64>, R: Wait>(
     row(28, vector.len(rt)? == 0 && vector.pop(rt)?.is_none())
 }
 
-impl<R: Threads + Wait> Program<u64, R> for Calls {
-    fn work<D: Domain<Value = u64>>(
+impl Play for Calls {
+    fn play<'t, D: Domain<Value = u64>, R: Wait>(
         &self,
         rt: &R,
-        _number: usize,
-        desk: &Desk<D>,
+        desk: &'t Desk<'t, D>,
+        vector: &mut SharedVec<'t, 't, D>,
     ) -> Result<(), Fault> {
-        let mut vector = SharedVec::at(desk, desk.cell(VECTOR));
-        is_of_none(rt, desk, &mut vector)?;
-        comes(rt, desk, &mut vector)?;
-        is_set(rt, desk, &mut vector)?;
+        is_of_none(rt, desk, vector)?;
+        comes(rt, desk, vector)?;
+        is_set(rt, desk, vector)?;
         let mut again = SharedVec::at(desk, desk.cell(VECTOR));
         row(20, again.len(rt)? == 600)?;
-        goes(rt, desk, &mut vector)?;
+        goes(rt, desk, vector)?;
         row(21, again.len(rt)? == 0)?;
         comes(rt, desk, &mut again)?;
-        is_truncated(rt, desk, &mut vector)?;
-        desk.clear(VECTOR)?;
+        is_truncated(rt, desk, vector)?;
         let object = numbered(desk, 1)?;
         let mut inner = SharedVec::at(desk, object.owner(5));
         row(22, inner.push(rt, numbered(desk, 2)?)? == 0)?;
@@ -147,11 +136,5 @@ impl<R: Threads + Wait> Program<u64, R> for Calls {
 
 #[test]
 fn elements_come_and_go(rt: HostRuntime) {
-    let size = Size {
-        workers: 1,
-        pointers: 8,
-        blocks: 720,
-        owners: 8,
-    };
-    plays(&rt, rt.alloc(), size, &Calls);
+    plays_alone(&rt, rt.alloc(), Size::alone(720), Calls);
 }

@@ -4,6 +4,10 @@
 #[cfg(test)]
 mod calls;
 #[cfg(test)]
+mod changes;
+#[cfg(test)]
+mod cursors;
+#[cfg(test)]
 mod limits;
 #[cfg(test)]
 mod model;
@@ -12,4 +16,8 @@ mod plays;
 #[cfg(test)]
 mod racing;
 #[cfg(test)]
+mod sorts;
+#[cfg(test)]
 mod walks;
+#[cfg(test)]
+mod weak_vectors;

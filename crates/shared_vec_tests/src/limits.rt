@@ -1,10 +1,9 @@
 //! Vectors at the last number and the next, and what is refused. No pointer is lost by it.
 
-use crate::plays::{Size, VECTOR, plays, read, refused, row};
-use pointers::{Call, Desk, Domain, Fault, Program, Refusal, SharedCell, Spot};
+use crate::plays::{Play, Size, fill, numbered, plays_alone, read, refused, row};
+use pointers::{Call, Desk, Domain, Fault, Refusal, SharedCell, Spot};
 use shared_vec::SharedVec;
 use std::sync::Wait;
-use std::thread::Threads;
 
 /// The fault of a make that finds no vacant block.
 const FULL: Fault = Fault::Refused(Call::Make, Refusal::Full);
@@ -13,51 +12,38 @@ const FULL: Fault = Fault::Refused(Call::Make, Refusal::Full);
 #[derive(Drop)]
 struct Filled;
 
-impl<R: Threads + Wait> Program<u64, R> for Filled {
-    fn work<D: Domain<Value = u64>>(
+impl Play for Filled {
+    fn play<'t, D: Domain<Value = u64>, R: Wait>(
         &self,
         rt: &R,
-        _number: usize,
-        desk: &Desk<D>,
+        desk: &'t Desk<'t, D>,
+        vector: &mut SharedVec<'t, 't, D>,
     ) -> Result<(), Fault> {
-        let mut vector = SharedVec::at(desk, desk.cell(VECTOR));
-        for number in 0..8 {
-            row(
-                1,
-                vector.push(rt, desk.make([number, 0, 0, 0], 0)?)? == number as usize,
-            )?;
-        }
-        let last = desk.make([8, 0, 0, 0], 0)?;
+        fill(rt, desk, vector, 0, 8)?;
+        let last = numbered(desk, 8)?;
         row(2, refused(vector.push(rt, last.share()?))? == (FULL, 8))?;
         row(3, last.use_count()? == 1 && vector.len(rt)? == 8)?;
         row(4, read(vector.get(rt, 7)?)? == Some(7))?;
         drop(vector.pop(rt)?);
-        row(5, vector.push(rt, last)? == 7)?;
-        desk.clear(VECTOR)
+        row(5, vector.push(rt, last)? == 7)
     }
 }
 
 #[test]
 fn a_small_domain_is_full(rt: HostRuntime) {
-    let size = Size {
-        workers: 1,
-        pointers: 8,
-        blocks: 10,
-        owners: 8,
-    };
-    plays(&rt, rt.alloc(), size, &Filled);
+    plays_alone(&rt, rt.alloc(), Size::alone(10), Filled);
 }
 
 /// A cell that isn't there, and a call within a visit.
 #[derive(Drop)]
 struct Misused;
 
-impl<R: Threads + Wait> Program<u64, R> for Misused {
-    fn work<D: Domain<Value = u64>>(
+impl Play for Misused {
+    fn play<'t, D: Domain<Value = u64>, R: Wait>(
         &self,
         rt: &R,
-        _number: usize,
-        desk: &Desk<D>,
+        desk: &'t Desk<'t, D>,
+        vector: &mut SharedVec<'t, 't, D>,
     ) -> Result<(), Fault> {
         let mut none = SharedVec::at(desk, desk.cell(SharedCell(2)));
         let why = Fault::Cell(Call::Load(Spot::Shared(2)));
@@ -69,11 +55,10 @@ impl<R: Threads + Wait> Program<u64, R> for Misused {
             2,
             none.pop(rt).err() == Some(why) && none.truncate(rt, 0).err() == Some(why),
         )?;
-        let new = desk.make([5, 0, 0, 0], 0)?;
+        let new = numbered(desk, 5)?;
         row(3, refused(none.push(rt, new.share()?))? == (why, 5))?;
         row(4, refused(none.set(rt, 0, new.share()?))? == (why, 5))?;
         row(5, new.use_count()? == 1)?;
-        let vector = SharedVec::at(desk, desk.cell(VECTOR));
         let busy = new.visit(rt, |_| vector.get(rt, 0).err())?;
         row(6, busy == Some(Fault::Busy(Call::Load(Spot::Shared(0)))))
     }
@@ -81,81 +66,64 @@ impl<R: Threads + Wait> Program<u64, R> for Misused {
 
 #[test]
 fn misuse_is_refused(rt: HostRuntime) {
-    let size = Size {
-        workers: 1,
-        pointers: 8,
-        blocks: 10,
-        owners: 8,
-    };
-    plays(&rt, rt.alloc(), size, &Misused);
+    plays_alone(&rt, rt.alloc(), Size::alone(10), Misused);
 }
 
 /// A domain whose objects have two owners: the third element is refused, and the vector is as it was.
 #[derive(Drop)]
 struct Narrow;
 
-impl<R: Threads + Wait> Program<u64, R> for Narrow {
-    fn work<D: Domain<Value = u64>>(
+impl Play for Narrow {
+    fn play<'t, D: Domain<Value = u64>, R: Wait>(
         &self,
         rt: &R,
-        _number: usize,
-        desk: &Desk<D>,
+        desk: &'t Desk<'t, D>,
+        vector: &mut SharedVec<'t, 't, D>,
     ) -> Result<(), Fault> {
-        let mut vector = SharedVec::at(desk, desk.cell(VECTOR));
-        row(1, vector.push(rt, desk.make([0, 0, 0, 0], 0)?)? == 0)?;
-        row(2, vector.push(rt, desk.make([1, 0, 0, 0], 0)?)? == 1)?;
+        fill(rt, desk, vector, 0, 2)?;
         let why = Fault::Member(Call::Holds(Spot::Owner(2)));
-        row(
-            3,
-            refused(vector.push(rt, desk.make([2, 0, 0, 0], 0)?))? == (why, 2),
-        )?;
-        row(4, read(vector.get(rt, 1)?)? == Some(1))?;
-        desk.clear(VECTOR)
+        row(3, refused(vector.push(rt, numbered(desk, 2)?))? == (why, 2))?;
+        row(4, read(vector.get(rt, 1)?)? == Some(1))
     }
 }
 
 #[test]
 fn objects_with_two_owners_are_too_narrow(rt: HostRuntime) {
     let size = Size {
-        workers: 1,
-        pointers: 8,
-        blocks: 10,
         owners: 2,
+        ..Size::alone(10)
     };
-    plays(&rt, rt.alloc(), size, &Narrow);
+    plays_alone(&rt, rt.alloc(), size, Narrow);
 }
 
 /// A worker has as many pointers as it may: no call loses one.
 #[derive(Drop)]
 struct Crowded;
 
-impl<R: Threads + Wait> Program<u64, R> for Crowded {
-    fn work<D: Domain<Value = u64>>(
+impl Play for Crowded {
+    fn play<'t, D: Domain<Value = u64>, R: Wait>(
         &self,
         rt: &R,
-        _number: usize,
-        desk: &Desk<D>,
+        desk: &'t Desk<'t, D>,
+        vector: &mut SharedVec<'t, 't, D>,
     ) -> Result<(), Fault> {
-        let mut vector = SharedVec::at(desk, desk.cell(VECTOR));
-        row(1, vector.push(rt, desk.make([3, 0, 0, 0], 0)?)? == 0)?;
-        let one = desk.make([4, 0, 0, 0], 0)?;
+        fill(rt, desk, vector, 0, 1)?;
+        let one = numbered(desk, 4)?;
         let more = (one.share()?, one.share()?, one.share()?, one.share()?);
         match refused(vector.push(rt, one))? {
             (Fault::Crowded(_), 4) => {}
             _ => return row(2, false),
         }
         drop(more);
-        desk.clear(VECTOR)
+        Ok(())
     }
 }
 
 #[test]
 fn a_crowded_desk_gets_its_pointer_back(rt: HostRuntime) {
     let size = Size {
-        workers: 1,
         pointers: 5,
-        blocks: 10,
-        owners: 8,
+        ..Size::alone(10)
     };
-    plays(&rt, rt.alloc(), size, &Crowded);
+    plays_alone(&rt, rt.alloc(), size, Crowded);
 }

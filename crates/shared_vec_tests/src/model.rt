@@ -1,11 +1,10 @@
 //! A vector beside a `Vec`: 4,000 calls in an order that a generator gives.
 
-use crate::plays::{Size, VECTOR, plays, read, row};
-use pointers::{Desk, Domain, Fault, Program};
+use crate::plays::{Play, Size, numbered, plays_alone, read, row};
+use pointers::{Desk, Domain, Fault};
 use shared_vec::SharedVec;
 use std::alloc::Global;
 use std::sync::Wait;
-use std::thread::Threads;
 
 /// So many calls.
 const CALLS: u32 = 4_000;
@@ -28,7 +27,7 @@ fn same<'t, D: Domain<Value = u64>, R: Wait>(
     match (number >> 33) % 8 {
         0 => Ok(read(vector.get(rt, index)?)? == here),
         1 => {
-            let back = vector.set(rt, index, desk.make([number, 0, 0, 0], 0)?)?;
+            let back = vector.set(rt, index, numbered(desk, number)?)?;
             match model.get_mut(index) {
                 Some(at) => {
                     *at = number;
@@ -45,7 +44,7 @@ fn same<'t, D: Domain<Value = u64>, R: Wait>(
             Ok(vector.len(rt)? == model.len())
         }
         _ => {
-            let at = vector.push(rt, desk.make([number, 0, 0, 0], 0)?)?;
+            let at = vector.push(rt, numbered(desk, number)?)?;
             let end = model.len();
             model.push(number)?;
             Ok(at == end)
@@ -53,34 +52,27 @@ fn same<'t, D: Domain<Value = u64>, R: Wait>(
     }
 }
 
-impl<R: Threads + Wait> Program<u64, R> for Beside {
-    fn work<D: Domain<Value = u64>>(
+impl Play for Beside {
+    fn play<'t, D: Domain<Value = u64>, R: Wait>(
         &self,
         rt: &R,
-        _number: usize,
-        desk: &Desk<D>,
+        desk: &'t Desk<'t, D>,
+        vector: &mut SharedVec<'t, 't, D>,
     ) -> Result<(), Fault> {
-        let mut vector = SharedVec::at(desk, desk.cell(VECTOR));
         let mut model = Vec::new(self.alloc);
         let mut number = 1u64;
         for call in 0..CALLS {
             number = number
                 .wrapping_mul(6_364_136_223_846_793_005)
                 .wrapping_add(1_442_695_040_888_963_407);
-            row(call, same(rt, desk, &mut vector, &mut model, number)?)?;
+            row(call, same(rt, desk, vector, &mut model, number)?)?;
         }
-        desk.clear(VECTOR)
+        Ok(())
     }
 }
 
 #[test]
 fn a_vector_answers_as_a_sequential_one(rt: HostRuntime) {
-    let size = Size {
-        workers: 1,
-        pointers: 8,
-        blocks: 3_000,
-        owners: 8,
-    };
     let alloc = rt.alloc();
-    plays(&rt, alloc, size, &Beside { alloc });
+    plays_alone(&rt, alloc, Size::alone(3_000), Beside { alloc });
 }

@@ -1,6 +1,6 @@
 //! Workers on one vector.
 
-use crate::plays::{Size, VECTOR, plays, row};
+use crate::plays::{Size, VECTOR, fill, numbered, plays, read, row};
 use pointers::{Desk, Domain, Fault, Program, Shared};
 use shared_vec::SharedVec;
 use std::sync::Wait;
@@ -47,7 +47,7 @@ impl Racing {
         for round in 0..EACH {
             let field = round.wrapping_mul(WORKERS).wrapping_add(number);
             self.sum.fetch_add(field, Ordering::SeqCst);
-            let new = desk.make([field, 0, 0, 0], 0)?;
+            let new = numbered(desk, field)?;
             let index = vector.push(rt, new.share()?)?;
             match vector.get(rt, index)? {
                 Some(there) => row(1, there.is(&new))?,
@@ -104,10 +104,7 @@ impl Racing {
                     row(6, vector.pop(rt)?.is_some())?;
                 } else {
                     let end = vector.len(rt)? as u64;
-                    row(
-                        7,
-                        vector.push(rt, desk.make([end, 0, 0, 0], 0)?)? as u64 == end,
-                    )?;
+                    row(7, vector.push(rt, numbered(desk, end)?)? as u64 == end)?;
                 }
                 continue;
             }
@@ -118,7 +115,7 @@ impl Racing {
             if let Some(there) = vector.get(rt, index as usize)? {
                 row(8, there.read()? % 1_000 == index)?;
             }
-            let new = desk.make([number.wrapping_mul(1_000).wrapping_add(index), 0, 0, 0], 0)?;
+            let new = numbered(desk, number.wrapping_mul(1_000).wrapping_add(index))?;
             drop(vector.set(rt, index as usize, new)?);
         }
         Ok(())
@@ -132,7 +129,7 @@ impl Racing {
         vector: &mut SharedVec<'_, 't, D>,
     ) -> Result<(), Fault> {
         for index in 0..vector.len(rt)? {
-            let new = desk.make([index as u64, 0, 0, 0], 0)?;
+            let new = numbered(desk, index as u64)?;
             row(9, vector.set(rt, index, new)?.is_none())?;
         }
         Ok(())
@@ -166,12 +163,108 @@ fn workers_push_at_once_and_one_writes_while_others_set(rt: HostRuntime) {
     let size = Size {
         workers: 4,
         pointers: 16,
-        blocks: 800,
-        owners: 8,
+        ..Size::alone(800)
     };
     let play = Racing {
         came: AtomicU32::new(0),
         sum: AtomicU64::new(0),
+    };
+    plays(&rt, rt.alloc(), size, &play);
+}
+
+/// So many elements stay while others are inserted and removed.
+const STAY: u64 = 60;
+
+/// The first worker inserts and removes, and the others walk meanwhile.
+#[derive(Drop)]
+struct Moving {
+    /// Whether the elements that stay are there, and whether the first worker is done.
+    begun: AtomicU32,
+    done: AtomicU32,
+}
+
+impl Moving {
+    /// Elements come at each index in turn, and leave again: those that stay are as they were.
+    fn change<'t, D: Domain<Value = u64>, R: Wait>(
+        &self,
+        rt: &R,
+        desk: &'t Desk<'t, D>,
+        vector: &mut SharedVec<'_, 't, D>,
+    ) -> Result<(), Fault> {
+        fill(rt, desk, vector, 0, STAY)?;
+        self.begun.store(1, Ordering::SeqCst);
+        for round in 0..200u64 {
+            let index = (round.wrapping_mul(7) % (STAY + 1)) as usize;
+            let new = numbered(desk, round.wrapping_add(1_000))?;
+            row(12, vector.insert(rt, index, new)?.is_none())?;
+            row(
+                13,
+                read(vector.remove(rt, index)?)? == Some(round.wrapping_add(1_000)),
+            )?;
+        }
+        row(14, vector.len(rt)? as u64 == STAY)?;
+        for index in 0..STAY {
+            row(15, read(vector.get(rt, index as usize)?)? == Some(index))?;
+        }
+        Ok(())
+    }
+
+    /// A walk shows elements that stay in their order, some maybe twice, some maybe not.
+    fn walk<D: Domain<Value = u64>, R: Wait>(
+        rt: &R,
+        vector: &SharedVec<'_, '_, D>,
+    ) -> Result<(), Fault> {
+        let mut last = 0u64;
+        vector.each(rt, |there: &Shared<D>| {
+            let field = there.read()?;
+            row(16, field >= 1_000 || field >= last)?;
+            if field < 1_000 {
+                last = field;
+            }
+            Ok(())
+        })
+    }
+}
+
+impl<R: Threads + Wait> Program<u64, R> for Moving {
+    fn work<D: Domain<Value = u64>>(
+        &self,
+        rt: &R,
+        number: usize,
+        desk: &Desk<D>,
+    ) -> Result<(), Fault> {
+        let mut vector = SharedVec::at(desk, desk.cell(VECTOR));
+        if number == 0 {
+            let told = self.change(rt, desk, &mut vector);
+            self.begun.store(1, Ordering::SeqCst);
+            self.done.store(1, Ordering::SeqCst);
+            told?;
+            return desk.clear(VECTOR);
+        }
+        for _ in rt.forever() {
+            if self.begun.load(Ordering::SeqCst) == 0 {
+                yield_now();
+                continue;
+            }
+            if self.done.load(Ordering::SeqCst) > 0 {
+                return Ok(());
+            }
+            Moving::walk(rt, &vector)?;
+        }
+        unreachable!()
+    }
+}
+
+#[test]
+fn one_worker_inserts_and_removes_while_others_walk(rt: HostRuntime) {
+    let size = Size {
+        workers: 3,
+        pointers: 16,
+        ..Size::alone(120)
+    };
+    let play = Moving {
+        begun: AtomicU32::new(0),
+        done: AtomicU32::new(0),
     };
     plays(&rt, rt.alloc(), size, &play);
 }

@@ -1,10 +1,9 @@
 //! Walks over a vector, from the first element on.
 
-use crate::plays::{Size, VECTOR, plays, row};
-use pointers::{Call, Desk, Domain, Fault, Program, Shared, Spot};
+use crate::plays::{Play, Size, fill, numbered, plays_alone, row};
+use pointers::{Call, Desk, Domain, Fault, Shared, Spot};
 use shared_vec::SharedVec;
 use std::sync::Wait;
-use std::thread::Threads;
 
 /// What a walk was shown: how many elements, whether each read its index, and the sum of what they read.
 #[derive(Clone, Copy, PartialEq, Drop)]
@@ -38,20 +37,6 @@ fn walk<'t, D: Domain<Value = u64>, R: Wait>(
     Ok((walked, ended))
 }
 
-/// Elements whose fields are their indexes come, up to so many.
-fn fill<'t, D: Domain<Value = u64>, R: Wait>(
-    rt: &R,
-    desk: &'t Desk<'t, D>,
-    vector: &mut SharedVec<'_, 't, D>,
-    from: u64,
-    until: u64,
-) -> Result<(), Fault> {
-    for number in from..until {
-        vector.push(rt, desk.make([number, 0, 0, 0], 0)?)?;
-    }
-    Ok(())
-}
-
 /// A walk shows each element once, in order.
 fn shows<'t, D: Domain<Value = u64>, R: Wait>(
     rt: &R,
@@ -71,76 +56,73 @@ fn shows<'t, D: Domain<Value = u64>, R: Wait>(
 #[derive(Drop)]
 struct Walks;
 
-impl<R: Threads + Wait> Program<u64, R> for Walks {
-    fn work<D: Domain<Value = u64>>(
+/// Walks over none, one, a leaf, and over more and more levels.
+fn grows<'t, D: Domain<Value = u64>, R: Wait>(
+    rt: &R,
+    desk: &'t Desk<'t, D>,
+    vector: &mut SharedVec<'_, 't, D>,
+) -> Result<(), Fault> {
+    row(1, shows(rt, vector, 0, 0)?)?;
+    fill(rt, desk, vector, 0, 1)?;
+    row(2, shows(rt, vector, 1, 0)?)?;
+    fill(rt, desk, vector, 1, 8)?;
+    row(3, shows(rt, vector, 8, 28)?)?;
+    fill(rt, desk, vector, 8, 65)?;
+    row(4, shows(rt, vector, 65, 2_080)?)?;
+    fill(rt, desk, vector, 65, 600)?;
+    row(5, shows(rt, vector, 600, 179_700)?)
+}
+
+impl Play for Walks {
+    fn play<'t, D: Domain<Value = u64>, R: Wait>(
         &self,
         rt: &R,
-        _number: usize,
-        desk: &Desk<D>,
+        desk: &'t Desk<'t, D>,
+        vector: &mut SharedVec<'t, 't, D>,
     ) -> Result<(), Fault> {
-        let mut vector = SharedVec::at(desk, desk.cell(VECTOR));
-        row(1, shows(rt, &vector, 0, 0)?)?;
-        fill(rt, desk, &mut vector, 0, 1)?;
-        row(2, shows(rt, &vector, 1, 0)?)?;
-        fill(rt, desk, &mut vector, 1, 8)?;
-        row(3, shows(rt, &vector, 8, 28)?)?;
-        fill(rt, desk, &mut vector, 8, 65)?;
-        row(4, shows(rt, &vector, 65, 2_080)?)?;
-        fill(rt, desk, &mut vector, 65, 600)?;
-        row(5, shows(rt, &vector, 600, 179_700)?)?;
-        let (told, ended) = walk(rt, &vector, 10)?;
+        grows(rt, desk, vector)?;
+        let (told, ended) = walk(rt, vector, 10)?;
         row(6, told.count == 10 && told.in_order && told.sum == 45)?;
         row(7, ended == Err(Fault::Other(77)))?;
-        let new = desk.make([1_000, 0, 0, 0], 0)?;
+        let new = numbered(desk, 1_000)?;
         drop(vector.set(rt, 0, new)?);
-        let (told, ended) = walk(rt, &vector, 0)?;
+        let (told, ended) = walk(rt, vector, 0)?;
         row(8, told.count == 600 && !told.in_order && ended == Ok(()))?;
         row(9, told.sum == 180_700)?;
         vector.truncate(rt, 3)?;
-        let (told, _) = walk(rt, &vector, 0)?;
-        row(10, told.count == 3 && told.sum == 1_003)?;
-        desk.clear(VECTOR)
+        let (told, _) = walk(rt, vector, 0)?;
+        row(10, told.count == 3 && told.sum == 1_003)
     }
 }
 
 #[test]
 fn a_walk_shows_each_element_once(rt: HostRuntime) {
-    let size = Size {
-        workers: 1,
-        pointers: 8,
-        blocks: 720,
-        owners: 8,
-    };
-    plays(&rt, rt.alloc(), size, &Walks);
+    plays_alone(&rt, rt.alloc(), Size::alone(720), Walks);
 }
 
 /// A domain whose objects have two owners: a walk shows both elements, and is refused at the third.
 #[derive(Drop)]
 struct Narrow;
 
-impl<R: Threads + Wait> Program<u64, R> for Narrow {
-    fn work<D: Domain<Value = u64>>(
+impl Play for Narrow {
+    fn play<'t, D: Domain<Value = u64>, R: Wait>(
         &self,
         rt: &R,
-        _number: usize,
-        desk: &Desk<D>,
+        desk: &'t Desk<'t, D>,
+        vector: &mut SharedVec<'t, 't, D>,
     ) -> Result<(), Fault> {
-        let mut vector = SharedVec::at(desk, desk.cell(VECTOR));
-        fill(rt, desk, &mut vector, 0, 2)?;
-        let (told, ended) = walk(rt, &vector, 0)?;
+        fill(rt, desk, vector, 0, 2)?;
+        let (told, ended) = walk(rt, vector, 0)?;
         row(1, told.count == 2 && told.in_order)?;
-        row(2, ended == Err(Fault::Member(Call::Load(Spot::Owner(2)))))?;
-        desk.clear(VECTOR)
+        row(2, ended == Err(Fault::Member(Call::Load(Spot::Owner(2)))))
     }
 }
 
 #[test]
 fn a_walk_is_refused_where_a_member_is_not_there(rt: HostRuntime) {
     let size = Size {
-        workers: 1,
-        pointers: 8,
-        blocks: 10,
         owners: 2,
+        ..Size::alone(10)
     };
-    plays(&rt, rt.alloc(), size, &Narrow);
+    plays_alone(&rt, rt.alloc(), size, Narrow);
 }

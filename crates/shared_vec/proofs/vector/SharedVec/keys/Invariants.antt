@@ -1,0 +1,12 @@
+use Rattle.std.proofs.Common.{◌-◌}
+use denote.Param.Always.{always_mut}
+use Rattle.shared_vec.specs.Sorts.{Keys}
+use Rattle.shared_vec.proofs.vector.SharedVec.keys.Given as goal
+
+abbrev pub invariant-loop-index : goal.invariant-loop-index
+invariant-loop-index g l =
+    (always_mut g.F.FnMut l.initial.f → always_mut g.F.FnMut l.f)
+    × Keys g.D.Domain.opened g.E.Shown.shows g.F.FnMut l.fn.self.place l.index l.initial.f l.keys.items l.f
+
+abbrev pub decreases-loop-index : goal.decreases-loop-index
+decreases-loop-index g l = 18446744073709551615 - l.index

@@ -1,0 +1,13 @@
+use Rattle.std.proofs.Common.{◌-◌}
+use denote.Param.Always.{always_mut}
+use Rattle.shared_vec.specs.WeakVectors.{GetsWeak}
+use Rattle.shared_vec.specs.Walks.{Shows}
+use Rattle.shared_vec.proofs.weak_vector.WeakVec.each.Given as goal
+
+abbrev pub invariant-loop-index : goal.invariant-loop-index
+invariant-loop-index g l =
+    (always_mut g.F.FnMut l.initial.f → always_mut g.F.FnMut l.f)
+    × Shows (GetsWeak g.D.Domain.opened l.fn.self.holders.place) g.E.Shown.shows g.F.FnMut l.index l.initial.f l.f
+
+abbrev pub decreases-loop-index : goal.decreases-loop-index
+decreases-loop-index g l = 18446744073709551615 - l.index
