@@ -1,0 +1,5 @@
+pub mod Nodes
+pub mod Reasons
+pub mod Sinking
+pub mod Steps
+pub mod Ways
