@@ -1,7 +1,7 @@
 //! Tries in full domains, and what is refused. No pointer is lost by it.
 
 use crate::plays::{Size, TRIE, keyed, plays, refused, row, spread_to, value};
-use pointers::{Call, Desk, Domain, Fault, Place, Program, Refusal, SharedCell, Spot};
+use pointers::{Call, Desk, Domain, Fault, Place, Program, Refusal, Shared, SharedCell, Spot};
 use shared_trie::SharedTrie;
 use std::sync::Wait;
 use std::thread::Threads;
@@ -12,7 +12,25 @@ const FULL: Fault = Fault::Refused(Call::Make, Refusal::Full);
 /// The fault of a call that finds an object which no trie put there.
 const FOREIGN: Fault = Fault::Refused(Call::Read, Refusal::Outside);
 
-/// Two keys that go one way to the last level want a node on each, and there are not so many blocks.
+/// An object comes back that wants a node on each level, since there are not so many blocks.
+fn comes_back<'t, D: Domain<Value = u64>, R: Wait>(
+    rt: &R,
+    trie: &SharedTrie<'t, D>,
+    new: &Shared<'t, D>,
+) -> Result<(), Fault> {
+    row(
+        2,
+        refused(trie.insert(rt, new.share()?))? == (FULL, spread_to(1)),
+    )?;
+    row(
+        3,
+        refused(trie.insert_if_absent(rt, new.share()?))? == (FULL, spread_to(1)),
+    )?;
+    row(4, new.use_count()? == 1)?;
+    row(5, trie.get(rt, spread_to(1))?.is_none())
+}
+
+/// Two keys that go one way to the last level don't fit. Where the one comes out, the other goes in.
 #[derive(Drop)]
 struct Filled;
 
@@ -24,27 +42,13 @@ impl<R: Threads + Wait> Program<u64, R> for Filled {
         desk: &Desk<D>,
     ) -> Result<(), Fault> {
         let trie = SharedTrie::open(rt, desk, &desk.cell(TRIE))?;
-        row(
-            1,
-            trie.insert(rt, keyed(desk, spread_to(0), 10)?)?.is_none(),
-        )?;
+        drop(trie.insert(rt, keyed(desk, spread_to(0), 10)?)?);
         let new = keyed(desk, spread_to(1), 11)?;
-        row(
-            2,
-            refused(trie.insert(rt, new.share()?))? == (FULL, spread_to(1)),
-        )?;
-        row(
-            3,
-            refused(trie.insert_if_absent(rt, new.share()?))? == (FULL, spread_to(1)),
-        )?;
-        row(
-            4,
-            new.use_count()? == 1 && trie.get(rt, spread_to(1))?.is_none(),
-        )?;
-        row(5, value(rt, trie.get(rt, spread_to(0))?)? == Some(10))?;
-        row(6, value(rt, trie.remove(rt, spread_to(0))?)? == Some(10))?;
-        row(7, trie.insert(rt, new)?.is_none())?;
-        row(8, value(rt, trie.get(rt, spread_to(1))?)? == Some(11))?;
+        comes_back(rt, &trie, &new)?;
+        row(6, value(rt, trie.get(rt, spread_to(0))?)? == Some(10))?;
+        row(7, value(rt, trie.remove(rt, spread_to(0))?)? == Some(10))?;
+        row(8, trie.insert(rt, new)?.is_none())?;
+        row(9, value(rt, trie.get(rt, spread_to(1))?)? == Some(11))?;
         desk.clear(TRIE)
     }
 }
@@ -60,8 +64,56 @@ fn a_small_domain_is_full(rt: HostRuntime) {
     plays(&rt, rt.alloc(), size, &Filled);
 }
 
-/// A cell that isn't there, an object of the program in a trie's cell, pointers that have no key, and a call within a
-/// visit.
+/// There is no map in a cell that isn't there, and none in one with an object of the program.
+fn has_no_map<'t, D: Domain<Value = u64>, R: Wait>(
+    rt: &R,
+    desk: &'t Desk<'t, D>,
+    object: &Shared<'t, D>,
+) -> Result<(), Fault> {
+    let none = SharedTrie::open(rt, desk, &desk.cell(SharedCell(2)));
+    row(
+        1,
+        none.err() == Some(Fault::Cell(Call::Load(Spot::Shared(2)))),
+    )?;
+    object.share()?.store(SharedCell(1))?;
+    let other = SharedTrie::open(rt, desk, &desk.cell(SharedCell(1)));
+    row(2, other.err() == Some(FOREIGN))?;
+    desk.clear(SharedCell(1))
+}
+
+/// A pointer at the last field has no key.
+fn has_no_key<'t, D: Domain<Value = u64>, R: Wait>(
+    rt: &R,
+    trie: &SharedTrie<'t, D>,
+    object: &Shared<'t, D>,
+) -> Result<(), Fault> {
+    let Some(place) = object.place() else {
+        return row(3, false);
+    };
+    let block = place.block;
+    let last = object.alias(Some(Place { block, field: 3 }))?;
+    match trie.insert(rt, last) {
+        Ok(_) => row(4, false),
+        Err(refused) => row(5, refused.why == FOREIGN && refused.back.is(object)),
+    }
+}
+
+/// A pointer that points nowhere has none either.
+fn points_nowhere<'t, D: Domain<Value = u64>, R: Wait>(
+    rt: &R,
+    trie: &SharedTrie<'t, D>,
+    object: &Shared<'t, D>,
+) -> Result<(), Fault> {
+    match trie.insert_if_absent(rt, object.alias(None)?) {
+        Ok(_) => row(6, false),
+        Err(refused) => row(
+            7,
+            refused.why == Fault::Refused(Call::Read, Refusal::Null) && refused.back.is(object),
+        ),
+    }
+}
+
+/// What is no map, and what has no key; and a call within a visit.
 #[derive(Drop)]
 struct Misused;
 
@@ -72,34 +124,13 @@ impl<R: Threads + Wait> Program<u64, R> for Misused {
         _number: usize,
         desk: &Desk<D>,
     ) -> Result<(), Fault> {
-        let none = SharedTrie::open(rt, desk, &desk.cell(SharedCell(2)));
-        row(
-            1,
-            none.err() == Some(Fault::Cell(Call::Load(Spot::Shared(2)))),
-        )?;
-        let new = keyed(desk, 5, 6)?;
-        new.share()?.store(SharedCell(1))?;
-        let other = SharedTrie::open(rt, desk, &desk.cell(SharedCell(1)));
-        row(2, other.err() == Some(FOREIGN))?;
-        desk.clear(SharedCell(1))?;
+        let object = keyed(desk, 5, 6)?;
+        has_no_map(rt, desk, &object)?;
         let trie = SharedTrie::open(rt, desk, &desk.cell(TRIE))?;
-        if let Some(place) = new.place() {
-            let block = place.block;
-            let last = new.alias(Some(Place { block, field: 3 }))?;
-            match trie.insert(rt, last) {
-                Ok(_) => row(3, false)?,
-                Err(refused) => row(4, refused.why == FOREIGN && refused.back.is(&new))?,
-            }
-        }
-        match trie.insert_if_absent(rt, new.alias(None)?) {
-            Ok(_) => row(5, false)?,
-            Err(refused) => row(
-                6,
-                refused.why == Fault::Refused(Call::Read, Refusal::Null) && refused.back.is(&new),
-            )?,
-        }
-        let busy = new.visit(rt, |_| trie.get(rt, 0).err())?;
-        row(7, matches!(busy, Some(Fault::Busy(_))))?;
+        has_no_key(rt, &trie, &object)?;
+        points_nowhere(rt, &trie, &object)?;
+        let busy = object.visit(rt, |_| trie.get(rt, 0).err())?;
+        row(8, matches!(busy, Some(Fault::Busy(_))))?;
         desk.clear(TRIE)
     }
 }
@@ -152,6 +183,21 @@ fn objects_with_two_owners_are_too_narrow(rt: HostRuntime) {
     plays(&rt, rt.alloc(), size, &Narrow);
 }
 
+/// With three pointers too many an insert is refused, and its pointer comes back.
+fn is_crowded<'t, D: Domain<Value = u64>, R: Wait>(
+    rt: &R,
+    trie: &SharedTrie<'t, D>,
+    one: &Shared<'t, D>,
+) -> Result<(), Fault> {
+    let _first = one.share()?;
+    let _second = one.share()?;
+    let _third = one.share()?;
+    match refused(trie.insert(rt, one.share()?))? {
+        (Fault::Crowded(_), key) => row(2, key == spread_to(1)),
+        _ => row(3, false),
+    }
+}
+
 /// A worker has as many pointers as it may: no call loses one. With four more an insert makes all nodes that it wants.
 #[derive(Drop)]
 struct Crowded;
@@ -166,12 +212,7 @@ impl<R: Threads + Wait> Program<u64, R> for Crowded {
         let trie = SharedTrie::open(rt, desk, &desk.cell(TRIE))?;
         row(1, trie.insert(rt, keyed(desk, spread_to(0), 5)?)?.is_none())?;
         let one = keyed(desk, spread_to(1), 6)?;
-        let more = (one.share()?, one.share()?, one.share()?);
-        match refused(trie.insert(rt, one.share()?))? {
-            (Fault::Crowded(_), key) => row(2, key == spread_to(1))?,
-            _ => return row(3, false),
-        }
-        drop(more);
+        is_crowded(rt, &trie, &one)?;
         row(4, trie.insert(rt, one)?.is_none())?;
         row(5, value(rt, trie.get(rt, spread_to(0))?)? == Some(5))?;
         row(6, value(rt, trie.remove(rt, spread_to(1))?)? == Some(6))?;

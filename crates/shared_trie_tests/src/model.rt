@@ -26,6 +26,44 @@ fn key_of(number: u64) -> u64 {
     }
 }
 
+/// An insert on both. Whether they answer the same.
+fn inserts_alike<'t, D: Domain<Value = u64>, R: Wait>(
+    rt: &R,
+    desk: &'t Desk<'t, D>,
+    trie: &SharedTrie<'t, D>,
+    model: &mut BTreeMap<u64, u64>,
+    entry: (u64, u64),
+) -> Result<bool, Fault> {
+    let (key, number) = entry;
+    let here = model.get(&key).copied();
+    let was = trie.insert(rt, keyed(desk, key, number)?)?;
+    model.insert(key, number)?;
+    Ok(value(rt, was)? == here)
+}
+
+/// The same where the key is absent.
+fn fills_alike<'t, D: Domain<Value = u64>, R: Wait>(
+    rt: &R,
+    desk: &'t Desk<'t, D>,
+    trie: &SharedTrie<'t, D>,
+    model: &mut BTreeMap<u64, u64>,
+    entry: (u64, u64),
+) -> Result<bool, Fault> {
+    let (key, number) = entry;
+    let here = model.get(&key).copied();
+    match trie.insert_if_absent(rt, keyed(desk, key, number)?)? {
+        Some(occupied) => {
+            let there = value(rt, Some(occupied.there))?;
+            let back = value(rt, Some(occupied.back))?;
+            Ok(there == here && back == Some(number))
+        }
+        None => {
+            model.insert(key, number)?;
+            Ok(here.is_none())
+        }
+    }
+}
+
 /// One call on both, by a number. Whether they answer the same.
 fn same<'t, D: Domain<Value = u64>, R: Wait>(
     rt: &R,
@@ -35,28 +73,11 @@ fn same<'t, D: Domain<Value = u64>, R: Wait>(
     number: u64,
 ) -> Result<bool, Fault> {
     let key = key_of(number);
-    let here = model.get(&key).copied();
     match (number >> 33) % 4 {
-        0 => Ok(value(rt, trie.get(rt, key)?)? == here),
-        1 => {
-            let was = trie.insert(rt, keyed(desk, key, number)?)?;
-            model.insert(key, number)?;
-            Ok(value(rt, was)? == here)
-        }
-        2 => match trie.insert_if_absent(rt, keyed(desk, key, number)?)? {
-            Some(occupied) => Ok(
-                value(rt, Some(occupied.there))? == here
-                    && value(rt, Some(occupied.back))? == Some(number),
-            ),
-            None => {
-                model.insert(key, number)?;
-                Ok(here.is_none())
-            }
-        },
-        _ => {
-            model.remove(&key);
-            Ok(value(rt, trie.remove(rt, key)?)? == here)
-        }
+        0 => Ok(value(rt, trie.get(rt, key)?)? == model.get(&key).copied()),
+        1 => inserts_alike(rt, desk, trie, model, (key, number)),
+        2 => fills_alike(rt, desk, trie, model, (key, number)),
+        _ => Ok(value(rt, trie.remove(rt, key)?)? == model.remove(&key)),
     }
 }
 

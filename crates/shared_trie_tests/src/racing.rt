@@ -65,7 +65,9 @@ impl Racing {
         }
         self.meet(rt, 2);
         for round in 0..EACH {
-            let key = round.wrapping_mul(WORKERS).wrapping_add((me + 1) % WORKERS);
+            let key = round
+                .wrapping_mul(WORKERS)
+                .wrapping_add(me.wrapping_add(1) % WORKERS);
             row(4, value(rt, trie.remove(rt, key)?)? == Some(key))?;
             row(5, trie.get(rt, key)?.is_none())?;
         }
@@ -81,7 +83,7 @@ impl Racing {
         me: u64,
     ) -> Result<(), Fault> {
         for round in 0..ROUNDS {
-            let key = spread_to(round.wrapping_mul(me + 3) % 9);
+            let key = spread_to(round.wrapping_mul(me.wrapping_add(3)) % 9);
             let was = match round % 4 {
                 0 => {
                     self.went_in.fetch_add(1, Ordering::SeqCst);
@@ -118,7 +120,7 @@ impl Racing {
         let mut there = 0u64;
         for number in 0..9 {
             if trie.get(rt, spread_to(number))?.is_some() {
-                there += 1;
+                there = there.wrapping_add(1);
             }
         }
         let out = self.came_out.load(Ordering::SeqCst);
