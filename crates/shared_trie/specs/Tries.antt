@@ -71,7 +71,8 @@ module _ {V : Type 0} (o : DeskNow V) where
 
   -- one step took the entry out of a place; or it was there no more
   abbrev pub Takes : Site V → Known V → Option (Known V) → Type 0
-  Takes at c None = Unit {0}
+  Takes at c None = (hoped : Option (Known V)) × (after : Option (Known V))
+      × Compared o Owner at false (Some c) None false hoped after
   Takes at c (Some r) = (r ≡ c) × ((after : Option (Known V)) × Compared o Owner at false (Some c) None true after None)
 
   -- one step took out the key's object, where its way ends; or none was there

@@ -5,8 +5,10 @@ mod changes;
 mod key;
 mod node;
 mod slot;
+mod sweep;
 mod trie;
 mod way;
 
 pub use crate::changes::Occupied;
+pub use crate::sweep::Keep;
 pub use crate::trie::SharedTrie;
