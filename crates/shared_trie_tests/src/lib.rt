@@ -11,3 +11,5 @@ mod model;
 mod plays;
 #[cfg(test)]
 mod racing;
+#[cfg(test)]
+mod walks;

@@ -1,6 +1,6 @@
 //! A trie beside a `BTreeMap`: 4,000 calls in an order that a generator gives.
 
-use crate::plays::{Size, TRIE, keyed, plays, row, spread_to, value};
+use crate::plays::{Nothing, Size, TRIE, keyed, plays, row, spread_to, value};
 use pointers::{Desk, Domain, Fault, Program};
 use shared_trie::SharedTrie;
 use std::alloc::Global;
@@ -97,6 +97,7 @@ impl<R: Threads + Wait> Program<u64, R> for Beside {
                 .wrapping_add(1_442_695_040_888_963_407);
             row(call, same(rt, desk, &trie, &mut model, number)?)?;
         }
+        row(CALLS, trie.retain(rt, &mut Nothing)? == model.len())?;
         desk.clear(TRIE)
     }
 }

@@ -1,6 +1,7 @@
 //! A play: what one worker does at its desk, which ends with the number of the first row that is not as it should be.
 
 use pointers::{Desk, Domain, Fault, Program, Ran, Refused, Shared, SharedCell, Team, run};
+use shared_trie::Keep;
 use std::alloc::Global;
 use std::process::Abort;
 use std::sync::Wait;
@@ -8,6 +9,16 @@ use std::thread::Threads;
 
 /// The cell with the trie.
 pub(crate) const TRIE: SharedCell = SharedCell(0);
+
+/// Keeps nothing.
+#[derive(Drop)]
+pub(crate) struct Nothing;
+
+impl<D: Domain> Keep<D> for Nothing {
+    fn keeps(&mut self, _key: u64, _owner: &Shared<'_, D>) -> Result<bool, Fault> {
+        Ok(false)
+    }
+}
 
 /// The row is as it should be, or the play ends with its number.
 pub(crate) fn row(number: u32, is: bool) -> Result<(), Fault> {

@@ -1,6 +1,6 @@
 //! Workers on one trie.
 
-use crate::plays::{Size, TRIE, keyed, plays, row, spread_to, value};
+use crate::plays::{Nothing, Size, TRIE, keyed, plays, row, spread_to, value};
 use pointers::{Desk, Domain, Fault, Program};
 use shared_trie::SharedTrie;
 use std::sync::Wait;
@@ -84,6 +84,9 @@ impl Racing {
     ) -> Result<(), Fault> {
         for round in 0..ROUNDS {
             let key = spread_to(round.wrapping_mul(me.wrapping_add(3)) % 9);
+            if round % 500 == 499 {
+                self.take_each(rt, trie)?;
+            }
             let was = match round % 4 {
                 0 => {
                     self.went_in.fetch_add(1, Ordering::SeqCst);
@@ -108,6 +111,17 @@ impl Racing {
                 self.came_out.fetch_add(1, Ordering::SeqCst);
             }
         }
+        Ok(())
+    }
+
+    /// One takes out whatever it finds.
+    fn take_each<D: Domain<Value = u64>, R: Wait>(
+        &self,
+        rt: &R,
+        trie: &SharedTrie<'_, D>,
+    ) -> Result<(), Fault> {
+        let out = trie.retain(rt, &mut Nothing)?;
+        self.came_out.fetch_add(out as u64, Ordering::SeqCst);
         Ok(())
     }
 
