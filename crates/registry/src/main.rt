@@ -2,7 +2,7 @@
 #![tactic(auto)]
 
 use pointers::{Desk, Domain, Fault, Program, SharedCell, Team, run};
-use shared_map::SharedMap;
+use shared_trie::SharedTrie;
 use std::io;
 use std::sync::Wait;
 use std::sync::atomic::{AtomicU32, Ordering};
@@ -10,9 +10,7 @@ use std::thread::Threads;
 
 const LIVE: u64 = 200_000;
 
-const BUCKETS: u32 = 100_000;
-
-/// A connection's user, or none in the map's own objects. Its number is its object's first field.
+/// A connection's user, or none in the map's nodes. Its number is its object's first field.
 type Object = Option<String>;
 
 #[derive(Drop)]
@@ -34,11 +32,11 @@ impl<R: Threads + Wait + Sync + AllocGlobal> Program<Object, R> for Registry {
         me: usize,
         desk: &Desk<D>,
     ) -> Result<(), Fault> {
-        let mut live = SharedMap::open(rt, desk, rt.alloc(), SharedCell(0), BUCKETS)?;
+        let live = SharedTrie::open(rt, desk, &desk.cell(SharedCell(0)))?;
         for turn in 0..LIVE / 4 {
             let number = number_of(me, turn);
             let user = format!(in rt.alloc(); "user {number}")?;
-            live.insert(rt, number, desk.make([number, 0, 0, 0], Some(user))?)?;
+            live.insert(rt, desk.make([number, 0, 0, 0], Some(user))?)?;
             self.opened.fetch_add(1, Ordering::SeqCst);
         }
         for turn in 0..LIVE / 4 {
@@ -64,14 +62,15 @@ impl<R: Threads + Wait + Sync + AllocGlobal> Program<Object, R> for Registry {
 fn main(rt: HostRuntime) -> io::Result<()> {
     let team = Team {
         workers: 4,
-        pointers: BUCKETS.wrapping_add(10),
+        pointers: 10,
     };
     let registry = Registry {
         opened: AtomicU32::new(0),
         found: AtomicU32::new(0),
         closed: AtomicU32::new(0),
     };
-    match run(&rt, rt.alloc(), team.shape(600_000, 1, 0), team, &registry) {
+    let shape = team.shape(250_000, 1, 0).with_members(8, 1);
+    match run(&rt, rt.alloc(), shape, team, &registry) {
         Ok(ran) => {
             let opened = registry.opened.load(Ordering::SeqCst);
             let found = registry.found.load(Ordering::SeqCst);
