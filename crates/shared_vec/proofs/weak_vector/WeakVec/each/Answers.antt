@@ -17,7 +17,8 @@ returns-in_err-weak-clause-fault g c =
 
 pub returns-in_default-clause-told : goal.returns-in_default-clause-told
 returns-in_default-clause-told g c =
-    shows_none (GetsWeak g.D.Domain.opened c.args.self.now.holders.place) g.E.Shown.shows g.F.FnMut c.loop-index.index c.args.f c.loop-index.f c.in_ok-weak.field-0
+    shows_none (GetsWeak g.D.Domain.opened c.args.self.now.holders.place) g.E.Shown.shows g.F.FnMut c.loop-index.index c.args.f c.loop-index.f
+        c.in_ok-weak.field-0
     c.loop-index.invariant.1 c.in_ok-weak.ensures.done c.in_default.is
 
 pub f-requires : goal.f-requires
@@ -53,5 +54,6 @@ loop-index-preserved g c =
 
 pub returns-clause-told : goal.returns-clause-told
 returns-clause-told g c =
-    shows_last (GetsWeak g.D.Domain.opened c.args.self.now.holders.place) g.E.Shown.shows g.F.FnMut c.loop-index.index c.args.f c.loop-index.f c.loop-index.invariant.1
+    shows_last (GetsWeak g.D.Domain.opened c.args.self.now.holders.place) g.E.Shown.shows g.F.FnMut c.loop-index.index c.args.f c.loop-index.f
+        c.loop-index.invariant.1
     (omega arith) c.loop-index-test.false
