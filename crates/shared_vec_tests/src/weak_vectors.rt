@@ -73,7 +73,8 @@ fn is_walked<'t, D: Domain<Value = u64>, R: Wait>(
 ) -> Result<(), Fault> {
     let mut shown = 0u64;
     let ended = vector.each(rt, |weak: &Weak<D>| {
-        row(20, weak.is(if shown % 2 == 0 { one } else { two }))?;
+        let is_one = weak.is(one);
+        row(20, is_one == (shown % 2 == 0) && (is_one || weak.is(two)))?;
         shown = shown.saturating_add(1);
         Ok(())
     });

@@ -11,13 +11,15 @@ loop-index-init g c = (λ always. always, refl)
 
 pub returns-in_err-owner-clause-fault : goal.returns-in_err-owner-clause-fault
 returns-in_err-owner-clause-fault g c =
-    let broken = not_found (Gets g.D.Domain.opened c.args.self.now.place) g.E.Shown.shows g.F.FnMut c.loop-index.index c.args.f c.loop-index.f
+    let broken = not_found (Gets g.D.Domain.opened c.args.self.now.place) g.E.Shown.shows g.F.FnMut
+    c.loop-index.index c.args.f c.loop-index.f
     c.in_err-owner.field-0.0 c.loop-index.invariant.1 c.in_err-owner.ensures.refused in
     search (broken, rules)
 
 pub returns-in_default-clause-told : goal.returns-in_default-clause-told
 returns-in_default-clause-told g c =
-    shows_none (Gets g.D.Domain.opened c.args.self.now.place) g.E.Shown.shows g.F.FnMut c.loop-index.index c.args.f c.loop-index.f c.in_ok-owner.field-0
+    shows_none (Gets g.D.Domain.opened c.args.self.now.place) g.E.Shown.shows g.F.FnMut
+    c.loop-index.index c.args.f c.loop-index.f c.in_ok-owner.field-0
     c.loop-index.invariant.1 c.in_ok-owner.ensures.done c.in_default.is
 
 pub f-requires : goal.f-requires
@@ -53,5 +55,6 @@ loop-index-preserved g c =
 
 pub returns-clause-told : goal.returns-clause-told
 returns-clause-told g c =
-    shows_last (Gets g.D.Domain.opened c.args.self.now.place) g.E.Shown.shows g.F.FnMut c.loop-index.index c.args.f c.loop-index.f c.loop-index.invariant.1
+    shows_last (Gets g.D.Domain.opened c.args.self.now.place) g.E.Shown.shows g.F.FnMut
+    c.loop-index.index c.args.f c.loop-index.f c.loop-index.invariant.1
     (omega arith) c.loop-index-test.false

@@ -11,14 +11,15 @@ loop-index-init g c = (λ always. always, refl)
 
 pub returns-in_err-weak-clause-fault : goal.returns-in_err-weak-clause-fault
 returns-in_err-weak-clause-fault g c =
-    let broken = not_found (GetsWeak g.D.Domain.opened c.args.self.now.holders.place) g.E.Shown.shows g.F.FnMut c.loop-index.index c.args.f c.loop-index.f
+    let broken = not_found (GetsWeak g.D.Domain.opened c.args.self.now.holders.place) g.E.Shown.shows g.F.FnMut
+    c.loop-index.index c.args.f c.loop-index.f
     c.in_err-weak.field-0.0 c.loop-index.invariant.1 c.in_err-weak.ensures.refused in
     search (broken, rules)
 
 pub returns-in_default-clause-told : goal.returns-in_default-clause-told
 returns-in_default-clause-told g c =
-    shows_none (GetsWeak g.D.Domain.opened c.args.self.now.holders.place) g.E.Shown.shows g.F.FnMut c.loop-index.index c.args.f c.loop-index.f
-        c.in_ok-weak.field-0
+    shows_none (GetsWeak g.D.Domain.opened c.args.self.now.holders.place) g.E.Shown.shows g.F.FnMut
+    c.loop-index.index c.args.f c.loop-index.f c.in_ok-weak.field-0
     c.loop-index.invariant.1 c.in_ok-weak.ensures.done c.in_default.is
 
 pub f-requires : goal.f-requires
@@ -54,6 +55,6 @@ loop-index-preserved g c =
 
 pub returns-clause-told : goal.returns-clause-told
 returns-clause-told g c =
-    shows_last (GetsWeak g.D.Domain.opened c.args.self.now.holders.place) g.E.Shown.shows g.F.FnMut c.loop-index.index c.args.f c.loop-index.f
-        c.loop-index.invariant.1
+    shows_last (GetsWeak g.D.Domain.opened c.args.self.now.holders.place) g.E.Shown.shows g.F.FnMut
+    c.loop-index.index c.args.f c.loop-index.f c.loop-index.invariant.1
     (omega arith) c.loop-index-test.false
