@@ -26,7 +26,7 @@ pub trait Keep<D: Domain> {
         ensures { judges self.old key owner.now result self.new };
 }
 
-/// What came of an entry: it stays, since it is kept; it came out; or it was there no more.
+/// What came of a member where a way ends: what it held stays, if anything; the entry came out; or it was there no more.
 #[derive(Clone, Copy, Drop)]
 pub(crate) enum Sifted {
     Stays,
