@@ -1,16 +1,13 @@
 -- Why a call on a place of a trie was refused.
-use Rattle.std.proofs.Common.{◌≡◌, inl, inr, sym, subst}
+use Rattle.std.proofs.Common.{inl, inr, sym, subst}
 use Rattle.control_word.specs.declared.model.handle.Kind.{Kind}
-use Rattle.control_word.specs.declared.refusal.Refusal.{Refusal}
 use Rattle.control_block.specs.Desks.{DeskNow}
-use Rattle.pointers.specs.Faults.{WhyNotMade, fault_of}
 use Rattle.pointers.specs.Places.{WhyNoCell, WhyNotDoneAt}
 use Rattle.pointers.specs.Sites.{Site}
 use Rattle.pointers.specs.declared.cells.location.Location.TheVariants.{Free, Member}
 use Rattle.pointers.specs.declared.fault.Fault.{Fault}
 use Rattle.pointers.specs.declared.fault.call.Call.{Call}
-use Rattle.pointers.specs.declared.fault.call.Call.TheVariants.{Make}
-use Rattle.shared_trie.specs.Refusals.{WhyNotFound, WhyNotPut}
+use Rattle.shared_trie.specs.Refusals.{WhyNotFound}
 
 module _ {V : Type 0} (o : DeskNow V) where
   no_cell : (k : Kind) (s : Site V) (call : Call) (why : Fault) → WhyNoCell o k s call why → WhyNotFound why
@@ -23,9 +20,3 @@ module _ {V : Type 0} (o : DeskNow V) where
   not_done k s call why (inl cell) = no_cell k s call why cell
   not_done k s call why (inr (inl is)) = subst (λ (y : Fault). WhyNotFound y) (sym is) tt
   not_done k s call why (inr (inr (is, was))) = subst (λ (y : Fault). WhyNotFound y) (sym is) tt
-
-pub not_made : (why : Fault) → WhyNotMade why → WhyNotPut why
-not_made why (inl is) = inl (subst (λ (y : Fault). WhyNotFound y) (sym is) tt)
-not_made why (inr (reason, is, inl limit)) =
-    inl (subst (λ (y : Fault). WhyNotFound y) (sym is) (subst (λ (r : Refusal). WhyNotFound (fault_of Make r)) (sym limit) tt))
-not_made why (inr (reason, is, inr full)) = inr (subst (λ (r : Refusal). why ≡ fault_of Make r) full is)

@@ -1,5 +1,5 @@
 -- An entry goes into a new node.
-use Rattle.std.proofs.Common.{◌≡◌, ℕ, Bool, false, subst, Option, Some, Result, Ok, Err, IfOk}
+use Rattle.std.proofs.Common.{◌≡◌, ℕ, Bool, false, Option, Some, Result, Ok, Err, IfOk}
 use Rattle.control_word.specs.declared.model.handle.Kind.TheVariants.{Owner}
 use Rattle.control_block.specs.Desks.{DeskNow}
 use Rattle.pointers.specs.Known.{AreOfOne, pointed}

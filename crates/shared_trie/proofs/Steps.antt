@@ -1,5 +1,5 @@
 -- What the steps at the end of a way say of the trie.
-use Rattle.std.proofs.Common.{◌≡◌, ◌≢◌, ◌∙◌, ℕ, refl, sym, subst, Bool, true, false, Option, None, Some}
+use Rattle.std.proofs.Common.{◌≡◌, ◌≢◌, ◌∙◌, ℕ, refl, sym, subst, true, false, Option, None, Some}
 use Rattle.control_word.specs.declared.model.handle.Kind.TheVariants.{Owner}
 use Rattle.control_block.specs.Desks.{DeskNow}
 use Rattle.pointers.specs.Objects.{IsField}
@@ -7,7 +7,6 @@ use Rattle.pointers.specs.SiteCalls.{Compared}
 use Rattle.pointers.specs.Sites.{Site, member_site}
 use Rattle.pointers.specs.declared.known.Known.{Known}
 use Rattle.shared_trie.specs.Tries.{Ends, Gets, IsOf, Puts, PutsIfAbsent, Removes, Swaps, Takes, member_at, number_at}
-use Rattle.shared_trie.specs.declared.changes.Occupied.{Occupied}
 use Rattle.shared_trie.specs.declared.slot.Swapped.{Swapped}
 use Rattle.shared_trie.specs.declared.slot.Swapped.TheVariants.{Back, Out}
 
@@ -18,44 +17,6 @@ at_member P key l m node at number there is =
     subst (λ (y : ℕ). P (member_site node y)) number (subst P there is)
 
 module _ {V : Type 0} (o : DeskNow V) where
-  -- a compare that found what was expected put in what was desired
-  pub compared : (at : Site V) (old old' n n' new' hoped : Option (Known V)) (b : Bool) → old ≡ old' → n ≡ new'
-      → b ≡ true → Compared o Owner at false old n b hoped n' → Compared o Owner at false old' new' true old' None
-  compared at old old' n n' new' hoped true is new swapped (finds, same, gone) =
-      subst (λ (y : Option (Known V)). Compared o Owner at false old' y true old' None) new
-      (subst (λ (y : Option (Known V)). Compared o Owner at false y n true y None) is (finds, refl, refl))
-  compared at old old' n n' new' hoped false is new swapped it = absurd (cc swapped)
-
-  -- and what was expected is told then
-  pub told : (at : Site V) (old n n' hoped : Option (Known V)) (b : Bool) → b ≡ true
-      → Compared o Owner at false old n b hoped n' → hoped ≡ old
-  told at old n n' hoped true swapped (finds, same, gone) = same
-  told at old n n' hoped false swapped it = absurd (cc swapped)
-
-  -- what is desired is gone just where it went in
-  pub swapped_if : (at : Site V) (old n n' hoped : Option (Known V)) (new : Known V) (b : Bool) → n ≡ Some new
-      → n' ≡ None → Compared o Owner at false old n b hoped n' → b ≡ true
-  swapped_if at old n n' hoped new true some none it = refl
-  swapped_if at old n n' hoped new false some none (finds, stays) = absurd (cc (stays, some, none))
-
-  pub swaps_out : (at : Site V) (old n n' hoped : Option (Known V)) (new : Known V) (b : Bool) → n ≡ Some new → n' ≡ None
-      → Compared o Owner at false old n b hoped n' → Swaps o at old new (Out hoped)
-  swaps_out at old n n' hoped new b some none it =
-      let swapped : b ≡ true = swapped_if at old n n' hoped new b some none it in
-      (told at old n n' hoped b swapped it, (old, compared at old old n n' (Some new) hoped b refl some swapped it))
-
-  pub swaps_back : (at : Site V) (old n n' hoped : Option (Known V)) (new back : Known V) (b : Bool) → n ≡ Some new
-      → n' ≡ Some back → Compared o Owner at false old n b hoped n' → Swaps o at old new (Back back)
-  swaps_back at old n n' hoped new back true some stays (finds, same, gone) = absurd (cc (gone, stays))
-  swaps_back at old n n' hoped new back false some stays (finds, kept) = cc (kept, some, stays)
-
-  pub takes : (at : Site V) (c : Known V) (old n n' hoped : Option (Known V)) (b : Bool) → old ≡ Some c → n ≡ None
-      → b ≡ true → Compared o Owner at false old n b hoped n' → Takes o at c hoped
-  takes at c old n n' hoped b some none swapped it =
-      let same : hoped ≡ Some c = told at old n n' hoped b swapped it ∙ some in
-      subst (Takes o at c) (sym same)
-      (refl, (Some c, compared at old (Some c) n n' None hoped b some none swapped it))
-
   -- what was held where a way ends is what a get answers
   pub finds_none : (root : Known V) (key : ℕ) (node : Known V) (l : ℕ) (held : Option (Known V))
       → Ends o root key node l held → held ≡ None → Gets o root key None

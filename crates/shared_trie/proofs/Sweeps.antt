@@ -1,6 +1,6 @@
 -- A walk over a trie goes on by one place.
 use Rattle.std.proofs.Common.{◌≡◌, ◌∙◌, ◌<◌, ◌≤◌, ◌+◌, ◌++◌, ◌^◌, ℕ, Bool, false, true, refl, sym, subst, ap, arith, min}
-use Rattle.std.proofs.Common.{List, [], ◌∷◌, Option, None, Some, Result, Ok, Err, SomeIff}
+use Rattle.std.proofs.Common.{List, [], ◌∷◌, Option, None, Some, Result, Ok, SomeIff}
 use Rattle.control_block.specs.Desks.{DeskNow}
 use Rattle.pointers.specs.Objects.{IsField}
 use Rattle.pointers.specs.Sites.{Site, member_site}
@@ -47,15 +47,6 @@ module _ {V K : Type 0} (Judges : K → ℕ → Known V → Result Bool Fault �
     walks_on root (place_after place a x) c xs end m node l held s h rest ends sifts,
   )
 
-  pub sifts_none : (at : Site V) (held : Option (Known V)) (k : K) → held ≡ None → Sifts Judges o at held k Stays k
-  sifts_none at held k none = subst (λ (y : Option (Known V)). Sifts Judges o at y k Stays k) (sym none) refl
-
-  pub sifts_kept : (at : Site V) (held : Option (Known V)) (c : Known V) (k : K) (key : ℕ) (kept : Bool) (h : K)
-      → held ≡ Some c → IsField o c key → Judges k key c (Ok kept) h → kept ≡ true → Sifts Judges o at held k Stays h
-  sifts_kept at held c k key kept h some field judged is =
-      subst (λ (y : Option (Known V)). Sifts Judges o at y k Stays h) (sym some)
-      (key, field, subst (λ (y : Bool). Judges k key c (Ok y) h) is judged)
-
   pub sifts_out : (key l m : ℕ) (node : Known V) (at : Site V) (held : Option (Known V)) (c r : Known V) (k : K)
       (own : ℕ) (kept : Bool) (h : K) (got : Option (Known V)) → held ≡ Some c → IsField o c own
       → Judges k own c (Ok kept) h → kept ≡ false → m ≡ number_at key l → at ≡ member_site node m → Takes o at c got
@@ -84,9 +75,6 @@ module _ {V K : Type 0} (Judges : K → ℕ → Known V → Result Bool Fault �
     pub xs : List Sifted
     pub walks : Walks Judges o root 0 k xs place m
     pub many : n ≡ min (outs xs) 18446744073709551615
-
-  pub swept_none : (root : Known V) (k : K) → Swept root k 0 k 0
-  swept_none root k = record { xs = []; walks = (refl, refl); many = refl }
 
   swept_on : (root : Known V) (k : K) (place : ℕ) (m : K) (n : ℕ) (node : Known V) (l : ℕ) (held : Option (Known V))
       (s : Sifted) (h : K) (one p key : ℕ) → Swept root k place m n → key ≡ key_at place → Ends o root key node l held

@@ -1,12 +1,12 @@
 -- Ways down a trie.
-use Rattle.std.proofs.Common.{◌≡◌, ◌∙◌, ◌+◌, ◌≤◌, ℕ, suc, add-one, arith, refl, subst, sym, Bool, true, false, Option, None, Some}
+use Rattle.std.proofs.Common.{◌≡◌, ◌∙◌, ◌+◌, ◌≤◌, ℕ, add-one, arith, refl, subst, sym, true, false, Option, None, Some}
 use Rattle.control_word.specs.declared.model.handle.Kind.TheVariants.{Owner}
 use Rattle.control_block.specs.Desks.{DeskNow}
 use Rattle.pointers.specs.Known.{AreOfOne, pointed}
 use Rattle.pointers.specs.SiteCalls.{Loaded}
 use Rattle.pointers.specs.Sites.{Site, member_site}
 use Rattle.pointers.specs.declared.known.Known.{Known}
-use Rattle.shared_trie.specs.Tries.{Ends, IsEntry, IsNoNode, IsNode, Leads, is_node_at, member_at, number_at}
+use Rattle.shared_trie.specs.Tries.{Ends, IsNoNode, Leads, is_node_at, member_at, number_at}
 
 module _ {V : Type 0} (o : DeskNow V) where
   -- what a load of a node's member gave, by the key's number
@@ -15,10 +15,6 @@ module _ {V : Type 0} (o : DeskNow V) where
   loaded_at key l m node at found got number there loads is =
       subst (λ (y : ℕ). Loaded o Owner (member_site node y) got) number
       (subst (λ (y : Site V). Loaded o Owner y got) there (subst (λ (y : Option (Known V)). Loaded o Owner at y) is loads))
-
-  -- a way from the root begins at any owner of it
-  pub leads_first : (root node : Known V) (key : ℕ) → AreOfOne o root node → Leads o root key 0 node
-  leads_first root node key one = one
 
   pub is_one : (root : Known V) → AreOfOne o root root
   is_one root = record { block = refl; object = refl; fields = refl }

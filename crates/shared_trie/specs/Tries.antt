@@ -1,7 +1,7 @@
 -- What the calls on a trie say, by what is known of handles. A trie's root and the nodes below it are objects with
 -- eight members. Such a member holds nothing, an entry, which points at the field that is its key, or a node, which
 -- points at the last field (own).
-use Rattle.std.specs.Prelude.{◌≡◌, ◌≢◌, ◌⊎◌, ◌*◌, ◌/◌, ◌%◌, ◌^◌, ◌≤◌, ◌==◌, ℕ, suc, zero, Bool, false, true}
+use Rattle.std.specs.Prelude.{◌≡◌, ◌≢◌, ◌*◌, ◌/◌, ◌%◌, ◌^◌, ◌≤◌, ◌==◌, ℕ, suc, zero, Bool, false, true}
 use Rattle.std.specs.Prelude.{Option, None, Some}
 use Rattle.control_word.specs.declared.model.handle.Kind.TheVariants.{Owner}
 use Rattle.control_word.specs.declared.place.Place.{Place}

@@ -26,7 +26,8 @@ pub trait Keep<D: Domain> {
         ensures { judges self.old key owner.now result self.new };
 }
 
-/// What came of an entry: it stays, since it is kept; it came out; or it was there no more.
+/// What came of a member where a way ends: what it held stays, if anything; the entry came out; or it was there no
+/// more.
 #[derive(Clone, Copy, Drop)]
 pub(crate) enum Sifted {
     Stays,
@@ -84,9 +85,9 @@ fn place_after(place: u64, level: u32, sifted: Sifted) -> Option<u64>
 }
 
 impl<'t, D: Domain> SharedTrie<'t, D> {
-    /// The objects that `keep` doesn't keep are removed (waits): how many were. What comes to a key meanwhile may stay
-    /// unasked. An object is asked about again where another thread changed its place. Faults: those of `get`, and what
-    /// `keep` answers.
+    /// The objects that `keep` doesn't keep are removed (waits): how many were. What comes to a key meanwhile may
+    /// stay unasked. An object is asked about again where another thread changed its place. Faults: those of `get`,
+    /// and what `keep` answers.
     pub fn retain<R: Wait, K: Keep<D>>(&self, rt: &R, keep: &mut K) -> Result<usize, Fault>
         ensures retained { IfOk result (Retains K.judges D.opened self.now.root keep.old keep.new) }
         ensures refused { IfErr result (WhyNotRetained K.judges) }

@@ -71,6 +71,7 @@ fn all_go<'t, D: Domain<Value = u64>, R: Wait>(
     row(10, trie.retain(rt, &mut Nothing)? == 0)
 }
 
+/// A worker walks that has four pointers left.
 #[derive(Drop)]
 struct Walks;
 
@@ -85,7 +86,9 @@ impl<R: Threads + Wait> Program<u64, R> for Walks {
         for key in 0..MANY {
             drop(trie.insert(rt, keyed(desk, key, 0)?)?);
         }
+        let another = keyed(desk, MANY, 0)?;
         thirds_stay(rt, &trie)?;
+        drop(another);
         all_go(rt, desk, &trie)?;
         desk.clear(TRIE)
     }
@@ -95,7 +98,7 @@ impl<R: Threads + Wait> Program<u64, R> for Walks {
 fn a_walk_comes_to_each_key(rt: HostRuntime) {
     let size = Size {
         workers: 1,
-        pointers: 12,
+        pointers: 4,
         blocks: 500,
         owners: 8,
     };
