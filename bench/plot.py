@@ -22,6 +22,7 @@ MARKS = {
     "this runtime, four new fields": ("own", "triangle"),
     "this runtime, cached": ("own", "ring"),
     "this runtime, structures": ("own", "cross"),
+    "this runtime, a trie": ("own", "diamond"),
     "libstdc++, by a version": ("version", "plus"),
     "libstdc++, a mutex": ("version", "square"),
     "Boost shared_ptr": ("boost", "square"),

@@ -63,39 +63,48 @@ void version_rows(int threads) {
               });
 }
 
-// A cache as C++ programs have it: weak pointers by keys, behind a mutex.
-struct Cache {
-    std::mutex door;
-    std::unordered_map<std::uint64_t, std::weak_ptr<Object>> entries;
+std::shared_ptr<Object> owner_of(std::weak_ptr<Object> const &entry) { return entry.lock(); }
+std::shared_ptr<Object> owner_of(std::shared_ptr<Object> const &entry) { return entry; }
 
-    std::shared_ptr<Object> lock(std::uint64_t key) {
+// A table as C++ programs have it: pointers by keys, behind a mutex.
+template <class Pointer> struct Table {
+    std::mutex door;
+    std::unordered_map<std::uint64_t, Pointer> entries;
+
+    std::shared_ptr<Object> get(std::uint64_t key) {
         std::lock_guard<std::mutex> guard(door);
         auto found = entries.find(key);
-        return found == entries.end() ? nullptr : found->second.lock();
+        return found == entries.end() ? nullptr : owner_of(found->second);
     }
 
-    void insert(std::uint64_t key, std::weak_ptr<Object> value) {
+    void insert(std::uint64_t key, Pointer value) {
         std::lock_guard<std::mutex> guard(door);
         entries[key].swap(value);
     }
 };
 
+// The rows of a table of weak pointers, and of one of owners.
 void map_rows(int threads) {
-    Cache cache;
+    Table<std::weak_ptr<Object>> cache;
+    Table<std::shared_ptr<Object>> owned;
     std::vector<std::shared_ptr<Object>> living;
     for (std::uint64_t key = 0; key < keys; key++) {
         living.push_back(std::make_shared<Object>());
         cache.insert(key, living.back());
+        owned.insert(key, std::make_shared<Object>());
     }
     Apart<std::uint64_t> at[most_threads] = {{0}, {2'500}, {5'000}, {7'500}};
     auto next = [&at](int t) { return at[t].value = (at[t].value + 7'919) % keys; };
-    time_row("map of 10,000 keys, lock + release", "libstdc++ shared_ptr", threads, [&](int t, std::uint64_t n) {
-        while (n--) keep(cache.lock(next(t)).get());
-    }, short_chunk);
-    time_row("map of 10,000 keys, insert of a weak pointer", "libstdc++ shared_ptr", threads,
-             [&](int t, std::uint64_t n) {
-                 while (n--) cache.insert(next(t), living[t]);
-             }, short_chunk);
+    auto row = [threads](char const *test, auto work) {
+        time_row(test, "libstdc++ shared_ptr", threads, [&](int t, std::uint64_t n) {
+            while (n--) work(t);
+        }, short_chunk);
+    };
+    row("map of 10,000 keys, lock + release", [&](int t) { keep(cache.get(next(t)).get()); });
+    row("map of 10,000 keys, insert of a weak pointer", [&](int t) { cache.insert(next(t), living[t]); });
+    row("10,000 own objects by their keys, get + release", [&](int t) { keep(owned.get(next(t)).get()); });
+    row("10,000 own objects by their keys, make and insert",
+        [&](int t) { owned.insert(next(t), std::make_shared<Object>()); });
 }
 
 // A door that is always open.
