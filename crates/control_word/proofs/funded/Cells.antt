@@ -71,7 +71,7 @@ module _ {V : Type 0} where
   -- what was loaded is in hand, and lacks its funds
   loaded : (at : Point V) (k : Kind) (o : ℕ) (p : Option Place) (f l i : ℕ) → let i' = counts at k o in
       lacks {V = V} (Paying k o p i' f l) i + hand_funds (state at) i ≡ lacks {V = V} Idle i + (worth (blocks_of (state at)) (handle k (Some o) p) 0 i +
-          hand_funds (state at) i)
+      hand_funds (state at) i)
   loaded at k o p f l i = omega arith
 
   pub takes_funded : Takes V StandsFunded
@@ -100,39 +100,39 @@ module _ {V : Type 0} where
   -- a cell gets a new value with its funds, and the old one comes out with its own
   module _ (at : Point V) (ready : ReadyBy StandsFunded at Idle) (c : Cell) (new : NumberedHandle) (hand : InHand (state at) (me at) (kind_of (state at) c) new)
       (kept : IsKept (state at) c) (taken : ℕ) (found : word at (cell_word at c) ≡ packed (blocks_of (state at)) (cell_of (state at) c) + one_taken * taken)
-          where
-    going : Pending V
-    going = purse (blocks_of (state at)) new cell_funds
+    where
+      going : Pending V
+      going = purse (blocks_of (state at)) new cell_funds
 
-    at1 : Point V
-    at1 = turned at going
+      at1 : Point V
+      at1 = turned at going
 
-    ready1 : ReadyBy StandsFunded (turned at (purse (blocks_of (state at)) new cell_funds)) (purse (blocks_of (state at)) new cell_funds)
-    ready1 = turned_ready at Idle (purse (blocks_of (state at)) new cell_funds) ready
-        (into at ready new.kind new.object new.place (⊎_elim (λ t. inl t.0) (λ t. inr t.0) hand.1))
+      ready1 : ReadyBy StandsFunded (turned at (purse (blocks_of (state at)) new cell_funds)) (purse (blocks_of (state at)) new cell_funds)
+      ready1 = turned_ready at Idle (purse (blocks_of (state at)) new cell_funds) ready
+          (into at ready new.kind new.object new.place (⊎_elim (λ t. inl t.0) (λ t. inr t.0) hand.1))
 
-    found1 : get_or ready1.stands.bare (cell_word at c) 0 ≡ packed (blocks_of (state at)) (cell_of (state at) c) + one_taken * taken
-    found1 = sym (cell_same (turned at (purse (blocks_of (state at)) new cell_funds)) (purse (blocks_of (state at)) new cell_funds) ready1 c kept) ∙ found
+      found1 : get_or ready1.stands.bare (cell_word at c) 0 ≡ packed (blocks_of (state at)) (cell_of (state at) c) + one_taken * taken
+      found1 = sym (cell_same (turned at (purse (blocks_of (state at)) new cell_funds)) (purse (blocks_of (state at)) new cell_funds) ready1 c kept) ∙ found
 
-    traded : (e : Event V) → let s = state at in let old = cell_of s c in let h = entry (me at) e ∷ at.history in
-        leads at.opening h ≡ Prelude.swaps (me at) c new old s
-        → Stands at.opening (set ready1.stands.bare (cell_word at c) (packed (blocks_of s) new))
-        (set (set at.views at.seat (sees_as at.view (purse (blocks_of s) new cell_funds) at.history)) at.seat (sees_as at.view (purse (blocks_of s) old
-            (cell_funds - taken)) h)) h
-        → StandsFunded at.opening (set at.words (cell_word at c) (packed (blocks_of s) new))
-        (set at.views at.seat (sees_as at.view (drawn (blocks_of s) old (cell_funds - taken)) h)) h
-    traded e same' law =
-        let s = state at in let old = cell_of s c in let h = entry (me at) e ∷ at.history in
-        let p = purse (blocks_of s) new cell_funds in let q = purse (blocks_of s) old (cell_funds - taken) in
-        let st = on_cell (turned at p) p ready1 c kept (packed (blocks_of s) new) q h law
-        (λ i. let a = hand_swaps s (me at) c new old i (kind_of s c) hand in
-        let b = purse_lacks V (blocks_of s) new cell_funds i in let d = purse_lacks V (blocks_of s) old (cell_funds - taken) i in
-        let g = ap (λ t. hand_funds t i) same' in omega arith) in
-        come_out at ready.seated ready.awake (set at.words (cell_word at c) (packed (blocks_of s) new)) h (blocks_of s)
-        (sym (Rattle.control_word.proofs.words.Members.swap_blocks s (me at) c new old)
-            ∙ ap blocks_of (sym same')) old.kind old.object old.place (cell_funds - taken)
-        (subst (λ (us : List (View V)). StandsFunded at.opening (set at.words (cell_word at c) (packed (blocks_of s) new)) us h)
-        (set_again at.views at.seat (sees_as at.view p at.history) (sees_as at.view q h)) st)
+      traded : (e : Event V) → let s = state at in let old = cell_of s c in let h = entry (me at) e ∷ at.history in
+          leads at.opening h ≡ Prelude.swaps (me at) c new old s
+          → Stands at.opening (set ready1.stands.bare (cell_word at c) (packed (blocks_of s) new))
+          (set (set at.views at.seat (sees_as at.view (purse (blocks_of s) new cell_funds) at.history)) at.seat (sees_as at.view (purse (blocks_of s) old
+          (cell_funds - taken)) h)) h
+          → StandsFunded at.opening (set at.words (cell_word at c) (packed (blocks_of s) new))
+          (set at.views at.seat (sees_as at.view (drawn (blocks_of s) old (cell_funds - taken)) h)) h
+      traded e same' law =
+          let s = state at in let old = cell_of s c in let h = entry (me at) e ∷ at.history in
+          let p = purse (blocks_of s) new cell_funds in let q = purse (blocks_of s) old (cell_funds - taken) in
+          let st = on_cell (turned at p) p ready1 c kept (packed (blocks_of s) new) q h law
+          (λ i. let a = hand_swaps s (me at) c new old i (kind_of s c) hand in
+          let b = purse_lacks V (blocks_of s) new cell_funds i in let d = purse_lacks V (blocks_of s) old (cell_funds - taken) i in
+          let g = ap (λ t. hand_funds t i) same' in omega arith) in
+          come_out at ready.seated ready.awake (set at.words (cell_word at c) (packed (blocks_of s) new)) h (blocks_of s)
+          (sym (Rattle.control_word.proofs.words.Members.swap_blocks s (me at) c new old)
+          ∙ ap blocks_of (sym same')) old.kind old.object old.place (cell_funds - taken)
+          (subst (λ (us : List (View V)). StandsFunded at.opening (set at.words (cell_word at c) (packed (blocks_of s) new)) us h)
+          (set_again at.views at.seat (sees_as at.view p at.history) (sees_as at.view q h)) st)
 
   pub swaps_funded : SwapsFunded V
   swaps_funded at c new ready asks room taken found =

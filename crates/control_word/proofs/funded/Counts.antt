@@ -46,7 +46,7 @@ module _ {V : Type 0} where
   -- a handle more, with its funds
   gain : (at : Point V) (ready : ReadyBy StandsFunded at Idle) (k : Kind) (o : ℕ) (q : Option Place) (e : Event V) → IsBusy (state at) o
       → ((i : ℕ) → hand_funds (leads at.opening (entry (me at) e ∷ at.history)) i ≡ worth (blocks_of (state at)) (handle k (Some o) q) 0 i + hand_funds
-          (state at) i)
+      (state at) i)
       → let i = counts at k o in let h = entry (me at) e ∷ at.history in
       Stands at.opening (set ready.stands.bare i (suc (get_or ready.stands.bare i 0))) (set at.views at.seat (sees_as at.view Idle h)) h
       → StandsFunded at.opening (set at.words i (word at i + one_funded)) (set at.views at.seat (sees_as at.view Idle h)) h
@@ -79,7 +79,7 @@ module _ {V : Type 0} where
             (law.0 (zero_word at.opening at.words at.views at.history ready.stands Owner o busy none)) (λ i. let a = calm at ready h i in omega arith),
         λ some' room. gain at ready Owner o p (Lock (weak_of o p) true) busy (λ i. refl) (law.1
             (⊎_elim (λ (e : get_or is.bare (counts at Owner o) 0 ≡ 0). let t = zero_bare at.opening at.words at.views at.history ready.stands Owner o busy e
-                in absurd (omega arith))
+            in absurd (omega arith))
             (λ n. omega arith) (cases_eq (get_or is.bare (counts at Owner o) 0) 0)) room),
       )
 

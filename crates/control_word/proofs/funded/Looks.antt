@@ -30,7 +30,7 @@ told_alike low high low' high' same f g =
     (λ (e : low ≡ 0).
     let a : cond (low == 0) (cond (high == 0) 0 1) low ≡ cond (high == 0) 0 1 = cond-true (low == 0) (cond (high == 0) 0 1) low (eq-eqb low 0 e) in
     let b : cond (low' == 0) (cond (high' == 0) 0 1) low' ≡ cond (high' == 0) 0 1 = cond-true (low' == 0) (cond (high' == 0) 0 1) low' (eq-eqb low' 0 (omega
-        arith)) in
+    arith)) in
     a ∙ (ap (λ (t : Bool). cond t 0 1) (one_answer high high' 0 0 (g e) (f e)) ∙ sym b))
     (λ (n : low ≢ 0).
     cond-false (low == 0) (cond (high == 0) 0 1) low (ne_eqb low 0 n) ∙ (same
@@ -72,7 +72,7 @@ module _ {V : Type 0} where
       let j = counts at Owner o in
       let same : (word at j == 0) ≡ (get_or ready.stands.bare j 0 == 0) = one_answer (word at j) (get_or ready.stands.bare j 0) 0 0
       (zero_bare at.opening at.words at.views at.history ready.stands Owner o busy) (zero_word at.opening at.words at.views at.history ready.stands Owner o
-          busy) in
+      busy) in
       subst (λ t. StandsFunded at.opening at.words (set at.views at.seat (sees_as at.view Idle (entry (me at) (Expired (weak_of o p) t) ∷ at.history)))
       (entry (me at) (Expired (weak_of o p) t) ∷ at.history)) (sym same)
       (look at ready (entry (me at) (Expired (weak_of o p) (get_or ready.stands.bare j 0 == 0)) ∷ at.history) (λ i. refl)
@@ -109,7 +109,7 @@ module _ {V : Type 0} where
       let same = cell_same at Idle ready c kept in
       subst (λ w. StandsFunded at.opening at.words (set at.views at.seat (sees_as at.view Idle (entry (me at) (Same c h (without_taken w
       == packed (blocks_of (state at)) h)) ∷ at.history))) (entry (me at) (Same c h (without_taken w == packed (blocks_of (state at)) h)) ∷ at.history)) (sym
-          same)
+      same)
       (look at ready (entry (me at) (Same c h (without_taken (get_or ready.stands.bare (cell_word at c) 0) == packed (blocks_of (state at)) h)) ∷ at.history)
-          (λ i. refl)
+      (λ i. refl)
       (tells_same (bared at ready.stands) c h (bare_ready at Idle ready) open' hand))

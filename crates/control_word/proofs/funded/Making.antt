@@ -78,7 +78,7 @@ module _ {V : Type 0} where
       let same = known_same at ready b mine in
       writes at Idle ready b mine 1 1 (Making b (known_of at.words b.0)) (omega arith) (λ i. refl) (λ i. refl)
       (subst (λ l. Stands at.opening (set ready.stands.bare (spot b.0 1) 1) (set at.views at.seat (sees_as at.view (Making b l) at.history)) at.history) same
-          law)
+      law)
 
   pub writes_word_funded : WritesWord V StandsFunded
   writes_word_funded at b known ready five j n lt =
@@ -101,7 +101,7 @@ module _ {V : Type 0} where
       let apart = own_apart at p ready b mine 0 (omega arith) in
       let us = set at.views at.seat (sees_as at.view Idle h) in
       let place : blocks_of t (suc s.made) ≡ b.0 = ap (λ (x : Object). x.block) (put_same s.object (suc s.made) (new_object s.owners b.0 enabled null fields)
-          (suc s.made) refl) in
+      (suc s.made) refl) in
       let here : counts_at (blocks_of t) Owner (suc s.made) ≡ k = ap (λ c. spot c 0) place in
       let lack : (i : ℕ) → lacking us i ≡ lacking at.views i = λ i. let x = lacking_set at.views at.seat at.view Idle h i ready.seated in
       let y = ap (λ c. lacks c i) ready.pending in omega arith in

@@ -81,7 +81,7 @@ module _ {V : Type 0} where
       let us = set at.views at.seat (sees_as at.view q at.history) in
       let busy = held_busy at.opening (state at) (me at) o k p (sound at.opening at.history is.stands.legal) has in
       same at.words i (counted at.opening at.words at.views at.history is i (word at i) (get_or is.bare i 0 + one_fund * cell_funds) 0 0 0 cell_funds us
-          at.history law
+      at.history law
       (counted_in at Idle ready k o busy) (λ j. omega arith)
       (λ j. let x = lacking_set at.views at.seat at.view q at.history j ready.seated in let y = ap (λ c. lacks c j) ready.pending in
       let w = cond_one i j cell_funds in omega arith) (omega arith))
@@ -96,7 +96,7 @@ module _ {V : Type 0} where
       let busy = (paying_few at k o cell_funds 0 p ready).0 in
       let enough = law.0 in
       same at.words i (counted at.opening at.words at.views at.history is i (word at i) (get_or is.bare i 0 - one_fund * cell_funds) 0 0 cell_funds 0 us
-          at.history
+      at.history
       law.1 (counted_in at _ ready k o busy) (λ j. omega arith)
       (λ j. let x = lacking_set at.views at.seat at.view Idle at.history j ready.seated in let y = ap (λ c. lacks c j) ready.pending in
       let w = cond_one i j cell_funds in omega arith) (omega arith))
@@ -131,7 +131,7 @@ module _ {V : Type 0} where
   module _ (at : Point V) (ready : ReadyBy StandsFunded at Idle) where
     pub into : (k : Kind) (n : Option ℕ) (p : Option Place) → ((n ≡ None) ⊎ Has (held (me at) (handle k n p)) (state at).hands)
         → StandsFunded at.opening at.words (set at.views at.seat (sees_as at.view (purse (blocks_of (state at)) (handle k n p) cell_funds) at.history))
-            at.history
+        at.history
     into k None p why = told at.opening at.words at.views at.history ready.stands (set at.views at.seat (sees_as at.view Idle at.history)) at.history
         (looks_on (bared at ready.stands) (bare_ready at Idle ready))
         (λ i. let x = lacking_set at.views at.seat at.view Idle at.history i ready.seated in let y = ap (λ c. lacks c i) ready.pending in omega arith)

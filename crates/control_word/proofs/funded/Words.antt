@@ -88,7 +88,7 @@ module _ {V : Type 0} where
       let is = ready.stands.stands in
       let fits : Fits ready.stands.bare (state at) (value at.opening at.history) (me at) q =
       subst (Fits ready.stands.bare (state at) (value at.opening at.history) (me at)) ready.pending (is.team.seated at.seat at.view ready.seated
-          ready.awake).fits in
+      ready.awake).fits in
       let busy = held_busy at.opening (state at) (me at) o Owner p (sound at.opening at.history is.legal) fits.0 in
       let law = opens' (bared at ready.stands) o p was becomes (bare_ready at q ready) in
       let same = plain_word at.opening at.words at.views at.history ready.stands k (door_apart at q ready o busy) in
