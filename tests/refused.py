@@ -43,6 +43,7 @@ REFUSED = {
         "memory::tests::a_refused_leader_is_run_again=0",
     ],
     "shared_map_tests::memory": ["memory::a_refused_opening_is_made_again=0"],
+    "shared_vec_tests::memory": ["memory::a_refused_sort_is_made_again=0"],
     "scene_tests::memory": ["memory::a_refused_teardown_gives_its_root_back=0"],
     "scene_tests::accesses": ["accesses::a_refused_access_is_sought_again=0"],
     "script_tests::machine::opening::a_refused_world_gives_its_program_back": [
